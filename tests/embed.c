@@ -126,7 +126,7 @@ static uint64_t take_some(krl_handle *server, bool all) {
 static void take_as_it_is_kept(void) {
     krl_handle server = {0};
     krl_reply reply;
-    AGAIN(reply, krl_server_open(&server, KRL_DEFAULT_ROOM, 0, NULL, 0, NULL, 0));
+    AGAIN(reply, krl_server_open(&server, KRL_DEFAULT_ROOM, KRL_DEFAULT_REACH, 0, NULL, 0, NULL, 0));
     want(take_some(&server, true) == 0 && krl_confirm(&server, 1).code == KRL_DONE, "the start");
     bool first = registers(&server, 0), second = registers(&server, 1), third = registers(&server, 2);
     want(take_some(&server, !first && !second && !third) == 0, "nothing is kept");
@@ -254,16 +254,22 @@ static void cut(void) {
     want(krl_parts(bounds, 2, 5, 5, parts, 3).code == KRL_BAD_SPAN, "parts of no span");
 }
 
-/* No server has room for nothing, or for more than the most. One with room for two entries takes no third. */
-static void refuse_rooms(void) {
+/* No server has room for nothing or a reach of nothing, or more than the most of either. One with room for two entries
+ * takes no third. */
+static void refuse_limits(void) {
     const krl_row entries[] = {{10, 0, {0}}, {20, 0, {0}}, {30, 0, {0}}};
     krl_handle server = {0};
     krl_reply reply;
-    want(krl_server_open(&server, 0, 0, NULL, 0, NULL, 0).code == KRL_BAD_ROOM, "room for no entry");
-    want(krl_server_open(&server, KRL_MAX_ROOM + 1, 0, NULL, 0, NULL, 0).code == KRL_BAD_ROOM, "too great a room");
+    want(krl_server_open(&server, 0, KRL_DEFAULT_REACH, 0, NULL, 0, NULL, 0).code == KRL_BAD_ROOM, "room for no entry");
+    reply = krl_server_open(&server, KRL_MAX_ROOM + 1, KRL_DEFAULT_REACH, 0, NULL, 0, NULL, 0);
+    want(reply.code == KRL_BAD_ROOM, "too great a room");
     want(seen == 0 && !server.is_open, "a room that is refused");
-    reply = krl_server_open(&server, 2, 0, entries, 3, NULL, 0);
-    if (reply.code == KRL_OUT_OF_MEMORY) reply = krl_server_open(&server, 2, 0, entries, 3, NULL, 0);
+    want(krl_server_open(&server, 2, 0, 0, NULL, 0, NULL, 0).code == KRL_BAD_REACH, "grants of no slot");
+    want(krl_server_open(&server, 2, KRL_MAX_REACH + 1, 0, NULL, 0, NULL, 0).code == KRL_BAD_REACH, "too far");
+    want(seen == 0 && !server.is_open, "a reach that is refused");
+    reply = krl_server_open(&server, 2, KRL_DEFAULT_REACH, 0, entries, 3, NULL, 0);
+    if (reply.code == KRL_OUT_OF_MEMORY)
+        reply = krl_server_open(&server, 2, KRL_DEFAULT_REACH, 0, entries, 3, NULL, 0);
     want(reply.code == KRL_FULL && !server.is_open, "more entries than room");
 }
 
@@ -276,9 +282,9 @@ int main(int count, char **words) {
     want(seen == 0, "leases take memory");
     cut();
     versions();
-    refuse_rooms();
+    refuse_limits();
     take_as_it_is_kept();
-    AGAIN(reply, krl_server_open(&server, KRL_DEFAULT_ROOM, 0, entries, 3, NULL, 0));
+    AGAIN(reply, krl_server_open(&server, KRL_DEFAULT_ROOM, KRL_DEFAULT_REACH, 0, entries, 3, NULL, 0));
     want(reply.detail == 1, "the epoch");
     keep(&server, 0);
     AGAIN(reply, krl_client_open(&client, 3, 1));

@@ -146,7 +146,8 @@ static void put(uint64_t value) {
 
 static void open_all(void) {
     krl_row entries[] = {{10, 2, {1, 2}}, {KEY, 8, {0}}, {30, 1, {7}}};
-    want(krl_server_open(&server, KRL_DEFAULT_ROOM, 0, entries, 3, NULL, 0).code == KRL_DONE, "the server");
+    krl_reply opened = krl_server_open(&server, KRL_DEFAULT_ROOM, KRL_DEFAULT_REACH, 0, entries, 3, NULL, 0);
+    want(opened.code == KRL_DONE, "the server");
     want(krl_client_open(&client, 3, 1).code == KRL_DONE, "the client");
     talk(&client);
     want(krl_client_lock(&client, 0, 100, KRL_RANGE_X_X).code == KRL_DONE, "the lock");

@@ -17,7 +17,7 @@ static uint8_t bytes[1 << 20];
 static const uint8_t *message;
 static size_t length;
 
-static void server_open(void) { krl_server_open(&server, KRL_DEFAULT_ROOM, 0, rows, ROWS, NULL, 0); }
+static void server_open(void) { krl_server_open(&server, KRL_DEFAULT_ROOM, KRL_DEFAULT_REACH, 0, rows, ROWS, NULL, 0); }
 static void client_open(void) { krl_client_open(&client, 0, 1); }
 static void server_step(void) { krl_server_step(&server, message, length); }
 static void client_step(void) { krl_client_step(&client, message, length); }

@@ -213,7 +213,7 @@ static void time_writes(struct sender *sender)
 static void start(const krl_record *record, size_t records)
 {
     uint64_t begun = nanos_of(CLOCK_PROCESS_CPUTIME_ID);
-    krl_reply reply = krl_server_open(&server, entries, epoch, rows, entries, record, records);
+    krl_reply reply = krl_server_open(&server, entries, KRL_DEFAULT_REACH, epoch, rows, entries, record, records);
     print("start", begun, 1);
     expect(reply.code == KRL_DONE, "the server starts");
     epoch = reply.detail;

@@ -147,7 +147,7 @@ static void insert(uint64_t number, uint64_t key)
 
 static void open_all(void)
 {
-    krl_reply reply = krl_server_open(&server, KRL_MAX_ROOM, 0, NULL, 0, NULL, 0);
+    krl_reply reply = krl_server_open(&server, KRL_MAX_ROOM, KRL_DEFAULT_REACH, 0, NULL, 0, NULL, 0);
     expect(reply.code == KRL_DONE, "the server starts");
     epoch = reply.detail;
     for (uint64_t number = 0; number < CLIENTS; number++) {
@@ -254,7 +254,7 @@ static void drop(void)
 
 static void start_again(void)
 {
-    krl_reply reply = krl_server_open(&server, KRL_MAX_ROOM, epoch, kept, ROWS, records, CLIENTS);
+    krl_reply reply = krl_server_open(&server, KRL_MAX_ROOM, KRL_DEFAULT_REACH, epoch, kept, ROWS, records, CLIENTS);
     expect(reply.code == KRL_DONE && reply.detail == epoch + 1, "the server starts again");
     epoch = reply.detail;
     expect(krl_server_status(&server).phase == KRL_RECOVERING, "it waits for reports");

@@ -81,7 +81,8 @@ static void start(uint64_t length)
         entries[i] = (krl_row){ .key = STEP * (i + 1), .length = length };
         memset(entries[i].bytes, (int)(i % 255 + 1), length);
     }
-    expect(krl_server_open(&server, KRL_DEFAULT_ROOM, 0, entries, ROWS, NULL, 0).code == KRL_DONE, "server_open");
+    krl_reply opened = krl_server_open(&server, KRL_DEFAULT_ROOM, KRL_DEFAULT_REACH, 0, entries, ROWS, NULL, 0);
+    expect(opened.code == KRL_DONE, "server_open");
     expect(krl_client_open(&client, 0, 1).code == KRL_DONE, "client_open");
     settle();
     hold_all();

@@ -123,13 +123,15 @@ krl_client_state krl_reader_status(krl_reader *reader);
  */
 
 /* Starts a server in a closed handle with room for so many entries, from 1 to KRL_MAX_ROOM (KRL_DEFAULT_ROOM suits
- * most), on what was kept: the epoch (0 at first), the entries in any order, and the records in order of first
- * registration. All memory for entries is taken here; what none has used is not touched. The detail is the new epoch,
- * one more, which is the first note of the handle. Refused, in this order, by KRL_OPEN_ALREADY, KRL_BAD_ROOM,
- * KRL_SPENT (an epoch of KRL_END or more), KRL_BAD_VALUE, KRL_BAD_RECORD, KRL_FULL (more entries than room), and the
- * first entry that has a key of KRL_END or more, by KRL_BAD_KEY, or one that stands before, by KRL_TWICE; and by
- * KRL_OUT_OF_MEMORY at any point. */
-krl_reply krl_server_open(krl_handle *handle, size_t room, uint64_t epoch, const krl_row *entries,
+ * most), and a reach, from 1 to KRL_MAX_REACH (KRL_DEFAULT_REACH suits most), on what was kept: the epoch (0 at first),
+ * the entries in any order, and the records in order of first registration. Room and reach may differ from those of an
+ * earlier start. All memory for entries is taken here; what none has used is not touched. One grant takes at most as
+ * many slots as the reach: a client's host has to take frames of 43 bytes and 51 for each slot. The detail is the new
+ * epoch, one more, which is the first note of the handle. Refused, in this order, by KRL_OPEN_ALREADY, KRL_BAD_ROOM,
+ * KRL_BAD_REACH, KRL_SPENT (an epoch of KRL_END or more), KRL_BAD_VALUE, KRL_BAD_RECORD, KRL_FULL (more entries than
+ * room), and the first entry that has a key of KRL_END or more, by KRL_BAD_KEY, or one that stands before, by
+ * KRL_TWICE; and by KRL_OUT_OF_MEMORY at any point. */
+krl_reply krl_server_open(krl_handle *handle, size_t room, size_t reach, uint64_t epoch, const krl_row *entries,
                           size_t entries_length, const krl_record *records, size_t records_length);
 
 /* Gives the server the bytes of one message, whoever sent it. A change is one more note of the handle, also with

@@ -30,6 +30,12 @@
 /* The most bytes of a value. */
 #define KRL_MAX_VALUE_BYTES 32
 
+/* How many slots one grant of a server takes at most if nothing asks for another number. */
+#define KRL_DEFAULT_REACH 8
+
+/* How many slots one grant of a server can take, at most. */
+#define KRL_MAX_REACH 128
+
 /* The moment that never comes, and the length of a lease that does not end. */
 #define KRL_FOR_EVER UINT64_MAX
 
@@ -115,7 +121,9 @@ enum krl_code {
      * reported. Nothing was taken. */
     KRL_UNKEPT = 32,
     /* More notes were confirmed than were reported. The detail is how many were reported. Nothing has changed. */
-    KRL_NOT_TOLD = 33
+    KRL_NOT_TOLD = 33,
+    /* Grants of no slot, or of more than KRL_MAX_REACH. */
+    KRL_BAD_REACH = 34
 };
 
 /* What is wrong with bytes that are no message: the first fault from the left. */

@@ -373,7 +373,7 @@ static void cut_off(void)
 static void start(void)
 {
     const krl_row entries[] = { row(10, "ten"), row(20, "twenty") };
-    krl_reply opened = krl_server_open(&server, KRL_DEFAULT_ROOM, 0, entries, 2, NULL, 0);
+    krl_reply opened = krl_server_open(&server, KRL_DEFAULT_ROOM, KRL_DEFAULT_REACH, 0, entries, 2, NULL, 0);
     expect("server_open", opened);
     for (uint64_t number = 0; number < CLIENTS; number++) {
         /* If nothing was kept of leases, a client may have one without end. */

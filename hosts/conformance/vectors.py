@@ -104,7 +104,7 @@ def faulty() -> Iterator[tuple[str, bytes]]:
         yield "server", release[:34] + spelled + release[50:]
     yield "server", insert[:50] + b"\x21" + bytes(33)
     yield from (("server", changed) for changed in faulty_reports())
-    for count in (0, 9):
+    for count in (0, 129):
         yield "client", grant[:42] + bytes([count]) + grant[43:]
     yield "client", grant[:60] + b"\2" + grant[61:]
     last = {**HELD, "span": [10, 12]}

@@ -9,7 +9,7 @@ use krl_modes::{KeyPart, Mode, RangePart, Span};
 use std::alloc::{AllocError, Global};
 
 /// A call of a cache.
-#[derive(Clone, Copy)]
+#[derive(Drop)]
 pub enum CacheCall {
     RangeAt(u64),
     KeyAt(u64),
@@ -36,27 +36,27 @@ pub enum CacheReply {
 }
 
 // Makes one call.
-fn answer<B: Belief>(alloc: Global, cache: &mut B, call: CacheCall) -> CacheReply
-    requires { IsRuled call }
-    ensures { IsStep (B.believed cache.old) call result (B.believed cache.new) }
+fn answer<B: Belief>(alloc: Global, cache: &mut B, call: &CacheCall) -> CacheReply
+    requires { IsRuled call.now }
+    ensures { IsStep (B.believed cache.old) call.now result (B.believed cache.new) }
 {
     match call {
-        CacheCall::RangeAt(p) => CacheReply::Range(cache.range_at(p)),
-        CacheCall::KeyAt(p) => CacheReply::Key(cache.key_at(p)),
-        CacheCall::ValueAt(p) => CacheReply::Value(cache.value_at(p)),
-        CacheCall::Adopt(holding) => match cache.adopt(holding) {
+        CacheCall::RangeAt(p) => CacheReply::Range(cache.range_at(*p)),
+        CacheCall::KeyAt(p) => CacheReply::Key(cache.key_at(*p)),
+        CacheCall::ValueAt(p) => CacheReply::Value(cache.value_at(*p)),
+        CacheCall::Adopt(holding) => match cache.adopt(*holding) {
             Ok(()) => CacheReply::Done,
             Err(_) => CacheReply::OutOfMemory,
         },
-        CacheCall::AdoptAll(holdings) => match cache.adopt_all(&holdings) {
+        CacheCall::AdoptAll(holdings) => match cache.adopt_all(holdings) {
             Ok(()) => CacheReply::Done,
             Err(_) => CacheReply::OutOfMemory,
         },
-        CacheCall::Lower(span, keep) => match cache.lower(span, keep) {
+        CacheCall::Lower(span, keep) => match cache.lower(*span, *keep) {
             Ok(()) => CacheReply::Done,
             Err(_) => CacheReply::OutOfMemory,
         },
-        CacheCall::Scan(span) => match cache.scan(alloc, span) {
+        CacheCall::Scan(span) => match cache.scan(alloc, *span) {
             Ok(found) => CacheReply::Found(found),
             Err(_) => CacheReply::OutOfMemory,
         },
@@ -85,7 +85,7 @@ pub fn run_cache<B: Belief>(
 {
     let mut replies = Vec::with_capacity(alloc, calls.len())?;
     for call in calls {
-        let reply = answer(alloc, cache, *call);
+        let reply = answer(alloc, cache, call);
         let _ = replies.push(reply);
     }
     Ok(replies)

@@ -1,6 +1,6 @@
 //! What a client is told and asked to do, one act after another, and what comes of it. If an
 //! allocation is refused, a client shows what it showed, and the refused call is made again.
-use crate::again::CALLS;
+use crate::again::{CALLS, room_for};
 use crate::shown::{are_numbers, are_told};
 use krl_client::{Client, CommandRefused, LockStatus, ScanAnswer, Status, WriteStatus};
 use krl_messages::{
@@ -8,6 +8,7 @@ use krl_messages::{
     ToServerBody, Value, WriteOp,
 };
 use krl_modes::{END, KeyPart, Mode, RangePart, Span};
+use std::alloc::Global;
 
 // A write. Its value is the eight bytes of a number.
 #[derive(Clone, Copy)]
@@ -178,14 +179,21 @@ fn push(epoch: u64, number: u64, body: PushBody) -> ToClientBody {
     }
 }
 
+// The holding of one slot.
+fn one(alloc: Global, held: Held) -> Option<Holdings> {
+    let mut items = room_for(alloc, 1)?;
+    items.push(holding(held)?).ok()?;
+    Holdings::new(items)
+}
+
 // What the client is told, if the act is a message.
-fn told(act: Act) -> Option<ToClientBody> {
+fn told(alloc: Global, act: Act) -> Option<ToClientBody> {
     match act {
         Act::Epoch(epoch) | Act::ForAnother(epoch) | Act::ForAnEarlier(epoch) => {
             Some(ToClientBody::Epoch { epoch })
         }
         Act::Grant(epoch, number, req, held) => {
-            let holdings = Holdings::one(holding(held)?);
+            let holdings = one(alloc, held)?;
             Some(push(epoch, number, PushBody::Grant { req, holdings }))
         }
         Act::Absent(epoch, number, req, point) => {
@@ -325,7 +333,7 @@ fn shows(client: &Client, expected: &Gives) -> bool {
 }
 
 // Whether the act gives this.
-fn acts(client: &mut Client, act: Act, expected: &Gives) -> bool {
+fn acts(alloc: Global, client: &mut Client, act: Act, expected: &Gives) -> bool {
     match act {
         Act::Scan(lo, hi) => scans(client, lo, hi, expected),
         Act::Pin(lo, hi) => pins(client, lo, hi, expected),
@@ -335,7 +343,7 @@ fn acts(client: &mut Client, act: Act, expected: &Gives) -> bool {
             Gives::Here(range, key) => client.held(p) == (*range, *key),
             _ => false,
         },
-        _ => match told(act) {
+        _ => match told(alloc, act) {
             Some(body) => hears(client, &message(act, body), expected),
             None => commands(client, act, expected),
         },
@@ -343,9 +351,9 @@ fn acts(client: &mut Client, act: Act, expected: &Gives) -> bool {
 }
 
 // The row that fails first, if any.
-pub fn fails(client: &mut Client, rows: &[(Act, Gives)]) -> Option<usize> {
+pub fn fails(alloc: Global, client: &mut Client, rows: &[(Act, Gives)]) -> Option<usize> {
     for i in 0..rows.len() {
-        if !acts(client, rows[i].0, &rows[i].1) {
+        if !acts(alloc, client, rows[i].0, &rows[i].1) {
             return Some(i);
         }
     }

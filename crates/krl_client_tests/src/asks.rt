@@ -1,6 +1,6 @@
 //! Calls of a cache, one after another, and what each gives. If an allocation is refused, a
 //! cache believes what it believed, and the refused call is made again.
-use crate::again::CALLS;
+use crate::again::{CALLS, room_for};
 use crate::shown::{are_rows, are_told};
 use krl_cache::{Belief, Scanned};
 use krl_messages::{Holding, Holdings, Value};
@@ -98,29 +98,13 @@ fn holding(held: Held) -> Option<Holding> {
     }
 }
 
-// Puts the holding behind the others, if there is room and its span begins behind theirs.
-fn puts(holdings: &mut Holdings, holding: Holding) -> bool {
-    let before = holdings.as_slice();
-    let Some(last) = before.last() else {
-        return false;
-    };
-    if before.len() >= 8 || last.span.hi() > holding.span.lo() {
-        return false;
+// These holdings, if they are 1 to 128 in ascending order.
+fn listed(alloc: Global, all: &[Held]) -> Option<Holdings> {
+    let mut items = room_for(alloc, all.len())?;
+    for held in all {
+        items.push(holding(*held)?).ok()?;
     }
-    holdings.push(holding);
-    true
-}
-
-// These holdings, if they are 1 to 8 in ascending order.
-fn listed(all: &[Held]) -> Option<Holdings> {
-    let (first, rest) = all.split_first()?;
-    let mut holdings = Holdings::one(holding(*first)?);
-    for held in rest {
-        if !puts(&mut holdings, holding(*held)?) {
-            return None;
-        }
-    }
-    Some(holdings)
+    Holdings::new(items)
 }
 
 fn is_found(found: &Scanned, gives: &Gives) -> bool {
@@ -172,7 +156,7 @@ fn answers<B: Belief>(alloc: Global, cache: &mut B, ask: &Ask, expected: &Gives)
                 None => false,
             }
         }
-        (Ask::AdoptAll(all), Gives::Done) => match listed(all) {
+        (Ask::AdoptAll(all), Gives::Done) => match listed(alloc, all) {
             Some(holdings) => is_done(cache, &Change::AdoptAll(&holdings)),
             None => false,
         },

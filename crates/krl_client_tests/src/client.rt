@@ -24,7 +24,7 @@ fn started(alloc: Global) -> Option<Client> {
 // Whether a client gives each of these rows: the first that it does not, if any.
 fn fails_on(alloc: Global, rows: &[(Act, Gives)]) -> Option<usize> {
     match started(alloc) {
-        Some(mut client) => fails(&mut client, rows),
+        Some(mut client) => fails(alloc, &mut client, rows),
         None => Some(usize::MAX),
     }
 }

@@ -42,9 +42,9 @@ entries_again : (m : Index) → map.from_entries (map.entries m) ≡ m
 entries_again m = map.same_map nat_cmp_total map.nat_cmp-IsAntisymmetric (map.from_entries (map.entries m)) m
     (λ q. map.get-from_entries nat_cmp_total (map.entries m) q ∙ sym (map.get-entries m q))
 
-pub makes_again : (d : Durable) (records : Register) → AreBelowEnd (map.entries d.index) → length (map.entries d.index) ≤ d.room → records ≡ d.register → MakesAgain d records
-makes_again d records below few e = record {
-  taken = for_memory d.room (map.entries d.index) (rises (map.entries d.index) (sorted_entries d.index (map.entries d.index) refl)) below few;
-  same = ap (λ m. let x : Durable = record { room = d.room; index = m; epoch = d.epoch; register = records } in x) (entries_again d.index)
-      ∙ ap (λ r. record d { register = r }) e;
+pub makes_again : (d : Durable) (records : Register) → AreBelowEnd (map.entries d.index) → records ≡ d.register → MakesAgain d records
+makes_again d records below e = record {
+  taken = λ l fits. for_memory l.room (map.entries d.index) (rises (map.entries d.index) (sorted_entries d.index (map.entries d.index) refl)) below fits.entries;
+  same = λ l. ap (λ m. let x : Durable = record { room = l.room; reach = l.reach; index = m; epoch = d.epoch; register = records } in x) (entries_again d.index)
+      ∙ ap (λ r. let x : Durable = record { room = l.room; reach = l.reach; index = d.index; epoch = d.epoch; register = r } in x) e;
 }

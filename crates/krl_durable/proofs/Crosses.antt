@@ -21,6 +21,7 @@ use Rattle.krl_blocks.proofs.Crosses.{number_sent, blocks_sent}
 use Rattle.krl_durable.specs.contracts.record.Record as record_kept
 use Rattle.krl_durable.specs.contracts.register.Register as register
 use Rattle.krl_durable.specs.contracts.room.Room as room
+use Rattle.krl_durable.specs.contracts.reach.Reach as reach
 use Rattle.krl_durable.specs.contracts.index.Index as index
 use Rattle.krl_durable.specs.contracts.durable.Durable as durable
 
@@ -60,6 +61,9 @@ register_sent = view_send _ _ _ _ _ register_inside
 room_sent : IsSend (room.the_field).row
 room_sent = search sendable depth 24 fits 4000
 
+reach_sent : IsSend (reach.the_field).row
+reach_sent = search sendable depth 24 fits 4000
+
 index_inside : IsSend index.TheInside.the_row
 index_inside = recorded_send _ _ (index.TheInside.the_type).to (index.TheInside.the_type).to_one
     (struct_send (shape index.TheInside.the_type) (blocks_sent _ value_sent, (room_sent, tt)))
@@ -69,7 +73,7 @@ index_sent = view_send _ _ _ _ _ index_inside
 
 durable_inside : IsSend durable.TheInside.the_row
 durable_inside = recorded_send _ _ (durable.TheInside.the_type).to (durable.TheInside.the_type).to_one
-    (struct_send (shape durable.TheInside.the_type) (index_sent, (number_sent, (register_sent, tt))))
+    (struct_send (shape durable.TheInside.the_type) (index_sent, (reach_sent, (number_sent, (register_sent, tt)))))
 
 pub durable_sent : IsSend (durable.the_field).row
 durable_sent = view_send _ _ _ _ _ durable_inside

@@ -3,6 +3,7 @@ use Rattle.std.specs.Prelude.{◌≡◌, ℕ, List, slice_get, Some, map as each
 use Rattle.std.specs.Int.{w64, to_be_bytes}
 use Rattle.std.specs.Ordering.{nat_cmp}
 use Rattle.std.specs.FinMap as map
+use Rattle.krl_modes.specs.declared.limits.TheConstants.{STANDARD_REACH}
 use Rattle.krl_modes.specs.Limits.{max_entries}
 use Rattle.krl_messages.specs.Values.{Value}
 use Rattle.krl_durable.specs.declared.not_migrated.NotMigrated.{NotMigrated}
@@ -19,10 +20,11 @@ pub record DurableV1 : Type 0 where
 abbrev pub migrated_entries : List (ℕ × ℕ) → List (ℕ × Value)
 migrated_entries es = each_of (λ e. (e.0, to_be_bytes w64 e.1)) es
 
--- the same keys, epoch, register and records, each value its eight bytes, and the room if none is named
+-- the same keys, epoch, register and records, each value its eight bytes, and the limits if none are named
 abbrev pub migrated : DurableV1 → Durable
 migrated d = record {
   room = max_entries;
+  reach = STANDARD_REACH;
   index = map.from_entries (migrated_entries (map.entries d.index));
   epoch = d.epoch;
   register = d.register;

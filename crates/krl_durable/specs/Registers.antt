@@ -12,6 +12,8 @@ Register = List (ℕ × Record)
 pub record Durable : Type 0 where
   -- how many entries the index has room for
   pub room : ℕ
+  -- how many slots one grant takes at most
+  pub reach : ℕ
   pub index : Index
   pub epoch : ℕ
   pub register : Register

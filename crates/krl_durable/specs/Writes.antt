@@ -5,6 +5,7 @@ use Rattle.krl_modes.specs.declared.mode.Mode.{Mode}
 use Rattle.krl_modes.specs.Modes.{range_of, key_of}
 use Rattle.krl_modes.specs.Parts.{lets_insert, is_range_X, is_key_X}
 use Rattle.krl_modes.specs.Limits.{max_room}
+use Rattle.krl_messages.specs.Ascending.{max_holdings}
 use Rattle.krl_messages.specs.declared.write_op.WriteOp.{WriteOp}
 use Rattle.krl_messages.specs.declared.write_op.WriteOp.TheVariants as write
 use Rattle.krl_messages.specs.declared.outcome.Outcome.{Outcome}
@@ -16,6 +17,10 @@ use Rattle.krl_durable.specs.Registers.{Durable, record_of, with_record}
 -- an index can have room for so many entries
 abbrev pub IsRoom : ℕ → Type 0
 IsRoom n = (1 ≤ n) × (n ≤ max_room)
+
+-- a grant can take at most so many slots
+abbrev pub IsReach : ℕ → Type 0
+IsReach n = (1 ≤ n) × (n ≤ max_holdings)
 
 -- the writer's modes, by slot, are what the write needs
 abbrev pub held : Index → (ℕ → Mode) → WriteOp → Bool

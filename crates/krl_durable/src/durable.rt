@@ -19,13 +19,15 @@ ghost use Rattle.krl_durable.specs.InitialEntries.{AreGood, Refuses};
 ghost use Rattle.krl_durable.specs.Remade.{MakesAgain, of_parts, fresh};
 ghost use Rattle.krl_durable.specs.Migrations.{migrated_entries, migrated, CannotMigrate};
 ghost use Rattle.krl_messages.specs.Writes.{op_key};
-ghost use Rattle.krl_durable.specs.Writes.{IsRoom, judge, applied};
+ghost use Rattle.krl_durable.specs.Writes.{IsRoom, IsReach, judge, applied};
 ghost use Rattle.krl_modes.specs.declared.limits.TheConstants.{MAX_CLIENTS};
 ghost use Rattle.krl_modes.specs.Limits.{max_entries};
 
 use crate::durable_v1::DurableV1;
 use crate::index::Index;
+use crate::limits::Limits;
 use crate::not_migrated::NotMigrated;
+use crate::reach::Reach;
 use crate::record::Record;
 use crate::refused::EntriesRefused;
 use crate::register::Register;
@@ -41,6 +43,7 @@ use std::marker::Model;
 #[derive(Drop)]
 pub struct Durable {
     index: Index,
+    reach: Reach,
     epoch: u64,
     register: Register,
 }
@@ -64,6 +67,7 @@ impl Model for Durable {
 
     ghost view = { λ d. record {
       room = d.index.room;
+      reach = d.reach;
       index = d.index.index;
       epoch = d.epoch;
       register = d.register;
@@ -99,14 +103,16 @@ impl Durable {
         let index = Index::new(alloc, Room::standard(), entries)?;
         Ok(Durable {
             index,
+            reach: Reach::standard(),
             epoch: 0,
             register: Register::new(alloc),
         })
     }
 
     /// What was kept elsewhere: these entries, in any order, at this epoch, and these records of
-    /// clients, in order of first registration. There is room for so many entries from the start,
-    /// so that no later write takes memory.
+    /// clients, in order of first registration; with these limits, which may be others than it had
+    /// before. There is room for so many entries from the start, so that no later write takes
+    /// memory.
     ///
     /// Clients are below 64, with one record each; an incarnation is from 1 to END, `last` at most
     /// END, and the outcome None exactly if `last` is 0.
@@ -118,7 +124,7 @@ impl Durable {
     /// `OutOfMemory` at any point.
     pub fn from_parts(
         alloc: Global,
-        room: Room,
+        limits: Limits,
         entries: &[(u64, Value)],
         epoch: u64,
         records: &[(u64, Record)],
@@ -127,14 +133,16 @@ impl Durable {
         requires each { AllByRecursion IsRow records.now }
         requires once { IsDistinct nat_eq (keys_of records.now) }
         ensures { MatchResult result
-            (λ d. (length entries.now ≤ room) × AreGood entries.now (length entries.now)
-            × (d ≡ of_parts room entries.now epoch records.now))
-            (Refuses room entries.now) }
+            (λ d. (length entries.now ≤ limits.room) × AreGood entries.now (length entries.now)
+            × (d ≡ of_parts limits entries.now epoch records.now))
+            (Refuses limits.room entries.now) }
     {
+        let Limits { room, reach } = limits;
         let index = Index::new(alloc, room, entries)?;
         let register = Register::from_records(alloc, records)?;
         Ok(Durable {
             index,
+            reach,
             epoch,
             register,
         })
@@ -159,7 +167,7 @@ impl Durable {
         }
         let entries = migrated_entries(alloc, old.entries())?;
         let records = old.records(alloc)?;
-        match Durable::from_parts(alloc, Room::standard(), &entries, old.epoch(), &records) {
+        match Durable::from_parts(alloc, Limits::standard(), &entries, old.epoch(), &records) {
             Ok(durable) => Ok(durable),
             Err(_) => Err(NotMigrated::OutOfMemory),
         }
@@ -170,9 +178,10 @@ impl Durable {
         ensures epoch { result ≡ self.now.epoch }
         ensures kept { IsKept self.now }
     {
-        // By the clauses of these three the prover knows what `kept` says.
+        // By the clauses of these four the prover knows what `kept` says.
         self.index.entries();
         self.index.room();
+        self.reach.get();
         self.register.rows();
         self.epoch
     }
@@ -191,6 +200,32 @@ impl Durable {
         ensures in_range { IsRoom self.now.room }
     {
         self.index.room()
+    }
+
+    /// How many slots one grant takes at most. It stays as it was given.
+    pub fn reach(&self) -> usize
+        ensures reach { result ≡ self.now.reach }
+        ensures in_range { IsReach result }
+    {
+        self.reach.get()
+    }
+
+    /// The limits that it was given: the room and the reach.
+    pub fn limits(&self) -> Limits
+        ensures { result ≡ record { room = self.now.room; reach = self.now.reach } }
+    {
+        Limits {
+            room: self.index.room(),
+            reach: self.reach,
+        }
+    }
+
+    /// How many entries the index has: no more than it has room for.
+    pub fn len(&self) -> usize
+        ensures len { result ≡ length (map.entries self.now.index) }
+        ensures few { result ≤ self.now.room }
+    {
+        self.index.len()
     }
 
     /// The entries of the index, in key order, as runs that lie side by side. It takes no memory.
@@ -251,8 +286,9 @@ impl Durable {
         self.register.get(c)
     }
 
-    /// The records, in order of first registration. With the room, the entries and the epoch,
-    /// `from_parts` makes of them what survives here, and refuses them for want of memory alone.
+    /// The records, in order of first registration. With the entries, the epoch, and any limits
+    /// that leave room for the entries, `from_parts` makes of them what survives here, with those
+    /// limits. It refuses them for want of memory alone.
     ///
     /// # Errors
     ///

@@ -8,6 +8,7 @@ use Rattle.krl_messages.specs.Members.{In}
 use Rattle.krl_messages.proofs.Members.{in_both, in_right}
 use Rattle.krl_wire.specs.declared.fault.Fault.{Fault}
 use Rattle.krl_wire.specs.Reading as reading
+use Rattle.krl_durable.specs.declared.limits.Limits.{Limits}
 use Rattle.krl_durable.specs.Registers.{Durable}
 use Rattle.krl_durable.specs.declared.change.Change.{Change}
 use Rattle.krl_durable.specs.declared.change.Change.TheVariants as change
@@ -363,9 +364,9 @@ started_role d (role.Server s) h = h
 started_role d (role.Client k) h = absurd h
 started_role d (role.Left bye) h = absurd h
 
-starts : (room epoch : ℕ) (entries : List Row) (records : List RecordRow) (e : Endpoint) (r : Reply) → OpensClosed room epoch entries records (Some e) r → IsHost e (record { memory = start (parts room epoch entries records); kept = 0; unkept = Started ∷ []; unsent = [] })
-starts room epoch entries records e r d = record {
-  server = started_role (parts room epoch entries records) e.role d.3;
+starts : (l : Limits) (epoch : ℕ) (entries : List Row) (records : List RecordRow) (e : Endpoint) (r : Reply) → OpensClosed l epoch entries records (Some e) r → IsHost e (record { memory = start (parts l epoch entries records); kept = 0; unkept = Started l ∷ []; unsent = [] })
+starts l epoch entries records e r d = record {
+  server = started_role (parts l epoch entries records) e.role d.3;
   outgoing = d.4;
   confirmed = ap (λ n. n.confirmed) d.5;
   unconfirmed = ap (λ n. length n.marks) d.5;

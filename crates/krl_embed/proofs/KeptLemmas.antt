@@ -92,6 +92,6 @@ all s t (r ∷ rs) is =
 pub all_are_kept : ChangesAreKept
 all_are_kept = record {
   named = named;
-  opened = λ room epoch entries records s is. ap (λ (x : Server). x.durable) is;
+  opened = λ l epoch entries records s is. ap (λ (x : Server). x.durable) is;
   kept = all;
 }

@@ -20,6 +20,7 @@ use Rattle.krl_embed.specs.declared.server_calls.Stepped.{Stepped}
 use Rattle.krl_embed.specs.Endpoints.{IsCode}
 use Rattle.krl_embed.specs.Frames.{told_frames}
 use Rattle.krl_embed.specs.Notes.{counted, ConfirmsNotes, Takes}
+use Rattle.krl_durable.specs.declared.limits.Limits.{Limits}
 use Rattle.krl_embed.specs.Opening.{parts, OpensClosed}
 use Rattle.krl_embed.specs.Servers.{OnServer, IsUnchanged, Hears, Nudges}
 
@@ -76,10 +77,10 @@ pub record Gives (h : Host) (f : Endpoint) (was now : List ℕ) : Type 0 where
 
 -- Each call on the server of a host is one of its moves, or none.
 pub record CallsAreMoves : Type 0 where
-  pub starts : (room epoch : ℕ) (entries : List Row) (records : List RecordRow) (e : Endpoint) (r : Reply) →
-      OpensClosed room epoch entries records (Some e) r →
-      let memory = start (parts room epoch entries records) in
-      IsHost e (record { memory = memory; kept = 0; unkept = Started ∷ []; unsent = [] })
+  pub starts : (l : Limits) (epoch : ℕ) (entries : List Row) (records : List RecordRow) (e : Endpoint) (r : Reply) →
+      OpensClosed l epoch entries records (Some e) r →
+      let memory = start (parts l epoch entries records) in
+      IsHost e (record { memory = memory; kept = 0; unkept = Started l ∷ []; unsent = [] })
   pub judges : (bytes : List ℕ) (e f : Endpoint) (h : Host) (r : Stepped) → IsHost e h →
       OnServer IsUnchanged (Hears bytes) e f r → f.notes ≡ counted (length e.outgoing) r.change e.notes →
       IsHost f h ⊎ Judged bytes h f

@@ -69,10 +69,15 @@ Did Becomes k old l new _ = ⊥
 abbrev pub Refused : Code → Fields → List ℕ → Fields → List ℕ → Option Code → Type 0
 Refused due k old l new c = (l ≡ k) × (new ≡ old) × (c ≡ Some due)
 
--- the client is given these bytes; bytes that are no message change nothing
+-- bytes that are no message change nothing; the fault is told, unless memory runs out first
+abbrev pub IsUnread : Fault → Fields → List ℕ → Fields → List ℕ → Reply → Option Code → Type 0
+IsUnread f k old l new r (Some code.BadMessage) = (l ≡ k) × (new ≡ old) × (r.detail ≡ fault_number f)
+IsUnread f k old l new r (Some code.OutOfMemory) = (l ≡ k) × (new ≡ old) × (r.detail ≡ 0)
+IsUnread f k old l new r _ = ⊥
+
+-- the client is given these bytes
 abbrev pub HearsRead : Result ToClient Fault → Fields → List ℕ → Fields → List ℕ → Reply → Type 0
-HearsRead (Err f) k old l new r =
-    Refused code.BadMessage k old l new (code_of r) × (r.detail ≡ fault_number f)
+HearsRead (Err f) k old l new r = IsUnread f k old l new r (code_of r)
 HearsRead (Ok m) k old l new r =
     (r.detail ≡ 0)
     × Did (λ x list. Follows (meaning k) (case_of (meaning k) m) (meaning x) list) k old l new (code_of r)

@@ -6,6 +6,7 @@ use Rattle.krl_messages.specs.declared.write_op.WriteOp.TheVariants as write
 use Rattle.krl_durable.specs.declared.change.Change.{Change}
 use Rattle.krl_durable.specs.declared.change.Change.TheVariants as change
 use Rattle.krl_durable.specs.Changes.{changed_by}
+use Rattle.krl_durable.specs.declared.limits.Limits.{Limits}
 use Rattle.krl_durable.specs.Registers.{Durable}
 use Rattle.krl_server.specs.declared.state.State.{State}
 use Rattle.krl_server.specs.StateMeaning.{meaning}
@@ -60,9 +61,9 @@ pub record ChangesAreKept : Type 0 where
   pub named : (o : Option Change) → change_named (change_row o) ≡ o
   -- a server that is opened on some parts has them, at the next epoch
   pub opened :
-      (room epoch : ℕ) (entries : List Row) (records : List RecordRow) (s : State)
-      → meaning s ≡ start (parts room epoch entries records)
-      → (meaning s).durable ≡ raised (parts room epoch entries records)
+      (l : Limits) (epoch : ℕ) (entries : List Row) (records : List RecordRow) (s : State)
+      → meaning s ≡ start (parts l epoch entries records)
+      → (meaning s).durable ≡ raised (parts l epoch entries records)
   -- after any answers, what they make of what survived before them is what survives
   pub kept :
       (s t : State) (rs : List Stepped) → AllAnswered s rs t → (meaning t).durable ≡ all_kept rs (meaning s).durable

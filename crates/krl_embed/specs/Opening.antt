@@ -7,10 +7,11 @@ use Rattle.krl_modes.specs.declared.point.TheConstants.{END}
 use Rattle.krl_modes.specs.declared.limits.TheConstants.{MAX_CLIENTS}
 use Rattle.krl_durable.specs.declared.refused.EntriesRefused.{EntriesRefused}
 use Rattle.krl_durable.specs.declared.refused.EntriesRefused.TheVariants as entries_refused
+use Rattle.krl_durable.specs.declared.limits.Limits.{Limits}
 use Rattle.krl_durable.specs.Registers.{Durable}
 use Rattle.krl_durable.specs.Remade.{of_parts}
 use Rattle.krl_durable.specs.InitialEntries.{Refuses, AreGood}
-use Rattle.krl_durable.specs.Writes.{IsRoom}
+use Rattle.krl_durable.specs.Writes.{IsRoom, IsReach}
 use Rattle.krl_client.specs.Clients.{begun}
 use Rattle.krl_client.specs.Ticks.{says_hello}
 use Rattle.krl_client.specs.Fields.{Fields}
@@ -60,9 +61,9 @@ abbrev pub Begins : ℕ → ℕ → Option Endpoint → Option Endpoint → Repl
 Begins number incarnation None after r = BeginsClosed number incarnation after r
 Begins number incarnation (Some e) after r = (after ≡ Some e) × IsCode code.OpenAlready r
 
--- what was kept
-abbrev pub parts : ℕ → ℕ → List Row → List RecordRow → Durable
-parts room epoch entries records = of_parts room (map entry_of entries) epoch (map record_of records)
+-- what was kept, with these limits
+abbrev pub parts : Limits → ℕ → List Row → List RecordRow → Durable
+parts l epoch entries records = of_parts l (map entry_of entries) epoch (map record_of records)
 
 -- a server that starts on what was kept
 abbrev pub IsStartedRole : Durable → Role → Type 0
@@ -123,24 +124,34 @@ RefusesParts room epoch entries records i _ = ⊥
 abbrev pub RefusesKept : ℕ → ℕ → List Row → List RecordRow → Reply → Type 0
 RefusesKept room epoch entries records r = RefusesParts room epoch entries records r.detail (code_of r)
 
--- no index has such a room; or it has, and none starts
-abbrev pub RefusesOpening : ℕ → ℕ → List Row → List RecordRow → Reply → Type 0
-RefusesOpening room epoch entries records r =
-    ((IsRoom room → ⊥) × IsCode code.BadRoom r) ⊎ (IsRoom room × RefusesKept room epoch entries records r)
+-- a server can have these limits
+abbrev pub AreLimits : Limits → Type 0
+AreLimits l = IsRoom l.room × IsReach l.reach
 
--- nothing is wrong with what was kept
-pub record MayOpen (room epoch : ℕ) (entries : List Row) (records : List RecordRow) : Type 0 where
-  pub is_room : IsRoom room
+-- or none can: the room is refused first
+abbrev pub RefusesLimits : Limits → Reply → Type 0
+RefusesLimits l r =
+    ((IsRoom l.room → ⊥) × IsCode code.BadRoom r)
+    ⊎ (IsRoom l.room × (IsReach l.reach → ⊥) × IsCode code.BadReach r)
+
+-- no server can have such limits; or one can, and none starts
+abbrev pub RefusesOpening : Limits → ℕ → List Row → List RecordRow → Reply → Type 0
+RefusesOpening l epoch entries records r =
+    RefusesLimits l r ⊎ (AreLimits l × RefusesKept l.room epoch entries records r)
+
+-- nothing is wrong with the limits, nor with what was kept
+pub record MayOpen (l : Limits) (epoch : ℕ) (entries : List Row) (records : List RecordRow) : Type 0 where
+  pub limits : AreLimits l
   pub parts : HasParts epoch entries records
-  pub few : length (map entry_of entries) ≤ room
+  pub few : length (map entry_of entries) ≤ l.room
   pub keys : AreGood (map entry_of entries) (length (map entry_of entries))
 
-abbrev pub OpensClosed : ℕ → ℕ → List Row → List RecordRow → Option Endpoint → Reply → Type 0
-OpensClosed room epoch entries records None r = RefusesOpening room epoch entries records r
-OpensClosed room epoch entries records (Some e) r =
-    (code_of r ≡ Some code.Done) × (r.detail ≡ suc epoch) × MayOpen room epoch entries records
-    × IsStartedRole (parts room epoch entries records) e.role × (e.outgoing ≡ []) × (e.notes ≡ opening)
+abbrev pub OpensClosed : Limits → ℕ → List Row → List RecordRow → Option Endpoint → Reply → Type 0
+OpensClosed l epoch entries records None r = RefusesOpening l epoch entries records r
+OpensClosed l epoch entries records (Some e) r =
+    (code_of r ≡ Some code.Done) × (r.detail ≡ suc epoch) × MayOpen l epoch entries records
+    × IsStartedRole (parts l epoch entries records) e.role × (e.outgoing ≡ []) × (e.notes ≡ opening)
 
-abbrev pub Opens : ℕ → ℕ → List Row → List RecordRow → Option Endpoint → Option Endpoint → Reply → Type 0
-Opens room epoch entries records None after r = OpensClosed room epoch entries records after r
-Opens room epoch entries records (Some e) after r = (after ≡ Some e) × IsCode code.OpenAlready r
+abbrev pub Opens : Limits → ℕ → List Row → List RecordRow → Option Endpoint → Option Endpoint → Reply → Type 0
+Opens l epoch entries records None after r = OpensClosed l epoch entries records after r
+Opens l epoch entries records (Some e) after r = (after ≡ Some e) × IsCode code.OpenAlready r

@@ -15,7 +15,7 @@ use crate::rows::{Row, copy_rows};
 use krl_client::{Client, CommandRefused, FindAnswer};
 use krl_messages::{Items, ToServer, WriteOp};
 use krl_modes::Mode;
-use krl_wire::to_client_of;
+use krl_wire::{ReadError, to_client_of};
 use std::alloc::Global;
 use std::mem::replace;
 
@@ -63,9 +63,10 @@ fn said(
 fn hear(alloc: Global, client: &mut Client, outgoing: &mut Frames, bytes: &[u8]) -> Reply
     ensures { calls.Hears bytes.now client.old outgoing.old client.new outgoing.new result }
 {
-    let message = match to_client_of(bytes) {
+    let message = match to_client_of(alloc, bytes) {
         Ok(message) => message,
-        Err(fault) => return Reply::with(Code::BadMessage, fault as u64),
+        Err(ReadError::OutOfMemory) => return Reply::of(Code::OutOfMemory),
+        Err(ReadError::Fault(fault)) => return Reply::with(Code::BadMessage, fault as u64),
     };
     match client.step(&message) {
         Ok(messages) => say(alloc, outgoing, messages.as_slice()),

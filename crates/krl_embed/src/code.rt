@@ -75,6 +75,8 @@ pub enum Code {
     Unkept,
     /// More notes were confirmed than were reported.
     NotTold,
+    /// A grant that takes no slot, or more than 128.
+    BadReach,
 }
 
 impl From<AllocError> for Code {

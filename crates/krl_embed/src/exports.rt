@@ -119,9 +119,10 @@ pub extern "C" fn krl_respell_to_client(alloc: Global, bytes: &[u8], spelling: &
     ensures { Respells reading.to_client_of wire.to_client bytes.now
         spelling.old spelling.new result }
 {
-    let message = match to_client_of(bytes) {
+    let message = match to_client_of(alloc, bytes) {
         Ok(message) => message,
-        Err(fault) => return Reply::with(Code::BadMessage, fault as u64),
+        Err(ReadError::OutOfMemory) => return Reply::of(Code::OutOfMemory),
+        Err(ReadError::Fault(fault)) => return Reply::with(Code::BadMessage, fault as u64),
     };
     match spell_to_client(alloc, &message) {
         Ok(spelled) => copy_bytes(&spelled, spelling),

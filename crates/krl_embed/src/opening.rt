@@ -6,17 +6,15 @@ ghost use Rattle.std.specs.List.{AllByRecursion};
 ghost use Rattle.krl_server.specs.StateMeaning.{meaning};
 ghost use Rattle.krl_server.specs.Steps.{start};
 ghost use Rattle.krl_embed.specs.Replies.{code_of};
-ghost use Rattle.krl_embed.specs.Notes.{opening};
 ghost use Rattle.krl_embed.specs.Opening.{parts, place_said, refused_code, MayOpen};
-ghost use Rattle.krl_embed.specs.Opening.{RefusesKept, RefusesOpening, RefusesRecords};
+ghost use Rattle.krl_embed.specs.Opening.{AreLimits, RefusesLimits, RefusesKept, RefusesRecords};
 ghost use Rattle.krl_embed.specs.Records.{AreRows, is_record, record_of};
 
 use crate::code::Code;
-use crate::notes::Notes;
 use crate::records::{RecordRow, push_record};
 use crate::reply::Reply;
 use crate::rows::{Row, entries_of};
-use krl_durable::{Durable, EntriesRefused, Record, Room};
+use krl_durable::{Durable, EntriesRefused, Limits, Reach, Record, Room};
 use krl_modes::END;
 use krl_server::{Server, ServerNotStarted};
 use std::alloc::Global;
@@ -61,20 +59,21 @@ fn entries_refused(refused: EntriesRefused) -> Reply
     }
 }
 
-// What survived, of these rows, in an index with this room.
+// What survived, of these rows, with these limits.
 fn durable_of(
     alloc: Global,
-    room: Room,
+    limits: Limits,
     epoch: u64,
     entries: &[Row],
     records: &[RecordRow],
 ) -> Result<Durable, Reply>
-    ensures durable { IfOk result (λ d. d ≡ parts room epoch entries.now records.now) }
-    ensures good { OnOk result (MayOpen room epoch entries.now records.now) }
-    ensures why { IfErr result (RefusesKept room epoch entries.now records.now) }
+    ensures durable { IfOk result (λ d. d ≡ parts limits epoch entries.now records.now) }
+    ensures good { OnOk result (MayOpen limits epoch entries.now records.now) }
+    ensures why { IfErr result (RefusesKept limits.room epoch entries.now records.now) }
 {
-    // By its clause `in_range` the prover knows how great the room may be.
-    room.get();
+    // By their clauses `in_range` the prover knows how great the limits may be.
+    limits.room.get();
+    limits.reach.get();
     if epoch >= END {
         return Err(Reply::of(Code::Spent));
     }
@@ -87,29 +86,44 @@ fn durable_of(
         Ok(records) => records,
         Err(reply) => return Err(reply),
     };
-    match Durable::from_parts(alloc, room, &entries, epoch, &records) {
+    match Durable::from_parts(alloc, limits, &entries, epoch, &records) {
         Ok(durable) => Ok(durable),
         Err(refused) => Err(entries_refused(refused)),
     }
 }
 
-// A server that starts on what was kept, in an index with this room. A frame of its own would have
-// the server on the stack once more.
+/// The limits of these numbers, or why there are none.
+pub(crate) fn limits_of(room: usize, reach: usize) -> Result<Limits, Reply>
+    ensures limits { IfOk result (λ l. l ≡ record { room = room; reach = reach }) }
+    ensures good { OnOk result (AreLimits (record { room = room; reach = reach })) }
+    ensures why { IfErr result (RefusesLimits (record { room = room; reach = reach })) }
+{
+    let Some(room) = Room::new(room) else {
+        return Err(Reply::of(Code::BadRoom));
+    };
+    let Some(reach) = Reach::new(reach) else {
+        return Err(Reply::of(Code::BadReach));
+    };
+    Ok(Limits { room, reach })
+}
+
+/// A server that starts on what was kept, with these limits. A frame of its own would have the
+/// server on the stack once more.
 #[inline(always)]
-fn start_with(
+pub(crate) fn start(
     alloc: Global,
-    room: Room,
+    limits: Limits,
     epoch: u64,
     entries: &[Row],
     records: &[RecordRow],
 ) -> Result<Server, Reply>
     ensures server { IfOk result
-        (λ s. meaning s ≡ start (parts room epoch entries.now records.now)) }
-    ensures good { OnOk result (MayOpen room epoch entries.now records.now) }
-    ensures why { IfErr result (RefusesKept room epoch entries.now records.now) }
+        (λ s. meaning s ≡ start (parts limits epoch entries.now records.now)) }
+    ensures good { OnOk result (MayOpen limits epoch entries.now records.now) }
+    ensures why { IfErr result (RefusesKept limits.room epoch entries.now records.now) }
 {
     // No `?`: the clause `why` names the error as it came.
-    let durable = match durable_of(alloc, room, epoch, entries, records) {
+    let durable = match durable_of(alloc, limits, epoch, entries, records) {
         Ok(durable) => durable,
         Err(reply) => return Err(reply),
     };
@@ -119,41 +133,5 @@ fn start_with(
             ServerNotStarted::Spent => Err(Reply::of(Code::Spent)),
             ServerNotStarted::OutOfMemory => Err(Reply::of(Code::OutOfMemory)),
         },
-    }
-}
-
-/// The notes of a server that is about to start with room for so many entries: its opening is
-/// reported. Or why none starts.
-pub(crate) fn notes_at_start(alloc: Global, room: usize) -> Result<Notes, Reply>
-    ensures notes { IfOk result (λ n. n ≡ opening) }
-    ensures why { IfErr result
-        (λ refused. (epoch : ℕ) (entries : List Row) (records : List RecordRow)
-        → RefusesOpening room epoch entries records refused) }
-{
-    match Room::new(room) {
-        Some(_) => match Notes::opening(alloc) {
-            Ok(notes) => Ok(notes),
-            Err(_) => Err(Reply::of(Code::OutOfMemory)),
-        },
-        None => Err(Reply::of(Code::BadRoom)),
-    }
-}
-
-/// A server that starts on what was kept, with room for so many entries.
-pub(crate) fn start(
-    alloc: Global,
-    room: usize,
-    epoch: u64,
-    entries: &[Row],
-    records: &[RecordRow],
-) -> Result<Server, Reply>
-    ensures server { IfOk result
-        (λ s. meaning s ≡ start (parts room epoch entries.now records.now)) }
-    ensures good { OnOk result (MayOpen room epoch entries.now records.now) }
-    ensures why { IfErr result (RefusesOpening room epoch entries.now records.now) }
-{
-    match Room::new(room) {
-        Some(room) => start_with(alloc, room, epoch, entries, records),
-        None => Err(Reply::of(Code::BadRoom)),
     }
 }

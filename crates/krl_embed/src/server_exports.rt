@@ -12,7 +12,8 @@ use crate::code::Code;
 use crate::endpoint::{Endpoint, Role};
 use crate::frames::Frames;
 use crate::handle::{Handle, put, take};
-use crate::opening::{notes_at_start, start};
+use crate::notes::Notes;
+use crate::opening::{limits_of, start};
 use crate::records::RecordRow;
 use crate::reply::Reply;
 use crate::rows::Row;
@@ -20,30 +21,36 @@ use crate::server_calls::{self, Recorded, ServerState, Stepped};
 use crate::server_shows::{self, HeldSlot, Waiting};
 use std::alloc::Global;
 
-/// Starts a server on what was kept, with room for so many entries, in a closed handle. The detail
-/// is its epoch.
+/// Starts a server on what was kept, with room for so many entries and grants of up to so many slots,
+/// in a closed handle. The detail is its epoch.
 #[unsafe(no_mangle)]
 pub extern "C" fn krl_server_open(
     alloc: Global,
     handle: &mut Handle,
     room: usize,
+    reach: usize,
     epoch: u64,
     entries: &[Row],
     records: &[RecordRow],
 ) -> Reply
-    ensures { opening.Opens room epoch entries.now records.now handle.old.owned.value
-        handle.new.owned.value result }
+    ensures { opening.Opens (record { room = room; reach = reach }) epoch entries.now records.now
+        handle.old.owned.value handle.new.owned.value result }
 {
     if let Some(endpoint) = take(alloc, handle) {
         put(handle, endpoint);
         return Reply::of(Code::OpenAlready);
     }
-    // Before the server: to give it up here would have it on the stack once more.
-    let notes = match notes_at_start(alloc, room) {
-        Ok(notes) => notes,
+    // No `?`, here and below: the contract names the reply as it came.
+    let limits = match limits_of(room, reach) {
+        Ok(limits) => limits,
         Err(reply) => return reply,
     };
-    let server = match start(alloc, room, epoch, entries, records) {
+    // Before the server: to give it up here would have it on the stack once more.
+    let notes = match Notes::opening(alloc) {
+        Ok(notes) => notes,
+        Err(_) => return Reply::of(Code::OutOfMemory),
+    };
+    let server = match start(alloc, limits, epoch, entries, records) {
         Ok(server) => server,
         Err(reply) => return reply,
     };

@@ -6,6 +6,9 @@ use Rattle.krl_messages.specs.declared.to_server.ToServer.{ToServer}
 use Rattle.krl_messages.specs.declared.to_client.ToClient.{ToClient}
 use Rattle.krl_messages.specs.Members.{In}
 use Rattle.krl_messages.proofs.Members.{in_both}
+use Rattle.krl_messages.specs.Values.{Value}
+use Rattle.krl_durable.specs.declared.limits.Limits.{Limits}
+use Rattle.krl_durable.specs.Limits.{sized}
 use Rattle.krl_machine.specs.Links.{Link}
 use Rattle.krl_machine.specs.Worlds.{Logged}
 use Rattle.krl_server.specs.Servers.{Server}
@@ -121,24 +124,42 @@ old_cases P old epoch s here rest e x = by_test (nat_eq e epoch) refl
     by_test true same is = subst (P e) (same_Some s x is) (subst (λ y. P y s) (sym (eqb-true e epoch same)) here)
     by_test false other is = rest e x (eqb-false e epoch other) is
 
+-- the machine sees no limits
+
+abbrev sized_server : Limits → Server → Server
+sized_server l s = record s { durable = sized l s.durable }
+
+mirrors_sized : (l : Limits) (first : ℕ → Option Value) (f : Fenced) (s : Server) (of : ℕ → Link) (log : List Logged) → Mirrors first f s of log → Mirrors first f (sized_server l s) of log
+mirrors_sized l first f s of log m = record {
+  reached = m.reached;
+  world = m.world;
+  shows = record { link = m.shows.link; heard = m.shows.heard };
+  sound = record { near = m.sound.near; begun = m.sound.begun; strangers = m.sound.strangers; placed = m.sound.placed; clients = m.sound.clients };
+  empty = m.empty;
+  blank = m.blank;
+}
+
+old_of_sized : (l : Limits) (s : Server) (f : Fenced) → ShowsOld (sized_server l s) f → ShowsOld s f
+old_of_sized l s f x = record { old = x.old; copy = x.copy; link = x.link; heard = x.heard; serves = x.serves; rows = x.rows; recovers = x.recovers; rebuilds = x.rebuilds }
+
 -- a server starts, and this one is old
-pub starts_shown : (w : FencedWorld) (h : Shown w) (s : Server) → w.world.server ≡ Up s → can_start (crash s) ≡ true → Shown (record { world = served w.world (Up (start (crash s))) [] []; old = set_old w.old s.durable.epoch s })
-starts_shown w h s up can =
+pub starts_shown : (w : FencedWorld) (h : Shown w) (s : Server) (l : Limits) → w.world.server ≡ Up s → can_start (crash s) ≡ true → Shown (record { world = served w.world (Up (start (sized l (crash s)))) [] []; old = set_old w.old s.durable.epoch s })
+starts_shown w h s l up can =
     let is : h.store ≡ s = same_up h.store s (sym h.up ∙ up) in
     let mirrors = subst (λ x. Mirrors (first_of w.world.opening) h.fenced x h.of h.log) is h.mirrors in
-    let r = store_follows.start (first_of w.world.opening) h.fenced s h.of h.log mirrors can in
+    let r = store_follows.start (first_of w.world.opening) h.fenced (sized_server l s) h.of h.log (mirrors_sized l (first_of w.world.opening) h.fenced s h.of h.log mirrors) can in
     let x = r.0 in
     record {
-      store = start (crash s);
+      store = start (sized l (crash s));
       up = refl;
       fenced = x.fenced;
       of = x.after;
       log = h.log;
       mirrors = x.mirrors;
-      world = served_mirrors w.world (Up (start (crash s))) h.of x.after h.log h.log [] [] h.world x.grows x.clients (λ o i. absurd i) (x.mirrors.shows, x.mirrors.sound) (nil_right (oldest_first h.log))
+      world = served_mirrors w.world (Up (start (sized l (crash s)))) h.of x.after h.log h.log [] [] h.world x.grows x.clients (λ o i. absurd i) (x.mirrors.shows, x.mirrors.sound) (nil_right (oldest_first h.log))
           (let e = ap (λ n. (durable_of n).epoch) up in omega (arith, e)) (λ o i. absurd i);
       old = old_cases (λ e y. (y.durable.epoch ≡ e) × ShowsOld y x.fenced × IsSound y) w.old s.durable.epoch s
-          (refl, r.1.shows, mirrors.sound)
+          (refl, old_of_sized l s x.fenced r.1.shows, mirrors.sound)
           (λ e y ne at. let k = h.old e y at in (k.0, r.1.others y k.2 k.1, k.2));
     }
 

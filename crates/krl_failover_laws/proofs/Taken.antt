@@ -87,6 +87,6 @@ module _ (w : FencedWorld) (h : Shown w) where
 
 pub move_shown : (w v : FencedWorld) → Moves w v → Shown w → Shown v
 move_shown w v (takes s answer u ne t) h = takes_shown w h s answer u ne t
-move_shown w v (starts s up can) h = starts_shown w h s up can
+move_shown w v (starts s l up fits can) h = starts_shown w h s l up can
 move_shown w v (old_reads epoch s t m outs is at step kept) h = old_reads_shown w h epoch s is t m outs at step kept
 move_shown w v (old_nudged epoch c s is) h = old_nudged_shown w h epoch s is c

@@ -5,6 +5,7 @@ use Rattle.krl_messages.specs.Members.{In}
 use Rattle.krl_client.specs.Clients.{Client}
 use Rattle.krl_client.specs.Commands.{locked}
 use Rattle.krl_client.specs.Messages.{says_ack}
+use Rattle.krl_durable.specs.Limits.{Fits, standard_limits}
 use Rattle.krl_server.specs.Servers.{Server}
 use Rattle.krl_server.specs.Steps.{start}
 use Rattle.krl_server.specs.Effects.{effect}
@@ -72,13 +73,17 @@ unchanged =
     server_keeps.step_durable (joined one.m) (granted one.m) lock (grant ∷ []) (reads_lock one.m one.index_entries)
     ∙ ap (λ k. (effect (joined one.m) lock k).server.durable) (lock_case one.m one.index_entries)
 
+-- the next server has the limits that the first one had
+fits : Fits standard_limits (joined one.m).durable
+fits = record { room = one.opens.kept.room; reach = one.opens.kept.reach; entries = one.opens.kept.few }
+
 pub old_grants : OldGrants
 unfolding opened
 old_grants = record {
   before = fenced;
   between = told_so;
   after = record told_so { world = w7 };
-  reached = moved (in_one w4) fenced asked (starts (joined one.m) refl refl);
+  reached = moved (in_one w4) fenced asked (starts (joined one.m) standard_limits refl fits refl);
   grants = old_reads 1 (joined one.m) (granted one.m) lock (grant ∷ []) refl lock_sent (reads_lock one.m one.index_entries) unchanged;
   accepts = takes (step.Deliver 5) told.Done w7 (λ e. cc) accepts;
   store = start (joined one.m).durable;

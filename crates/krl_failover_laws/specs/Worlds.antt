@@ -5,7 +5,9 @@ use Rattle.krl_modes.specs.declared.part.RangePart.TheVariants as range
 use Rattle.krl_messages.specs.declared.to_server.ToServer.{ToServer}
 use Rattle.krl_messages.specs.declared.to_client.ToClient.{ToClient}
 use Rattle.krl_messages.specs.Members.{In}
+use Rattle.krl_durable.specs.declared.limits.Limits.{Limits}
 use Rattle.krl_durable.specs.Registers.{Durable}
+use Rattle.krl_durable.specs.Limits.{Fits, sized}
 use Rattle.krl_server.specs.Servers.{Server}
 use Rattle.krl_server.specs.Steps.{ServerStep, nudge, crash, start, can_start}
 use Rattle.krl_steps.specs.declared.step.Step.{Step}
@@ -27,10 +29,11 @@ pub data Moves (w : FencedWorld) : FencedWorld → Type 0 where
   -- a client or the store's server takes a step. A server that crashes is one that takes no more steps
   takes : (s : Step) (answer : Answer) (v : State) → s ≢ step.CrashServer → Takes w.world s answer v →
       Moves w (record w { world = v })
-  -- a server starts on what survives the store's server s, which is fenced and goes on as an old one
-  starts : (s : Server) → w.world.server ≡ Up s → can_start (crash s) ≡ true →
+  -- a server starts on what survives the store's server s, with limits that leave room for it. The server s is fenced
+  -- and goes on as an old one
+  starts : (s : Server) (l : Limits) → w.world.server ≡ Up s → Fits l (crash s) → can_start (crash s) ≡ true →
       Moves w (record {
-        world = served w.world (Up (start (crash s))) [] [];
+        world = served w.world (Up (start (sized l (crash s)))) [] [];
         old = set_old w.old s.durable.epoch s;
       })
   -- an old server reads a message that was sent, and changes nothing that survives: its changes are refused

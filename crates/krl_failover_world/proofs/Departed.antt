@@ -1,4 +1,5 @@
 -- Who has left holds nothing.
+use Rattle.std.specs.Prelude.{◌-◌}
 use Rattle.krl_failover_world.proofs.Names.{◌≡◌, ◌≢◌, ℕ, suc, true, false, nat_lt, Some, List, ◌∷◌, if◌then◌else◌, refl, sym, ap, subst, ◌∙◌, same_Some, END, Outcome, WriteOp, ToServer, ToClient, PushBody, In, Waiter, Record}
 use Rattle.krl_failover_world.proofs.Names.{record_of, Row, Rows, mode_at, set_row, arith, eq_cases, ne_eqb, Server, Done, acknowledged, pushes, IsSound, if_case}
 use Rattle.krl_modes.proofs.Basics.{not_both}
@@ -14,7 +15,7 @@ use Rattle.krl_durable.specs.Registers.{Register, with_record, new_record, left_
 use Rattle.krl_durable.specs.Writes.{noted, applied_by}
 use Rattle.krl_table.specs.Rows.{blank_row, set_mode}
 use Rattle.krl_table.specs.Calls.{with_queue, wanted, behind_first, dropped, lowered, cleared, split, merged, mode_beside}
-use Rattle.krl_table.specs.Grants.{taken, granted, max_more}
+use Rattle.krl_table.specs.Grants.{taken, granted}
 use Rattle.krl_table.specs.Replies.{asks_absent}
 use Rattle.krl_table.specs.Reports.{adopted}
 use Rattle.krl_table.proofs.Invariant.Compatible.{mode_here, mode_other}
@@ -121,21 +122,21 @@ module _ (s : Server) (i : IsSound s) (n : ℕ) (u : Waiter) (us : List Waiter) 
   dropped_waits : (k : ℕ) (v : Waiter) → In v (dropped s.rows n k).queue → In v (s.rows k).queue
   dropped_waits k v at = stayed_on s i n u us queue drop_row refl k v (subst (λ (r : Rows). In v (r k).queue) (sym (dropped_is s i n u us queue)) at)
 
-  granted_waits : (k : ℕ) (v : Waiter) → In v (granted s.durable.index s.rows n k).queue → In v (s.rows k).queue
-  granted_waits k v = subst (λ (r : Rows). In v (r k).queue → In v (s.rows k).queue) (sym (granted_is s.durable.index s.rows n u us queue))
-      (along s.durable.index u (λ r. In v (r k).queue → In v (s.rows k).queue) n (λ r j far there fits less at. less (subst (In v) (raised_queue r j u k) at)) max_more n (set_row s.rows n grant_row) (omega arith) (stayed_on s i n u us queue grant_row refl k v))
+  granted_waits : (k : ℕ) (v : Waiter) → In v (granted s.durable.reach s.durable.index s.rows n k).queue → In v (s.rows k).queue
+  granted_waits k v = subst (λ (r : Rows). In v (r k).queue → In v (s.rows k).queue) (sym (granted_is s.durable.reach s.durable.index s.rows n u us queue))
+      (along s.durable.index u (λ r. In v (r k).queue → In v (s.rows k).queue) n (λ r j far there fits less at. less (subst (In v) (raised_queue r j u k) at)) (s.durable.reach - 1) n (set_row s.rows n grant_row) (omega arith) (stayed_on s i n u us queue grant_row refl k v))
 
-  granted_others : StayEmpty s.rows (granted s.durable.index s.rows n) u.client
-  granted_others = subst (λ r. StayEmpty s.rows r u.client) (sym (granted_is s.durable.index s.rows n u us queue))
+  granted_others : StayEmpty s.rows (granted s.durable.reach s.durable.index s.rows n) u.client
+  granted_others = subst (λ r. StayEmpty s.rows r u.client) (sym (granted_is s.durable.reach s.durable.index s.rows n u us queue))
       (along s.durable.index u (λ r. StayEmpty s.rows r u.client) n
       (λ r j far there fits stay d ne none k. sym (raised_others r j u d ne k) ∙ stay d ne none k)
-      max_more n (set_row s.rows n grant_row) (omega arith)
+      (s.durable.reach - 1) n (set_row s.rows n grant_row) (omega arith)
       (λ d ne none k. sym (row_modes s.rows n grant_row d (sym (mode_other (s.rows n).modes u.client d (wanted (s.rows n) u) ne)) k) ∙ none k))
 
   dropped_empty : AreEmpty s → EmptyIn s.durable.register (dropped s.rows n)
   dropped_empty h = subst (EmptyIn s.durable.register) (dropped_is s i n u us queue) (λ d r e left k. sym (drop_modes s i n u us queue d k) ∙ h d r e left k)
 
-  granted_empty : AreHere s → AreEmpty s → EmptyIn s.durable.register (granted s.durable.index s.rows n)
+  granted_empty : AreHere s → AreEmpty s → EmptyIn s.durable.register (granted s.durable.reach s.durable.index s.rows n)
   granted_empty here h d r e left = eq_cases d u.client
       (λ same. absurd (not_both r.left left (here n u (at_first s i n u us queue) r (sym (ap (record_of s.durable.register) same) ∙ e))))
       (λ ne. granted_others d ne (h d r e left))
@@ -146,8 +147,8 @@ turn_here s t i e here =
     let us = behind_first (s.rows t.slot).queue in
     if_case (λ (x : Done). AreHere x.server) (asks_absent s.durable.index t.waiter) _ _
     (λ yes. pushed (effects.with_rows s (dropped s.rows t.slot)) t.waiter.client (push.Absent t.waiter.req t.waiter.point) (λ k v at. here k v (dropped_waits s i t.slot t.waiter us first k v at)))
-    (λ no. let u = effects.with_rows s (granted s.durable.index s.rows t.slot) in
-    pushed u t.waiter.client (push.Grant t.waiter.req (effects.holdings u t.waiter.client (taken s.durable.index s.rows t.slot))) (λ k v at. here k v (granted_waits s i t.slot t.waiter us first k v at)))
+    (λ no. let u = effects.with_rows s (granted s.durable.reach s.durable.index s.rows t.slot) in
+    pushed u t.waiter.client (push.Grant t.waiter.req (effects.holdings u t.waiter.client (taken s.durable.reach s.durable.index s.rows t.slot))) (λ k v at. here k v (granted_waits s i t.slot t.waiter us first k v at)))
   where
     pushed : (x : Server) (c : ℕ) (body : PushBody) → AreHere x → AreHere (pushes x c body).server
     pushed x c body h = if_case (λ (y : Done). AreHere y.server) (nat_lt (x.sessions c).last_push END) _ _ (λ e. h) (λ e. h)
@@ -158,8 +159,8 @@ turn_empty s t i e here h =
     let us = behind_first (s.rows t.slot).queue in
     if_case (λ (x : Done). AreEmpty x.server) (asks_absent s.durable.index t.waiter) _ _
     (λ yes. pushes_empty (effects.with_rows s (dropped s.rows t.slot)) t.waiter.client (push.Absent t.waiter.req t.waiter.point) (dropped_empty s i t.slot t.waiter us first h))
-    (λ no. let u = effects.with_rows s (granted s.durable.index s.rows t.slot) in
-    pushes_empty u t.waiter.client (push.Grant t.waiter.req (effects.holdings u t.waiter.client (taken s.durable.index s.rows t.slot))) (granted_empty s i t.slot t.waiter us first here h))
+    (λ no. let u = effects.with_rows s (granted s.durable.reach s.durable.index s.rows t.slot) in
+    pushes_empty u t.waiter.client (push.Grant t.waiter.req (effects.holdings u t.waiter.client (taken s.durable.reach s.durable.index s.rows t.slot))) (granted_empty s i t.slot t.waiter us first here h))
 
 answered_empty : (s t : Server) (outs : List ToClient) → Answered s t outs → IsSound s → AreHere s → AreEmpty s → AreEmpty t
 answered_empty s t outs (stops s' e) i here h = h

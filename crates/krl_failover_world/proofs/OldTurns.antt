@@ -1,4 +1,5 @@
 -- An old server answers its first waiters.
+use Rattle.std.specs.Prelude.{◌-◌}
 use Rattle.krl_failover_world.proofs.Names.{◌≡◌, ◌≢◌, ℕ, ◌<◌, ◌≤◌, inl, ⊎_elim, Bool, true, false, not, ◌||◌, nat_lt, Option, Value, Some, None, List, [], ◌∷◌, ◌++◌, refl, sym, ap, subst, ◌∙◌, arith, and_parts, none-some, is_some}
 use Rattle.krl_failover_world.proofs.Names.{AllByRecursion, END, range_of, key_of, In, in_both, ToClient, Waiter, Row, Rows, mode_at, set_row, IsSlot, Server, is_recovering, silent, with_rows, pushes, IsSound, if_case, none_of}
 use Rattle.krl_failover_world.proofs.Names.{sent_stays, Fenced, FencedReachable, IsHeardBy, ShowsOld}
@@ -8,7 +9,7 @@ use Rattle.krl_messages.specs.declared.to_client.PushBody.TheVariants as push
 use Rattle.krl_durable.specs.Index.{Index, is_slot}
 use Rattle.krl_table.specs.Rows.{set_mode}
 use Rattle.krl_table.specs.Calls.{with_mode, with_queue, wanted, behind_first, dropped, raised, raised_on}
-use Rattle.krl_table.specs.Grants.{taken_after, taken, granted, max_more}
+use Rattle.krl_table.specs.Grants.{taken_after, taken, granted}
 use Rattle.krl_table.specs.Replies.{asks_absent, is_wanted_compatible}
 use Rattle.krl_table.proofs.Invariant.Compatible.{mode_here, mode_other, or_true}
 use Rattle.krl_machine.specs.Modes.{RangeAtMost, KeyAtMost, RangesAgree, KeysAgree}
@@ -73,7 +74,7 @@ module _ (s : Server) (f : Fenced) (i : IsSound s) (can : CanPush s f) (h : Show
   grant_row = record { modes = set_mode (s.rows n).modes c (wanted (s.rows n) u); queue = us }
 
   abbrev all_rows : Rows
-  all_rows = raised_on (set_row s.rows n grant_row) (taken_after m (set_row s.rows n grant_row) n u max_more) u
+  all_rows = raised_on (set_row s.rows n grant_row) (taken_after m (set_row s.rows n grant_row) n u (s.durable.reach - 1)) u
 
   free : (s.sessions c).unacked ≡ None
   free = none_of (s.sessions c).unacked (and_parts (not (is_some (s.sessions c).unacked)) (nat_lt (s.sessions c).last_push END) may).0
@@ -120,7 +121,7 @@ module _ (s : Server) (f : Fenced) (i : IsSound s) (can : CanPush s f) (h : Show
   slots_told [] low epoch phase h = tt
   slots_told (k ∷ ns) low epoch phase h = ((slot_near m i.near k h.1, is_slot_true m i.near k h.1), slots_told ns k epoch phase h.2)
 
-  grants_all : is_wanted_compatible s.rows n u ≡ true → Goes s f (let g = with_rows s all_rows in pushes g c (push.Grant u.req (holdings g c (n ∷ taken_after m (set_row s.rows n grant_row) n u max_more))))
+  grants_all : is_wanted_compatible s.rows n u ≡ true → Goes s f (let g = with_rows s all_rows in pushes g c (push.Grant u.req (holdings g c (n ∷ taken_after m (set_row s.rows n grant_row) n u (s.durable.reach - 1)))))
   grants_all fits =
       let place = i.placed n u (at_first s i n u us queue) in
       let slot : IsSlot (seen_in m f.world.shared.epoch f.world.shared.phase) n = subst (IsSlot (seen_in m f.world.shared.epoch f.world.shared.phase)) place.1 (slot_here m i.near u.point place.0).0 in
@@ -133,11 +134,11 @@ module _ (s : Server) (f : Fenced) (i : IsSound s) (can : CanPush s f) (h : Show
             (λ d ne. subst (λ y. RangesAgree (range_of y) (range_of (mode_at s.rows n d)) × KeysAgree (key_of y) (key_of (mode_at s.rows n d))) (sym (mode_here (s.rows n).modes c (wanted (s.rows n) u))) (compatible_agrees s.rows n c (wanted (s.rows n) u) (λ d ge. i.strangers n d ge) fits d ne)),
         one_sound s i c n grant_row rest stayed (i.clients n u (at_first s i n u us queue)),
       ) in
-      let r = along m u Raised n (λ rows k far there x done. raised_more rows k there x done) max_more n (set_row s.rows n grant_row) (omega arith) first in
+      let r = along m u Raised n (λ rows k far there x done. raised_more rows k there x done) (s.durable.reach - 1) n (set_row s.rows n grant_row) (omega arith) first in
       let a = r.0 in
       let t = with_rows s all_rows in
-      let ns = taken_after m (set_row s.rows n grant_row) n u max_more in
-      let slots = taken_slots m u max_more n (set_row s.rows n grant_row) in
+      let ns = taken_after m (set_row s.rows n grant_row) n u (s.durable.reach - 1) in
+      let slots = taken_slots m u (s.durable.reach - 1) n (set_row s.rows n grant_row) in
       let body = push.Grant u.req (holdings t c (n ∷ ns)) in
       let can_t = can_on s t f (silent t) refl can a in
       moves.goes_on s t f _ refl a
@@ -146,10 +147,10 @@ module _ (s : Server) (f : Fenced) (i : IsSound s) (can : CanPush s f) (h : Show
       (heard_on s.durable.epoch f a.fenced c a.beside own_heard) free
       (record { says = λ is here. holdings_said t a.fenced c r.1 can_t.far a.shows is here (n ∷ ns) ((high, slot), slots_told ns n a.fenced.world.shared.epoch a.fenced.world.shared.phase slots); answer = inl refl }))
 
-  grants : is_wanted_compatible s.rows n u ≡ true → Goes s f (let g = with_rows s (granted m s.rows n) in pushes g c (push.Grant u.req (holdings g c (taken m s.rows n))))
+  grants : is_wanted_compatible s.rows n u ≡ true → Goes s f (let g = with_rows s (granted s.durable.reach m s.rows n) in pushes g c (push.Grant u.req (holdings g c (taken s.durable.reach m s.rows n))))
   grants fits =
-      subst (λ r. Goes s f (let g = with_rows s r in pushes g c (push.Grant u.req (holdings g c (taken m s.rows n))))) (sym (granted_is m s.rows n u us queue))
-      (subst (λ ns. Goes s f (let g = with_rows s all_rows in pushes g c (push.Grant u.req (holdings g c ns)))) (sym (taken_is m s.rows n u us queue))
+      subst (λ r. Goes s f (let g = with_rows s r in pushes g c (push.Grant u.req (holdings g c (taken s.durable.reach m s.rows n))))) (sym (granted_is s.durable.reach m s.rows n u us queue))
+      (subst (λ ns. Goes s f (let g = with_rows s all_rows in pushes g c (push.Grant u.req (holdings g c ns)))) (sym (taken_is s.durable.reach m s.rows n u us queue))
       (grants_all fits))
 
 -- each answer to a waiter is some steps

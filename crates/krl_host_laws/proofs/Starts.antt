@@ -2,7 +2,9 @@
 use Rattle.std.proofs.Common.{◌≡◌, ℕ, zero, suc, ◌+◌, ◌≤◌, true, Option, Some, None, List, [], ◌∷◌, ◌++◌, arith, refl, sym, subst, if◌then◌else◌}
 use Rattle.std.specs.Prelude.{take}
 use Rattle.std.proofs.lemmas.List.{append-nil}
+use Rattle.krl_durable.specs.declared.limits.Limits.{Limits}
 use Rattle.krl_durable.specs.Registers.{Durable}
+use Rattle.krl_durable.specs.Limits.{Fits, sized}
 use Rattle.krl_server.specs.Replays.{raised}
 use Rattle.krl_server.specs.Steps.{start, can_start}
 use Rattle.krl_steps.specs.declared.applied_write.AppliedWrite.{AppliedWrite}
@@ -54,16 +56,20 @@ risen w d sent writes can h =
     let r : IsReachable v = takes_on u v step.StartServer answered.Done h (subst (λ b. (if b then None else Some refused.Spent) ≡ None) (sym can) refl, (refl, refl)) in
     subst (λ ms. IsReachable (beside w (Up (start d)) ms (writes ++ []))) (append-nil sent) r
 
-abbrev begins : Durable → Host
-begins d = record { memory = start d; kept = 0; unkept = Started ∷ []; unsent = [] }
+-- what is down gets other limits
+rested : (w : State) (d : Durable) (l : Limits) (sent : List Message) (writes : List AppliedWrite) → Fits l d → IsReachable (beside w (Down d) sent writes) → IsReachable (beside w (Down (sized l d)) sent writes)
+rested w d l sent writes fits h = reachable_stays.resized (beside w (Down d) sent writes) d l h refl fits
 
-start_runs : (w : State) → can_start (disk_of w) ≡ true → IsWorld w → Runs w (begins (disk_of w))
-start_runs w can a = record {
+abbrev begins : Limits → Durable → Host
+begins l d = record { memory = start (sized l d); kept = 0; unkept = Started l ∷ []; unsent = [] }
+
+start_runs : (w : State) (l : Limits) → Fits l (disk_of w) → can_start (disk_of w) ≡ true → IsWorld w → Runs w (begins l (disk_of w))
+start_runs w l fits can a = record {
   bound = λ x i. absurd i;
   upto = by_count;
 }
   where
-    by_count : (k : ℕ) → k ≤ 1 → At w (take k (Started ∷ [])) (begins (disk_of w)) (0 + k)
+    by_count : (k : ℕ) → k ≤ 1 → At w (take k (Started l ∷ [])) (begins l (disk_of w)) (0 + k)
     by_count zero le = record {
       server = a.server;
       durable = a.disk;
@@ -74,18 +80,18 @@ start_runs w can a = record {
       last = λ e. absurd (let no : ⊥ = omega (arith, e) in no);
     }
     by_count (suc zero) le = record {
-      server = Up (start (disk_of w));
+      server = Up (start (sized l (disk_of w)));
       durable = refl;
       sent = a.sent;
       all = a.all;
       tells = λ x i b. absurd i;
-      reachable = risen w (disk_of w) a.sent w.writes can (fallen w a.server (disk_of w) a.sent w.writes a.disk a.reachable);
+      reachable = risen w (sized l (disk_of w)) a.sent w.writes can (rested w (disk_of w) l a.sent w.writes fits (fallen w a.server (disk_of w) a.sent w.writes a.disk a.reachable));
       last = λ e. refl;
     }
     by_count (suc (suc k)) le = absurd (let no : ⊥ = omega (arith, le) in no)
 
-pub starts_shown : (w : HostWorld) → Shown w → w.host ≡ None → can_start (disk_of w.world) ≡ true → Shown (record w { host = Some (begins (disk_of w.world)) })
-starts_shown w s e can = record { down = s.down; host = start_runs w.world can (world_of w.world w.host s.host) }
+pub starts_shown : (w : HostWorld) → Shown w → (l : Limits) → w.host ≡ None → Fits l (disk_of w.world) → can_start (disk_of w.world) ≡ true → Shown (record w { host = Some (begins l (disk_of w.world)) })
+starts_shown w s l e fits can = record { down = s.down; host = start_runs w.world l fits can (world_of w.world w.host s.host) }
 
 -- The first world
 

@@ -4,19 +4,21 @@ use Rattle.krl_messages.specs.declared.to_client.ToClient.{ToClient}
 use Rattle.krl_messages.specs.Members.{In}
 use Rattle.krl_durable.specs.declared.change.Change.{Change}
 use Rattle.krl_durable.specs.Changes.{changed}
+use Rattle.krl_durable.specs.declared.limits.Limits.{Limits}
 use Rattle.krl_durable.specs.Registers.{Durable}
+use Rattle.krl_durable.specs.Limits.{sized}
 use Rattle.krl_server.specs.Servers.{Server}
 use Rattle.krl_server.specs.Replays.{raised}
 
 -- What is written down
 
--- a host writes down that a server has started, and what each step has changed
+-- a host writes down that a server has started, with these limits, and what each step has changed
 pub data Note : Type 0 where
-  Started : Note
+  Started : Limits → Note
   Changed : Change → Note
 
 abbrev pub noted : Note → Durable → Durable
-noted Started d = raised d
+noted (Started l) d = raised (sized l d)
 noted (Changed x) d = changed x d
 
 -- what the notes make of what is on the disk, the oldest first

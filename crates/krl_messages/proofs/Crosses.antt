@@ -10,6 +10,8 @@ use Rattle.krl_messages.specs.contracts.pieces.Pieces as pieces
 use Rattle.krl_messages.specs.contracts.outcome.Outcome as outcome
 use Rattle.krl_messages.specs.contracts.write_op.WriteOp as write_op
 use Rattle.krl_messages.specs.contracts.holding.Holding as holding
+use Rattle.krl_messages.specs.contracts.holdings.Holdings as holdings
+use Rattle.krl_messages.specs.contracts.gathering.Gathering as gathering
 use Rattle.krl_messages.specs.contracts.to_server.RequestBody as request_body
 use Rattle.krl_messages.specs.contracts.to_server.Request as request
 use Rattle.krl_messages.specs.contracts.to_server.ToServer as to_server
@@ -61,8 +63,17 @@ to_server_sent = let a = to_server_body_sent in search sendable depth 24 fits 40
 holding_sent : IsSend (holding.the_field).row
 holding_sent = let a = span_sent in let b = mode_sent in search sendable depth 24 fits 4000
 
+holding_row_sent : IsSend holding.the_row
+holding_row_sent = let a = span_sent in let b = mode_sent in search sendable depth 24 fits 4000
+
+holdings_sent : IsSend (holdings.the_field).row
+holdings_sent = let a = holding_row_sent in search (sendable, Vec-send) depth 24 fits 4000
+
+pub gathering_sent : IsSend (gathering.the_field).row
+gathering_sent = let a = holding_row_sent in search (sendable, Vec-send) depth 24 fits 4000
+
 pub push_body_sent : IsSend (push_body.the_field).row
-push_body_sent = let a = holding_sent in let b = outcome_sent in search sendable depth 24 fits 4000
+push_body_sent = let a = holding_sent in let b = outcome_sent in let d = holdings_sent in search sendable depth 24 fits 4000
 
 to_client_body_sent : IsSend (to_client_body.the_field).row
 to_client_body_sent =

@@ -1,4 +1,4 @@
+mod Ascents
 pub mod Paddings
-pub mod Placing
 pub mod Crosses
 pub mod Members

@@ -1,5 +1,5 @@
--- Holdings in ascending order, and the places that they take.
-use Rattle.std.specs.Prelude.{ℕ, ◌-◌, ◌≤◌, List, [], ◌∷◌, ◌++◌, length, replicate}
+-- Holdings in ascending order.
+use Rattle.std.specs.Prelude.{ℕ, ◌≤◌, nat_le, Bool, true, ◌&&◌, List, [], ◌∷◌, length}
 use Rattle.krl_modes.specs.declared.limits.TheConstants.{MAX_HOLDINGS}
 use Rattle.krl_messages.specs.declared.holding.Holding.{Holding}
 
@@ -17,7 +17,11 @@ abbrev pub Ascend : List Holding → Type 0
 Ascend [] = Unit {0}
 Ascend (h ∷ hs) = IsBefore h hs × Ascend hs
 
--- the holdings in eight places, of which those behind the last have the first
-abbrev pub places : List Holding → List Holding
-places [] = []
-places (h ∷ hs) = h ∷ (hs ++ replicate (7 - length hs) h)
+-- the same as a test; the first span begins at this point or after it
+abbrev pub ascend_from : ℕ → List Holding → Bool
+ascend_from least [] = true
+ascend_from least (h ∷ hs) = nat_le least h.span.lo && ascend_from h.span.hi hs
+
+-- whether these are some holdings in order, and not too many
+abbrev pub are_holdings : List Holding → Bool
+are_holdings hs = (nat_le 1 (length hs) && nat_le (length hs) max_holdings) && ascend_from 0 hs

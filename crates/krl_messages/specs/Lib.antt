@@ -6,5 +6,6 @@ pub mod Padded
 pub mod Holdings
 pub mod Several
 pub mod Places
+pub mod Gathered
 pub mod Writes
 pub mod Members

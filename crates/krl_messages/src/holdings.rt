@@ -1,23 +1,23 @@
 //! What a client holds of several slots.
-ghost use Rattle.std.specs.Prelude.{◌≡◌, ◌<◌, ◌≤◌, [], ◌∷◌, ◌++◌, length};
-ghost use Rattle.krl_messages.specs.Ascending.{Ascend, max_holdings};
+ghost use Rattle.std.specs.Prelude.{◌≡◌, ◌≤◌, ◌↔◌, length, IfOk, IsSome, IfSome};
+ghost use Rattle.krl_messages.specs.Ascending.{Ascend, ascend_from, are_holdings, max_holdings};
+ghost use Rattle.krl_messages.specs.Places.{AreHoldings};
 ghost use Rattle.krl_messages.specs.Several.{have_values};
 
 use crate::holding::Holding;
 use krl_modes::MAX_HOLDINGS;
+use std::alloc::{AllocError, Global};
 use std::marker::Model;
 
-/// What the server's table gives a client of 1 to 8 slots, in ascending order, no point twice. It
-/// takes no memory.
-#[derive(Clone, Copy, PartialEq, Eq)]
+/// What the server's table gives a client of 1 to 128 slots, in ascending order, no point twice.
+/// The list has memory of its own.
+#[derive(Drop)]
 pub struct Holdings {
-    // The places behind the last holding hold the first one, so that equal lists are equal values.
-    items: [Holding; MAX_HOLDINGS],
-    len: usize,
+    items: Vec<Holding>,
 }
 
 impl Model for Holdings {
-    ghost use Rattle.std.specs.Prelude.{List, length, take};
+    ghost use Rattle.std.specs.Prelude.{List};
     ghost use Rattle.std.specs.Coded.{coded_list};
     ghost use Rattle.krl_messages.specs.declared.holding.Holding.{Holding};
     ghost use Rattle.krl_messages.specs.contracts.holding.Holding as holding;
@@ -26,16 +26,25 @@ impl Model for Holdings {
 
     ghost coded = { coded_list holding.the_row.coded };
 
-    ghost use Rattle.krl_messages.specs.Ascending.{places};
-    ghost use Rattle.krl_messages.specs.Places.{AreHoldings, inverse_is};
+    ghost use Rattle.krl_messages.specs.Places.{AreHoldings};
 
-    ghost view = { λ h. take h.len h.items };
+    ghost view = { λ h. h.items.items };
 
-    ghost invariant = { AreHoldings };
+    ghost invariant = { λ h. AreHoldings h.items.items };
+}
 
-    ghost inverse = { λ hs. record { items = places hs; len = length hs } };
+impl PartialEq for Holdings {
+    ghost use Rattle.std.specs.Cmp.Lexicographic.{pointwise, lists_per};
+    ghost use Rattle.krl_messages.specs.contracts.holding.HoldingPartialEq.TheImpl as same;
+    ghost use Rattle.krl_messages.specs.contracts.holding.HoldingPartialEq.TheImpl.Laws as holds;
 
-    ghost inverse_ok = { inverse_is };
+    ghost eq = { pointwise same.ghosts.eq };
+
+    ghost laws = { lists_per holds.lawful.laws };
+
+    fn eq(&self, other: &Holdings) -> bool {
+        self.items == other.items
+    }
 }
 
 // Whether each of these has its value by the rule.
@@ -50,25 +59,61 @@ fn all_have_values(list: &[Holding]) -> bool
     true
 }
 
+// Whether each span begins where the one before it ends, or later.
+fn ascend(list: &[Holding]) -> bool
+    ensures { result ≡ ascend_from 0 list.now }
+{
+    let mut least = 0;
+    for holding in list {
+        if holding.span.lo() < least {
+            return false;
+        }
+        least = holding.span.hi();
+    }
+    true
+}
+
+// Whether a message can carry these.
+fn are_holdings(list: &[Holding]) -> bool
+    ensures { result ≡ are_holdings list.now }
+{
+    1 <= list.len() && list.len() <= MAX_HOLDINGS && ascend(list)
+}
+
 impl Holdings {
-    /// The holding of one slot.
-    pub fn one(holding: Holding) -> Holdings
-        ensures { result ≡ holding ∷ [] }
+    /// These holdings; None unless there are 1 to 128 of them, in ascending order, no point twice.
+    /// It takes no memory.
+    pub fn new(items: Vec<Holding>) -> Option<Holdings>
+        ensures holdings { IfSome result (λ holdings. holdings ≡ items.items) }
+        ensures due { IsSome result ↔ AreHoldings items.items }
     {
-        Holdings {
-            items: [holding; MAX_HOLDINGS],
-            len: 1,
+        if are_holdings(items.as_slice()) {
+            Some(Holdings { items })
+        } else {
+            None
         }
     }
 
-    /// Puts the holding of a slot behind all others.
-    pub fn push(&mut self, holding: Holding)
-        requires room { length self.old < max_holdings }
-        requires order { Ascend (self.old ++ holding ∷ []) }
-        ensures { self.new ≡ self.old ++ holding ∷ [] }
+    /// These holdings. It takes no memory.
+    pub(crate) fn of(items: Vec<Holding>) -> Holdings
+        requires some { 1 ≤ length items.items }
+        requires few { length items.items ≤ max_holdings }
+        requires order { Ascend items.items }
+        ensures { result ≡ items.items }
     {
-        self.items[self.len] = holding;
-        self.len += 1;
+        Holdings { items }
+    }
+
+    /// An equal list, with memory of its own.
+    ///
+    /// # Errors
+    ///
+    /// `AllocError` if the list's memory is refused. Nothing has changed then.
+    pub fn try_clone(&self, alloc: Global) -> Result<Holdings, AllocError>
+        ensures { IfOk result (λ copy. copy ≡ self.now) }
+    {
+        let items = Vec::from_slice(alloc, self.as_slice())?;
+        Ok(Holdings { items })
     }
 
     /// Whether each has its value by the rule.
@@ -78,12 +123,12 @@ impl Holdings {
         all_have_values(self.as_slice())
     }
 
-    /// The holdings, in order: 1 to 8.
+    /// The holdings, in order: 1 to 128.
     pub fn as_slice(&self) -> &[Holding]
         ensures holdings { result.now ≡ self.now }
         ensures few { (1 ≤ length self.now) × (length self.now ≤ max_holdings) }
         ensures ascend { Ascend self.now }
     {
-        &self.items[..self.len]
+        self.items.as_slice()
     }
 }

@@ -5,6 +5,7 @@
 //! `Copy`; what holds lists has a `try_clone`.
 #![tactic(auto)]
 
+mod gathering;
 mod holding;
 mod holdings;
 mod items;
@@ -17,6 +18,7 @@ mod to_server;
 mod value;
 mod write_op;
 
+pub use gathering::Gathering;
 pub use holding::Holding;
 pub use holdings::Holdings;
 pub use items::Items;

@@ -1,12 +1,14 @@
 //! Messages to a client.
+ghost use Rattle.std.specs.Prelude.{◌≡◌, IfOk};
+
 use crate::holding::Holding;
 use crate::holdings::Holdings;
 use crate::outcome::Outcome;
 use krl_modes::{Mode, Span};
+use std::alloc::{AllocError, Global};
 
-/// A message from the server to one client. It takes no memory, so a copy of it is the language's
-/// own.
-#[derive(Clone, Copy, PartialEq, Eq)]
+/// A message from the server to one client. A grant has a list in memory of its own.
+#[derive(PartialEq, Drop)]
 pub struct ToClient {
     /// The number of the client that is spoken to.
     pub client: u64,
@@ -17,7 +19,7 @@ pub struct ToClient {
 }
 
 /// What the server says to a client.
-#[derive(Clone, Copy, PartialEq, Eq)]
+#[derive(PartialEq, Drop)]
 pub enum ToClientBody {
     /// Answers a Hello and a message of another epoch, and reminds a client whose report the server
     /// still waits for. A client that knows only a lower epoch adopts this one and reports what it
@@ -51,7 +53,7 @@ pub enum ToClientBody {
 }
 
 /// What a push carries.
-#[derive(Clone, Copy, PartialEq, Eq)]
+#[derive(PartialEq, Drop)]
 pub enum PushBody {
     /// Answers a lock request: it is granted. The client had to wait for it until nobody's lock
     /// forbade it.
@@ -79,4 +81,35 @@ pub enum PushBody {
         /// What the client holds, after the write, of the slot on which the written key lies.
         holding: Holding,
     },
+}
+
+impl PushBody {
+    /// An equal body, with a list of its own. Only a grant takes memory.
+    ///
+    /// # Errors
+    ///
+    /// `AllocError` if the memory for the list is refused. Nothing has changed then.
+    pub fn try_clone(&self, alloc: Global) -> Result<PushBody, AllocError>
+        ensures { IfOk result (λ copy. copy ≡ self.now) }
+    {
+        Ok(match self {
+            PushBody::Grant { req, holdings } => PushBody::Grant {
+                req: *req,
+                holdings: holdings.try_clone(alloc)?,
+            },
+            PushBody::Absent { req, point } => PushBody::Absent {
+                req: *req,
+                point: *point,
+            },
+            PushBody::Answer {
+                number,
+                outcome,
+                holding,
+            } => PushBody::Answer {
+                number: *number,
+                outcome: *outcome,
+                holding: *holding,
+            },
+        })
+    }
 }

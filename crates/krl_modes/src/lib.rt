@@ -7,7 +7,9 @@ mod part;
 mod point;
 mod span;
 
-pub use limits::{MAX_CLIENTS, MAX_HOLDINGS, MAX_PINS, MAX_ROOM, MAX_VALUE_BYTES, STANDARD_ROOM};
+pub use limits::{
+    MAX_CLIENTS, MAX_HOLDINGS, MAX_PINS, MAX_ROOM, MAX_VALUE_BYTES, STANDARD_REACH, STANDARD_ROOM,
+};
 pub use mode::Mode;
 pub use part::{KeyPart, RangePart};
 pub use point::{END, Point, TOP};

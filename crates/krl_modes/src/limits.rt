@@ -3,8 +3,11 @@
 /// A server has at most this many clients. Their numbers lie below it.
 pub const MAX_CLIENTS: usize = 64;
 
-/// One message carries at most this many holdings.
-pub const MAX_HOLDINGS: usize = 8;
+/// One message carries at most this many holdings: the greatest reach of a grant.
+pub const MAX_HOLDINGS: usize = 128;
+
+/// The slots that one grant takes at most if nobody says another number.
+pub const STANDARD_REACH: usize = 8;
 
 /// A client has at most this many pins. Their ids lie below it.
 pub const MAX_PINS: usize = 8;

@@ -5,7 +5,7 @@ use krl_messages::{
     Holding, Holdings, Items, KeyPiece, KeyPieces, Pieces, RangePiece, RangePieces, ToServer,
     ToServerBody, Value, WriteOp,
 };
-use krl_modes::{END, KeyPart, Mode, RangePart, Span, TOP};
+use krl_modes::{END, KeyPart, MAX_HOLDINGS, Mode, RangePart, Span, TOP};
 use std::alloc::Global;
 
 static KEYS: [KeyPiece; 2] = [
@@ -139,31 +139,45 @@ fn nth(n: u64) -> Option<Holding> {
     })
 }
 
-/// Puts the holding behind the others, if it lies behind them and there is room.
-fn push_behind(holdings: &mut Holdings, holding: Holding) -> bool {
-    let list = holdings.as_slice();
-    let last = list[list.len() - 1];
-    if list.len() == 8 || holding.span.lo() < last.span.hi() {
-        return false;
+/// Room for so many holdings.
+fn room_for(alloc: Global, count: usize) -> Option<Vec<Holding>> {
+    for _ in 0..CALLS {
+        if let Ok(items) = Vec::with_capacity(alloc, count) {
+            return Some(items);
+        }
     }
-    holdings.push(holding);
-    true
+    None
+}
+
+/// What a client reads of these slots, in their order.
+fn of_slots(alloc: Global, slots: &[u64]) -> Option<Holdings> {
+    let mut items = room_for(alloc, slots.len())?;
+    for n in slots {
+        items.push(nth(*n)?).ok()?;
+    }
+    Holdings::new(items)
+}
+
+/// The holdings of the first slots, as many as this, and then this one.
+fn first_and(alloc: Global, n: u64, last: Option<Holding>) -> Option<Holdings> {
+    let mut items = room_for(alloc, MAX_HOLDINGS + 2)?;
+    for i in 0..n {
+        items.push(nth(i)?).ok()?;
+    }
+    if let Some(last) = last {
+        items.push(last).ok()?;
+    }
+    Holdings::new(items)
 }
 
 /// The holdings of the first slots, as many as this.
-fn first(n: u64) -> Option<Holdings> {
-    let mut holdings = Holdings::one(nth(0)?);
-    for i in 1..n {
-        if !push_behind(&mut holdings, nth(i)?) {
-            return None;
-        }
-    }
-    Some(holdings)
+fn first(alloc: Global, n: u64) -> Option<Holdings> {
+    first_and(alloc, n, None)
 }
 
 /// Whether these are the holdings of the first slots.
 fn are_first(holdings: &[Holding]) -> bool {
-    for (n, holding) in (0..8).zip(holdings) {
+    for (n, holding) in (0..MAX_HOLDINGS as u64).zip(holdings) {
         if nth(n) != Some(*holding) {
             return false;
         }
@@ -172,42 +186,53 @@ fn are_first(holdings: &[Holding]) -> bool {
 }
 
 /// Whether the first n holdings are those, and equal to no other list of them but their own.
-fn holds_first(n: u64) -> bool {
-    let Some(holdings) = first(n) else {
+fn holds_first(alloc: Global, n: u64) -> bool {
+    let (Some(holdings), Some(again)) = (first(alloc, n), first(alloc, n)) else {
         return false;
     };
     let list = holdings.as_slice();
     list.len() as u64 == n
         && are_first(list)
         && holdings.have_values()
-        && first(n) == Some(holdings)
-        && first(9u64.saturating_sub(n)) != Some(holdings)
+        && holdings == again
+        && first(alloc, n.saturating_add(1)) != Some(holdings)
 }
 
 #[test]
-fn holdings_are_those_that_were_pushed(rt: HostRuntime) {
-    for n in 1..9 {
-        assert!(rt; holds_first(n), "{n}");
+fn holdings_are_those_that_were_gathered(rt: HostRuntime) {
+    for n in [1, 2, 8, 127, 128] {
+        assert!(rt; holds_first(rt.alloc(), n), "{n}");
     }
-    assert!(rt; first(9).is_none());
+}
+
+#[test]
+fn holdings_are_1_to_128_in_ascending_order(rt: HostRuntime) {
+    assert!(rt; first(rt.alloc(), 0).is_none());
+    assert!(rt; first(rt.alloc(), 129).is_none());
+    assert!(rt; of_slots(rt.alloc(), &[0, 2, 5]).is_some());
+    assert!(rt; of_slots(rt.alloc(), &[0, 2, 2]).is_none());
+    assert!(rt; of_slots(rt.alloc(), &[2, 5, 0]).is_none());
 }
 
 /// Whether the first n holdings, and the next one without its value, do not all have theirs.
-fn sees_the_last(n: u64) -> bool {
-    let (Some(mut holdings), Some(last)) = (first(n), nth(n)) else {
+fn sees_the_last(alloc: Global, n: u64) -> bool {
+    let Some(last) = nth(n) else {
         return false;
     };
     let bare = Holding {
         value: None,
         ..last
     };
-    push_behind(&mut holdings, bare) && !holdings.have_values()
+    match first_and(alloc, n, Some(bare)) {
+        Some(holdings) => !holdings.have_values(),
+        None => false,
+    }
 }
 
 #[test]
 fn one_holding_without_its_value_is_seen_among_others(rt: HostRuntime) {
     for n in 1..8 {
-        assert!(rt; sees_the_last(n), "{n}");
+        assert!(rt; sees_the_last(rt.alloc(), n), "{n}");
     }
 }
 

@@ -1,4 +1,5 @@
 -- In each reachable world server and client agree on the client's lock request.
+use Rattle.krl_world.proofs.Reaching.{by_reaching}
 use Rattle.krl_progress.proofs.Names.{◌≡◌, ◌≢◌, ℕ, suc, ◌≤◌, inl, inr, ⊎_elim, ◌∙◌, Bool, true, false, Option, Some, None, List, [], ◌∷◌, ◌++◌, is_some, refl, sym, ap, subst, arith, nat_eq, if◌then◌else◌, eq-eqb, eqb-true, eqb-false, same_Some, In, in_both}
 use Rattle.krl_progress.proofs.Names.{ToServer, ToClient, Client, Server, Durable, durable_of, ServerStep, start, nudge, Step, Up, Down, State, ClientPlace, client_of, with_client, seated, served, opened, Runs, IsReachable, from_clients, from_server, AppliedWrite}
 use Rattle.krl_queue.specs.declared.waiter.Waiter.{Waiter}
@@ -146,10 +147,6 @@ does_on u _ ru rv (begins d up) h = record {
   same = λ t c e. subst (λ y. Same (served u (Up (start d)) [] []) y c) (same_up (start d) t e) (λ o own at inc b b1 is f. absurd (cc));
 }
 
-runs_agree : (u v : State) (steps : List Step) → IsReachable u → Agrees u → Runs u steps v → Agrees v
-runs_agree u v [] r h x = subst Agrees (sym x) h
-runs_agree u v (s ∷ steps) r h x = let next = next_reachable u x.1 s x.0 r x.2 in runs_agree x.1 v steps next (does_on u x.1 r next (does u x.1 s x.0 x.2) h) x.3
-
 first_agrees : (d : Durable) → Agrees (opened d)
 unfolding opened
 first_agrees d = record {
@@ -159,7 +156,8 @@ first_agrees d = record {
 }
 
 pub agrees : (u : State) → IsReachable u → Agrees u
-agrees u h = runs_agree (opened u.opening) u h.1 (reachable_stays.first u.opening h.0) (first_agrees u.opening) h.2
+agrees = by_reaching Agrees (λ d h. first_agrees d) (λ w v s answer r h t. does_on w v r (next_reachable w v s answer r t) (does w v s answer t) h)
+    (λ w d l r h e fits. record { knows = λ s c k up runs. absurd (cc); within = h.within; same = λ s c up o own at. absurd (cc) })
 
 -- In the words of the server
 

@@ -1,4 +1,5 @@
 -- In each reachable world: a push that is on its way is one that its client waits for.
+use Rattle.krl_world.proofs.Reaching.{by_reaching}
 use Rattle.krl_progress.proofs.Names.{◌≡◌, ℕ, suc, ◌<◌, ◌⊎◌, inl, inr, ⊎_elim, ◌∙◌, true, false, Some, None, List, [], ◌∷◌, ◌++◌, is_some, refl, sym, ap, subst, arith, In, in_both}
 use Rattle.krl_progress.proofs.Names.{ToServer, ToClient, Client, Server, Durable, ServerStep, start, nudge, Step, Up, Down, State, client_of, with_client, seated, served, opened, Runs, IsReachable, from_clients, from_server, AppliedWrite}
 use Rattle.krl_messages.specs.declared.to_client.PushBody.{PushBody}
@@ -148,10 +149,6 @@ does_on u _ ru (begins d up) h = record {
   pending = λ t c k e runs. subst (λ y. Pending y c k) (same_up (start d) t e) (λ now b f n. absurd (let bad : None ≡ Some b = f in cc));
 }
 
-runs_await : (u v : State) (steps : List Step) → IsReachable u → Awaits u → Runs u steps v → Awaits v
-runs_await u v [] r h x = subst Awaits (sym x) h
-runs_await u v (s ∷ steps) r h x = let next = next_reachable u x.1 s x.0 r x.2 in runs_await x.1 v steps next (does_on u x.1 r (does u x.1 s x.0 x.2) h) x.3
-
 first_awaits : (d : Durable) → Awaits (opened d)
 unfolding opened
 first_awaits d = record {
@@ -160,7 +157,8 @@ first_awaits d = record {
 }
 
 pub awaits : (u : State) → IsReachable u → Awaits u
-awaits u h = runs_await (opened u.opening) u h.1 (reachable_stays.first u.opening h.0) (first_awaits u.opening) h.2
+awaits = by_reaching Awaits (λ d h. first_awaits d) (λ w v s answer r h t. does_on w v r (does w v s answer t) h)
+    (λ w d l r h e fits. record { says = h.says; pending = λ s c k up runs. absurd (cc) })
 
 pub pushes_are_awaited : PushesAreAwaited
 pushes_are_awaited w s c k b h up runs now = (awaits w h).pending s c k up runs now b

@@ -1,4 +1,6 @@
 -- Every push that a server sends, a client takes: each value goes with a key part that reads it.
+use Rattle.std.specs.Prelude.{◌-◌}
+use Rattle.krl_world.proofs.Reaching.{by_reaching}
 use Rattle.krl_progress.proofs.Names.{◌≡◌, ℕ, suc, ◌≤◌, ◌∙◌, Bool, true, false, not, ◌&&◌, ◌||◌, Option, Some, None, is_some, List, [], ◌∷◌, refl, sym, ap, subst, arith, nat_eq, nat_lt, END, TOP, eqb-true, eqb-false, same_Some}
 use Rattle.krl_progress.proofs.Names.{ToServer, ToClient, Server, Durable, Index, slot_of, is_slot, Case, Ignored, Registers, Leaves, Tells, Alarms, Rebuilds, Repeats, Acknowledges, Lowers, Waits, Judges, AnswersAgain, case_of, Done, effect, acknowledged, writes, Kind, kind_of, Ends, at_once, recovers, serves, ServerStep, Answered, stops, goes_on, Turn, next_turn, answer_first, Rows}
 use Rattle.std.specs.FinMap as map
@@ -16,7 +18,7 @@ use Rattle.krl_client.specs.Messages.{fits}
 use Rattle.krl_queue.specs.declared.waiter.Waiter.{Waiter}
 use Rattle.krl_table.specs.Rows.{mode_at}
 use Rattle.krl_table.specs.Calls.{granted_first, dropped}
-use Rattle.krl_table.specs.Grants.{taken_by, taken_after, granted, max_more}
+use Rattle.krl_table.specs.Grants.{taken_by, taken_after, granted}
 use Rattle.krl_table.specs.Replies.{asks_absent}
 use Rattle.krl_server.specs.declared.session.Session.{Session}
 use Rattle.krl_server.specs.Servers.{blank_session, set_session}
@@ -121,17 +123,17 @@ by_queue_slot m rows n u us h q = by_test (is_slot m n) refl
     by_test true e = refl
     by_test false e = absurd (let x = ap (λ r. r.queue) (h.blank n e) in let bad : u ∷ us ≡ [] = sym q ∙ x in cc)
 
-taken_fit : (s g : Server) (c n : ℕ) (us : List Waiter) → Near g → g.durable ≡ s.durable → is_slot s.durable.index n ≡ true → have_values (holdings g c (taken_by s.durable.index s.rows n us)) ≡ true
+taken_fit : (s g : Server) (c n : ℕ) (us : List Waiter) → Near g → g.durable ≡ s.durable → is_slot s.durable.index n ≡ true → have_values (holdings g c (taken_by s.durable.reach s.durable.index s.rows n us)) ≡ true
 taken_fit s g c n [] i d e = refl
 taken_fit s g c n (u ∷ us) i d e =
-    ap (λ b. b && have_values (holdings g c (taken_after s.durable.index (granted_first s.rows n) n u max_more))) (holding_fits g n c i (ap (λ (x : Durable). is_slot x.index n) d ∙ e))
-    ∙ holdings_fit g c n (taken_after s.durable.index (granted_first s.rows n) n u max_more) i (subst (λ (x : Durable). AreSlotsAfter x.index n (taken_after s.durable.index (granted_first s.rows n) n u max_more)) (sym d) (taken_slots s.durable.index u max_more n (granted_first s.rows n)))
+    ap (λ b. b && have_values (holdings g c (taken_after s.durable.index (granted_first s.rows n) n u (s.durable.reach - 1)))) (holding_fits g n c i (ap (λ (x : Durable). is_slot x.index n) d ∙ e))
+    ∙ holdings_fit g c n (taken_after s.durable.index (granted_first s.rows n) n u (s.durable.reach - 1)) i (subst (λ (x : Durable). AreSlotsAfter x.index n (taken_after s.durable.index (granted_first s.rows n) n u (s.durable.reach - 1))) (sym d) (taken_slots s.durable.index u (s.durable.reach - 1) n (granted_first s.rows n)))
 
 turn_fits : (s : Server) (t : Turn) → next_turn s ≡ Some t → IsSound s → IsOrdered s → SessionsFit s → SessionsFit (answer_first s t).server
 turn_fits s t e i o h = if_both (λ (x : Done). SessionsFit x.server) (asks_absent s.durable.index t.waiter) (tells_absent s t) (grants_first s t)
     (pushes_fit (with_rows s (dropped s.rows t.slot)) t.waiter.client (push.Absent t.waiter.req t.waiter.point) h refl)
-    (pushes_fit (with_rows s (granted s.durable.index s.rows t.slot)) t.waiter.client _ h
-    (taken_fit s (with_rows s (granted s.durable.index s.rows t.slot)) t.waiter.client t.slot (s.rows t.slot).queue i.near refl (by_queue_slot s.durable.index s.rows t.slot t.waiter _ o.table (turn_is s t e).first)))
+    (pushes_fit (with_rows s (granted s.durable.reach s.durable.index s.rows t.slot)) t.waiter.client _ h
+    (taken_fit s (with_rows s (granted s.durable.reach s.durable.index s.rows t.slot)) t.waiter.client t.slot (s.rows t.slot).queue i.near refl (by_queue_slot s.durable.index s.rows t.slot t.waiter _ o.table (turn_is s t e).first)))
 
 answered_fit : (s t : Server) (outs : List ToClient) → Answered s t outs → IsSound s → IsOrdered s → SessionsFit s → SessionsFit t
 answered_fit s t outs (stops x e) i o h = h
@@ -163,16 +165,10 @@ way_fits w v s r h (reads old new m outs e f at t) =
 way_fits w v s r h (stops old e a f) = subst AllFit (sym f) tt
 way_fits w v s r h (begins d e f) = let after : AllFit (Up (start d)) = start_fits d in subst AllFit (sym f) after
 
-runs_fit : (w v : State) (steps : List Step) → IsReachable w → AllFit w.server → Runs w steps v → AllFit v.server
-runs_fit w v [] r h x = subst (λ y. AllFit y.server) (sym x) h
-runs_fit w v (s ∷ steps) r h x = runs_fit x.1 v steps (next_reachable w x.1 s x.0 r x.2) (way_fits w x.1 s r h (way w x.1 s x.0 x.2.1)) x.3
-
 first_fits : (d : Durable) → AllFit (opened d).server
 unfolding opened
 first_fits d = start_fits d
 
-first_reachable : (d : Durable) → CanOpen d → IsReachable (opened d)
-first_reachable d h = reachable_stays.first d h
-
 pub all_pushes_fit : (u : State) (s : Server) → IsReachable u → u.server ≡ Up s → SessionsFit s
-all_pushes_fit u s h up = let x : AllFit (Up s) = subst AllFit up (runs_fit (opened u.opening) u h.1 (first_reachable u.opening h.0) (first_fits u.opening) h.2) in x
+all_pushes_fit u s h up =
+    let x : AllFit (Up s) = subst AllFit up (by_reaching (λ w. AllFit w.server) (λ d r. first_fits d) (λ w v t answer r y z. way_fits w v t r y (way w v t answer z.1)) (λ w d l r y e fits. tt) u h) in x

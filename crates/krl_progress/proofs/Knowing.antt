@@ -228,7 +228,7 @@ module _ (s : Server) (m : ToServer) (k : Client) (f : Heard s m k) (h : Knows s
   has_seen r request b a e = let x = (f.requests (own_inc r a.served.from (f.own e)) request a.said).1 (a.now ∙ sym e) in omega (arith, x, a.seen)
 
   no_new : (x : Case) → Rattle.krl_server.proofs.Invariant.WaitersAfter.asks x ≡ false → Came s m x → Stays (effect s m x).server.rows s.rows m.client
-  no_new x not came u y = ⊎_elim (λ (z : (j : ℕ) × In u (s.rows j).queue). record { slot = z.0; at = z.1; own = y.own }) (λ (z : (Rattle.krl_server.proofs.Invariant.WaitersAfter.asks x ≡ true) × (u.client ≡ m.client)). absurd (not_both (Rattle.krl_server.proofs.Invariant.WaitersAfter.asks x) z.0 not)) (came y.slot u y.at)
+  no_new x not came u y = ⊎_elim (λ (z : (j : ℕ) × In u (s.rows j).queue). record { slot = z.0; at = z.1; own = y.own }) (λ (z : (Rattle.krl_server.proofs.Invariant.WaitersAfter.asks x ≡ true) × (u.client ≡ m.client) × Rattle.krl_server.proofs.Invariant.WaitersAfter.IsAsked m u x). absurd (not_both (Rattle.krl_server.proofs.Invariant.WaitersAfter.asks x) z.0 not)) (came y.slot u y.at)
 
   acked_now : (r : Record) (request : Request) (b : RequestBody) → IsAsked s m r request b → k.epoch ≡ s.durable.epoch → Current ((acknowledged s m.client).sessions m.client) s.rows m.client k
   acked_now r request b a e = subst (λ x. Current x s.rows m.client k) (sym (session_here s.sessions m.client _)) (acked_stays (s.sessions m.client) s.rows m.client k (h.now e) (has_seen r request b a e))
@@ -286,7 +286,7 @@ effect_knows s m c k i f h = eq_cases m.client c
     (λ e. subst (λ d. Knows (effect s m (case_of s m)).server d k) e (own_cases s m k (f e) (subst (λ d. Knows s d k) (sym e) h) (effect_stays s m m.client i) (all_came s m i)))
     (λ ne. same_knows s (effect s m (case_of s m)).server c k (effect_epoch s m (case_of s m)) (other_inc s m (case_of s m) c (λ e. ne (sym e))) (other_session s m (case_of s m) c (λ e. ne (sym e)))
     (effect_stays s m c i (λ e. absurd (ne e)))
-    (λ u x. ⊎_elim (λ (z : (j : ℕ) × In u (s.rows j).queue). record { slot = z.0; at = z.1; own = x.own }) (λ (z : (Rattle.krl_server.proofs.Invariant.WaitersAfter.asks (case_of s m) ≡ true) × (u.client ≡ m.client)). absurd (ne (sym z.1 ∙ x.own))) (all_came s m i x.slot u x.at)) h)
+    (λ u x. ⊎_elim (λ (z : (j : ℕ) × In u (s.rows j).queue). record { slot = z.0; at = z.1; own = x.own }) (λ (z : (Rattle.krl_server.proofs.Invariant.WaitersAfter.asks (case_of s m) ≡ true) × (u.client ≡ m.client) × Rattle.krl_server.proofs.Invariant.WaitersAfter.IsAsked m u (case_of s m)). absurd (ne (sym z.1 ∙ x.own))) (all_came s m i x.slot u x.at)) h)
 
 -- An answer to a first waiter
 
@@ -306,7 +306,7 @@ pushes_now s rows u b can is = let x = and_parts (not (is_some (s.sessions u.cli
 pub turn_pushes : (s : Server) (t : Turn) → next_turn s ≡ Some t → IsPushed s (answer_first s t).server t.waiter
 turn_pushes s t e = if_both (λ (x : Done). IsPushed s x.server t.waiter) (asks_absent s.durable.index t.waiter) (tells_absent s t) (grants s t)
     (pushes_now s (dropped s.rows t.slot) t.waiter (push.Absent t.waiter.req t.waiter.point) can (eq-eqb t.waiter.req t.waiter.req refl))
-    (pushes_now s (granted s.durable.index s.rows t.slot) t.waiter (push.Grant t.waiter.req (holdings (with_rows s (granted s.durable.index s.rows t.slot)) t.waiter.client (taken s.durable.index s.rows t.slot))) can (eq-eqb t.waiter.req t.waiter.req refl))
+    (pushes_now s (granted s.durable.reach s.durable.index s.rows t.slot) t.waiter (push.Grant t.waiter.req (holdings (with_rows s (granted s.durable.reach s.durable.index s.rows t.slot)) t.waiter.client (taken s.durable.reach s.durable.index s.rows t.slot))) can (eq-eqb t.waiter.req t.waiter.req refl))
   where
     can : can_push (s.sessions t.waiter.client) ≡ true
     can = (and_parts (can_push (s.sessions t.waiter.client)) (asks_absent s.durable.index t.waiter || is_wanted_compatible s.rows t.slot t.waiter) (turn_is s t e).answerable).0

@@ -171,7 +171,7 @@ cleared_away rows c u x = (in_unqueue (rows x.slot).queue c u x.at).1 x.own
 turn_queue : (s : Server) (t : Turn) (n : ℕ) → ((answer_first s t).server.rows n).queue ≡ (dropped s.rows t.slot n).queue
 turn_queue s t n = if_both (λ (x : Done). (x.server.rows n).queue ≡ (dropped s.rows t.slot n).queue) (asks_absent s.durable.index t.waiter) (tells_absent s t) (grants s t)
     (ap (λ (r : Rows). (r n).queue) (pushes_rows (with_rows s (dropped s.rows t.slot)) t.waiter.client (push.Absent t.waiter.req t.waiter.point)))
-    (ap (λ (r : Rows). (r n).queue) (pushes_rows (with_rows s (granted s.durable.index s.rows t.slot)) t.waiter.client _) ∙ granted_queue s.durable.index s.rows t.slot n ∙ first_gone (nat_eq n t.slot))
+    (ap (λ (r : Rows). (r n).queue) (pushes_rows (with_rows s (granted s.durable.reach s.durable.index s.rows t.slot)) t.waiter.client _) ∙ granted_queue s.durable.reach s.durable.index s.rows t.slot n ∙ first_gone (nat_eq n t.slot))
   where
     first_gone : (b : Bool) → (if b then grant_first (s.rows t.slot) (s.rows t.slot).queue else s.rows n).queue ≡ (if b then with_queue (s.rows t.slot) (behind_first (s.rows t.slot).queue) else s.rows n).queue
     first_gone true = by_queue (s.rows t.slot).queue refl

@@ -1,6 +1,7 @@
 -- Each client that waits for a lock asks for some points.
-use Rattle.krl_progress.proofs.Names.{◌≡◌, ℕ, true, ◌&&◌, Some, None, List, [], ◌∷◌, sym, subst, nat_eq}
-use Rattle.krl_progress.proofs.Names.{ToServer, Client, Durable, Step, State, client_of, opened, Runs, IsReachable}
+use Rattle.krl_progress.proofs.Names.{◌≡◌, ℕ, true, ◌&&◌, Some, None, List, sym, subst, nat_eq}
+use Rattle.krl_progress.proofs.Names.{ToServer, Client, Durable, State, client_of, opened, IsReachable}
+use Rattle.krl_world.proofs.Reaching.{by_reaching}
 use Rattle.krl_messages.specs.declared.to_client.PushBody.{PushBody}
 use Rattle.krl_messages.specs.declared.to_client.PushBody.TheVariants as push
 use Rattle.krl_client.specs.Clients.{is_waiting, LockRequest, NotAsked, Granted, Absent, Dropped, Waiting}
@@ -53,13 +54,9 @@ does_reach u _ (nudges s c up) h = h
 does_reach u _ (stops s up) h = h
 does_reach u _ (begins d up) h = h
 
-run_reach : (steps : List Step) (u v : State) → AllReach u → Runs u steps v → AllReach v
-run_reach [] u v h r = subst AllReach (sym r) h
-run_reach (s ∷ steps) u v h r = run_reach steps r.1 v (does_reach u r.1 (does u r.1 s r.0 r.2) h) r.3
-
 opened_reach : (d : Durable) → AllReach (opened d)
 unfolding opened
 opened_reach d c k e = absurd (cc)
 
 pub reach_of : (u : State) → IsReachable u → AllReach u
-reach_of u h = run_reach h.1 (opened u.opening) u (opened_reach u.opening) h.2
+reach_of = by_reaching AllReach (λ d h. opened_reach d) (λ w v s answer r h t. does_reach w v (does w v s answer t) h) (λ w d l r h e fits. h)

@@ -1,4 +1,5 @@
 -- What a client holds on a slot rises only by a push.
+use Rattle.std.specs.Prelude.{◌-◌}
 use Rattle.krl_progress.proofs.Names.{◌≡◌, ◌≢◌, ℕ, suc, ◌≤◌, ◌<◌, ◌∙◌, Bool, true, false, ◌&&◌, ◌||◌, Some, List, [], ◌∷◌, is_some, refl, sym, ap, subst, arith, nat_eq, eqb-true, END}
 use Rattle.krl_progress.proofs.Names.{ToServer, ToClient, Server, is_recovering, lists, case_of, Done, effect, acknowledged, writes, Turn, next_turn, answer_first, Answered, stops, goes_on, Kind, kind_of, Ends, at_once, recovers, serves, ServerStep, Index, Rows, slot_of, span_of, is_slot, is_compatible, op_key, holding, WriteOp, Durable, record_of}
 use Rattle.krl_progress.proofs.Names.{Step, Answer, Up, Down, State, Takes, IsReachable}
@@ -17,7 +18,7 @@ use Rattle.krl_messages.specs.declared.to_client.PushBody.TheVariants as push
 use Rattle.krl_queue.specs.declared.waiter.Waiter.{Waiter}
 use Rattle.krl_table.specs.Rows.{Row, mode_at, set_row, set_mode}
 use Rattle.krl_table.specs.Calls.{wanted, with_mode, with_queue, queue_with, raised, raised_on, granted_first, grant_first, dropped, behind_first}
-use Rattle.krl_table.specs.Grants.{granted, granted_by, taken_after, max_more}
+use Rattle.krl_table.specs.Grants.{granted, granted_by, taken_after}
 use Rattle.krl_table.specs.Replies.{asks_absent}
 use Rattle.krl_table.proofs.Rows.Slots.{no_slot}
 use Rattle.krl_table.proofs.Invariant.Compatible.{mode_other}
@@ -131,10 +132,10 @@ raised_on_others : (rows : Rows) (ns : List ℕ) (u : Waiter) (d : ℕ) → d �
 raised_on_others rows [] u d ne k = refl
 raised_on_others rows (n ∷ ns) u d ne k = raised_others rows n u d ne k ∙ raised_on_others (raised rows n u) ns u d ne k
 
-granted_others : (m : Index) (rows : Rows) (n d : ℕ) (u : Waiter) (us : List Waiter) → (rows n).queue ≡ u ∷ us → d ≢ u.client → (k : ℕ) → mode_at (granted m rows n) k d ≡ mode_at rows k d
-granted_others m rows n d u us q ne k =
-    ap (λ vs. mode_at (granted_by m rows n vs) k d) q
-    ∙ sym (raised_on_others (granted_first rows n) (taken_after m (granted_first rows n) n u max_more) u d ne k)
+granted_others : (r : ℕ) (m : Index) (rows : Rows) (n d : ℕ) (u : Waiter) (us : List Waiter) → (rows n).queue ≡ u ∷ us → d ≢ u.client → (k : ℕ) → mode_at (granted r m rows n) k d ≡ mode_at rows k d
+granted_others r m rows n d u us q ne k =
+    ap (λ vs. mode_at (granted_by r m rows n vs) k d) q
+    ∙ sym (raised_on_others (granted_first rows n) (taken_after m (granted_first rows n) n u (r - 1)) u d ne k)
     ∙ sym (row_modes rows n (grant_first (rows n) (rows n).queue) d (sym (ap (λ vs. (grant_first (rows n) vs).modes d) q ∙ mode_other (rows n).modes u.client d (wanted (rows n) u) ne)) k)
 
 -- an answer changes what its waiter's client holds, and what nobody else holds
@@ -142,8 +143,8 @@ turn_others : (s : Server) (t : Turn) (d : ℕ) → next_turn s ≡ Some t → d
 turn_others s t d e ne k = if_both (λ (x : Done). mode_at x.server.rows k d ≡ mode_at s.rows k d) (asks_absent s.durable.index t.waiter) (tells_absent s t) (grants s t)
     (ap (λ (r : Rows). mode_at r k d) (pushes_rows (with_rows s (dropped s.rows t.slot)) t.waiter.client (push.Absent t.waiter.req t.waiter.point))
     ∙ sym (row_modes s.rows t.slot (with_queue (s.rows t.slot) (behind_first (s.rows t.slot).queue)) d refl k))
-    (ap (λ (r : Rows). mode_at r k d) (pushes_rows (with_rows s (granted s.durable.index s.rows t.slot)) t.waiter.client _)
-    ∙ granted_others s.durable.index s.rows t.slot d t.waiter _ (turn_is s t e).first ne k)
+    (ap (λ (r : Rows). mode_at r k d) (pushes_rows (with_rows s (granted s.durable.reach s.durable.index s.rows t.slot)) t.waiter.client _)
+    ∙ granted_others s.durable.reach s.durable.index s.rows t.slot d t.waiter _ (turn_is s t e).first ne k)
 
 -- a session that has had no further push since then
 pub unpushed : (s t : Server) (c : ℕ) → Later s t c → incarnation_of t c ≡ incarnation_of s c → (s.sessions c).last_push ≤ (t.sessions c).last_push

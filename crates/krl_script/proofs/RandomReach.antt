@@ -40,6 +40,7 @@ first_kept = record {
   keys = subst AreBelowEnd (sym first_index) (refl, (refl, tt));
   few = subst (λ (es : List (ℕ × Value)). length es ≤ max_entries) (sym first_index) (omega arith);
   room = (omega arith, omega arith);
+  reach = (omega arith, omega arith);
   epoch = omega arith;
   clients = tt;
   once = tt;

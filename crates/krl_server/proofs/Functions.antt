@@ -9,6 +9,8 @@ pub mod Known
 pub mod Listed
 pub mod StateChanges
 pub mod NudgeMessages
+pub mod Reaching
+pub mod Roomed
 pub mod Rooms
 pub mod Rounds
 pub mod StepClauses

@@ -1,11 +1,12 @@
 -- What a grant takes, and what each raise of it leaves as it was.
-use Rattle.krl_server.proofs.Names.{◌≡◌, ◌≢◌, ℕ, zero, suc, ◌≤◌, ◌<◌, Bool, true, false, not, ◌&&◌, ◌||◌, None, List, [], ◌∷◌, ◌++◌, take, length, refl, sym, ap, subst, ◌∙◌, ⊎_elim, arith, nat_eq}
+use Rattle.krl_server.proofs.Names.{◌≡◌, ◌≢◌, ℕ, zero, suc, ◌-◌, ◌≤◌, ◌<◌, Bool, true, false, not, ◌&&◌, ◌||◌, None, List, [], ◌∷◌, ◌++◌, take, length, refl, sym, ap, subst, ◌∙◌, ⊎_elim, arith, nat_eq}
 use Rattle.krl_server.proofs.Names.{eq-eqb, ltb-true, cases_lt, and_parts, nat_tests, nat_lt, nat_le, is_some, if◌then◌else◌, filter, AllByRecursion, nat_cmp, find, END, needs_entry, Value, Waiter}
 use Rattle.krl_server.proofs.Names.{eq_cases, Index, first_or_end, slot_of, low_of, is_slot, Rows, mode_at, set_row, with_mode, wanted, grant_first, granted_first, raised, raised_on}
 use Rattle.krl_server.proofs.Names.{is_wanted_compatible, Durable, Server, holding, holdings, find_here, find_past, IsWhole}
 use Rattle.krl_table.proofs.Invariant.Compatible.{mode_other}
 use Rattle.std.specs.FinMap as fin
-use Rattle.krl_table.specs.Grants.{nobody_waits, can_take, goes_on, taken_after, taken_by, taken, granted_by, granted, max_more}
+use Rattle.krl_table.specs.Grants.{nobody_waits, can_take, goes_on, taken_after, taken_by, taken, granted_by, granted}
+use Rattle.krl_durable.specs.Writes.{IsReach}
 use Rattle.krl_table.proofs.Rows.Slots.{low_under}
 use Rattle.krl_messages.specs.Ascending.{IsBefore, Ascend, max_holdings}
 use Rattle.krl_server.proofs.Slots.{is_slot_true, span_here}
@@ -62,14 +63,14 @@ raised_on_queue rows [] u k = refl
 raised_on_queue rows (n ∷ ns) u k = raised_on_queue (raised rows n u) ns u k ∙ raised_queue rows n u k
 
 -- a grant takes one waiter from its slot, and no other
-pub granted_queue : (m : Index) (rows : Rows) (n k : ℕ) → (granted m rows n k).queue ≡ (granted_first rows n k).queue
-granted_queue m rows n k = by_queue (rows n).queue refl
+pub granted_queue : (r : ℕ) (m : Index) (rows : Rows) (n k : ℕ) → (granted r m rows n k).queue ≡ (granted_first rows n k).queue
+granted_queue r m rows n k = by_queue (rows n).queue refl
   where
-    by_queue : (us : List Waiter) → (rows n).queue ≡ us → (granted_by m rows n us k).queue ≡ (granted_first rows n k).queue
+    by_queue : (us : List Waiter) → (rows n).queue ≡ us → (granted_by r m rows n us k).queue ≡ (granted_first rows n k).queue
     by_queue [] e = eq_cases k n
         (λ f. subst (λ x. (rows x).queue ≡ (granted_first rows n x).queue) (sym f) (sym (ap (λ r. r.queue) (row_here rows n (grant_first (rows n) (rows n).queue)) ∙ ap (λ q. (grant_first (rows n) q).queue) e)))
         (λ ne. ap (λ r. r.queue) (sym (row_other rows n (grant_first (rows n) (rows n).queue) k ne)))
-    by_queue (u ∷ us) e = raised_on_queue (granted_first rows n) (taken_after m (granted_first rows n) n u max_more) u k
+    by_queue (u ∷ us) e = raised_on_queue (granted_first rows n) (taken_after m (granted_first rows n) n u (r - 1)) u k
 
 -- The slots that are taken, one after another
 
@@ -113,25 +114,25 @@ module _ (m : Index) (u : Waiter) where
 
 -- A grant to the first waiter u of the slot n
 
-module _ (m : Index) (rows : Rows) (n : ℕ) (u : Waiter) (us : List Waiter) (queue : (rows n).queue ≡ u ∷ us) where
+module _ (r : ℕ) (m : Index) (rows : Rows) (n : ℕ) (u : Waiter) (us : List Waiter) (queue : (rows n).queue ≡ u ∷ us) where
   abbrev pub first_rows : Rows
   first_rows = set_row rows n (grant_first (rows n) (u ∷ us))
 
-  pub granted_is : granted m rows n ≡ raised_on first_rows (taken_after m first_rows n u max_more) u
-  granted_is = ap (granted_by m rows n) queue ∙ ap (λ q. raised_on (set_row rows n (grant_first (rows n) q)) (taken_after m (set_row rows n (grant_first (rows n) q)) n u max_more) u) queue
+  pub granted_is : granted r m rows n ≡ raised_on first_rows (taken_after m first_rows n u (r - 1)) u
+  granted_is = ap (granted_by r m rows n) queue ∙ ap (λ q. raised_on (set_row rows n (grant_first (rows n) q)) (taken_after m (set_row rows n (grant_first (rows n) q)) n u (r - 1)) u) queue
 
-  pub taken_is : taken m rows n ≡ n ∷ taken_after m first_rows n u max_more
-  taken_is = ap (taken_by m rows n) queue ∙ ap (λ q. n ∷ taken_after m (set_row rows n (grant_first (rows n) q)) n u max_more) queue
+  pub taken_is : taken r m rows n ≡ n ∷ taken_after m first_rows n u (r - 1)
+  taken_is = ap (taken_by r m rows n) queue ∙ ap (λ q. n ∷ taken_after m (set_row rows n (grant_first (rows n) q)) n u (r - 1)) queue
 
 -- rows below the slot stay
-pub granted_below : (m : Index) (rows : Rows) (n k : ℕ) → k < n → granted m rows n k ≡ rows k
-granted_below m rows n k lt = by_queue (rows n).queue refl
+pub granted_below : (r : ℕ) (m : Index) (rows : Rows) (n k : ℕ) → k < n → granted r m rows n k ≡ rows k
+granted_below r m rows n k lt = by_queue (rows n).queue refl
   where
-    by_queue : (us : List Waiter) → (rows n).queue ≡ us → granted_by m rows n us k ≡ rows k
+    by_queue : (us : List Waiter) → (rows n).queue ≡ us → granted_by r m rows n us k ≡ rows k
     by_queue [] e = refl
     by_queue (u ∷ us) e = along m u (λ r. r k ≡ rows k) n
         (λ r j far slot is_compatible_there same. row_other r j (with_mode (r j) u.client (wanted (r j) u)) k (λ f. omega (arith, f, far, lt)) ∙ same)
-        max_more n (granted_first rows n) (omega arith) (row_other rows n (grant_first (rows n) (rows n).queue) k (λ f. omega (arith, f, lt)))
+        (r - 1) n (granted_first rows n) (omega arith) (row_other rows n (grant_first (rows n) (rows n).queue) k (λ f. omega (arith, f, lt)))
 
 -- a row at which somebody waits stays, beside the grant's own
 module _ (m : Index) (u : Waiter) (k : ℕ) (v : Waiter) (vs : List Waiter) where
@@ -154,15 +155,15 @@ module _ (m : Index) (u : Waiter) (k : ℕ) (v : Waiter) (vs : List Waiter) wher
       ∙ row_other rows next (with_mode (rows next) u.client (wanted (rows next) u)) k (not_next rows n e queue))
       (λ e. refl)
 
-pub granted_compatible : (m : Index) (rows : Rows) (n k : ℕ) (v : Waiter) (vs : List Waiter) → k ≢ n → (rows k).queue ≡ v ∷ vs → granted m rows n k ≡ rows k
-granted_compatible m rows n k v vs ne queue = by_queue (rows n).queue refl
+pub granted_compatible : (r : ℕ) (m : Index) (rows : Rows) (n k : ℕ) (v : Waiter) (vs : List Waiter) → k ≢ n → (rows k).queue ≡ v ∷ vs → granted r m rows n k ≡ rows k
+granted_compatible r m rows n k v vs ne queue = by_queue (rows n).queue refl
   where
     first : granted_first rows n k ≡ rows k
     first = row_other rows n (grant_first (rows n) (rows n).queue) k ne
 
-    by_queue : (us : List Waiter) → (rows n).queue ≡ us → granted_by m rows n us k ≡ rows k
+    by_queue : (us : List Waiter) → (rows n).queue ≡ us → granted_by r m rows n us k ≡ rows k
     by_queue [] e = refl
-    by_queue (u ∷ us) e = raised_compatible m u k v vs max_more n (granted_first rows n) (ap (λ r. r.queue) first ∙ queue) ∙ first
+    by_queue (u ∷ us) e = raised_compatible m u k v vs (r - 1) n (granted_first rows n) (ap (λ r. r.queue) first ∙ queue) ∙ first
 
 -- What a push tells of the slots
 
@@ -214,18 +215,20 @@ pub record IsTaken (t : Server) (c : ℕ) (slots : List ℕ) : Type 0 where
   pub order : Ascend (holdings t c slots)
   pub some : 1 ≤ length slots
   pub few : length slots ≤ max_holdings
+  pub reach : length slots ≤ t.durable.reach
 
-pub taken_told : (s t : Server) (n : ℕ) (u : Waiter) (slots : List ℕ) (rest : List Waiter) → ((q : ℕ) → END ≤ q → fin.get s.durable.index q ≡ None) → t.durable ≡ s.durable → is_slot s.durable.index n ≡ true → (s.rows n).queue ≡ u ∷ rest → slots ≡ taken s.durable.index s.rows n → IsTaken t u.client slots
-taken_told s t n u slots rest near same here queue is =
+pub taken_told : (s t : Server) (n : ℕ) (u : Waiter) (slots : List ℕ) (rest : List Waiter) → ((q : ℕ) → END ≤ q → fin.get s.durable.index q ≡ None) → t.durable ≡ s.durable → is_slot s.durable.index n ≡ true → (s.rows n).queue ≡ u ∷ rest → IsReach s.durable.reach → slots ≡ taken s.durable.reach s.durable.index s.rows n → IsTaken t u.client slots
+taken_told s t n u slots rest near same here queue far is =
     let m = s.durable.index in
-    let first = first_rows m s.rows n u rest queue in
-    let ns = taken_after m first n u max_more in
-    let after = taken_slots m u max_more n first in
-    let e : slots ≡ n ∷ ns = is ∙ taken_is m s.rows n u rest queue in
+    let first = first_rows s.durable.reach m s.rows n u rest queue in
+    let ns = taken_after m first n u (s.durable.reach - 1) in
+    let after = taken_slots m u (s.durable.reach - 1) n first in
+    let e : slots ≡ n ∷ ns = is ∙ taken_is s.durable.reach m s.rows n u rest queue in
     subst (IsTaken t u.client) (sym e)
     (record {
       there = subst (λ (d : Durable). AllByRecursion (λ k. is_slot d.index k ≡ true) (n ∷ ns)) (sym same) (slots_there m n ns here after);
       order = slots_ascend t (λ q a. ap (λ (d : Durable). fin.get d.index q) same ∙ near q a) u.client n ns (ap (λ (d : Durable). is_slot d.index n) same ∙ here) (subst (λ (d : Durable). AreSlotsAfter d.index n ns) (sym same) after);
       some = omega arith;
-      few = let x = taken_few m u max_more n first in omega (arith, x);
+      few = let x = taken_few m u (s.durable.reach - 1) n first in let some = far.0 in let few = far.1 in omega (arith, x, some, few);
+      reach = subst (λ (d : Durable). length (n ∷ ns) ≤ d.reach) (sym same) (let x = taken_few m u (s.durable.reach - 1) n first in let some = far.0 in omega (arith, x, some));
     })

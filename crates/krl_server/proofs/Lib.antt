@@ -5,6 +5,7 @@ pub mod Points
 pub mod Turns
 pub mod Tests
 pub mod Grants
+pub mod MostSlots
 pub mod Cased
 pub mod Crosses
 pub mod Functions

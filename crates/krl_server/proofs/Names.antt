@@ -69,7 +69,7 @@ pub use Rattle.krl_table.proofs.Rows.RowChanges.{eq_cases}
 pub use Rattle.krl_table.specs.Calls.{with_queue, split_modes, with_mode, cleared, raised_on, wanted, grant_first, dropped, lowered, merged, enqueued, granted_first, behind_first, mode_beside}
 pub use Rattle.krl_table.specs.Calls.{raised, unqueue, queue_with, split}
 pub use Rattle.krl_table.specs.FirstReplies.{is_granted_at_once, first_reply, reply_to, answerable}
-pub use Rattle.krl_table.specs.Grants.{taken_after, granted, nobody_waits, max_more, taken}
+pub use Rattle.krl_table.specs.Grants.{taken_after, granted, nobody_waits, taken}
 pub use Rattle.krl_table.specs.KeptRows.{times, KeptTable, IsOver, AreCompatible}
 pub use Rattle.krl_table.specs.Kept.{rows_of, Kept}
 pub use Rattle.krl_table.specs.Writers.{MayDelete, MayInsert}

@@ -47,9 +47,9 @@ tells_absent s t =
 -- them
 abbrev pub grants : Server → Turn → Done
 grants s t =
-    let g = with_rows s (granted s.durable.index s.rows t.slot) in
+    let g = with_rows s (granted s.durable.reach s.durable.index s.rows t.slot) in
     pushes g t.waiter.client
-    (push.Grant t.waiter.req (holdings g t.waiter.client (taken s.durable.index s.rows t.slot)))
+    (push.Grant t.waiter.req (holdings g t.waiter.client (taken s.durable.reach s.durable.index s.rows t.slot)))
 
 abbrev pub answer_first : Server → Turn → Done
 answer_first s t = if asks_absent s.durable.index t.waiter then tells_absent s t else grants s t

@@ -15,6 +15,7 @@ pub mod CodeSteps
 pub mod Replays
 pub mod Invariant
 pub mod Termination
+pub mod GrantRooms
 pub mod Outputs
 pub mod Ranges
 pub mod Waits

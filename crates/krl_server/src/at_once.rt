@@ -1,5 +1,5 @@
 //! A lock that nobody has to wait for.
-ghost use Rattle.std.specs.Prelude.{◌≡◌, ◌<◌, ℕ, [], length, true, false};
+ghost use Rattle.std.specs.Prelude.{◌≡◌, ◌<◌, ◌≤◌, ℕ, [], length, true, false};
 ghost use Rattle.std.specs.Prelude.{IfOk, OnErr, IfSome, IfNone};
 ghost use Rattle.krl_durable.specs.Index.{slot_of};
 ghost use Rattle.krl_server.specs.Cases.{case_of};
@@ -8,12 +8,14 @@ ghost use Rattle.krl_server.specs.CodeSteps.{IsServer, HasAnsweredFirst, HasStep
 ghost use Rattle.krl_server.specs.Soundness.{IsSound};
 ghost use Rattle.krl_server.specs.StateMeaning.{meaning};
 ghost use Rattle.krl_server.specs.FoundCases.{meant, IsFormed};
+ghost use Rattle.krl_server.specs.GrantRooms.{most_slots, NobodyCame};
 ghost use Rattle.krl_modes.specs.declared.limits.TheConstants.{MAX_CLIENTS};
 
 use crate::case::Case;
+use crate::grant_room::{GrantRoom, most_slots};
 use crate::out::{Outbox, ServerOut};
 use crate::state::State;
-use krl_messages::{PushBody, ToServer};
+use krl_messages::ToServer;
 use krl_modes::END;
 use krl_queue::Waiter;
 use std::alloc::{AllocError, Global};
@@ -21,15 +23,16 @@ use std::alloc::{AllocError, Global};
 impl State {
     /// Takes a lock request, grants it and sends the grant, if nobody waits on its slot: the
     /// lock is found free in one search, and the waiter takes no place in a queue. The last push
-    /// counts as acknowledged. It takes no memory.
+    /// counts as acknowledged. It takes no memory but the room for the holdings, which it is given.
     ///
     /// It answers `false`, and nothing changes and nothing is sent, if the request has to wait
     /// or to hear that there is no entry, and if the number of the next push is spent.
-    fn grant_at_once(&mut self, waiter: &Waiter, outbox: &mut Outbox) -> bool
+    fn grant_at_once(&mut self, waiter: &Waiter, room: GrantRoom, outbox: &mut Outbox) -> bool
         requires formed { IsFormed self.old }
         requires client { waiter.now.client < MAX_CLIENTS }
         requires sound { IsSound (meaning self.old) }
         requires room { length outbox.old.sent < outbox.old.room }
+        requires holdings { most_slots self.old.durable waiter.now.point waiter.now.hi ≤ room }
         ensures answered { result ≡ true → HasAnsweredFirst
             (queues (acknowledged (meaning self.old) waiter.now.client) waiter.now)
             (meaning self.new)
@@ -40,6 +43,8 @@ impl State {
         ensures unsent { result ≡ false → outbox.new ≡ outbox.old }
         ensures formed { IsFormed self.new }
     {
+        // By its clause `kept` the prover knows how far a grant reaches.
+        let _kept = self.durable.epoch();
         if self.session(waiter.client).last_push >= END {
             return false;
         }
@@ -47,12 +52,8 @@ impl State {
             return false;
         };
         self.note_request(waiter.client, waiter.req);
-        let holdings = self.holdings(slots.as_slice(), waiter.client);
-        let body = PushBody::Grant {
-            req: waiter.req,
-            holdings,
-        };
-        self.push(waiter.client, &body, outbox);
+        let (kept, body) = self.grant_of(waiter.req, slots.as_slice(), waiter.client, room);
+        self.push(waiter.client, kept, body, outbox);
         true
     }
 
@@ -74,6 +75,8 @@ impl State {
             ≡ case_of (meaning self.old) message.now }
         ensures stepped { IfOk result (λ r. IfSome r
             (λ out. HasStepped (meaning self.old) message.now (meaning self.new) out)) }
+        ensures waiters { IfOk result (λ r. IfSome r
+            (λ _. NobodyCame (meaning self.old) (meaning self.new))) }
         ensures none { IfOk result (λ r. IfNone r (self.new ≡ self.old)) }
         ensures formed { IsFormed self.new }
         ensures refused { OnErr result (self.new ≡ self.old) }
@@ -90,6 +93,7 @@ impl State {
         if self.missing.is_recovering() {
             return Ok(None);
         }
+        let room = GrantRoom::new(alloc, most_slots(&self.durable, point, hi))?;
         let mut outbox = Outbox::new(alloc, 1 + 63 * self.count_waiting())?;
         let waiter = Waiter {
             client: message.client,
@@ -98,7 +102,7 @@ impl State {
             hi,
             mode,
         };
-        if !self.grant_at_once(&waiter, &mut outbox) {
+        if !self.grant_at_once(&waiter, room, &mut outbox) {
             return Ok(None);
         }
         let slots = self.table.waiting_slots(&self.durable);

@@ -203,11 +203,19 @@ impl State {
     {
         let slot = self.durable.slot_of(op.key());
         let holding = self.holding(slot, client);
+        // Copies: the prover takes a value that is handed on as moved.
+        let (first, second) = (*&holding, *&holding);
+        let (judged, told) = (*&outcome, *&outcome);
+        let kept = PushBody::Answer {
+            number,
+            outcome: judged,
+            holding: first,
+        };
         let body = PushBody::Answer {
             number,
-            outcome,
-            holding,
+            outcome: told,
+            holding: second,
         };
-        self.push(client, &body, outbox);
+        self.push(client, kept, body, outbox);
     }
 }

@@ -6,7 +6,6 @@ use krl_durable::Change;
 use krl_messages::{Items, ToClient};
 use std::alloc::{AllocError, Global};
 use std::marker::Model;
-use std::slice::from_ref;
 
 /// What a step sends and says.
 #[derive(Drop)]
@@ -64,7 +63,7 @@ impl Outbox {
         requires { length self.old.sent < self.old.room }
         ensures { Sends self.old self.new (message ∷ []) }
     {
-        self.messages.extend_from_slice(from_ref(&message)).unwrap();
+        self.messages.push_reserved(message);
     }
 
     /// Sends the message, if there is one.

@@ -19,6 +19,7 @@ ghost use Rattle.krl_server.specs.Waits.{waiter_of, waited_for, HoldsNoMore, IsN
 ghost use Rattle.krl_table.specs.Holds.{HoldsAt};
 ghost use Rattle.krl_modes.specs.declared.limits.TheConstants.{MAX_CLIENTS};
 
+use crate::grant_rooms::GrantRooms;
 use crate::missing::Missing;
 use crate::out::ServerOut;
 use crate::phase::Phase;
@@ -43,18 +44,22 @@ use std::marker::Model;
 /// are at most END. While the server serves, no first waiter can be answered.
 pub struct Server {
     state: State,
+    rooms: GrantRooms,
 }
 
 impl Drop for Server {
     fn drop(self) {
-        let Server { state: _state } = self;
+        let Server {
+            state: _state,
+            rooms: _rooms,
+        } = self;
     }
 }
 
 impl Model for Server {
     ghost use Rattle.krl_server.specs.declared.state.State.{State};
     ghost use Rattle.krl_server.specs.contracts.state.State as kept;
-    ghost use Rattle.krl_server.specs.CodeSteps.{IsServer};
+    ghost use Rattle.krl_server.specs.GrantRooms.{IsRoomed};
 
     ghost Value = { State };
 
@@ -62,24 +67,29 @@ impl Model for Server {
 
     ghost view = { λ s. s.state };
 
-    ghost invariant = { λ s. IsServer s.state };
+    ghost invariant = { λ s. IsRoomed s.state s.rooms };
 }
 
 // What a start takes memory for.
-fn parts_of(alloc: Global, durable: &Durable) -> Result<(Table, Sessions, Missing), AllocError>
+fn parts_of(
+    alloc: Global,
+    durable: &Durable,
+) -> Result<(Table, Sessions, Missing, GrantRooms), AllocError>
     ensures rows { IfOk result (λ parts. (n : ℕ) → rows_of parts.0.map n ≡ blank_row) }
     ensures slots { IfOk result (λ parts. IsOver durable.now.index parts.0.map) }
     ensures room { IfOk result (λ parts. durable.now.room < parts.0.room) }
     ensures full { IfOk result (λ parts. length parts.1 ≡ MAX_CLIENTS) }
     ensures blank { IfOk result (λ parts. (c : ℕ) → sessions_of parts.1 c ≡ blank_session) }
     ensures missing { IfOk result (λ parts. parts.2 ≡ missing_order durable.now.register) }
+    ensures rooms { IfOk result (λ parts. length parts.3 ≡ MAX_CLIENTS) }
 {
     // By its clause `kept` the prover knows what holds of all that survives.
     let _kept = durable.epoch();
     let clients = durable.missing_order(alloc)?;
     let sessions = Sessions::blank(alloc)?;
     let table = Table::new(alloc, durable.room())?;
-    Ok((table, sessions, Missing::new(clients)))
+    let rooms = GrantRooms::none(alloc)?;
+    Ok((table, sessions, Missing::new(clients), rooms))
 }
 
 impl Server {
@@ -101,7 +111,7 @@ impl Server {
             });
         }
         match parts_of(alloc, &durable) {
-            Ok((table, sessions, missing)) => {
+            Ok((table, sessions, missing, rooms)) => {
                 let mut durable = durable;
                 durable.next_epoch();
                 Ok(Server {
@@ -111,6 +121,7 @@ impl Server {
                         sessions,
                         missing,
                     },
+                    rooms,
                 })
             }
             Err(_) => Err(NotStarted {
@@ -153,7 +164,7 @@ impl Server {
         ensures few { IfOk result (λ out. length out.messages ≤ max_messages) }
         ensures refused { OnErr result (self.new ≡ self.old) }
     {
-        self.state.step(alloc, message)
+        self.state.step(alloc, message, &mut self.rooms)
     }
 
     /// What is sent to move a client that seems stuck: while the server recovers, the epoch to a
@@ -177,7 +188,7 @@ impl Server {
     pub fn crash(self) -> Durable
         ensures { result ≡ crash (meaning self) }
     {
-        let Server { state } = self;
+        let Server { state, rooms: _ } = self;
         let State {
             durable,
             table: _,

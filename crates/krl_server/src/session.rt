@@ -7,7 +7,7 @@ use krl_messages::PushBody;
 use krl_modes::END;
 
 /// What was pushed to one client, and asked by it, in this epoch.
-#[derive(Clone, Copy)]
+#[derive(Drop)]
 pub struct Session {
     /// The number of the last push, or 0.
     pub last_push: u64,

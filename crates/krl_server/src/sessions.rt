@@ -10,7 +10,6 @@ use krl_messages::PushBody;
 use krl_modes::MAX_CLIENTS;
 use std::alloc::{AllocError, Global};
 use std::marker::Model;
-use std::slice::from_ref;
 
 /// A session for each client. They have memory of their own, so that a server is small to move.
 #[derive(Drop)]
@@ -38,10 +37,8 @@ fn blank_sessions(alloc: Global) -> Result<Vec<Session>, AllocError>
         (λ sessions. (c : ℕ) → sessions_of sessions.items c ≡ blank_session) }
 {
     let mut each = Vec::with_capacity(alloc, MAX_CLIENTS)?;
-    // A push of a session gets no proof: its refusal would hand the session back.
-    let blank = Session::blank();
     for _client in 0..MAX_CLIENTS {
-        each.extend_from_slice(from_ref(&blank))?;
+        each.push_reserved(Session::blank());
     }
     Ok(each)
 }
@@ -107,14 +104,14 @@ impl Sessions {
     }
 
     /// The client's last push has this number and says this, and is not acknowledged.
-    pub(crate) fn note_push(&mut self, client: u64, number: u64, body: &PushBody)
+    pub(crate) fn note_push(&mut self, client: u64, number: u64, body: PushBody)
         requires { client < length self.old }
         ensures { self.new ≡ set self.old client
             (record (sessions_of self.old client)
-            { last_push = number; unacked = Some body.now }) }
+            { last_push = number; unacked = Some body }) }
     {
         let session = &mut self.each[client as usize];
         session.last_push = number;
-        session.unacked = Some(*body);
+        session.unacked = Some(body);
     }
 }

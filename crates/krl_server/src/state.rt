@@ -1,5 +1,6 @@
 //! What a server keeps.
-ghost use Rattle.std.specs.Prelude.{◌≡◌, ◌<◌, ◌≤◌, ℕ, true, IsSome, length, set};
+ghost use Rattle.std.specs.Prelude.{◌≡◌, ◌<◌, ◌≤◌, ℕ, true, [], IsSome, IfOk, length, set};
+ghost use Rattle.krl_messages.specs.declared.to_client.PushBody.TheVariants as push;
 ghost use Rattle.std.specs.List.{AllByRecursion};
 ghost use Rattle.krl_durable.specs.Index.{is_slot};
 ghost use Rattle.krl_modes.specs.Modes.{key_of};
@@ -12,14 +13,16 @@ ghost use Rattle.krl_server.specs.Effects.{epoch_to, push_to, callback_to, shown
 ghost use Rattle.krl_server.specs.Effects.{holding, holdings, pushes};
 ghost use Rattle.krl_modes.specs.declared.limits.TheConstants.{MAX_CLIENTS};
 
+use crate::grant_room::GrantRoom;
 use crate::missing::Missing;
 use crate::out::Outbox;
 use crate::session::Session;
 use crate::sessions::Sessions;
 use krl_durable::Durable;
-use krl_messages::{Holding, Holdings, PushBody, ToClient, ToClientBody, Value};
+use krl_messages::{Gathering, Holding, Holdings, PushBody, ToClient, ToClientBody, Value};
 use krl_modes::{END, KeyPart, Mode, Point, Span};
 use krl_table::Table;
+use std::alloc::{AllocError, Global};
 
 /// What a server keeps, as it also is while a message is worked on.
 #[derive(Drop)]
@@ -78,8 +81,8 @@ impl State {
     }
 
     /// The push of this number.
-    fn push_to(&self, client: u64, number: u64, body: &PushBody) -> ToClient
-        ensures { result ≡ push_to (meaning self.now) client number body.now }
+    fn push_to(&self, client: u64, number: u64, body: PushBody) -> ToClient
+        ensures { result ≡ push_to (meaning self.now) client number body }
     {
         ToClient {
             client,
@@ -87,19 +90,33 @@ impl State {
             body: ToClientBody::Push {
                 epoch: self.durable.epoch(),
                 number,
-                body: *body,
+                body,
             },
         }
     }
 
     /// The client's push that is not acknowledged, once more.
-    pub(crate) fn push_again(&self, client: u64) -> Option<ToClient>
-        ensures { as_list result
-            ≡ pushed_again (meaning self.now) client ((meaning self.now).sessions client).unacked }
+    ///
+    /// # Errors
+    ///
+    /// `AllocError` if the memory for its holdings is refused.
+    pub(crate) fn push_again(
+        &self,
+        alloc: Global,
+        client: u64,
+    ) -> Result<Option<ToClient>, AllocError>
+        ensures { IfOk result (λ again. as_list again
+            ≡ pushed_again (meaning self.now) client
+            ((meaning self.now).sessions client).unacked) }
     {
-        let session = self.sessions.find(client)?;
-        let body = session.unacked.as_ref()?;
-        Some(self.push_to(client, session.last_push, body))
+        let Some(session) = self.sessions.find(client) else {
+            return Ok(None);
+        };
+        let Some(body) = &session.unacked else {
+            return Ok(None);
+        };
+        let copy = body.try_clone(alloc)?;
+        Ok(Some(self.push_to(client, session.last_push, copy)))
     }
 
     /// Asks the client to keep no more than this mode on the span.
@@ -133,21 +150,60 @@ impl State {
         }
     }
 
-    /// What the client holds on each of these slots, of which there are 1 to 8, in their order.
-    pub(crate) fn holdings(&self, slots: &[Point], client: u64) -> Holdings
+    /// What the client holds on each of these slots, of which there are 1 to 128, in their order.
+    pub(crate) fn holdings(&self, slots: &[Point], client: u64, room: Gathering) -> Holdings
         requires formed { IsFormed self.now }
         requires slots { AllByRecursion (λ n. is_slot self.now.durable.index n ≡ true) slots.now }
         requires order { Ascend (holdings (meaning self.now) client slots.now) }
         requires some { 1 ≤ length slots.now }
         requires few { length slots.now ≤ max_holdings }
         requires client { client < MAX_CLIENTS }
+        requires empty { room.holdings ≡ [] }
+        requires room { length slots.now ≤ room.room }
         ensures { result ≡ holdings (meaning self.now) client slots.now }
     {
-        let mut all = Holdings::one(self.holding(slots[0].get(), client));
-        for i in 1..slots.len() {
-            all.push(self.holding(slots[i].get(), client));
+        let mut all = room;
+        for i in 0..slots.len() {
+            // Apart: the prover has to see the type of the value.
+            let Holding { span, mode, value } = self.holding(slots[i].get(), client);
+            all.push(Holding { span, mode, value });
         }
-        all
+        all.into_holdings()
+    }
+
+    /// The grant of these slots, twice: for the session, and for what is sent.
+    pub(crate) fn grant_of(
+        &self,
+        req: u64,
+        slots: &[Point],
+        client: u64,
+        room: GrantRoom,
+    ) -> (PushBody, PushBody)
+        requires formed { IsFormed self.now }
+        requires slots { AllByRecursion (λ n. is_slot self.now.durable.index n ≡ true) slots.now }
+        requires order { Ascend (holdings (meaning self.now) client slots.now) }
+        requires some { 1 ≤ length slots.now }
+        requires few { length slots.now ≤ max_holdings }
+        requires client { client < MAX_CLIENTS }
+        requires room { length slots.now ≤ room }
+        ensures kept { result.0
+            ≡ push.Grant req (holdings (meaning self.now) client slots.now) }
+        ensures sent { result.1
+            ≡ push.Grant req (holdings (meaning self.now) client slots.now) }
+    {
+        let (kept, sent) = room.into_lists();
+        let kept = self.holdings(slots, client, kept);
+        let sent = sent.into_copy(&kept);
+        (
+            PushBody::Grant {
+                req,
+                holdings: kept,
+            },
+            PushBody::Grant {
+                req,
+                holdings: sent,
+            },
+        )
     }
 
     /// The client's last push counts as acknowledged.
@@ -175,14 +231,16 @@ impl State {
         self.sessions.note_request(client, req);
     }
 
-    /// Sends the client its next push. If its number is spent nothing is sent.
-    pub(crate) fn push(&mut self, client: u64, body: &PushBody, outbox: &mut Outbox)
+    /// Sends the client its next push, of which the session keeps a copy. If its number is spent
+    /// nothing is sent.
+    pub(crate) fn push(&mut self, client: u64, kept: PushBody, body: PushBody, outbox: &mut Outbox)
         requires formed { IsFormed self.old }
+        requires same { kept ≡ body }
         requires client { client < MAX_CLIENTS }
         requires room { length outbox.old.sent < outbox.old.room }
-        ensures server { meaning self.new ≡ (pushes (meaning self.old) client body.now).server }
+        ensures server { meaning self.new ≡ (pushes (meaning self.old) client body).server }
         ensures sent { Sends outbox.old outbox.new
-            (pushes (meaning self.old) client body.now).outs }
+            (pushes (meaning self.old) client body).outs }
         ensures rest { self.new ≡ record self.old { sessions = self.new.sessions } }
         ensures formed { IsFormed self.new }
     {
@@ -192,6 +250,6 @@ impl State {
         }
         let number = last_push + 1;
         outbox.send(self.push_to(client, number, body));
-        self.sessions.note_push(client, number, body);
+        self.sessions.note_push(client, number, kept);
     }
 }

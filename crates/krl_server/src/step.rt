@@ -1,33 +1,26 @@
 //! A step: a message is judged, done, and whoever can be answered is.
-ghost use Rattle.std.specs.Prelude.{◌≡◌, ◌≤◌, true, ◌<◌, ◌+◌, [], length, Some, IfOk, OnOk, OnErr};
-ghost use Rattle.std.specs.Prelude.{IsSome, IfSome};
-ghost use Rattle.std.specs.FinMap as map;
+ghost use Rattle.std.specs.Prelude.{◌≡◌, ◌≤◌, ◌<◌, ◌+◌, [], length, IfOk, OnOk, OnErr};
 ghost use Rattle.krl_server.specs.StateMeaning.{meaning};
-ghost use Rattle.krl_server.specs.FoundCases.{meant, case_of_pieces, after_of, IsFormed};
+ghost use Rattle.krl_server.specs.FoundCases.{meant, case_of_pieces, IsFormed};
 ghost use Rattle.krl_table.specs.Sound.{IsTable};
 ghost use Rattle.krl_server.specs.Soundness.{IsSound};
 ghost use Rattle.krl_server.specs.Cases.{case_of};
-ghost use Rattle.krl_server.specs.Effects.{effect};
 ghost use Rattle.krl_server.specs.Changes.{change_of};
-ghost use Rattle.krl_server.specs.Callbacks.{callbacks_of_among};
-ghost use Rattle.krl_server.specs.Steps.{nudge, nudge_missing, nudge_served};
-ghost use Rattle.krl_durable.specs.Registers.{record_of};
-ghost use Rattle.krl_durable.specs.Index.{slots, slot_of};
-ghost use Rattle.krl_modes.specs.declared.point.TheConstants.{END};
-ghost use Rattle.krl_server.specs.CodeSteps.{is_registered, calls_of_first, calls_at_first};
 ghost use Rattle.krl_server.specs.CodeSteps.{waiting_clients};
 ghost use Rattle.krl_server.specs.CodeSteps.{room_for, own_of, IsPerformed, HasPerformed, HasRoom};
-ghost use Rattle.krl_server.specs.CodeSteps.{HasFinished, HasStepped, IsServer, IsFirst};
+ghost use Rattle.krl_server.specs.CodeSteps.{HasFinished, HasStepped, IsServer};
+ghost use Rattle.krl_server.specs.GrantRooms.{HasGrantRooms, HasRoomFor};
 ghost use Rattle.krl_modes.specs.declared.limits.TheConstants.{MAX_CLIENTS};
 
 use crate::case::{After, Case, Performed};
+use crate::grant_room::slots_asked;
+use crate::grant_rooms::GrantRooms;
 use crate::out::{Outbox, ServerOut};
 use crate::state::State;
 use krl_durable::Change;
-use krl_messages::{Items, ToClient, ToServer, ToServerBody};
-use krl_modes::{MAX_CLIENTS, Point};
+use krl_messages::{ToServer, ToServerBody};
+use krl_modes::MAX_CLIENTS;
 use krl_queue::{WaitNode, Waiter};
-use krl_table::FirstWaiter;
 use std::alloc::{AllocError, Global};
 
 impl State {
@@ -140,7 +133,8 @@ impl State {
             }
             Case::Reports => Ok(self.take_report(alloc, message)?.unchanging()),
             Case::Repeats => {
-                outbox.send_some(self.push_again(client));
+                let again = self.push_again(alloc, client)?;
+                outbox.send_some(again);
                 Ok(After::Nothing.unchanging())
             }
             Case::Acknowledges => {
@@ -205,8 +199,11 @@ impl State {
         &mut self,
         alloc: Global,
         message: &ToServer,
+        rooms: &mut GrantRooms,
     ) -> Result<ServerOut, AllocError>
-        requires { IsServer self.old }
+        requires server { IsServer self.old }
+        requires rooms { HasGrantRooms (meaning self.old) rooms.old }
+        ensures rooms { HasGrantRooms (meaning self.new) rooms.new }
         ensures stepped { IfOk result
             (λ out. HasStepped (meaning self.old) message.now (meaning self.new) out) }
         ensures formed { OnOk result (IsFormed self.new) }
@@ -215,8 +212,39 @@ impl State {
         let case = self.case_of(message);
         match self.step_at_once(alloc, message, &case)? {
             Some(out) => Ok(out),
-            None => self.step_by_turns(alloc, message, &case),
+            None => self.step_by_turns(alloc, message, &case, rooms),
         }
+    }
+
+    /// Room for the grant of the client that comes to wait by this case, if one does.
+    ///
+    /// # Errors
+    ///
+    /// `AllocError` if memory is refused.
+    fn reserve_room(
+        &self,
+        alloc: Global,
+        message: &ToServer,
+        case: &Case,
+        rooms: &mut GrantRooms,
+    ) -> Result<(), AllocError>
+        requires case { meant (meaning self.now) message.now.client message.now.body case.now
+            ≡ case_of (meaning self.now) message.now }
+        requires rooms { HasGrantRooms (meaning self.now) rooms.old }
+        ensures rooms { HasGrantRooms (meaning self.now) rooms.new }
+        ensures room { OnOk result
+            (HasRoomFor (meaning self.now) message.now.client case.now rooms.new) }
+    {
+        let Case::Waits {
+            req: _,
+            point,
+            hi,
+            mode: _,
+        } = *case
+        else {
+            return Ok(());
+        };
+        rooms.reserve(alloc, message.client, slots_asked(&self.durable, point, hi))
     }
 
     /// One step of this case: it is done, and then whoever can be answered is.
@@ -229,18 +257,22 @@ impl State {
         alloc: Global,
         message: &ToServer,
         case: &Case,
+        rooms: &mut GrantRooms,
     ) -> Result<ServerOut, AllocError>
         requires server { IsServer self.old }
         requires case { meant (meaning self.old) message.now.client message.now.body case.now
             ≡ case_of (meaning self.old) message.now }
+        requires rooms { HasGrantRooms (meaning self.old) rooms.old }
+        ensures rooms { HasGrantRooms (meaning self.new) rooms.new }
         ensures stepped { IfOk result
             (λ out. HasStepped (meaning self.old) message.now (meaning self.new) out) }
         ensures formed { OnOk result (IsFormed self.new) }
         ensures refused { OnErr result (self.new ≡ self.old) }
     {
         let mut outbox = Outbox::new(alloc, self.room(case))?;
+        self.reserve_room(alloc, message, case, rooms)?;
         let done = self.perform(alloc, message, case, &mut outbox)?;
-        self.finish(done.after, &mut outbox);
+        self.finish(done.after, rooms, &mut outbox);
         Ok(ServerOut {
             messages: outbox.into_items(),
             alarm: done.after.alarm(message.client),
@@ -250,11 +282,13 @@ impl State {
 
     /// Does what is left to be done, while the server serves: it answers all who can be answered,
     /// and calls back those who block others.
-    fn finish(&mut self, after: After, outbox: &mut Outbox)
+    fn finish(&mut self, after: After, rooms: &mut GrantRooms, outbox: &mut Outbox)
         requires formed { IsFormed self.old }
         requires sound { IsSound (meaning self.old) }
         requires table { IsTable self.old.durable.index (meaning self.old).rows }
         requires room { HasRoom (meaning self.old) after outbox.old }
+        requires rooms { HasGrantRooms (meaning self.old) rooms.old }
+        ensures rooms { HasGrantRooms (meaning self.new) rooms.new }
         ensures finished { HasFinished (meaning self.old) after
             (meaning self.new) outbox.old outbox.new }
         ensures formed { IsFormed self.new }
@@ -266,114 +300,10 @@ impl State {
             return;
         }
         let slots = self.table.waiting_slots(&self.durable);
-        self.answer_waiters(slots.as_slice(), outbox);
+        self.answer_waiters(slots.as_slice(), rooms, outbox);
         if !after.calls_back() {
             return;
         }
         self.call_back(slots.as_slice(), outbox);
-    }
-
-    /// What a nudge of the client sends.
-    ///
-    /// # Errors
-    ///
-    /// `AllocError` if the list's memory is refused.
-    pub(crate) fn nudge(&self, alloc: Global, client: u64) -> Result<Items<ToClient>, AllocError>
-        requires { IsServer self.now }
-        ensures { IfOk result (λ outs. outs ≡ nudge (meaning self.now) client) }
-    {
-        if !self.is_registered(client) {
-            return Ok(Outbox::empty(alloc).into_items());
-        }
-        if self.missing.is_recovering() {
-            self.nudge_missing(alloc, client)
-        } else {
-            self.nudge_served(alloc, client)
-        }
-    }
-
-    /// Whether the client is registered and has not left.
-    fn is_registered(&self, client: u64) -> bool
-        ensures here { result ≡ is_registered (record_of self.now.durable.register client) }
-        ensures client { result ≡ true → client < MAX_CLIENTS }
-    {
-        // By its clause `kept` the prover knows what holds of all that survives.
-        let _kept = self.durable.epoch();
-        match self.durable.record(client) {
-            Some(known) => !known.left,
-            None => false,
-        }
-    }
-
-    /// While the server recovers, a missing client is told the epoch.
-    fn nudge_missing(&self, alloc: Global, client: u64) -> Result<Items<ToClient>, AllocError>
-        ensures { IfOk result (λ outs. outs ≡ nudge_missing (meaning self.now) client) }
-    {
-        if !self.missing.lists(client) {
-            return Ok(Outbox::empty(alloc).into_items());
-        }
-        let mut outbox = Outbox::new(alloc, 1)?;
-        outbox.send(self.epoch_to(client));
-        Ok(outbox.into_items())
-    }
-
-    /// While it serves, the client's push that is not acknowledged is sent again, or else those are
-    /// called back who block it if it waits first.
-    fn nudge_served(&self, alloc: Global, client: u64) -> Result<Items<ToClient>, AllocError>
-        requires server { IsServer self.now }
-        requires client { client < MAX_CLIENTS }
-        ensures { IfOk result (λ outs. outs ≡ nudge_served
-            (meaning self.now) client ((meaning self.now).sessions client).unacked) }
-    {
-        if let Some(message) = self.push_again(client) {
-            let mut outbox = Outbox::new(alloc, 1)?;
-            outbox.send(message);
-            return Ok(outbox.into_items());
-        }
-        match self.first_waiter_of(client) {
-            Some((slot, first)) => {
-                let mut outbox = Outbox::new(alloc, 63)?;
-                self.call_back_for(slot, &first, &mut outbox);
-                Ok(outbox.into_items())
-            }
-            None => Ok(Outbox::empty(alloc).into_items()),
-        }
-    }
-
-    /// The slot at which the client waits first, and what it finds there.
-    fn first_waiter_of(&self, client: u64) -> Option<(u64, FirstWaiter)>
-        requires server { IsServer self.now }
-        requires client { client < MAX_CLIENTS }
-        ensures first { IfSome result (λ w. IsFirst (meaning self.now) w.0 w.1) }
-        ensures client { IfSome result (λ w. w.1.waiter.client ≡ client) }
-        ensures calls { calls_of_first (meaning self.now) result
-            ≡ callbacks_of_among client (meaning self.now) (slots self.now.durable.index) }
-    {
-        match self.table.waiter_of(client) {
-            Some(waiter) => self.first_at(waiter.point, client),
-            None => None,
-        }
-    }
-
-    /// The slot of the point, and its first waiter, if that is the client's.
-    fn first_at(&self, point: Point, client: u64) -> Option<(u64, FirstWaiter)>
-        requires formed { IsFormed self.now }
-        requires point { point ≤ END }
-        ensures first { IfSome result (λ w. IsFirst (meaning self.now) w.0 w.1) }
-        ensures client { IfSome result (λ w. w.1.waiter.client ≡ client) }
-        ensures calls { calls_of_first (meaning self.now) result
-            ≡ calls_at_first (meaning self.now) (slot_of self.now.durable.index point) client }
-    {
-        let slot = self.durable.slot_of(point.get());
-        match self.table.first(&self.durable, slot) {
-            Some(first) => {
-                if first.waiter.client == client {
-                    Some((slot, first))
-                } else {
-                    None
-                }
-            }
-            None => None,
-        }
     }
 }

@@ -38,6 +38,30 @@ pub static COVERS: [(Act, Gives); 9] = [
     ),
 ];
 
+// On 10=1 and 20=2, with a reach of two: a grant ends after two slots, though the next one is free.
+pub static ENDS_AT_THE_REACH: [(Act, Gives); 2] = [
+    (Act::Hello(A), Gives::Told(&[Told::Epoch(A, 1)])),
+    (
+        Act::Asks(A, 1, 0, Asked::LockTo(1, 5, TOP, Mode::RangeSS)),
+        Gives::Told(&[Told::Grants(A, 1, 1, FIRST_TWO)]),
+    ),
+];
+
+// The same after a crash, with a reach of one: the next grant ends after one slot.
+pub static ENDS_AT_THE_NEXT_REACH: [(Act, Gives); 3] = [
+    (Act::Hello(A), Gives::Only(&[Told::Epoch(A, 2)])),
+    (Act::Report(A, 2, &[], &[]), Gives::Told(&[])),
+    (
+        Act::Asks(A, 2, 0, Asked::LockTo(1, 5, TOP, Mode::RangeSS)),
+        Gives::Told(&[Told::Grant(A, 1, 1, Held(0, 11, Mode::RangeSS, Some("1")))]),
+    ),
+];
+
+const FIRST_TWO: &[Held] = &[
+    Held(0, 11, Mode::RangeSS, Some("1")),
+    Held(11, 21, Mode::RangeSS, Some("2")),
+];
+
 const WHOLE: &[Held] = &[
     Held(0, 11, Mode::RangeSS, Some("1")),
     Held(11, 21, Mode::RangeSS, Some("2")),

@@ -27,14 +27,22 @@ pub fn surviving(durable: &Durable) -> Survives {
     }
 }
 
-// What a server shows: what survives, its phase, who is missing, and the first message of a nudge
-// of each of four clients.
-#[derive(Clone, Copy, PartialEq, Eq)]
+// What a server is nudged to send to each of four clients.
+#[derive(PartialEq, Drop)]
+struct Nudges {
+    client_0: Option<Items<ToClient>>,
+    client_1: Option<Items<ToClient>>,
+    client_2: Option<Items<ToClient>>,
+    client_3: Option<Items<ToClient>>,
+}
+
+// What a server shows: what survives, its phase, who is missing, and what it sends if it is nudged.
+#[derive(PartialEq, Drop)]
 pub struct Shows {
     survives: Survives,
     recovers: bool,
     missing: [Option<u64>; 4],
-    nudges: [Option<ToClient>; 4],
+    nudges: Nudges,
 }
 
 pub fn missing(alloc: Global, server: &Server) -> Option<Items<u64>> {
@@ -56,20 +64,17 @@ pub fn nudge(alloc: Global, server: &Server, client: u64) -> Option<Items<ToClie
 }
 
 pub fn showing(alloc: Global, server: &Server) -> Shows {
-    let mut nudges = [None; 4];
-    for i in 0..4usize {
-        nudges[i] = first_of_nudge(alloc, server, i as u64);
-    }
     Shows {
         survives: surviving(server.durable()),
         recovers: server.phase() == Phase::Recovering,
         missing: first_missing(alloc, server),
-        nudges,
+        nudges: Nudges {
+            client_0: nudge(alloc, server, 0),
+            client_1: nudge(alloc, server, 1),
+            client_2: nudge(alloc, server, 2),
+            client_3: nudge(alloc, server, 3),
+        },
     }
-}
-
-fn first_of_nudge(alloc: Global, server: &Server, client: u64) -> Option<ToClient> {
-    nudge(alloc, server, client)?.as_slice().first().copied()
 }
 
 fn first_missing(alloc: Global, server: &Server) -> [Option<u64>; 4] {

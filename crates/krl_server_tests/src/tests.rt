@@ -12,14 +12,15 @@ use crate::changes::{CHANGES, all_say};
 use crate::exchange::{CROWD, EXCHANGE, SHARES};
 use crate::long_reports::{ENTRIES, Order, is_taken_in_time};
 use crate::ranges::{
-    COVERS, ENDS_BEFORE_A_HELD_SLOT, ENDS_BEFORE_A_WAITER, READS_VALUES_AGAIN, WRITES_VALUES,
+    COVERS, ENDS_AT_THE_NEXT_REACH, ENDS_AT_THE_REACH, ENDS_BEFORE_A_HELD_SLOT,
+    ENDS_BEFORE_A_WAITER, READS_VALUES_AGAIN, WRITES_VALUES,
 };
 use crate::recovering::{CONTRADICTS, RECOVERS, REGISTERS};
 use crate::runs::all_give;
 use crate::starts::{is_spent, started};
 use crate::strangers::STRANGERS;
 use crate::writes::{ANSWERS_AGAIN, LAST_NUMBER, LOSES_AN_ANSWER, WRITES};
-use krl_durable::{Durable, Record, Room};
+use krl_durable::{Durable, EntriesRefused, Limits, Reach, Record, Room};
 use krl_messages::{Outcome, Value};
 use krl_modes::END;
 use std::alloc::Global;
@@ -73,8 +74,8 @@ fn kept(alloc: Global, epoch: u64, records: &[(u64, Record)]) -> Option<Durable>
 {
     let entries = one_entry();
     for _ in 0..CALLS {
-        let room = Room::standard();
-        if let Ok(durable) = Durable::from_parts(alloc, room, &entries, epoch, records) {
+        let limits = Limits::standard();
+        if let Ok(durable) = Durable::from_parts(alloc, limits, &entries, epoch, records) {
             return Some(durable);
         }
     }
@@ -91,6 +92,43 @@ fn two_clients(alloc: Global, epoch: u64) -> Option<Durable>
 // What a host kept of one client.
 fn no_number_left(alloc: Global) -> Option<Durable> {
     kept(alloc, 1, &NO_NUMBER_LEFT)
+}
+
+fn limits(room: usize, reach: usize) -> Option<Limits> {
+    Some(Limits {
+        room: Room::new(room)?,
+        reach: Reach::new(reach)?,
+    })
+}
+
+// What a host kept of both entries, with these limits.
+fn limited(alloc: Global, limits: Limits) -> Option<Durable> {
+    let entries = two_entries();
+    for _ in 0..CALLS {
+        if let Ok(durable) = Durable::from_parts(alloc, limits, &entries, 0, &[]) {
+            return Some(durable);
+        }
+    }
+    None
+}
+
+// The same that survives, written out and brought back with these limits.
+fn brought_back(
+    alloc: Global,
+    durable: &Durable,
+    limits: Limits,
+) -> Result<Durable, EntriesRefused> {
+    let records = durable.records(alloc)?;
+    Durable::from_parts(alloc, limits, durable.run(0), durable.epoch(), &records)
+}
+
+fn with_limits(alloc: Global, durable: &Durable, limits: Limits) -> Option<Durable> {
+    for _ in 0..CALLS {
+        if let Ok(durable) = brought_back(alloc, durable, limits) {
+            return Some(durable);
+        }
+    }
+    None
 }
 
 // What survives a server that begins with this, gives what each row says, and then crashes; None
@@ -162,6 +200,27 @@ fn grants_over_ranges(rt: HostRuntime) {
     ] {
         assert!(rt; gives_on_two(rt.alloc(), rows));
     }
+}
+
+// Whether a grant takes as many slots as the reach, and after a restart with less room and another
+// reach as many as that.
+fn ends_at_each_reach(alloc: Global) -> bool {
+    let (Some(wide), Some(narrow)) = (limits(3, 2), limits(2, 1)) else {
+        return false;
+    };
+    let Some(durable) = survives(alloc, limited(alloc, wide), &ENDS_AT_THE_REACH) else {
+        return false;
+    };
+    gives(
+        alloc,
+        with_limits(alloc, &durable, narrow),
+        &ENDS_AT_THE_NEXT_REACH,
+    )
+}
+
+#[test]
+fn a_grant_ends_at_the_reach(rt: HostRuntime) {
+    assert!(rt; ends_at_each_reach(rt.alloc()));
 }
 
 #[test]

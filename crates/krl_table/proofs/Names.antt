@@ -30,7 +30,7 @@ pub use Rattle.krl_queue.specs.declared.waiter.Waiter.{Waiter}
 pub use Rattle.krl_table.specs.Calls.{split, with_queue, wanted, behind_first, raised, granted_first, mode_beside, split_at, merged, queue_with, cleared, merge_into, split_modes, unqueue, lowered}
 pub use Rattle.krl_table.specs.Calls.{enqueued, with_mode, raised_on, grant_first}
 pub use Rattle.krl_table.specs.Extents.{IsFreeOf, AreWithin, cleared_within, Lies, nowhere, AreWider, extent_in}
-pub use Rattle.krl_table.specs.Grants.{taken_after, taken_by, can_take, granted, granted_by, nobody_waits, max_more, goes_on, taken}
+pub use Rattle.krl_table.specs.Grants.{taken_after, taken_by, can_take, granted, granted_by, nobody_waits, goes_on, taken}
 pub use Rattle.krl_table.specs.FirstReplies.{is_granted_at_once, first_reply, lacks_entry, answerable, row_reply, first_reply_on}
 pub use Rattle.krl_table.specs.KeptWaiters.{IsLeastPoint, lesser_point, lesser, unlisted, waiter_in, AreListed, AllWaitBelow}
 pub use Rattle.krl_table.specs.KeptRows.{row_takes, IsSound, IsOver, AreCompatible, IsAll, IsTaken, times, AreSet, cleared_row, lowered_between, IsSet}

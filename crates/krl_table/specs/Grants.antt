@@ -1,5 +1,5 @@
 -- What a grant gives: a first waiter what it wants on its slot, and on the slots after it as far as that is free.
-use Rattle.std.specs.Prelude.{ℕ, zero, suc, Bool, true, false, not, ◌&&◌, nat_eq, nat_lt, List, [], ◌∷◌, if◌then◌else◌}
+use Rattle.std.specs.Prelude.{ℕ, zero, suc, ◌-◌, Bool, true, false, not, ◌&&◌, nat_eq, nat_lt, List, [], ◌∷◌, if◌then◌else◌}
 use Rattle.krl_modes.specs.declared.point.TheConstants.{END}
 use Rattle.krl_modes.specs.Modes.{needs_entry}
 use Rattle.krl_queue.specs.declared.waiter.Waiter.{Waiter}
@@ -7,10 +7,6 @@ use Rattle.krl_durable.specs.Index.{Index, slot_of}
 use Rattle.krl_table.specs.Rows.{Rows}
 use Rattle.krl_table.specs.Calls.{granted_first, raised, raised_on}
 use Rattle.krl_table.specs.Replies.{is_wanted_compatible}
-
--- the most slots that one grant takes, beside the waiter's own
-abbrev pub max_more : ℕ
-max_more = 7
 
 abbrev pub nobody_waits : List Waiter → Bool
 nobody_waits [] = true
@@ -34,18 +30,19 @@ taken_after m rows n u (suc k) =
     then slot_of m (suc n) ∷ taken_after m (raised rows (slot_of m (suc n)) u) (slot_of m (suc n)) u k
     else []
 
-abbrev pub taken_by : Index → Rows → ℕ → List Waiter → List ℕ
-taken_by m rows n [] = []
-taken_by m rows n (u ∷ us) = n ∷ taken_after m (granted_first rows n) n u max_more
+-- r is the reach: how many slots one grant takes at most
+abbrev pub taken_by : ℕ → Index → Rows → ℕ → List Waiter → List ℕ
+taken_by r m rows n [] = []
+taken_by r m rows n (u ∷ us) = n ∷ taken_after m (granted_first rows n) n u (r - 1)
 
 -- the slots that a grant at slot n takes
-abbrev pub taken : Index → Rows → ℕ → List ℕ
-taken m rows n = taken_by m rows n (rows n).queue
+abbrev pub taken : ℕ → Index → Rows → ℕ → List ℕ
+taken r m rows n = taken_by r m rows n (rows n).queue
 
-abbrev pub granted_by : Index → Rows → ℕ → List Waiter → Rows
-granted_by m rows n [] = rows
-granted_by m rows n (u ∷ us) = raised_on (granted_first rows n) (taken_after m (granted_first rows n) n u max_more) u
+abbrev pub granted_by : ℕ → Index → Rows → ℕ → List Waiter → Rows
+granted_by r m rows n [] = rows
+granted_by r m rows n (u ∷ us) = raised_on (granted_first rows n) (taken_after m (granted_first rows n) n u (r - 1)) u
 
 -- grant: the slot's first waiter gets what it wants on each of them, and waits no more
-abbrev pub granted : Index → Rows → ℕ → Rows
-granted m rows n = granted_by m rows n (rows n).queue
+abbrev pub granted : ℕ → Index → Rows → ℕ → Rows
+granted r m rows n = granted_by r m rows n (rows n).queue

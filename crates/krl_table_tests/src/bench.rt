@@ -6,7 +6,7 @@ ghost use Rattle.krl_durable.specs.Registers.{record_of};
 
 use crate::again::CALLS;
 use crate::report::{Report, pieces};
-use krl_durable::{Durable, EntriesRefused, Record, Room};
+use krl_durable::{Durable, EntriesRefused, Limits, Record};
 use krl_messages::{Outcome, Value, WriteOp};
 use krl_modes::{END, Mode, Point, TOP};
 use krl_queue::{WaitNode, Waiter};
@@ -92,7 +92,7 @@ fn entries_at(alloc: Global, keys: &[u64]) -> Result<Vec<(u64, Value)>, AllocErr
 /// What survives of entries at these keys, if the writer is registered.
 fn durable_of(alloc: Global, keys: &[u64]) -> Result<Durable, EntriesRefused> {
     let entries = entries_at(alloc, keys)?;
-    Durable::from_parts(alloc, Room::standard(), &entries, 0, &REGISTERED)
+    Durable::from_parts(alloc, Limits::standard(), &entries, 0, &REGISTERED)
 }
 
 /// The writer is registered, and there is a number for another write of it.

@@ -124,10 +124,10 @@ holdings_takes : (bytes : List ℕ) (x : List Holding × List ℕ) → IsBytes b
 unfolding holdings_at byte_at
 holdings_takes [] x fits e = absurd cc
 holdings_takes (n ∷ bytes) x fits e =
-    let g = held (nat_le 1 n && nat_le n 8) fault.Count (holdings_from n 0 bytes) x e in
-    let b = and_parts (nat_le 1 n) (nat_le n 8) g.0 in
+    let g = held (nat_le 1 n && nat_le n 128) fault.Count (holdings_from n 0 bytes) x e in
+    let b = and_parts (nat_le 1 n) (nat_le n 128) g.0 in
     let low : 1 ≤ n = leb-true _ _ b.0 in
-    let high : n ≤ 8 = leb-true _ _ b.1 in
+    let high : n ≤ 128 = leb-true _ _ b.1 in
     let t = several_take n 0 bytes x (IsBytes-rest n bytes fits) g.1 in (
       record {
         parts = ap (λ (k : ℕ). k ∷ bytes) (sym t.1) ∙ ap (λ (w : List ℕ). length x.0 ∷ w) t.0.parts;
@@ -141,7 +141,7 @@ holdings_again : (hs : List Holding) (rest : List ℕ) → FitsHoldings hs
 unfolding holdings_at byte_at
 holdings_again hs rest fits =
     let low : nat_le 1 (length hs) ≡ true = le-leb _ _ fits.0 in
-    let high : nat_le (length hs) 8 ≡ true = le-leb _ _ fits.1 in
+    let high : nat_le (length hs) 128 ≡ true = le-leb _ _ fits.1 in
     rw (low, high) (several_again hs 0 rest fits.3 (all_rise hs fits.2))
 
 pub holdings_codec : IsCodec holdings holdings_at FitsHoldings

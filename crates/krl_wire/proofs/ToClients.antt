@@ -9,9 +9,10 @@ use Rattle.krl_messages.specs.declared.to_client.ToClientBody.TheVariants as cli
 use Rattle.krl_messages.specs.declared.to_client.PushBody.{PushBody}
 use Rattle.krl_messages.specs.declared.to_client.PushBody.TheVariants as push
 use Rattle.krl_wire.specs.declared.fault.Fault.{Fault}
+use Rattle.krl_wire.specs.declared.fault.ReadError.{ReadError}
 use Rattle.krl_wire.specs.Spelling.{push_kind, push_body, to_client_kind, to_client_body, to_client}
 use Rattle.krl_wire.specs.Fitting.{FitsPush, FitsClientBody, FitsToClient}
-use Rattle.krl_wire.specs.Reading.{number_at, grant_at, absent_at, answer_at, push_body_at, push_at, epoch_at, callback_at, to_client_body_at, to_client_of}
+use Rattle.krl_wire.specs.Reading.{GivesIfRoom, number_at, grant_at, absent_at, answer_at, push_body_at, push_at, epoch_at, callback_at, to_client_body_at, to_client_of}
 use Rattle.krl_wire.proofs.Fields.{IsBytes, bind_ok, chosen, ok_is, Takes, IsCodec, number_codec, span_codec}
 use Rattle.krl_wire.proofs.Rows.{two_take, two_again, three_take, three_again}
 use Rattle.krl_wire.proofs.Tables.{mode_codec, outcome_codec}
@@ -164,7 +165,7 @@ client_again m fits =
     whole_again 16 20 to_client_body_at to_client_kind to_client_body FitsClientBody message_of m.client
     m.incarnation m.body (kind_low m.body) (kind_high m.body) fits.0 fits.1 (body_again m.body [] fits.2)
 
-pub client_found : (bytes : List ℕ) (r : Result ToClient Fault) → IsBytes bytes → r ≡ to_client_of bytes
-    → IfOk r (λ m. FitsToClient m × (bytes ≡ to_client m))
-client_found bytes (Ok m) fits given = client_takes bytes m fits (sym given)
+pub client_found : (bytes : List ℕ) (r : Result ToClient ReadError) → IsBytes bytes
+    → GivesIfRoom r (to_client_of bytes) → IfOk r (λ m. FitsToClient m × (bytes ≡ to_client m))
+client_found bytes (Ok m) fits given = client_takes bytes m fits given
 client_found bytes (Err e) fits given = tt

@@ -130,7 +130,7 @@ holdings_from (suc n) least bytes = do
 unfoldable pub holdings_at : List ℕ → Result (List Holding × List ℕ) Fault
 holdings_at bytes = do
   n ← byte_at bytes
-  if nat_le 1 n.0 && nat_le n.0 8 then holdings_from n.0 0 n.1 else Err fault.Count
+  if nat_le 1 n.0 && nat_le n.0 128 then holdings_from n.0 0 n.1 else Err fault.Count
 
 unfoldable pub range_piece_at : List ℕ → Result (RangePiece × List ℕ) Fault
 range_piece_at bytes = do
@@ -264,6 +264,10 @@ to_server_of bytes = do
 -- the bytes begin as a report does
 abbrev pub BeginsReport : List ℕ → Type 0
 BeginsReport bytes = (rest : List ℕ) × (bytes ≡ 1 ∷ 2 ∷ rest)
+
+-- the bytes begin as a grant does
+abbrev pub BeginsGrant : List ℕ → Type 0
+BeginsGrant bytes = (rest : List ℕ) × (bytes ≡ 1 ∷ 17 ∷ rest)
 
 unfoldable pub grant_at : List ℕ → Result (PushBody × List ℕ) Fault
 grant_at bytes = do

@@ -36,7 +36,7 @@ pub enum Fault {
     #[error("a value has at most 32 bytes")]
     Length,
     /// A grant has no holding, or more than eight.
-    #[error("a grant has 1 to 8 holdings")]
+    #[error("a grant has 1 to 128 holdings")]
     Count,
     /// A holding does not lie behind the one before it.
     #[error("holdings ascend, and no point lies in two of them")]

@@ -1,11 +1,12 @@
 //! Holdings, read.
 ghost use Rattle.std.specs.Prelude.{◌≤◌};
-ghost use Rattle.krl_wire.specs.Reading.{Reads, holding_at, holding_from, holdings_from};
+ghost use Rattle.krl_wire.specs.Reading.{Reads, ReadsIfRoom, holding_at, holding_from, holdings_from};
 ghost use Rattle.krl_wire.specs.Reading.{holdings_at};
 
-use crate::fault::Fault;
+use crate::fault::{Fault, ReadError};
 use crate::reader::Reader;
-use krl_messages::{Holding, Holdings};
+use krl_messages::{Gathering, Holding, Holdings};
+use std::alloc::Global;
 
 #[tactic(auto, unfolding(crate::specs::Reading::holding_at))]
 pub fn holding(reader: &mut Reader<'_>) -> Result<Holding, Fault>
@@ -30,31 +31,32 @@ fn holding_from(reader: &mut Reader<'_>, least: u64) -> Result<Holding, Fault>
 }
 
 // So many holdings, each behind the one before.
-fn several(reader: &mut Reader<'_>, count: u8) -> Result<Holdings, Fault>
+fn several(reader: &mut Reader<'_>, alloc: Global, count: u8) -> Result<Holdings, ReadError>
     requires some { 1 ≤ count }
-    requires few { count ≤ 8 }
-    ensures { Reads result reader.new (holdings_from count 0 reader.old) }
+    requires few { count ≤ 128 }
+    ensures { ReadsIfRoom result reader.new (holdings_from count 0 reader.old) }
 {
-    let first = holding_from(reader, 0)?;
-    let mut least = first.span.hi();
-    let mut holdings = Holdings::one(first);
-    for _ in 1..count {
+    let mut gathering = Gathering::new(alloc, count as usize)?;
+    let mut least = 0;
+    for _ in 0..count {
         let holding = holding_from(reader, least)?;
         least = holding.span.hi();
-        holdings.push(holding);
+        // Apart: the prover has to see the type of the value.
+        let Holding { span, mode, value } = holding;
+        gathering.push(Holding { span, mode, value });
     }
-    Ok(holdings)
+    Ok(gathering.into_holdings())
 }
 
-/// 1 to 8 holdings, each behind the one before.
+/// 1 to 128 holdings, each behind the one before.
 #[tactic(auto, unfolding(crate::specs::Reading::holdings_at))]
-pub fn holdings(reader: &mut Reader<'_>) -> Result<Holdings, Fault>
-    ensures { Reads result reader.new (holdings_at reader.old) }
+pub fn holdings(reader: &mut Reader<'_>, alloc: Global) -> Result<Holdings, ReadError>
+    ensures { ReadsIfRoom result reader.new (holdings_at reader.old) }
 {
     let count = reader.byte()?;
-    if 1 <= count && count <= 8 {
-        several(reader, count)
+    if 1 <= count && count <= 128 {
+        several(reader, alloc, count)
     } else {
-        Err(Fault::Count)
+        Err(ReadError::Fault(Fault::Count))
     }
 }

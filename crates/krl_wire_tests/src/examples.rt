@@ -1,6 +1,6 @@
 //! Each message, and its bytes, written by hand.
 use krl_messages::{
-    Holding, Holdings, KeyPiece, KeyPieces, Outcome, Pieces, PushBody, RangePiece, RangePieces,
+    Gathering, Holding, KeyPiece, KeyPieces, Outcome, Pieces, PushBody, RangePiece, RangePieces,
     Request, RequestBody, ToClient, ToClientBody, ToServer, ToServerBody, Value, WriteOp,
 };
 use krl_modes::{KeyPart, Mode, RangePart, Span, TOP};
@@ -216,7 +216,9 @@ fn grant(alloc: Global) -> Result<Example<ToClient>, Fail> {
         mode: Mode::RangeSS,
         value: Some(value()),
     };
-    let holdings = Holdings::one(holding);
+    let mut gathering = Gathering::new(alloc, 1)?;
+    gathering.push(holding);
+    let holdings = gathering.into_holdings();
     let text = "0500000000000000 01 0000000000000000 0b00000000000000 04 01 02 cafe";
     pushed(alloc, "11", text, PushBody::Grant { req: 5, holdings })
 }

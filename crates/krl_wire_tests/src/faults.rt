@@ -55,7 +55,7 @@ static PUSHES: [(&str, &str, Fault); 10] = [
     ("01 08", "", Fault::Kind),
     ("01 15", "", Fault::Kind),
     ("01 11", "0500000000000000 00", Fault::Count),
-    ("01 11", "0500000000000000 09", Fault::Count),
+    ("01 11", "0500000000000000 81", Fault::Count),
     ("01 11", "0500000000000000 08", Fault::Short),
     (
         "01 11",
@@ -90,9 +90,9 @@ fn to_server_fault(alloc: Global, texts: &[&str]) -> Result<Option<Fault>, Fail>
 
 fn to_client_fault(alloc: Global, texts: &[&str]) -> Result<Option<Fault>, Fail> {
     let bytes = bytes_of(alloc, texts)?;
-    match to_client_of(&bytes) {
-        Err(fault) => Ok(Some(fault)),
-        Ok(_) => Ok(None),
+    match to_client_of(alloc, &bytes) {
+        Err(ReadError::Fault(fault)) => Ok(Some(fault)),
+        Err(ReadError::OutOfMemory) | Ok(_) => Ok(None),
     }
 }
 

@@ -50,22 +50,16 @@ fn each_message_to_the_server_has_its_bytes(rt: HostRuntime) -> Result<(), Fail>
     Ok(())
 }
 
-fn is_to_client(alloc: Global, example: &Example<ToClient>) -> Result<bool, AllocError> {
+fn is_to_client(alloc: Global, example: &Example<ToClient>) -> Result<bool, Fail> {
+    let read = to_client_of(alloc, &example.bytes)?;
     let written = spell_to_client(alloc, &example.message)?;
-    Ok(reads_to_client(&example.bytes, &example.message) && written == example.bytes)
-}
-
-fn reads_to_client(bytes: &[u8], message: &ToClient) -> bool {
-    match to_client_of(bytes) {
-        Err(_fault) => false,
-        Ok(read) => read == *message,
-    }
+    Ok(read == example.message && written == example.bytes)
 }
 
 // Whether each proper front is too short.
-fn to_client_fronts_are_short(bytes: &[u8]) -> bool {
+fn to_client_fronts_are_short(alloc: Global, bytes: &[u8]) -> bool {
     for len in 0..bytes.len() {
-        if to_client_of(&bytes[..len]) != Err(Fault::Short) {
+        if to_client_of(alloc, &bytes[..len]) != Err(ReadError::Fault(Fault::Short)) {
             return false;
         }
     }
@@ -77,9 +71,9 @@ fn each_message_to_a_client_has_its_bytes(rt: HostRuntime) -> Result<(), Fail> {
     for kind in 0..TO_CLIENT {
         let example = to_client_example(rt.alloc(), kind)?;
         assert!(rt; is_to_client(rt.alloc(), &example)?);
-        assert!(rt; to_client_fronts_are_short(&example.bytes));
+        assert!(rt; to_client_fronts_are_short(rt.alloc(), &example.bytes));
         let more = [example.bytes.as_slice(), &[0]].concat(rt.alloc())?;
-        assert!(rt; to_client_of(&more) == Err(Fault::Trailing));
+        assert!(rt; to_client_of(rt.alloc(), &more) == Err(ReadError::Fault(Fault::Trailing)));
     }
     Ok(())
 }
@@ -96,14 +90,10 @@ fn granted(message: &ToClient) -> &[Holding] {
 }
 
 // Whether the bytes are a grant of these holdings, which is written as the same bytes.
-fn grants(alloc: Global, bytes: &[u8], holdings: &[Holding]) -> Result<bool, AllocError> {
-    match to_client_of(bytes) {
-        Err(_fault) => Ok(false),
-        Ok(message) => {
-            let written = spell_to_client(alloc, &message)?;
-            Ok(granted(&message) == holdings && written.as_slice() == bytes)
-        }
-    }
+fn grants(alloc: Global, bytes: &[u8], holdings: &[Holding]) -> Result<bool, Fail> {
+    let message = to_client_of(alloc, bytes)?;
+    let written = spell_to_client(alloc, &message)?;
+    Ok(granted(&message) == holdings && written.as_slice() == bytes)
 }
 
 #[test]
@@ -132,6 +122,6 @@ fn a_grant_of_two_holdings_has_both(rt: HostRuntime) -> Result<(), Fail> {
     };
     let holdings = [reads, inserts];
     assert!(rt; grants(rt.alloc(), &bytes, &holdings)?);
-    assert!(rt; to_client_fronts_are_short(&bytes));
+    assert!(rt; to_client_fronts_are_short(rt.alloc(), &bytes));
     Ok(())
 }

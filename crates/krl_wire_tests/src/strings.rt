@@ -49,8 +49,9 @@ fn read_to_server(alloc: Global, bytes: &[u8]) -> Result<Read, AllocError> {
 }
 
 fn read_to_client(alloc: Global, bytes: &[u8]) -> Result<Read, AllocError> {
-    match to_client_of(bytes) {
-        Err(_fault) => Ok(Read::Refused),
+    match to_client_of(alloc, bytes) {
+        Err(ReadError::OutOfMemory) => Err(AllocError),
+        Err(ReadError::Fault(_)) => Ok(Read::Refused),
         Ok(message) => {
             let written = spell_to_client(alloc, &message)?;
             Ok(was_read(written.as_slice() == bytes))

@@ -9,4 +9,3 @@ pub mod Acting
 pub mod CallbackRun
 pub mod RestartRun
 pub mod Pieced
-pub mod Several

@@ -1,3 +1,4 @@
+pub mod Reaching
 pub mod Functions
 pub mod Refinement
 pub mod Promises

@@ -21,7 +21,9 @@ use Rattle.krl_messages.specs.declared.to_client.PushBody.{PushBody}
 use Rattle.krl_messages.specs.declared.to_client.PushBody.TheVariants as push
 use Rattle.krl_messages.specs.Members.{In}
 use Rattle.krl_durable.specs.Index.{Index}
+use Rattle.krl_durable.specs.declared.limits.Limits.{Limits}
 use Rattle.krl_durable.specs.Registers.{Durable, record_of}
+use Rattle.krl_durable.specs.Limits.{Fits}
 use Rattle.krl_durable.specs.declared.record.Record.{Record}
 use Rattle.krl_table.specs.Points as table
 use Rattle.krl_table.specs.Reports.{reported_key, range_said}
@@ -37,7 +39,7 @@ use Rattle.krl_steps.specs.declared.step.Step.{Step}
 use Rattle.krl_steps.specs.declared.step.Step.TheVariants as step
 use Rattle.krl_steps.specs.declared.answer.Answer.{Answer}
 use Rattle.krl_world.specs.States.{ServerPlace, Up, Down, State, opened, durable_of, index_of, client_of, range_held, key_held}
-use Rattle.krl_world.specs.Steps.{CanOpen, message_at, Takes}
+use Rattle.krl_world.specs.Steps.{CanOpen, message_at, Takes, resized}
 
 -- a range part and a key part for each client at each point, and the index of that moment
 pub record Bound : Type 0 where
@@ -92,15 +94,13 @@ bound_at (Down d) kept = kept
 abbrev pub bound_after : State → Step → Bound → State → Bound
 bound_after w s b w' = bound_at w'.server (cleared (step_clears w s) b)
 
--- these steps are taken one after another, and the bound goes along
-abbrev pub RunsWithin : State → Bound → List Step → State → Bound → Type 0
-RunsWithin w b [] w' b' = (w' ≡ w) × (b' ≡ b)
-RunsWithin w b (s ∷ steps) w' b' =
-    (answer : Answer) × (mid : State) × Takes w s answer mid × RunsWithin mid (bound_after w s b mid) steps w' b'
-
--- the world is reached by some list of taken steps, of which this is the bound table
-abbrev pub HasBound : State → Bound → Type 0
-HasBound w b = CanOpen w.opening × (steps : List Step) × RunsWithin (opened w.opening) (first_bound w.opening) steps w b
+-- the world is reached, and this is the bound table of how it was. It stays if what a server left gets other limits
+pub data HasBound : State → Bound → Type 0 where
+  at_first : (d : Durable) → CanOpen d → HasBound (opened d) (first_bound d)
+  after_step : (w v : State) (b : Bound) (s : Step) (answer : Answer) → HasBound w b → Takes w s answer v →
+      HasBound v (bound_after w s b v)
+  as_before : (w : State) (b : Bound) (d : Durable) (l : Limits) → HasBound w b → w.server ≡ Down d → Fits l d →
+      HasBound (resized w d l) b
 
 -- What lies within it
 

@@ -2,6 +2,7 @@
 use Rattle.std.specs.Prelude.{◌≡◌, ◌<◌, ℕ, Option, None, Some, is_some, true, List, [], length, slice_index_or}
 use Rattle.std.specs.FinMap as map
 use Rattle.krl_modes.specs.declared.limits.TheConstants.{MAX_CLIENTS}
+use Rattle.krl_modes.specs.declared.limits.TheConstants.{STANDARD_REACH}
 use Rattle.krl_modes.specs.Limits.{max_entries}
 use Rattle.krl_durable.specs.Registers.{Durable, record_of}
 use Rattle.krl_client.specs.Fields as client_fields
@@ -16,7 +17,14 @@ use Rattle.krl_world.specs.Fields.{kept_nobody}
 -- the server that is there: none runs within a step that moves it
 abbrev pub server_there : Option KeptNode → KeptNode
 server_there (Some n) = n
-server_there None = kept.Down (record { room = max_entries; index = map.from_entries []; epoch = 0; register = [] })
+server_there None =
+    kept.Down (record {
+      room = max_entries;
+      reach = STANDARD_REACH;
+      index = map.from_entries [];
+      epoch = 0;
+      register = [];
+    })
 
 -- the server that runs
 abbrev pub server_up : KeptNode → Option Kept

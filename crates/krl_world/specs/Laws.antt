@@ -4,23 +4,27 @@ use Rattle.krl_modes.specs.declared.part.RangePart.TheVariants as range
 use Rattle.krl_modes.specs.declared.part.KeyPart.TheVariants as key
 use Rattle.krl_modes.specs.declared.limits.TheConstants.{MAX_CLIENTS}
 use Rattle.krl_messages.specs.Members.{In}
+use Rattle.krl_durable.specs.declared.limits.Limits.{Limits}
 use Rattle.krl_durable.specs.Registers.{Durable}
+use Rattle.krl_durable.specs.Limits.{Fits}
 use Rattle.krl_server.specs.Servers.{Server, is_recovering}
 use Rattle.krl_steps.specs.declared.step.Step.{Step}
 use Rattle.krl_steps.specs.declared.step.Step.TheVariants as step
 use Rattle.krl_steps.specs.declared.answer.Answer.{Answer}
 use Rattle.krl_steps.specs.declared.refused.Refused.{Refused}
-use Rattle.krl_world.specs.States.{Up, State, opened, range_held, key_held}
+use Rattle.krl_world.specs.States.{Up, Down, State, opened, range_held, key_held}
 use Rattle.krl_world.specs.Shown.{is_serving}
 use Rattle.krl_world.specs.Bounds.{Bound, table_of, HasBound, IsTableWithin, Covers}
-use Rattle.krl_world.specs.Steps.{CanOpen, Takes, Steps, Runs, RunsWith, IsReachable}
+use Rattle.krl_world.specs.Steps.{CanOpen, Takes, Steps, Runs, RunsWith, resized, IsReachable}
 
--- the first world is reachable, and so is what a step or a run leaves of a reachable one
+-- the first world is reachable, and so is what a step, a run or other limits leave of a reachable one
 pub record ReachableStays : Type 0 where
   pub first : (d : Durable) → CanOpen d → IsReachable (opened d)
   pub step : (w v : State) (s : Step) (r : Result Answer Refused) → IsReachable w → Steps w s r v → IsReachable v
   pub run : (w v : State) (steps : List Step) (results : List (Result Answer Refused)) → IsReachable w →
       RunsWith w steps results v → IsReachable v
+  pub resized : (w : State) (d : Durable) (l : Limits) → IsReachable w → w.server ≡ Down d → Fits l d →
+      IsReachable (resized w d l)
 
 -- nobody has a number above 63
 abbrev pub NobodyAbove63 : Type 0

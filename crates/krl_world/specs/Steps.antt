@@ -9,7 +9,9 @@ use Rattle.krl_messages.specs.declared.to_client.ToClient.{ToClient}
 use Rattle.krl_durable.specs.declared.refused.EntriesRefused.{EntriesRefused}
 use Rattle.krl_durable.specs.InitialEntries.{AreGood, Refuses}
 use Rattle.krl_durable.specs.declared.not_migrated.NotMigrated.{NotMigrated}
+use Rattle.krl_durable.specs.declared.limits.Limits.{Limits}
 use Rattle.krl_durable.specs.Kept.{IsKept}
+use Rattle.krl_durable.specs.Limits.{Fits, sized}
 use Rattle.krl_durable.specs.Migrations as migrations
 use Rattle.krl_durable.specs.Migrations.{DurableV1, migrated}
 use Rattle.krl_durable.specs.Registers.{Durable, missing_order}
@@ -271,6 +273,16 @@ RunsWith w [] (r ∷ results) w' = ⊥
 RunsWith w (s ∷ steps) [] w' = ⊥
 RunsWith w (s ∷ steps) (r ∷ results) w' = (mid : State) × Steps w s r mid × RunsWith mid steps results w'
 
--- some list of taken steps leads here from what the world began with
-abbrev pub IsReachable : State → Type 0
-IsReachable w = CanOpen w.opening × (steps : List Step) × Runs (opened w.opening) steps w
+-- What is reached
+
+-- what a server left that is down has these limits from now on: so the next one finds it
+abbrev pub resized : State → Durable → Limits → State
+resized w d l = record w { server = Down (sized l d) }
+
+-- A world is reached: it begins, or a step leads there, or what a server left gets other limits, which leave room for
+-- its entries.
+pub data IsReachable : State → Type 0 where
+  opens : (d : Durable) → CanOpen d → IsReachable (opened d)
+  takes : (w v : State) (s : Step) (answer : Answer) → IsReachable w → Takes w s answer v → IsReachable v
+  resizes : (w : State) (d : Durable) (l : Limits) → IsReachable w → w.server ≡ Down d → Fits l d →
+      IsReachable (resized w d l)

@@ -1,7 +1,10 @@
 //! What a client does, with all that was sent.
-ghost use Rattle.std.specs.Prelude.{◌≡◌, List, Some, OnOk, OnErr, IfErr};
+ghost use Rattle.std.specs.Prelude.{◌≡◌, ◌<◌, List, Some, length, slice_get};
+ghost use Rattle.std.specs.Prelude.{OnOk, OnErr, IfErr};
+ghost use Rattle.krl_messages.specs.declared.to_client.ToClient.{ToClient};
 ghost use Rattle.krl_client.specs.Fields.{meaning};
 ghost use Rattle.krl_world.specs.declared.message.Message.{Message};
+ghost use Rattle.krl_world.specs.declared.message.Message.TheVariants as sent_message;
 ghost use Rattle.krl_steps.specs.declared.step.Command.TheVariants as command;
 ghost use Rattle.krl_steps.specs.Refusals.{refused_by_client};
 ghost use Rattle.krl_world.specs.Fields.{place_of, client_there};
@@ -179,6 +182,23 @@ pub fn read(
     ensures err { OnErr result ((client.new ≡ client.old) × (sent.new.items ≡ sent.old.items)) }
 {
     sent.reserve(MAX_OF_A_CLIENT)?;
+    let messages = client.step(message)?;
+    send_to_server(sent, messages);
+    Ok(())
+}
+
+/// The client reads a message that was sent.
+pub fn read_sent(client: &mut Client, sent: &mut Vec<Message>, at: usize) -> Result<(), AllocError>
+    requires { at < length sent.old.items }
+    ensures ok { OnOk result
+        ((m : ToClient) → slice_get sent.old.items at ≡ Some (sent_message.ToClient m)
+        → HasRead (meaning client.old) m (meaning client.new) sent.old.items sent.new.items) }
+    ensures err { OnErr result ((client.new ≡ client.old) × (sent.new.items ≡ sent.old.items)) }
+{
+    sent.reserve(MAX_OF_A_CLIENT)?;
+    let Message::ToClient(message) = &sent[at] else {
+        return Ok(());
+    };
     let messages = client.step(message)?;
     send_to_server(sent, messages);
     Ok(())

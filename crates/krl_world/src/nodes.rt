@@ -165,8 +165,8 @@ impl Nodes {
         match &self.sent[at] {
             Message::ToServer(_) => self.deliver_to_server(at),
             Message::ToClient(message) => {
-                let message = *message;
-                self.deliver_to_client(message)
+                let client = message.client;
+                self.deliver_to_client(client, at)
             }
         }
     }
@@ -183,17 +183,19 @@ impl Nodes {
         Ok(Answer::Done)
     }
 
-    fn deliver_to_client(&mut self, message: ToClient) -> Result<Answer, Refused>
-        ensures { (at : ℕ) → slice_get self.old.sent at ≡ Some (sent_message.ToClient message)
+    fn deliver_to_client(&mut self, number: u64, at: usize) -> Result<Answer, Refused>
+        requires { at < length self.old.sent }
+        ensures { (m : ToClient) → slice_get self.old.sent at ≡ Some (sent_message.ToClient m)
+            → m.client ≡ number
             → Steps (meaning self.old) (steps.Deliver (suc at)) result (meaning self.new) }
     {
-        if message.client >= self.places.len() as u64 {
+        if number >= self.places.len() as u64 {
             return Ok(Answer::Done);
         }
-        let Some(client) = &mut self.places[message.client as usize].client else {
+        let Some(client) = &mut self.places[number as usize].client else {
             return Ok(Answer::Done);
         };
-        client_steps::read(client, &mut self.sent, &message)?;
+        client_steps::read_sent(client, &mut self.sent, at)?;
         Ok(Answer::Done)
     }
 

@@ -123,6 +123,7 @@ impl Table {
             ffi::krl_server_open(
                 &raw mut server,
                 ffi::DEFAULT_ROOM,
+                ffi::DEFAULT_REACH,
                 0,
                 ptr::null(),
                 0,

@@ -6,6 +6,9 @@ use std::ffi::c_void;
 /// For how many rows a server has room if nothing asks for another number.
 pub const DEFAULT_ROOM: usize = 65_536;
 
+/// How many slots one grant of a server takes at most if nothing asks for another number.
+pub const DEFAULT_REACH: usize = 8;
+
 /// The most rows that a server may have room for.
 pub const MAX_ROOM: usize = 1_048_576;
 
@@ -182,6 +185,7 @@ unsafe extern "C" {
     pub fn krl_server_open(
         handle: *mut Handle,
         room: usize,
+        reach: usize,
         epoch: u64,
         entries: *const Row,
         entries_length: usize,

@@ -108,6 +108,7 @@ impl ServerHandle {
             ffi::krl_server_open(
                 handle.raw(),
                 room.rows(),
+                ffi::DEFAULT_REACH,
                 snapshot.epoch,
                 rows.as_ptr(),
                 rows.len(),

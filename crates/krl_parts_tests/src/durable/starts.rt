@@ -1,7 +1,7 @@
 //! What survives, made of its parts. A call that is refused memory is made again, so that each run
 //! ends alike, whichever one or two allocations in a row fail.
 use crate::again::CALLS;
-use krl_durable::{Durable, EntriesRefused, Record, Room};
+use krl_durable::{Durable, EntriesRefused, Limits, Record, Room};
 use krl_messages::{Outcome, Value};
 use std::alloc::{AllocError, Global};
 
@@ -41,8 +41,12 @@ pub fn two_entries() -> [(u64, Value); 2] {
     [(20, Value::from_u64(2)), (10, Value::from_u64(1))]
 }
 
-fn brought(alloc: Global, room: Room, entries: &[(u64, Value)]) -> Result<Durable, EntriesRefused> {
-    Durable::from_parts(alloc, room, entries, 7, &RECORDS)
+fn brought(
+    alloc: Global,
+    limits: Limits,
+    entries: &[(u64, Value)],
+) -> Result<Durable, EntriesRefused> {
+    Durable::from_parts(alloc, limits, entries, 7, &RECORDS)
 }
 
 // What it shows, written out and brought back.
@@ -50,7 +54,7 @@ fn written_out(alloc: Global, durable: &Durable) -> Result<Durable, EntriesRefus
     let records = durable.records(alloc)?;
     Durable::from_parts(
         alloc,
-        durable.room(),
+        durable.limits(),
         durable.run(0),
         durable.epoch(),
         &records,
@@ -60,7 +64,11 @@ fn written_out(alloc: Global, durable: &Durable) -> Result<Durable, EntriesRefus
 // With room for so many entries, written out and brought back.
 fn roomed(alloc: Global, room: usize, entries: &[(u64, Value)]) -> Result<Durable, EntriesRefused> {
     let room = Room::new(room).ok_or(EntriesRefused::Full)?;
-    written_out(alloc, &brought(alloc, room, entries)?)
+    let limits = Limits {
+        room,
+        ..Limits::standard()
+    };
+    written_out(alloc, &brought(alloc, limits, entries)?)
 }
 
 fn try_start(
@@ -70,8 +78,8 @@ fn try_start(
 ) -> Result<Durable, EntriesRefused> {
     match start {
         Start::Unused => Durable::new(alloc, entries),
-        Start::Brought => brought(alloc, Room::standard(), entries),
-        Start::WrittenOut => written_out(alloc, &brought(alloc, Room::standard(), entries)?),
+        Start::Brought => brought(alloc, Limits::standard(), entries),
+        Start::WrittenOut => written_out(alloc, &brought(alloc, Limits::standard(), entries)?),
         Start::Roomed(room) => roomed(alloc, room, entries),
     }
 }

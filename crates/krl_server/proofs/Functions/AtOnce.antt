@@ -22,6 +22,8 @@ use Rattle.krl_server.proofs.Functions.Facts.{facts_of, waits_nowhere}
 use Rattle.krl_server.proofs.Functions.Rooms.{few_waiting, one_more_client}
 use Rattle.krl_table.proofs.Rows.Waiters.{some_first}
 use Rattle.krl_server.proofs.Outputs.Numbers.{calls_few}
+use Rattle.krl_server.proofs.Functions.Roomed.{alone_answered}
+use Rattle.krl_server.specs.GrantRooms.{NobodyCame}
 
 not_true : (b : Bool) → true ≡ not b → b ≡ false
 not_true true e = absurd (cc)
@@ -86,11 +88,11 @@ can_again s u lt =
 abbrev pub noted : State → Waiter → KeptTable → State
 noted st u t = record st { table = t; sessions = set st.sessions u.client (record (sessions_of st.sessions u.client) { unacked = None; last_request = u.req }) }
 
-module _ (st : State) (u : Waiter) (t : KeptTable) (room : u.client < length st.sessions) (rows : (n : ℕ) → rows_of t.map n ≡ granted st.durable.index (enqueued st.durable.index (rows_of st.table.map) u) (slot_of st.durable.index u.point) n) where
-  pub granted_means : meaning (noted st u t) ≡ with_rows (queues (acknowledged (meaning st) u.client) u) (granted st.durable.index (enqueued st.durable.index (rows_of st.table.map) u) (slot_of st.durable.index u.point))
+module _ (st : State) (u : Waiter) (t : KeptTable) (room : u.client < length st.sessions) (rows : (n : ℕ) → rows_of t.map n ≡ granted st.durable.reach st.durable.index (enqueued st.durable.index (rows_of st.table.map) u) (slot_of st.durable.index u.point) n) where
+  pub granted_means : meaning (noted st u t) ≡ with_rows (queues (acknowledged (meaning st) u.client) u) (granted st.durable.reach st.durable.index (enqueued st.durable.index (rows_of st.table.map) u) (slot_of st.durable.index u.point))
   granted_means =
       ap (λ (r : Rows). let s : Server = record { durable = st.durable; rows = r; sessions = sessions_of (set st.sessions u.client (record { last_push = (sessions_of st.sessions u.client).last_push; unacked = None; last_request = u.req })); missing = st.missing } in s) (fun_ext rows)
-      ∙ ap (λ ls. let s : Server = record { durable = st.durable; rows = granted st.durable.index (enqueued st.durable.index (rows_of st.table.map) u) (slot_of st.durable.index u.point); sessions = ls; missing = st.missing } in s)
+      ∙ ap (λ ls. let s : Server = record { durable = st.durable; rows = granted st.durable.reach st.durable.index (enqueued st.durable.index (rows_of st.table.map) u) (slot_of st.durable.index u.point); sessions = ls; missing = st.missing } in s)
       (sessions_set st.sessions u.client (record { last_push = (sessions_of st.sessions u.client).last_push; unacked = None; last_request = u.req }) room ∙ noted_sessions (sessions_of st.sessions) u)
 
 -- the turn
@@ -146,6 +148,7 @@ pub record IsAtOnce (s : Server) (m : ToServer) (t : Server) (o : ToClient) : Ty
   pub step : ServerStep s m t (o ∷ callbacks t)
   pub sound : IsSound t
   pub few : length (callbacks t) ≤ 63 * waiting_clients s
+  pub came : NobodyCame s t
 
 pub steps_at_once : (s : Server) (m : ToServer) (req point hi : ℕ) (g : Mode) (t : Server) (o : ToClient) → IsSound s → IsTable s.durable.index s.rows → case_of s m ≡ Waits req point hi g → is_recovering s.missing ≡ false → next_turn s ≡ None → WaitsNowhere s.rows m.client → (s.rows (slot_of s.durable.index point)).queue ≡ [] → HasTurned (queues (acknowledged s m.client) (record { client = m.client; req = req; point = point; hi = hi; mode = g })) t (slot_of s.durable.index point) o → IsAtOnce s m t o
 steps_at_once s m req point hi g t o sound table e serving settled free empty turned =
@@ -167,6 +170,7 @@ steps_at_once s m req point hi g t o sound table e serving settled free empty tu
       step = subst (λ k. Ends (effect s m k) (kind_of k) t (o ∷ callbacks t)) (sym e) (serves t (o ∷ []) (λ x. absurd (cc)) serving answered);
       sound = r.sound;
       few = omega (arith, more, all, less, calls);
+      came = subst (NobodyCame s) (sym r.is) (alone_answered s q n r.turn refl r.next r.slot (ap (λ us. length us) one) (queue_besides s.durable.index s.rows u));
     }
 
 -- by the case that the code found

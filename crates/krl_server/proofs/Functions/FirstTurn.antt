@@ -68,11 +68,11 @@ no_reply true o t f e = f e
 no_reply false o t f e = refl
 
 -- the push of a grant, from the rows that are raised
-pub granted_push : (q mid : Server) (u : Waiter) (n : ℕ) (ns : List ℕ) (hs : List Holding) → mid ≡ with_rows q (granted q.durable.index q.rows n) → ns ≡ taken q.durable.index q.rows n → hs ≡ holdings mid u.client ns → pushes mid u.client (push.Grant u.req hs) ≡ grants q (record { slot = n; waiter = u })
+pub granted_push : (q mid : Server) (u : Waiter) (n : ℕ) (ns : List ℕ) (hs : List Holding) → mid ≡ with_rows q (granted q.durable.reach q.durable.index q.rows n) → ns ≡ taken q.durable.reach q.durable.index q.rows n → hs ≡ holdings mid u.client ns → pushes mid u.client (push.Grant u.req hs) ≡ grants q (record { slot = n; waiter = u })
 granted_push q mid u n ns hs e f h =
     ap (λ x. pushes mid u.client (push.Grant u.req x)) h
     ∙ ap (λ x. pushes x u.client (push.Grant u.req (holdings x u.client ns))) e
-    ∙ ap (λ x. pushes (with_rows q (granted q.durable.index q.rows n)) u.client (push.Grant u.req (holdings (with_rows q (granted q.durable.index q.rows n)) u.client x))) f
+    ∙ ap (λ x. pushes (with_rows q (granted q.durable.reach q.durable.index q.rows n)) u.client (push.Grant u.req (holdings (with_rows q (granted q.durable.reach q.durable.index q.rows n)) u.client x))) f
 
 -- the turn at a slot whose first waiter is u
 module _ (s : Server) (n : ℕ) (u : Waiter) (first : front_of (s.rows n).queue ≡ Some u) where
@@ -100,9 +100,9 @@ module _ (s : Server) (n : ℕ) (u : Waiter) (first : front_of (s.rows n).queue 
     answered_grant t old new a server sends =
         let r = some_reply acked (reply_to s.durable.index s.rows n u) reply.Grant (sym (a ∙ answer acked)) in
         let g = grant_says s.durable.index s.rows n u r.1 in
-        let body = push.Grant u.req (holdings (with_rows s (granted s.durable.index s.rows n)) u.client (taken s.durable.index s.rows n)) in
-        let x = push_to (with_rows s (granted s.durable.index s.rows n)) u.client (suc (s.sessions u.client).last_push) body in
-        let next = pushes_next (with_rows s (granted s.durable.index s.rows n)) u.client body (pushable r.0) in
+        let body = push.Grant u.req (holdings (with_rows s (granted s.durable.reach s.durable.index s.rows n)) u.client (taken s.durable.reach s.durable.index s.rows n)) in
+        let x = push_to (with_rows s (granted s.durable.reach s.durable.index s.rows n)) u.client (suc (s.sessions u.client).last_push) body in
+        let next = pushes_next (with_rows s (granted s.durable.reach s.durable.index s.rows n)) u.client body (pushable r.0) in
         let here_is = yes (ap (λ b. b && (asks_absent s.durable.index u || is_wanted_compatible s.rows n u)) (sym is ∙ r.0) ∙ ap (λ b. b || is_wanted_compatible s.rows n u) g.0 ∙ g.1) in
         let same = ap (λ b. if b then tells_absent s turn else grants s turn) g.0 in record {
           out = x;

@@ -6,7 +6,7 @@ use Rattle.krl_table.proofs.Rows.Waiters.{some_first}
 use Rattle.krl_server.proofs.Invariant.Tabled.{slots_have, any_in}
 use Rattle.krl_modes.proofs.Basics.{None-if_not_some, not_both}
 use Rattle.krl_server.proofs.Outputs.Counted.{sum_below, slots_are, none_on, once_on, clients_of, slots_apart, times_on}
-use Rattle.krl_server.proofs.Invariant.WaitersAfter.{asks, Came}
+use Rattle.krl_server.proofs.Invariant.WaitersAfter.{asks, IsAsked, Came}
 
 -- Waiters of a client
 
@@ -116,7 +116,7 @@ module _ (s : Server) (m : ToServer) (k : Case) (came : Came s m k) (old : IsTab
       let t = (effect s m k).server in
       let x = waits_in t.durable.index t.rows c e in
       ⊎_elim (λ (y : (j : ℕ) × In x.1 (s.rows j).queue). inl (subst (λ d. waits s.durable.index s.rows d ≡ true) x.3 (in_waits s.durable.index s.rows y.0 x.1 old y.1)))
-      (λ (y : (asks k ≡ true) × (x.1.client ≡ m.client)). inr (y.0, sym x.3 ∙ y.1)) (came x.0 x.1 x.2)
+      (λ (y : (asks k ≡ true) × (x.1.client ≡ m.client) × IsAsked m x.1 k). inr (y.0, sym x.3 ∙ y.1)) (came x.0 x.1 x.2)
 
   pub no_more_clients : asks k ≡ false → waiting_clients (effect s m k).server ≤ waiting_clients s
   no_more_clients isnt = count_fewer max_clients (waits (effect s m k).server.durable.index (effect s m k).server.rows) (waits s.durable.index s.rows)

@@ -133,18 +133,18 @@ pushes_can s c body d = if_both (λ (x : Done). can_push (x.server.sessions d) �
 pub turn_can : (s : Server) (t : Turn) (d : ℕ) → can_push ((answer_first s t).server.sessions d) ≡ true → can_push (s.sessions d) ≡ true
 turn_can s t d = if_both (λ (x : Done). can_push (x.server.sessions d) ≡ true → can_push (s.sessions d) ≡ true) (asks_absent s.durable.index t.waiter) (tells_absent s t) (grants s t)
     (pushes_can (with_rows s (dropped s.rows t.slot)) t.waiter.client (push.Absent t.waiter.req t.waiter.point) d)
-    (pushes_can (with_rows s (granted s.durable.index s.rows t.slot)) t.waiter.client (push.Grant t.waiter.req (holdings (with_rows s (granted s.durable.index s.rows t.slot)) t.waiter.client (taken s.durable.index s.rows t.slot))) d)
+    (pushes_can (with_rows s (granted s.durable.reach s.durable.index s.rows t.slot)) t.waiter.client (push.Grant t.waiter.req (holdings (with_rows s (granted s.durable.reach s.durable.index s.rows t.slot)) t.waiter.client (taken s.durable.reach s.durable.index s.rows t.slot))) d)
 
 turn_row : (s : Server) (t : Turn) (k : ℕ) → k < t.slot → (answer_first s t).server.rows k ≡ s.rows k
 turn_row s t k lt = if_both (λ (x : Done). x.server.rows k ≡ s.rows k) (asks_absent s.durable.index t.waiter) (tells_absent s t) (grants s t)
     (ap (λ r. r k) (pushes_rows (with_rows s (dropped s.rows t.slot)) t.waiter.client (push.Absent t.waiter.req t.waiter.point)) ∙ row_other s.rows t.slot (with_queue (s.rows t.slot) (behind_first (s.rows t.slot).queue)) k (λ e. omega (arith, e, lt)))
-    (ap (λ r. r k) (pushes_rows (with_rows s (granted s.durable.index s.rows t.slot)) t.waiter.client (push.Grant t.waiter.req (holdings (with_rows s (granted s.durable.index s.rows t.slot)) t.waiter.client (taken s.durable.index s.rows t.slot)))) ∙ granted_below s.durable.index s.rows t.slot k lt)
+    (ap (λ r. r k) (pushes_rows (with_rows s (granted s.durable.reach s.durable.index s.rows t.slot)) t.waiter.client (push.Grant t.waiter.req (holdings (with_rows s (granted s.durable.reach s.durable.index s.rows t.slot)) t.waiter.client (taken s.durable.reach s.durable.index s.rows t.slot)))) ∙ granted_below s.durable.reach s.durable.index s.rows t.slot k lt)
 
 -- nor does it change a row at which somebody waits, beside its own
 pub turn_row_beside : (s : Server) (t : Turn) (k : ℕ) (v : Waiter) (vs : List Waiter) → k ≢ t.slot → (s.rows k).queue ≡ v ∷ vs → (answer_first s t).server.rows k ≡ s.rows k
 turn_row_beside s t k v vs ne queue = if_both (λ (x : Done). x.server.rows k ≡ s.rows k) (asks_absent s.durable.index t.waiter) (tells_absent s t) (grants s t)
     (ap (λ r. r k) (pushes_rows (with_rows s (dropped s.rows t.slot)) t.waiter.client (push.Absent t.waiter.req t.waiter.point)) ∙ row_other s.rows t.slot (with_queue (s.rows t.slot) (behind_first (s.rows t.slot).queue)) k ne)
-    (ap (λ r. r k) (pushes_rows (with_rows s (granted s.durable.index s.rows t.slot)) t.waiter.client (push.Grant t.waiter.req (holdings (with_rows s (granted s.durable.index s.rows t.slot)) t.waiter.client (taken s.durable.index s.rows t.slot)))) ∙ granted_compatible s.durable.index s.rows t.slot k v vs ne queue)
+    (ap (λ r. r k) (pushes_rows (with_rows s (granted s.durable.reach s.durable.index s.rows t.slot)) t.waiter.client (push.Grant t.waiter.req (holdings (with_rows s (granted s.durable.reach s.durable.index s.rows t.slot)) t.waiter.client (taken s.durable.reach s.durable.index s.rows t.slot)))) ∙ granted_compatible s.durable.reach s.durable.index s.rows t.slot k v vs ne queue)
 
 module _ (s u : Server) (k : ℕ) (index : u.durable ≡ s.durable) (row : u.rows k ≡ s.rows k) (can : (v : Waiter) → In v (s.rows k).queue → can_push (u.sessions v.client) ≡ true → can_push (s.sessions v.client) ≡ true) where
   same_has : (v : Waiter) → (asks_absent u.durable.index v || is_wanted_compatible u.rows k v) ≡ (asks_absent s.durable.index v || is_wanted_compatible s.rows k v)

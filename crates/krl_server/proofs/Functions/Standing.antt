@@ -54,12 +54,12 @@ others_turned : (s : Server) (t : Turn) (d : ℕ) → d ≢ t.waiter.client →
     (answer_first s t).server.sessions d ≡ s.sessions d
 others_turned s t d ne = if_both (λ (x : Done). x.server.sessions d ≡ s.sessions d) (asks_absent s.durable.index t.waiter) (tells_absent s t) (grants s t)
     (others_pushed (effects.with_rows s (dropped s.rows t.slot)) t.waiter.client _ d ne)
-    (others_pushed (effects.with_rows s (granted s.durable.index s.rows t.slot)) t.waiter.client _ d ne)
+    (others_pushed (effects.with_rows s (granted s.durable.reach s.durable.index s.rows t.slot)) t.waiter.client _ d ne)
 
 turned_stands : (s : Server) (t : Turn) → PushesStand (answer_first s t).server (answer_first s t).outs
 turned_stands s t = if_both (λ (x : Done). PushesStand x.server x.outs) (asks_absent s.durable.index t.waiter) (tells_absent s t) (grants s t)
     (pushed_stands (effects.with_rows s (dropped s.rows t.slot)) t.waiter.client _)
-    (pushed_stands (effects.with_rows s (granted s.durable.index s.rows t.slot)) t.waiter.client _)
+    (pushed_stands (effects.with_rows s (granted s.durable.reach s.durable.index s.rows t.slot)) t.waiter.client _)
 
 -- who is answered has acknowledged every push
 all_acknowledged : (s : Server) (t : Turn) → next_turn s ≡ Some t → (s.sessions t.waiter.client).unacked ≡ None

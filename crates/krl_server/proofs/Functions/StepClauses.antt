@@ -67,8 +67,8 @@ module _ (f : ToClientBody → Bool) where
     none_turned : (s : Server) (t : Turn) → NoneIs f (answer_first s t).outs
     none_turned s t = if_both (λ (x : Done). NoneIs f x.outs) (asks_absent s.durable.index t.waiter) (tells_absent s t) (grants s t)
         (none_pushed (effects.with_rows s (dropped s.rows t.slot)) t.waiter.client (push.Absent t.waiter.req t.waiter.point) (λ epoch number. absent epoch number t.waiter.req t.waiter.point))
-        (let g = effects.with_rows s (granted s.durable.index s.rows t.slot) in
-        none_pushed g t.waiter.client (push.Grant t.waiter.req (holdings g t.waiter.client (taken s.durable.index s.rows t.slot))) (λ epoch number. grant epoch number t.waiter.req (holdings g t.waiter.client (taken s.durable.index s.rows t.slot))))
+        (let g = effects.with_rows s (granted s.durable.reach s.durable.index s.rows t.slot) in
+        none_pushed g t.waiter.client (push.Grant t.waiter.req (holdings g t.waiter.client (taken s.durable.reach s.durable.index s.rows t.slot))) (λ epoch number. grant epoch number t.waiter.req (holdings g t.waiter.client (taken s.durable.reach s.durable.index s.rows t.slot))))
 
     none_answered : (s t : Server) (outs : List ToClient) → Answered s t outs → NoneIs f outs
     none_answered s t outs (stops s' e) = λ o at. absurd at

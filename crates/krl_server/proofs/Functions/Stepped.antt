@@ -1,6 +1,6 @@
 -- A step: there is room for it, and it ends as it should.
-use Rattle.std.proofs.Common.{◌≡◌, ◌≢◌, ℕ, suc, ◌+◌, ◌*◌, ◌≤◌, Bool, true, false, Option, Some, None, List, [], ◌++◌, length, refl, sym, ap, subst, ◌∙◌, arith}
-use Rattle.krl_server.proofs.Names.{append-nil, if◌then◌else◌, ToClient, ToServer, conflicts, IsTable, Server, Case, Ignored, Registers, Leaves, Tells, Alarms, Rebuilds, Repeats, Acknowledges}
+use Rattle.std.proofs.Common.{◌≡◌, ◌≢◌, ℕ, suc, ◌+◌, ◌*◌, ◌≤◌, ◌⊎◌, ⊎_elim, Bool, true, false, Option, Some, None, List, [], ◌++◌, length, refl, sym, ap, subst, ◌∙◌, arith}
+use Rattle.krl_server.proofs.Names.{In, Waiter, append-nil, if◌then◌else◌, ToClient, ToServer, conflicts, IsTable, Server, Case, Ignored, Registers, Leaves, Tells, Alarms, Rebuilds, Repeats, Acknowledges}
 use Rattle.krl_server.proofs.Names.{Lowers, Waits, Judges, AnswersAgain, case_of, is_alarm, judged, Done, effect, acknowledged, writes, Idle, kind_of, calls_of, Ends, at_once}
 use Rattle.krl_server.proofs.Names.{PushBody, case_of_unacked, recovers, serves, meant, case_of_pieces, after_of, waiting, IsSound, Sent, Sends, own_of, room_for, waiting_clients, calls_after, Finished, rests}
 use Rattle.krl_server.proofs.Names.{still_recovering, served, HasRoom, alarm_of}
@@ -9,10 +9,12 @@ use Rattle.krl_messages.specs.declared.to_server.ToServerBody.TheVariants as sai
 use Rattle.krl_server.specs.declared.case.Case.{Case as Found}
 use Rattle.krl_server.specs.declared.case.Case.TheVariants as found
 use Rattle.krl_server.specs.declared.case.After.{After}
+use Rattle.krl_server.specs.GrantRooms.{slots_asked, room_of, HasGrantRooms, HasRoomFor}
+use Rattle.krl_server.proofs.Functions.Reaching.{effect_reach}
 use Rattle.krl_server.specs.Afters.{does_answer, does_call, does_alarm}
 use Rattle.krl_server.proofs.Outputs.Numbers.{answers_few}
 use Rattle.krl_server.proofs.Functions.Boxes.{sends_length}
-use Rattle.krl_server.proofs.Invariant.WaitersAfter.{asks, all_came}
+use Rattle.krl_server.proofs.Invariant.WaitersAfter.{asks, IsAsked, all_came}
 use Rattle.krl_server.proofs.Functions.Rooms.{few_waiting, no_more_clients, one_more_client}
 use Rattle.krl_server.proofs.Invariant.Sounds.{effect_sound}
 use Rattle.krl_server.proofs.Invariant.Kept.{effect_table}
@@ -105,6 +107,34 @@ module _ (s : Server) (m : ToServer) where
   calls_room (found.Judges number op) w u few more e = let x = few refl in omega (arith, x)
   calls_room (found.AnswersAgain number op o) w u few more e = let x = few refl in omega (arith, x)
 
+  reports_ask : (b : ToServerBody) (u : Waiter) → IsAsked m u (case_of_pieces s m.client b) → ⊥
+  reports_ask said.Hello u e = e
+  reports_ask said.Bye u e = e
+  reports_ask (said.Report epoch pieces) u e = by_conflict (conflicts s.durable.index s.rows m.client pieces) e
+    where
+      by_conflict : (b : Bool) → IsAsked m u (if b then Alarms else Rebuilds pieces) → ⊥
+      by_conflict true e = e
+      by_conflict false e = e
+  reports_ask (said.Request request) u e = e
+
+  again_asks : (o : Option PushBody) (u : Waiter) → IsAsked m u (case_of_unacked o) → ⊥
+  again_asks None u e = e
+  again_asks (Some body) u e = e
+
+  -- there is room for the client that asks
+  asked_room : (f : Found) (rooms : List (Option ℕ)) (u : Waiter) → HasRoomFor s m.client f rooms → IsAsked m u (meant s m.client m.body f) → slots_asked s.durable.reach u.point u.hi ≤ room_of rooms u.client
+  asked_room found.Ignored rooms u room e = absurd e
+  asked_room found.Registers rooms u room e = absurd e
+  asked_room found.Leaves rooms u room e = absurd e
+  asked_room found.Tells rooms u room e = absurd e
+  asked_room found.Reports rooms u room e = absurd (reports_ask m.body u e)
+  asked_room found.Repeats rooms u room e = absurd (again_asks (s.sessions m.client).unacked u e)
+  asked_room found.Acknowledges rooms u room e = absurd e
+  asked_room (found.Lowers span keep) rooms u room e = absurd e
+  asked_room (found.Waits req point hi g) rooms u room e = subst (λ (w : Waiter). slots_asked s.durable.reach w.point w.hi ≤ room_of rooms w.client) (sym e) room
+  asked_room (found.Judges number op) rooms u room e = absurd e
+  asked_room (found.AnswersAgain number op o) rooms u room e = absurd e
+
   module _ (sound : IsSound s) (table : IsTable s.durable.index s.rows) (f : Found) (is : meant s m.client m.body f ≡ case_of s m) where
     u : Server
     u = (effect s m (case_of s m)).server
@@ -117,6 +147,16 @@ module _ (s : Server) (m : ToServer) where
 
     more : waiting (effect s m (case_of s m)).server ≤ suc (waiting_clients s)
     more = let x = all_wait in let y = one_more_client s m (case_of s m) (all_came s m sound) table in omega (arith, x, y)
+
+    -- there is room for the grants of all who wait then
+    pub rooms_left : (t : Server) (rooms : List (Option ℕ)) → t ≡ (effect s m (case_of s m)).server → HasGrantRooms s rooms → HasRoomFor s m.client f rooms → HasGrantRooms t rooms
+    rooms_left t rooms server h room = subst (λ x. HasGrantRooms x rooms) (sym server) (record {
+      full = h.full;
+      each = λ n v at. subst (λ r. slots_asked r v.point v.hi ≤ room_of rooms v.client) (sym (effect_reach s m (case_of s m))) (⊎_elim
+          (λ (old : (j : ℕ) × In v (s.rows j).queue). h.each old.0 v old.1)
+          (λ (new : (asks (case_of s m) ≡ true) × (v.client ≡ m.client) × IsAsked m v (case_of s m)). asked_room f rooms v room (subst (IsAsked m v) (sym is) new.2))
+          (all_came s m sound n v at));
+    })
 
     -- there is room for what is left, behind the case's own messages
     pub room_left : (t : Server) (left : After) (outs : List ToClient) (old new : Sent) → t ≡ (effect s m (case_of s m)).server → outs ≡ (effect s m (case_of s m)).outs → left ≡ after_of (case_of s m) → Sends old new outs → old ≡ (record { sent = []; room = room_for (waiting_clients s) f }) → HasRoom t left new

@@ -1,6 +1,7 @@
 -- A server stays sound when it pushes and when it answers first waiters, and the missing are as they were.
+use Rattle.std.specs.Prelude.{◌-◌}
 use Rattle.krl_server.proofs.Names.{◌≡◌, ℕ, false, refl, ap, ◌∙◌, ◌≢◌, ◌<◌, Some, List, ◌∷◌, inl, inr, sym, subst, ⊎_elim, arith, nat_lt, END, PushBody, In, ToClient, Waiter, Row, Rows}
-use Rattle.krl_server.proofs.Names.{max_clients, mode_at, set_row, set_mode, with_mode, with_queue, wanted, behind_first, dropped, raised_on, taken_after, taken, granted, max_more, asks_absent}
+use Rattle.krl_server.proofs.Names.{max_clients, mode_at, set_row, set_mode, with_mode, with_queue, wanted, behind_first, dropped, raised_on, taken_after, taken, granted, asks_absent}
 use Rattle.krl_server.proofs.Names.{Server, is_recovering, Done, acknowledged, pushes, with_rows, holdings, IsSound, Turn, next_turn, tells_absent, grants, answer_first, Answered, stops, goes_on}
 use Rattle.krl_table.proofs.Invariant.Compatible.{mode_other}
 use Rattle.krl_messages.specs.declared.to_client.PushBody.TheVariants as push
@@ -70,25 +71,25 @@ module _ (s : Server) (i : IsSound s) (n : ℕ) (u : Waiter) (us : List Waiter) 
 
   -- the rows that a grant leaves
   abbrev all_rows : Rows
-  all_rows = raised_on (set_row s.rows n grant_row) (taken_after s.durable.index (set_row s.rows n grant_row) n u max_more) u
+  all_rows = raised_on (set_row s.rows n grant_row) (taken_after s.durable.index (set_row s.rows n grant_row) n u (s.durable.reach - 1)) u
 
-  pub granted_sound : IsSound (with_rows s (granted s.durable.index s.rows n))
-  granted_sound = subst (λ r. IsSound (with_rows s r)) (sym (granted_is s.durable.index s.rows n u us queue))
+  pub granted_sound : IsSound (with_rows s (granted s.durable.reach s.durable.index s.rows n))
+  granted_sound = subst (λ r. IsSound (with_rows s r)) (sym (granted_is s.durable.reach s.durable.index s.rows n u us queue))
       (along s.durable.index u (λ r. IsSound (with_rows s r)) n
       (λ r j far there is_compatible_there x. one_sound (with_rows s r) x u.client j (with_mode (r j) u.client (wanted (r j) u)) (λ d ne. mode_other (r j).modes u.client d (wanted (r j) u) ne) (λ m v at. subst (In v) (raised_queue r j u m) at) (i.clients n u at_first))
-      max_more n (set_row s.rows n grant_row) (omega arith) grant_sound)
+      (s.durable.reach - 1) n (set_row s.rows n grant_row) (omega arith) grant_sound)
 
 pub turn_sound : (s : Server) (t : Turn) → IsSound s → next_turn s ≡ Some t → IsSound (answer_first s t).server
 turn_sound s t i e =
     let x = turn_is s t e in
     if_both (λ (x : Done). IsSound x.server) (asks_absent s.durable.index t.waiter) _ _
     (pushes_sound (with_rows s (dropped s.rows t.slot)) t.waiter.client (push.Absent t.waiter.req t.waiter.point) (dropped_sound s i t.slot t.waiter (behind_first (s.rows t.slot).queue) x.first))
-    (pushes_sound (with_rows s (granted s.durable.index s.rows t.slot)) t.waiter.client (push.Grant t.waiter.req (holdings (with_rows s (granted s.durable.index s.rows t.slot)) t.waiter.client (taken s.durable.index s.rows t.slot))) (granted_sound s i t.slot t.waiter (behind_first (s.rows t.slot).queue) x.first))
+    (pushes_sound (with_rows s (granted s.durable.reach s.durable.index s.rows t.slot)) t.waiter.client (push.Grant t.waiter.req (holdings (with_rows s (granted s.durable.reach s.durable.index s.rows t.slot)) t.waiter.client (taken s.durable.reach s.durable.index s.rows t.slot))) (granted_sound s i t.slot t.waiter (behind_first (s.rows t.slot).queue) x.first))
 
 pub turn_missing : (s : Server) (t : Turn) → (answer_first s t).server.missing ≡ s.missing
 turn_missing s t = if_both (λ (x : Done). x.server.missing ≡ s.missing) (asks_absent s.durable.index t.waiter) (tells_absent s t) (grants s t)
     (pushes_missing (with_rows s (dropped s.rows t.slot)) t.waiter.client (push.Absent t.waiter.req t.waiter.point))
-    (pushes_missing (with_rows s (granted s.durable.index s.rows t.slot)) t.waiter.client (push.Grant t.waiter.req (holdings (with_rows s (granted s.durable.index s.rows t.slot)) t.waiter.client (taken s.durable.index s.rows t.slot))))
+    (pushes_missing (with_rows s (granted s.durable.reach s.durable.index s.rows t.slot)) t.waiter.client (push.Grant t.waiter.req (holdings (with_rows s (granted s.durable.reach s.durable.index s.rows t.slot)) t.waiter.client (taken s.durable.reach s.durable.index s.rows t.slot))))
 
 -- an answer leaves who is missing
 pub answered_up : (s t : Server) (outs : List ToClient) → Answered s t outs → is_recovering s.missing ≡ false → is_recovering t.missing ≡ false

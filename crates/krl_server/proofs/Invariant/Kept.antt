@@ -109,9 +109,9 @@ pub turn_kept : (s : Server) (t : Turn) → next_turn s ≡ Some t → ServerKep
 turn_kept s t e k = let x = turn_is s t e in
     if_case (λ (y : Done). ServerKept y.server) (asks_absent s.durable.index t.waiter) (tells_absent s t) (grants s t)
     (λ f. pushes_kept (effects.with_rows s (dropped s.rows t.slot)) t.waiter.client (push.Absent t.waiter.req t.waiter.point) (dropped_kept s.durable.index s.rows t.slot t.waiter (behind_first (s.rows t.slot).queue) k x.first))
-    (λ f. let u = effects.with_rows s (granted s.durable.index s.rows t.slot) in
-    pushes_kept u t.waiter.client (push.Grant t.waiter.req (effects.holdings u t.waiter.client (taken s.durable.index s.rows t.slot)))
-    (granted_kept s.durable.index s.rows t.slot t.waiter (behind_first (s.rows t.slot).queue) k x.first (or_true (asks_absent s.durable.index t.waiter) (is_wanted_compatible s.rows t.slot t.waiter) (and_parts (can_push (s.sessions t.waiter.client)) _ x.answerable).1 f)))
+    (λ f. let u = effects.with_rows s (granted s.durable.reach s.durable.index s.rows t.slot) in
+    pushes_kept u t.waiter.client (push.Grant t.waiter.req (effects.holdings u t.waiter.client (taken s.durable.reach s.durable.index s.rows t.slot)))
+    (granted_kept s.durable.reach s.durable.index s.rows t.slot t.waiter (behind_first (s.rows t.slot).queue) k x.first (or_true (asks_absent s.durable.index t.waiter) (is_wanted_compatible s.rows t.slot t.waiter) (and_parts (can_push (s.sessions t.waiter.client)) _ x.answerable).1 f)))
 
 pub answered_kept : (s t : Server) (outs : List ToClient) → Answered s t outs → ServerKept s → ServerKept t
 answered_kept s t outs (stops s' e) k = k

@@ -11,7 +11,7 @@ use Rattle.krl_server.proofs.Cased.{IsFrom, by_case}
 use Rattle.krl_server.proofs.Grants.{granted_queue}
 use Rattle.krl_server.proofs.Turns.{in_row}
 use Rattle.krl_server.proofs.Outputs.Ends.{pushes_rows, pushes_durable, turn_durable}
-use Rattle.krl_server.proofs.Invariant.WaitersAfter.{asks, Came, all_came}
+use Rattle.krl_server.proofs.Invariant.WaitersAfter.{asks, IsAsked, Came, all_came}
 
 -- Registers
 
@@ -49,7 +49,7 @@ turn_came s t m u = if_both (λ (x : Done). In u (x.server.rows m).queue → In 
     (subst (λ (r : Rows). In u (r m).queue) (pushes_rows (effects.with_rows s (dropped s.rows t.slot)) t.waiter.client _) at))
     (λ at. row_came s.rows t.slot (grant_first (s.rows t.slot) (s.rows t.slot).queue)
     (λ v x. ⊎_elim (λ (y : In v (s.rows t.slot).queue). y) (λ (y : In v (s.rows t.slot).queue). y) (granted_in (s.rows t.slot) (s.rows t.slot).queue v x)) m u
-    (subst (In u) (granted_queue s.durable.index s.rows t.slot m) (subst (λ (r : Rows). In u (r m).queue) (pushes_rows (effects.with_rows s (granted s.durable.index s.rows t.slot)) t.waiter.client _) at)))
+    (subst (In u) (granted_queue s.durable.reach s.durable.index s.rows t.slot m) (subst (λ (r : Rows). In u (r m).queue) (pushes_rows (effects.with_rows s (granted s.durable.reach s.durable.index s.rows t.slot)) t.waiter.client _) at)))
 
 turn_here : (s : Server) (t : Turn) → AreRegistered s → AreRegistered (answer_first s t).server
 turn_here s t h n u at = subst (λ (d : Durable). IsRegistered d.register u.client) (sym (turn_durable s t)) (h n u (turn_came s t n u at))
@@ -65,7 +65,7 @@ module _ (s : Server) (m : ToServer) (h : AreRegistered s) where
   same_here : (k : Case) (r : Record) → IsFrom s m r → (effect s m k).server.durable ≡ s.durable → Came s m k → AreRegistered (effect s m k).server
   same_here k r from same came n u at = subst (λ (d : Durable). IsRegistered d.register u.client) (sym same) (⊎_elim
       (λ (old : (j : ℕ) × In u (s.rows j).queue). h old.0 u old.1)
-      (λ (new : (asks k ≡ true) × (u.client ≡ m.client)). subst (IsRegistered s.durable.register) (sym new.1) (r, from.known, from.here))
+      (λ (new : (asks k ≡ true) × (u.client ≡ m.client) × IsAsked m u k). subst (IsRegistered s.durable.register) (sym new.1) (r, from.known, from.here))
       (came n u at))
 
   -- who waits after the sender's waiter is taken away is another client, whose record stays
@@ -91,7 +91,7 @@ module _ (s : Server) (m : ToServer) (h : AreRegistered s) where
             (subst (λ y. IsRegistered (applied_by s.durable m.client op o y).register u.client) (sym served.from.known)
             (with_here s.durable.register m.client u.client (noted r o) served.from.here (⊎_elim
             (λ (old : (j : ℕ) × In u (s.rows j).queue). h old.0 u old.1)
-            (λ (new : (asks (Judges number op o) ≡ true) × (u.client ≡ m.client)). subst (IsRegistered s.durable.register) (sym new.1) (r, served.from.known, served.from.here))
+            (λ (new : (asks (Judges number op o) ≡ true) × (u.client ≡ m.client) × IsAsked m u (Judges number op o)). subst (IsRegistered s.durable.register) (sym new.1) (r, served.from.known, served.from.here))
             (came n u at))));
         answers_again = λ r number op o served under some last is. same_here (AnswersAgain number op o) r served.from (pushes_durable t m.client (push.Answer number o (effects.holding t (slot_of t.durable.index (op_key op)) m.client)));
       })

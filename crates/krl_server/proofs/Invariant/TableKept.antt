@@ -1,8 +1,9 @@
 -- Each call keeps what holds of every table. Insert and delete are the subject of another file.
+use Rattle.std.specs.Prelude.{◌-◌}
 use Rattle.krl_server.proofs.Names.{◌≡◌, ◌≢◌, ℕ, ◌≤◌, ◌<◌, Bool, true, false, not, ◌&&◌, None, List, [], ◌∷◌, inl, inr, refl, sym, ap, subst, ◌∙◌, ⊎_elim, arith, nat_eq, ne_eqb, fun_ext, not-false}
 use Rattle.krl_server.proofs.Names.{is_some, if◌then◌else◌, END, Mode, compatible, meet, Bounds, within, Pieces, In, Waiter, first_of, eq_cases, Index, slot_of, slots, is_slot, span_of, Row, Rows}
 use Rattle.krl_server.proofs.Names.{max_clients, mode_at, set_row, set_mode, is_compatible_there, waits, with_mode, with_queue, lowered, unqueue, cleared, queue_with, enqueued, wanted, behind_first}
-use Rattle.krl_server.proofs.Names.{dropped, raised, granted, max_more, rebuilt, conflicts, adopted, is_wanted_compatible, IsPlaced, times, AreCompatible, one, times_more, times_fewer, times_with}
+use Rattle.krl_server.proofs.Names.{dropped, raised, granted, rebuilt, conflicts, adopted, is_wanted_compatible, IsPlaced, times, AreCompatible, one, times_more, times_fewer, times_with}
 use Rattle.krl_server.proofs.Names.{none_times, alone_fewer, alone_new, meet_compatible, none_compatible, turned, other_compatible, in_unqueue, in_queue_with}
 use Rattle.krl_table.proofs.Invariant.Compatible.{mode_here, mode_other}
 use Rattle.std.specs.FinMap as fin
@@ -150,9 +151,9 @@ pub dropped_kept : (m : Index) (rows : Rows) (n : ℕ) (u : Waiter) (us : List W
 dropped_kept m rows n u us k queue = subst (IsKept m) (ap (λ q. set_row rows n (with_queue (rows n) (behind_first q))) (sym queue))
     (front_kept m rows n u us (with_queue (rows n) us) k queue refl (λ d ne. refl) (λ d ne. k.beside n u.client d (λ e. ne (sym e))))
 
-pub granted_kept : (m : Index) (rows : Rows) (n : ℕ) (u : Waiter) (us : List Waiter) → IsKept m rows → (rows n).queue ≡ u ∷ us → is_wanted_compatible rows n u ≡ true → IsKept m (granted m rows n)
-granted_kept m rows n u us k queue can = subst (IsKept m) (sym (granted_is m rows n u us queue))
-    (along m u (IsKept m) n raised_kept max_more n (set_row rows n first) (omega arith)
+pub granted_kept : (r : ℕ) (m : Index) (rows : Rows) (n : ℕ) (u : Waiter) (us : List Waiter) → IsKept m rows → (rows n).queue ≡ u ∷ us → is_wanted_compatible rows n u ≡ true → IsKept m (granted r m rows n)
+granted_kept r m rows n u us k queue can = subst (IsKept m) (sym (granted_is r m rows n u us queue))
+    (along m u (IsKept m) n raised_kept (r - 1) n (set_row rows n first) (omega arith)
     (front_kept m rows n u us first k queue refl
     (λ d ne. mode_other (rows n).modes u.client d (wanted (rows n) u) ne)
     (λ d ne. subst (λ x. compatible x (mode_at rows n d) ≡ true) (sym (mode_here (rows n).modes u.client (wanted (rows n) u))) (compatible_row rows n u.client (wanted (rows n) u) (k.strangers n) can d ne))))

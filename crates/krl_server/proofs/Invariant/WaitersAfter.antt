@@ -25,9 +25,14 @@ asks (Waits req point hi g) = true
 asks (Judges number op o) = false
 asks (AnswersAgain number op o) = false
 
+-- the waiter asks by this case
+abbrev pub IsAsked : ToServer → Waiter → Case → Type 0
+IsAsked m u (Waits req point hi g) = u ≡ record { client = m.client; req = req; point = point; hi = hi; mode = g }
+IsAsked m u other = ⊥
+
 -- who waits after the case waited before, or has asked by it
 abbrev pub Came : Server → ToServer → Case → Type 0
-Came s m k = (n : ℕ) (u : Waiter) → In u ((effect s m k).server.rows n).queue → ((j : ℕ) × In u (s.rows j).queue) ⊎ ((asks k ≡ true) × (u.client ≡ m.client))
+Came s m k = (n : ℕ) (u : Waiter) → In u ((effect s m k).server.rows n).queue → ((j : ℕ) × In u (s.rows j).queue) ⊎ ((asks k ≡ true) × (u.client ≡ m.client) × IsAsked m u k)
 
 kept_queue : (b : Bool) (r x : Row) → x.queue ≡ r.queue → (if b then x else r).queue ≡ r.queue
 kept_queue true r x e = e
@@ -55,7 +60,7 @@ module _ (s : Server) (m : ToServer) (sound : IsSound s) where
         lowers = λ r span keep served n u at. inl (n, subst (In u) (if_both (λ (x : Row). x.queue ≡ (s.rows n).queue) _ _ _ refl refl) at);
         waits = λ r req point hi g served new free near n u at. ⊎_elim
             (λ (x : (n ≡ slot_of s.durable.index point) × In u (queue_with (s.rows (slot_of s.durable.index point)) (let w : Waiter = record { client = m.client; req = req; point = point; hi = hi; mode = g } in w))). ⊎_elim
-            (λ (e : u ≡ (let w : Waiter = record { client = m.client; req = req; point = point; hi = hi; mode = g } in w)). inr (refl, ap (λ w. w.client) e))
+            (λ (e : u ≡ (let w : Waiter = record { client = m.client; req = req; point = point; hi = hi; mode = g } in w)). inr (refl, ap (λ w. w.client) e, e))
             (λ (old : In u (s.rows (slot_of s.durable.index point)).queue). inl (slot_of s.durable.index point, old))
             (in_queue_with (s.rows (slot_of s.durable.index point)) (record { client = m.client; req = req; point = point; hi = hi; mode = g }) u x.1))
             (λ (old : In u (s.rows n).queue). inl (n, old))

@@ -186,7 +186,7 @@ rows_within s rows w = record { durable = w.durable; last_push = w.last_push; mi
 turn_within : (s : Server) (t : Turn) → IsWithin s → IsWithin (answer_first s t).server
 turn_within s t w = if_both (λ (x : Done). IsWithin x.server) (asks_absent s.durable.index t.waiter) (tells_absent s t) (grants s t)
     (pushes_within (effects.with_rows s (dropped s.rows t.slot)) t.waiter.client _ (rows_within s (dropped s.rows t.slot) w))
-    (pushes_within (effects.with_rows s (granted s.durable.index s.rows t.slot)) t.waiter.client _ (rows_within s (granted s.durable.index s.rows t.slot) w))
+    (pushes_within (effects.with_rows s (granted s.durable.reach s.durable.index s.rows t.slot)) t.waiter.client _ (rows_within s (granted s.durable.reach s.durable.index s.rows t.slot) w))
 
 answered_within : (s t : Server) (outs : List ToClient) → Answered s t outs → IsWithin s → IsWithin t
 answered_within s t outs (stops s' e) w = w

@@ -35,10 +35,10 @@ pub pushes_few : (s : Server) (c : ℕ) (body : PushBody) → length (pushes s c
 pushes_few s c body = if_both (λ (x : Done). length x.outs ≤ 1) (nat_lt (s.sessions c).last_push END) _ _ (omega arith) (omega arith)
 
 pub turn_few : (s : Server) (t : Turn) → length (answer_first s t).outs ≤ 1
-turn_few s t = if_both (λ (x : Done). length x.outs ≤ 1) (asks_absent s.durable.index t.waiter) (tells_absent s t) (grants s t) (pushes_few (with_rows s (dropped s.rows t.slot)) t.waiter.client _) (pushes_few (with_rows s (granted s.durable.index s.rows t.slot)) t.waiter.client _)
+turn_few s t = if_both (λ (x : Done). length x.outs ≤ 1) (asks_absent s.durable.index t.waiter) (tells_absent s t) (grants s t) (pushes_few (with_rows s (dropped s.rows t.slot)) t.waiter.client _) (pushes_few (with_rows s (granted s.durable.reach s.durable.index s.rows t.slot)) t.waiter.client _)
 
 pub turn_durable : (s : Server) (t : Turn) → (answer_first s t).server.durable ≡ s.durable
-turn_durable s t = if_both (λ (x : Done). x.server.durable ≡ s.durable) (asks_absent s.durable.index t.waiter) (tells_absent s t) (grants s t) (pushes_durable (with_rows s (dropped s.rows t.slot)) t.waiter.client _) (pushes_durable (with_rows s (granted s.durable.index s.rows t.slot)) t.waiter.client _)
+turn_durable s t = if_both (λ (x : Done). x.server.durable ≡ s.durable) (asks_absent s.durable.index t.waiter) (tells_absent s t) (grants s t) (pushes_durable (with_rows s (dropped s.rows t.slot)) t.waiter.client _) (pushes_durable (with_rows s (granted s.durable.reach s.durable.index s.rows t.slot)) t.waiter.client _)
 
 -- each row waits for as many as before, but for the turn's slot, which waits for one less
 pub record Shorter (old new : Rows) (slot : ℕ) : Type 0 where
@@ -73,8 +73,8 @@ turn_shorter s t e =
     if_both (λ (x : Done). Shorter s.rows x.server.rows t.slot) (asks_absent s.durable.index t.waiter) (tells_absent s t) (grants s t)
     (subst (λ r. Shorter s.rows r t.slot) (sym (pushes_rows (with_rows s (dropped s.rows t.slot)) t.waiter.client _))
     (set_shorter s.rows t.slot (with_queue (s.rows t.slot) (behind_first (s.rows t.slot).queue)) (behind (s.rows t.slot).queue t.waiter first)))
-    (subst (λ r. Shorter s.rows r t.slot) (sym (pushes_rows (with_rows s (granted s.durable.index s.rows t.slot)) t.waiter.client _))
-    (as_short s.rows (granted_first s.rows t.slot) (granted s.durable.index s.rows t.slot) t.slot (granted_queue s.durable.index s.rows t.slot)
+    (subst (λ r. Shorter s.rows r t.slot) (sym (pushes_rows (with_rows s (granted s.durable.reach s.durable.index s.rows t.slot)) t.waiter.client _))
+    (as_short s.rows (granted_first s.rows t.slot) (granted s.durable.reach s.durable.index s.rows t.slot) t.slot (granted_queue s.durable.reach s.durable.index s.rows t.slot)
     (set_shorter s.rows t.slot (grant_first (s.rows t.slot) (s.rows t.slot).queue) (granted_less (s.rows t.slot) (s.rows t.slot).queue t.waiter first))))
 
 no_more : (old new : Rows) (slot : ℕ) (ns : List ℕ) → Shorter old new slot → waiting_on new ns ≤ waiting_on old ns

@@ -120,7 +120,7 @@ change_said s t m out h = subst (IsChange s.durable t.durable) (sym h.change) (i
 
 event_replays : (s t : Server) (e : Event) → Lives s e t → t.durable ≡ written_down e s.durable
 event_replays s t (Took m out) h = (change_said s t m out h).makes
-event_replays s t Restarted h = ap (λ (x : Server). x.durable) h.1
+event_replays s t (Restarted l) h = ap (λ (x : Server). x.durable) h.2
 
 replays : (s t : Server) (es : List Event) → LivesThrough s es t → t.durable ≡ replayed es s.durable
 replays s t [] h = ap (λ (x : Server). x.durable) h

@@ -117,7 +117,7 @@ answer_is s t e =
     let lt = (and_parts (not (is_some (s.sessions c).unacked)) (nat_lt (s.sessions c).last_push END) (and_parts (can_push (s.sessions c)) (asks_absent s.durable.index t.waiter || is_wanted_compatible s.rows t.slot t.waiter) x.answerable).0).1 in
     if_both (λ (d : Done). IsPush s c d) (asks_absent s.durable.index t.waiter) (tells_absent s t) (grants s t)
     (one_push (with_rows s (dropped s.rows t.slot)) c (push.Absent t.waiter.req t.waiter.point) lt)
-    (let g = with_rows s (granted s.durable.index s.rows t.slot) in one_push g c (push.Grant t.waiter.req (holdings g c (taken s.durable.index s.rows t.slot))) lt)
+    (let g = with_rows s (granted s.durable.reach s.durable.index s.rows t.slot) in one_push g c (push.Grant t.waiter.req (holdings g c (taken s.durable.reach s.durable.index s.rows t.slot))) lt)
 
 pub all_said : ServerSays
 all_said = record {

@@ -1,7 +1,7 @@
 -- A client's mode on one slot rises to what a waiter wants; and so on slot after slot.
 use Rattle.krl_table.proofs.Names.{◌≡◌, ℕ, zero, suc, ◌-◌, ◌≤◌, ◌<◌, Bool, true, false, ◌&&◌, ◌||◌, List, [], ◌∷◌, ◌++◌, Option, Some, None, IfSome, length, refl, sym, ap, subst, ◌∙◌, append_assoc}
 use Rattle.krl_table.proofs.Names.{arith, fun_ext, END, Mode, compatible, Waiter, Index, slot_of, is_slot, Row, Rows, blank_row, front_of, max_clients, is_compatible_in_row, with_mode}
-use Rattle.krl_table.proofs.Names.{wanted, raised, raised_on, granted_first, is_wanted_compatible, can_take, goes_on, taken_after, taken_by, granted_by, max_more, Kept, rows_of, IsSet, IsOver}
+use Rattle.krl_table.proofs.Names.{wanted, raised, raised_on, granted_first, is_wanted_compatible, can_take, goes_on, taken_after, taken_by, granted_by, Kept, rows_of, IsSet, IsOver}
 use Rattle.krl_table.proofs.Names.{IsSound, AreListed}
 use Rattle.std.specs.Prelude.{nat_eq, nat_lt, if◌then◌else◌}
 use Rattle.krl_modes.specs.declared.mode.Mode.TheVariants as mode
@@ -43,38 +43,38 @@ one_more : (m : Index) (rows : Rows) (n : ℕ) (w : Waiter) (k : ℕ) → goes_o
 one_more m rows n w k e = ap (λ b. if b then slot_of m (suc n) ∷ taken_after m (raised rows (slot_of m (suc n)) w) (slot_of m (suc n)) w k else []) e
 
 -- where the grant stands: these rows, the last slot, and how many are noted; what is left of it leads to one end
-pub record IsGoing (m : Index) (first : Kept) (slot : ℕ) (w : Waiter) (noted : List ℕ) (t : Kept) (at : ℕ) (now : List ℕ) : Type 0 where
+pub record IsGoing (r : ℕ) (m : Index) (first : Kept) (slot : ℕ) (w : Waiter) (noted : List ℕ) (t : Kept) (at : ℕ) (now : List ℕ) : Type 0 where
   pub over : IsOver m t
-  pub rows : raised_on (rows_of first) (taken_after m (rows_of first) slot w (8 - length noted)) w ≡ raised_on (rows_of t) (taken_after m (rows_of t) at w (8 - length now)) w
-  pub taken : noted ++ taken_after m (rows_of first) slot w (8 - length noted) ≡ now ++ taken_after m (rows_of t) at w (8 - length now)
+  pub rows : raised_on (rows_of first) (taken_after m (rows_of first) slot w (r - length noted)) w ≡ raised_on (rows_of t) (taken_after m (rows_of t) at w (r - length now)) w
+  pub taken : noted ++ taken_after m (rows_of first) slot w (r - length noted) ≡ now ++ taken_after m (rows_of t) at w (r - length now)
 
-pub begins : (m : Index) (t : Kept) (slot : ℕ) (w : Waiter) (noted : List ℕ) → IsOver m t → IsGoing m t slot w noted t slot noted
-begins m t slot w noted over = record { over = over; rows = refl; taken = refl }
+pub begins : (r : ℕ) (m : Index) (t : Kept) (slot : ℕ) (w : Waiter) (noted : List ℕ) → IsOver m t → IsGoing r m t slot w noted t slot noted
+begins r m t slot w noted over = record { over = over; rows = refl; taken = refl }
 
-module _ (m : Index) (first : Kept) (slot : ℕ) (w : Waiter) (noted : List ℕ) (t : Kept) (at : ℕ) (now : List ℕ) (going : IsGoing m first slot w noted t at now) where
+module _ (r : ℕ) (m : Index) (first : Kept) (slot : ℕ) (w : Waiter) (noted : List ℕ) (t : Kept) (at : ℕ) (now : List ℕ) (going : IsGoing r m first slot w noted t at now) where
   -- nothing is left
-  pub ends_rows : taken_after m (rows_of t) at w (8 - length now) ≡ [] → rows_of t ≡ raised_on (rows_of first) (taken_after m (rows_of first) slot w (8 - length noted)) w
+  pub ends_rows : taken_after m (rows_of t) at w (r - length now) ≡ [] → rows_of t ≡ raised_on (rows_of first) (taken_after m (rows_of first) slot w (r - length noted)) w
   ends_rows none = sym (going.rows ∙ ap (λ ns. raised_on (rows_of t) ns w) none)
 
-  pub ends_taken : taken_after m (rows_of t) at w (8 - length now) ≡ [] → now ≡ noted ++ taken_after m (rows_of first) slot w (8 - length noted)
+  pub ends_taken : taken_after m (rows_of t) at w (r - length now) ≡ [] → now ≡ noted ++ taken_after m (rows_of first) slot w (r - length noted)
   ends_taken none = sym (going.taken ∙ ap (λ ns. now ++ ns) none ∙ append_nil now)
     where
       append_nil : (xs : List ℕ) → xs ++ [] ≡ xs
       append_nil [] = refl
       append_nil (x ∷ xs) = ap (λ ys. x ∷ ys) (append_nil xs)
 
-  pub full_ends : length now ≡ 8 → taken_after m (rows_of t) at w (8 - length now) ≡ []
-  full_ends e = let zero_left : 8 - length now ≡ 0 = omega (arith, e) in ap (λ k. taken_after m (rows_of t) at w k) zero_left
+  pub full_ends : r ≤ length now → taken_after m (rows_of t) at w (r - length now) ≡ []
+  full_ends e = let zero_left : r - length now ≡ 0 = omega (arith, e) in ap (λ k. taken_after m (rows_of t) at w k) zero_left
 
-  pub test_ends : goes_on m (rows_of t) at w ≡ false → taken_after m (rows_of t) at w (8 - length now) ≡ []
-  test_ends stops = nothing_more m (rows_of t) at w (8 - length now) stops
+  pub test_ends : goes_on m (rows_of t) at w ≡ false → taken_after m (rows_of t) at w (r - length now) ≡ []
+  test_ends stops = nothing_more m (rows_of t) at w (r - length now) stops
 
   -- the next slot is taken
-  pub goes : (u : Kept) (next : ℕ) → length now < 8 → slot_of m (suc at) ≡ next → goes_on m (rows_of t) at w ≡ true → ((n : ℕ) → rows_of u n ≡ raised (rows_of t) next w n) → IsOver m u → IsGoing m first slot w noted u next (now ++ next ∷ [])
+  pub goes : (u : Kept) (next : ℕ) → length now < r → slot_of m (suc at) ≡ next → goes_on m (rows_of t) at w ≡ true → ((n : ℕ) → rows_of u n ≡ raised (rows_of t) next w n) → IsOver m u → IsGoing r m first slot w noted u next (now ++ next ∷ [])
   goes u next room slot_is on rows over = record {
     over = over;
-    rows = going.rows ∙ ap (λ ns. raised_on (rows_of t) ns w) step ∙ ap (λ (r : Rows). raised_on r (taken_after m (rows_of u) next w (8 - length (now ++ next ∷ []))) w) (sym is_raised);
-    taken = going.taken ∙ ap (λ ns. now ++ ns) step ∙ sym (append_assoc now (next ∷ []) (taken_after m (rows_of u) next w (8 - length (now ++ next ∷ []))));
+    rows = going.rows ∙ ap (λ ns. raised_on (rows_of t) ns w) step ∙ ap (λ (q : Rows). raised_on q (taken_after m (rows_of u) next w (r - length (now ++ next ∷ []))) w) (sym is_raised);
+    taken = going.taken ∙ ap (λ ns. now ++ ns) step ∙ sym (append_assoc now (next ∷ []) (taken_after m (rows_of u) next w (r - length (now ++ next ∷ []))));
   }
     where
       is_raised : rows_of u ≡ raised (rows_of t) next w
@@ -84,13 +84,13 @@ module _ (m : Index) (first : Kept) (slot : ℕ) (w : Waiter) (noted : List ℕ)
       longer [] = refl
       longer (x ∷ xs) = ap (λ n. suc n) (longer xs)
 
-      left : 8 - length now ≡ suc (8 - length (now ++ next ∷ []))
+      left : r - length now ≡ suc (r - length (now ++ next ∷ []))
       left = let a = longer now in omega (arith, a, room)
 
-      step : taken_after m (rows_of t) at w (8 - length now) ≡ next ∷ taken_after m (rows_of u) next w (8 - length (now ++ next ∷ []))
-      step = ap (λ k. taken_after m (rows_of t) at w k) left ∙ one_more m (rows_of t) at w (8 - length (now ++ next ∷ [])) on
-          ∙ ap (λ s. s ∷ taken_after m (raised (rows_of t) s w) s w (8 - length (now ++ next ∷ []))) slot_is
-          ∙ ap (λ (r : Rows). next ∷ taken_after m r next w (8 - length (now ++ next ∷ []))) (sym is_raised)
+      step : taken_after m (rows_of t) at w (r - length now) ≡ next ∷ taken_after m (rows_of u) next w (r - length (now ++ next ∷ []))
+      step = ap (λ k. taken_after m (rows_of t) at w k) left ∙ one_more m (rows_of t) at w (r - length (now ++ next ∷ [])) on
+          ∙ ap (λ s. s ∷ taken_after m (raised (rows_of t) s w) s w (r - length (now ++ next ∷ []))) slot_is
+          ∙ ap (λ (q : Rows). next ∷ taken_after m q next w (r - length (now ++ next ∷ []))) (sym is_raised)
 
 -- Tests
 
@@ -109,22 +109,22 @@ by_take m rows n next w b near below is e = ap (λ x. x && (nat_lt (suc n) w.hi 
 
 -- A grant
 
--- one slot is noted, so seven more may be
-pub one_noted : (old new : List ℕ) (k : ℕ) → old ≡ [] → new ≡ old ++ k ∷ [] → 8 - length new ≡ 7
-one_noted old new k e f = ap (λ l. 8 - length l) (f ∙ ap (λ l. l ++ k ∷ []) e)
+-- one slot is noted
+pub one_noted : (r : ℕ) (old new : List ℕ) (k : ℕ) → old ≡ [] → new ≡ old ++ k ∷ [] → r - length new ≡ r - 1
+one_noted r old new k e f = ap (λ l. r - length l) (f ∙ ap (λ l. l ++ k ∷ []) e)
 
 -- the point of a number
 pub unwrapped : (o : Option ℕ) (x k : ℕ) → o ≡ Some x → IfSome o (λ p. p ≡ k) → x ≡ k
 unwrapped None x k e h = absurd (cc)
 unwrapped (Some y) x k e h = let same : y ≡ x = cc in sym same ∙ h
 
-module _ (m : Index) (rows : Rows) (n : ℕ) (w : Waiter) (front : front_of (rows n).queue ≡ Some w) where
+module _ (r : ℕ) (m : Index) (rows : Rows) (n : ℕ) (w : Waiter) (front : front_of (rows n).queue ≡ Some w) where
   by_front : (P : List Waiter → Type 0) → ((ws : List Waiter) → P (w ∷ ws)) → (ws : List Waiter) → front_of ws ≡ Some w → P ws
   by_front P h [] e = absurd (cc)
   by_front P h (v ∷ ws) e = let same : v ≡ w = cc in subst (λ x. P (x ∷ ws)) (sym same) (h ws)
 
-  pub granted_from : granted_by m rows n (rows n).queue ≡ raised_on (granted_first rows n) (taken_after m (granted_first rows n) n w max_more) w
-  granted_from = by_front (λ ws. granted_by m rows n ws ≡ raised_on (granted_first rows n) (taken_after m (granted_first rows n) n w max_more) w) (λ ws. refl) (rows n).queue front
+  pub granted_from : granted_by r m rows n (rows n).queue ≡ raised_on (granted_first rows n) (taken_after m (granted_first rows n) n w (r - 1)) w
+  granted_from = by_front (λ ws. granted_by r m rows n ws ≡ raised_on (granted_first rows n) (taken_after m (granted_first rows n) n w (r - 1)) w) (λ ws. refl) (rows n).queue front
 
-  pub taken_from : taken_by m rows n (rows n).queue ≡ n ∷ taken_after m (granted_first rows n) n w max_more
-  taken_from = by_front (λ ws. taken_by m rows n ws ≡ n ∷ taken_after m (granted_first rows n) n w max_more) (λ ws. refl) (rows n).queue front
+  pub taken_from : taken_by r m rows n (rows n).queue ≡ n ∷ taken_after m (granted_first rows n) n w (r - 1)
+  taken_from = by_front (λ ws. taken_by r m rows n ws ≡ n ∷ taken_after m (granted_first rows n) n w (r - 1)) (λ ws. refl) (rows n).queue front

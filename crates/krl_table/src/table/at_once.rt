@@ -13,7 +13,7 @@ use super::Table;
 use crate::reply;
 use arrayvec::ArrayVec;
 use krl_durable::Durable;
-use krl_modes::Point;
+use krl_modes::{MAX_HOLDINGS, Point};
 use krl_queue::Waiter;
 
 impl Table {
@@ -48,18 +48,19 @@ impl Table {
         &mut self,
         durable: &Durable,
         waiter: &Waiter,
-    ) -> Option<ArrayVec<Point, 8>>
+    ) -> Option<ArrayVec<Point, MAX_HOLDINGS>>
         requires over { IsOver durable.now.index self.old.map }
         requires client { waiter.now.client < MAX_CLIENTS }
         requires rows { durable.now.room < self.old.room }
         ensures when { is_some result
             ≡ is_granted_at_once durable.now.index (rows_of self.old.map) waiter.now }
         ensures granted { IfSome result (λ _. (n : ℕ) → rows_of self.new.map n
-            ≡ granted durable.now.index
+            ≡ granted durable.now.reach durable.now.index
             (enqueued durable.now.index (rows_of self.old.map) waiter.now)
             (slot_of durable.now.index waiter.now.point) n) }
         ensures taken { IfSome result (λ slots. slots.items
-            ≡ taken durable.now.index (enqueued durable.now.index (rows_of self.old.map) waiter.now)
+            ≡ taken durable.now.reach durable.now.index
+            (enqueued durable.now.index (rows_of self.old.map) waiter.now)
             (slot_of durable.now.index waiter.now.point)) }
         ensures none { IfNone result (self.new ≡ self.old) }
         ensures slots { IsOver durable.now.index self.new.map }

@@ -19,7 +19,7 @@ use crate::row::SlotRow;
 use crate::row_ops;
 use arrayvec::ArrayVec;
 use krl_durable::Durable;
-use krl_modes::{END, Point};
+use krl_modes::{END, MAX_HOLDINGS, Point};
 use krl_queue::Waiter;
 
 /// Whether the waiter may take the slot, which has this row, beside its own.
@@ -42,18 +42,19 @@ fn lacks_entry(slot: u64, waiter: &Waiter) -> bool
 impl Table {
     /// The slot's first waiter gets what it wants, which is compatible with what all others hold
     /// there, and waits no more. The grant goes on over the slots after it that begin below the end
-    /// of what the waiter asks for. It ends before the first slot where somebody waits, or where
-    /// what it asks for is not compatible with what others hold, or which is END if the waiter asks
-    /// for an entry alone. It answers the slots that were taken, in ascending order; none if nobody
-    /// waits. It takes no memory.
-    pub fn grant(&mut self, durable: &Durable, slot: u64) -> ArrayVec<Point, 8>
+    /// of what the waiter asks for, as far as the reach of what survives. It ends before the first
+    /// slot where somebody waits, or where what it asks for is not compatible with what others
+    /// hold, or which is END if the waiter asks for an entry alone. It answers the slots that were
+    /// taken, in ascending order; none if nobody waits. It takes no memory.
+    pub fn grant(&mut self, durable: &Durable, slot: u64) -> ArrayVec<Point, MAX_HOLDINGS>
         requires over { IsOver durable.now.index self.old.map }
         requires rows { durable.now.room < self.old.room }
         requires is_compatible_there { IfSome (front_of (rows_of self.old.map slot).queue)
             (λ u. is_wanted_compatible (rows_of self.old.map) slot u ≡ true) }
         ensures granted { (n : ℕ) → rows_of self.new.map n
-            ≡ granted durable.now.index (rows_of self.old.map) slot n }
-        ensures taken { result.items ≡ taken durable.now.index (rows_of self.old.map) slot }
+            ≡ granted durable.now.reach durable.now.index (rows_of self.old.map) slot n }
+        ensures taken { result.items
+            ≡ taken durable.now.reach durable.now.index (rows_of self.old.map) slot }
         ensures slots { IsOver durable.now.index self.new.map }
         ensures room { self.new.room ≡ self.old.room }
     {
@@ -88,7 +89,7 @@ impl Table {
         durable: &Durable,
         slot: u64,
         waiter: &Waiter,
-        taken: &mut ArrayVec<Point, 8>,
+        taken: &mut ArrayVec<Point, MAX_HOLDINGS>,
     )
         requires over { IsOver durable.now.index self.old.map }
         requires client { waiter.now.client < MAX_CLIENTS }
@@ -96,15 +97,16 @@ impl Table {
         ensures rows { rows_of self.new.map
             ≡ raised_on (rows_of self.old.map)
             (taken_after durable.now.index (rows_of self.old.map) slot waiter.now
-            (8 - length taken.old.items)) waiter.now }
+            (durable.now.reach - length taken.old.items)) waiter.now }
         ensures taken { taken.new.items ≡ taken.old.items
             ++ taken_after durable.now.index (rows_of self.old.map) slot waiter.now
-            (8 - length taken.old.items) }
+            (durable.now.reach - length taken.old.items) }
         ensures slots { IsOver durable.now.index self.new.map }
         ensures room { self.new.room ≡ self.old.room }
     {
+        let most = durable.reach();
         let mut at = slot;
-        while !taken.is_full() {
+        while taken.len() < most {
             let Some(next) = self.next_taken(durable, at, waiter) else {
                 return;
             };

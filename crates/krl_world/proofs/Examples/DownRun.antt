@@ -4,8 +4,9 @@ use Rattle.krl_steps.specs.declared.step.Step.TheVariants as step
 use Rattle.krl_steps.specs.declared.step.Command.TheVariants as command
 use Rattle.krl_steps.specs.declared.answer.Answer.TheVariants as told
 use Rattle.krl_world.proofs.Examples.Worked.{two, granted}
-use Rattle.krl_world.proofs.Examples.Running.{m, k3, w6, opens, run, runs, covers, rows}
-use Rattle.krl_world.proofs.Examples.Several.{runs_on}
+use Rattle.krl_world.specs.Steps.{takes}
+use Rattle.krl_world.proofs.Examples.Running.{m, k3, w6, covers, rows}
+use Rattle.krl_world.proofs.Examples.Running.{reached as before}
 
 abbrev pub left : Durable
 left = (granted m).durable
@@ -19,11 +20,7 @@ crashes = (refl, (refl, refl))
 
 pub reached : IsReachable w7
 unfolding opened
-reached = (
-  opens,
-  run ++ (step.CrashServer ∷ []),
-  runs_on (fresh two) w6 w7 run (step.CrashServer ∷ []) runs (told.Done, w7, crashes, refl),
-)
+reached = takes w6 w7 step.CrashServer told.Done before crashes
 
 pub down : w7.server ≡ Down left
 down = refl

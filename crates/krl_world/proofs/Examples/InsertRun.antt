@@ -1,6 +1,8 @@
 -- Another run, step by step: a client locks the gap below 20, inserts 15 there, and is told Applied.
 use Rattle.krl_world.proofs.Names.{◌≡◌, ◌∙◌, Some, List, [], ◌∷◌, refl, sym, ap, inl, inr, nat_cmp, nat_cmp_total, put, In, case_of, Client, locked, wrote, says_ack, accepted, AppliedWrite, Step, Up}
-use Rattle.krl_world.proofs.Names.{State, served, with_client, opened, applies, Takes, IsReachable, answer_message}
+use Rattle.krl_world.specs.Steps as steps
+use Rattle.krl_world.proofs.Reaching.{runs_reached}
+use Rattle.krl_world.proofs.Names.{State, unused, fresh, served, with_client, opened, applies, Takes, IsReachable, answer_message}
 use Rattle.std.specs.FinMap as map
 use Rattle.krl_modes.specs.declared.mode.Mode.TheVariants as mode
 use Rattle.krl_messages.specs.declared.outcome.Outcome.TheVariants as outcome
@@ -9,7 +11,7 @@ use Rattle.krl_messages.specs.declared.to_client.PushBody.TheVariants as push
 use Rattle.krl_steps.specs.declared.step.Step.TheVariants as step
 use Rattle.krl_steps.specs.declared.step.Command.TheVariants as command
 use Rattle.krl_steps.specs.declared.answer.Answer.TheVariants as told
-use Rattle.krl_world.proofs.Examples.Worked.{joined}
+use Rattle.krl_world.proofs.Examples.Worked.{two, joined}
 use Rattle.krl_world.proofs.Examples.Running.{m, index_entries, k1, no_pieces, told_nothing, w1, w2, w3, starts, hears_hello, joins, opens}
 use Rattle.krl_world.proofs.Examples.InsertAtServer.{three, lock, gap, grant, insert, entry, answer, granted, inserted, lock_case, reads_lock, insert_case, reads_insert}
 
@@ -74,7 +76,7 @@ run = step.StartClient 0 ∷ step.Deliver 1 ∷ step.Deliver 2 ∷ step.Command 
 
 pub written_reached : IsReachable v8
 unfolding opened
-written_reached = (opens, run, (told.Done, w1, starts, (told.Done, w2, hears_hello, (told.Done, w3, joins, (told.Done, v4, asks, (told.Done, v5, hears_lock, (told.Done, v6, accepts, (told.Done, v7, writes, (told.Done, v8, hears_insert, refl)))))))))
+written_reached = runs_reached (fresh two) v8 run (steps.opens (unused two) opens) (told.Done, w1, starts, (told.Done, w2, hears_hello, (told.Done, w3, joins, (told.Done, v4, asks, (told.Done, v5, hears_lock, (told.Done, v6, accepts, (told.Done, v7, writes, (told.Done, v8, hears_insert, refl))))))))
 
 pub listed : v8.writes ≡ applied ∷ []
 unfolding opened

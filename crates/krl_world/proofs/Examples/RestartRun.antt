@@ -23,11 +23,12 @@ use Rattle.krl_steps.specs.declared.step.Command.TheVariants as command
 use Rattle.krl_steps.specs.declared.answer.Answer.TheVariants as told
 use Rattle.krl_world.proofs.Examples.Acting.{still_recovers, answers_none, answers_one}
 use Rattle.krl_world.proofs.Examples.Worked.{two}
-use Rattle.krl_world.proofs.Examples.Running.{m, no_entries, index_entries, no_pieces, w6, opens, run, runs}
+use Rattle.krl_world.proofs.Examples.Running.{m, no_entries, index_entries, no_pieces, w6}
+use Rattle.krl_world.proofs.Examples.Running.{reached as before}
 use Rattle.krl_world.proofs.Examples.Pieced.{pieces_of, told_alone, told_given_up}
 use Rattle.krl_world.proofs.Examples.CallbackRun as called
 use Rattle.krl_world.proofs.Examples.CallbackRun.{taken, k4, j3, c14, callback}
-use Rattle.krl_world.proofs.Examples.Several.{runs_on}
+use Rattle.krl_world.proofs.Reaching.{runs_reached}
 
 -- The messages
 
@@ -290,7 +291,7 @@ runs_last = (told.Done, c15, crashes, (told.Done, c16, starts, (told.Done, c17, 
 
 pub resumed : IsReachable c27
 unfolding opened
-resumed = (opens, run ++ (called.more ++ last), runs_on (fresh two) w6 c27 run (called.more ++ last) runs (runs_on w6 c14 c27 called.more last called.runs_more runs_last))
+resumed = runs_reached c14 c27 last (runs_reached w6 c14 called.more before called.runs_more) runs_last
 
 -- What has happened there
 

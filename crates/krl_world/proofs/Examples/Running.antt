@@ -2,6 +2,8 @@
 use Rattle.krl_world.proofs.Names.{◌≡◌, ℕ, suc, ◌<◌, ◌≤◌, ◌∙◌, Bool, true, false, ◌||◌, cond, Some, None, List, [], ◌∷◌, length, refl, sym, ap, subst, arith, nat_eq, if◌then◌else◌, Ok, nat_tests}
 use Rattle.krl_world.proofs.Names.{nil_from_length, none-some, nat_cmp, eq_by_cmp, nat_cmp_total, put, contains, Pieces, Index, Value, IsDistinct, max_entries, max_room, reads_key, reads_gap, no_belief}
 use Rattle.krl_world.proofs.Names.{CoversAll, AreRows, Describes, Client, locked, finds_rows, says_report, says_ack, accepted, Step, Up, State, unused, opened, fresh, seated, served, with_client}
+use Rattle.krl_world.specs.Steps as steps
+use Rattle.krl_world.proofs.Reaching.{runs_reached}
 use Rattle.krl_world.proofs.Names.{CanOpen, span, applies, Takes, Steps, Runs, IsReachable, case_of}
 use Rattle.std.specs.FinMap as map
 use Rattle.krl_modes.specs.declared.part.RangePart.TheVariants as range
@@ -106,6 +108,7 @@ kept = record {
   keys = subst AreBelowEnd (sym index_entries) (refl, (refl, tt));
   few = subst (λ (es : List (ℕ × Value)). length es ≤ max_entries) (sym index_entries) (omega arith);
   room = (omega arith, omega arith);
+  reach = (omega arith, omega arith);
   epoch = omega arith;
   clients = tt;
   once = tt;
@@ -122,7 +125,7 @@ runs = (told.Done, w1, starts, (told.Done, w2, hears_hello, (told.Done, w3, join
 
 pub reached : IsReachable w6
 unfolding opened
-reached = (opens, run, runs)
+reached = runs_reached (fresh two) w6 run (steps.opens (unused two) opens) runs
 
 -- Its scan
 

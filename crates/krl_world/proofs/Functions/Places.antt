@@ -56,18 +56,27 @@ tick_memory_at w c x k sent a e f = places.tick_memory (meaning w) (meaning (rec
 pub tick_none_at : (w : Fields) (c : ℕ) (x : KeptClientPlace) → IsAt w c x → x.client ≡ None → Steps (meaning w) (step.Tick c) (Err refused.Down) (meaning w)
 tick_none_at w c x a e = places.tick_down (meaning w) (meaning w) c a.low (client_is w c x _ a (ap client_there e)) refl
 
-pub read_at : (w : Fields) (at : ℕ) (m : ToClient) (x y : KeptClientPlace) (k next : client_fields.Fields) (sent : List Message) → IsAt w m.client x → slice_get w.sent at ≡ Some (message.ToClient m) → y.last_incarnation ≡ x.last_incarnation → x.client ≡ Some k → y.client ≡ Some next → HasRead (client_fields.meaning k) m (client_fields.meaning next) w.sent sent → Steps (meaning w) (step.Deliver (suc at)) (Ok told.Done) (meaning (record w { places = set w.places m.client y; sent = sent }))
-read_at w at m x y k next sent a f g e n r =
-    places.read_steps (meaning w) (meaning (record w { places = set w.places m.client y; sent = sent })) at m (client_fields.meaning k) (client_fields.meaning next) sent f (client_is w m.client x _ a (ap client_there e)) (gone_fields w m.client x y sent a.there a.is g ∙ ap (λ o. gone (meaning w) m.client (client_there o) sent) n) r
+-- the client of a number, for which the message is, read it
+pub read_at : (w : Fields) (at : ℕ) (m : ToClient) (c : ℕ) (x y : KeptClientPlace) (k next : client_fields.Fields) (sent : List Message) → m.client ≡ c → IsAt w c x → slice_get w.sent at ≡ Some (message.ToClient m) → y.last_incarnation ≡ x.last_incarnation → x.client ≡ Some k → y.client ≡ Some next → HasRead (client_fields.meaning k) m (client_fields.meaning next) w.sent sent → Steps (meaning w) (step.Deliver (suc at)) (Ok told.Done) (meaning (record w { places = set w.places c y; sent = sent }))
+read_at w at m c x y k next sent same there f g e n r = subst (λ (i : ℕ). IsAt w i x → Steps (meaning w) (step.Deliver (suc at)) (Ok told.Done) (meaning (record w { places = set w.places i y; sent = sent }))) same own there
+  where
+    own : IsAt w m.client x → Steps (meaning w) (step.Deliver (suc at)) (Ok told.Done) (meaning (record w { places = set w.places m.client y; sent = sent }))
+    own a = places.read_steps (meaning w) (meaning (record w { places = set w.places m.client y; sent = sent })) at m (client_fields.meaning k) (client_fields.meaning next) sent f (client_is w m.client x _ a (ap client_there e)) (gone_fields w m.client x y sent a.there a.is g ∙ ap (λ o. gone (meaning w) m.client (client_there o) sent) n) r
 
-pub read_memory_at : (w : Fields) (at : ℕ) (m : ToClient) (x : KeptClientPlace) (k next : client_fields.Fields) (sent : List Message) → IsAt w m.client x → slice_get w.sent at ≡ Some (message.ToClient m) → x.client ≡ Some k → next ≡ k → sent ≡ w.sent → Steps (meaning w) (step.Deliver (suc at)) (Err refused.OutOfMemory) (meaning (record w { places = set w.places m.client (record x { client = Some next }); sent = sent }))
-read_memory_at w at m x k next sent a f e g n =
-    places.read_memory (meaning w) (meaning (record w { places = set w.places m.client (record x { client = Some next }); sent = sent })) at m (client_fields.meaning k) f (client_is w m.client x _ a (ap client_there e))
-    (unchanged_by w m.client (record x { client = Some next }) sent a.there ((λ t. place_of (record x { client = (ap (λ o. Some o) g ∙ sym e) t })) ∙ ap place_of a.is) n)
+-- memory was refused, and nothing has changed
+pub read_memory_at : (w : Fields) (at : ℕ) (m : ToClient) (c : ℕ) (x : KeptClientPlace) (k next : client_fields.Fields) (sent : List Message) → m.client ≡ c → IsAt w c x → slice_get w.sent at ≡ Some (message.ToClient m) → x.client ≡ Some k → next ≡ k → sent ≡ w.sent → Steps (meaning w) (step.Deliver (suc at)) (Err refused.OutOfMemory) (meaning (record w { places = set w.places c (record x { client = Some next }); sent = sent }))
+read_memory_at w at m c x k next sent same there f e g n = subst (λ (i : ℕ). IsAt w i x → Steps (meaning w) (step.Deliver (suc at)) (Err refused.OutOfMemory) (meaning (record w { places = set w.places i (record x { client = Some next }); sent = sent }))) same own there
+  where
+    own : IsAt w m.client x → Steps (meaning w) (step.Deliver (suc at)) (Err refused.OutOfMemory) (meaning (record w { places = set w.places m.client (record x { client = Some next }); sent = sent }))
+    own a = places.read_memory (meaning w) (meaning (record w { places = set w.places m.client (record x { client = Some next }); sent = sent })) at m (client_fields.meaning k) f (client_is w m.client x _ a (ap client_there e))
+        (unchanged_by w m.client (record x { client = Some next }) sent a.there ((λ t. place_of (record x { client = (ap (λ o. Some o) g ∙ sym e) t })) ∙ ap place_of a.is) n)
 
-pub read_none_at : (w : Fields) (at : ℕ) (m : ToClient) (x : KeptClientPlace) → IsAt w m.client x → slice_get w.sent at ≡ Some (message.ToClient m) → x.client ≡ None → Steps (meaning w) (step.Deliver (suc at)) (Ok told.Done) (meaning (record w { places = set w.places m.client x }))
-read_none_at w at m x a f e =
-    places.read_by_nobody (meaning w) (meaning (record w { places = set w.places m.client x })) at m f (client_is w m.client x _ a (ap client_there e)) (unchanged_by w m.client x w.sent a.there (ap place_of a.is) refl)
+-- no client of the number runs
+pub read_none_at : (w : Fields) (at : ℕ) (m : ToClient) (c : ℕ) (x : KeptClientPlace) → m.client ≡ c → IsAt w c x → slice_get w.sent at ≡ Some (message.ToClient m) → x.client ≡ None → Steps (meaning w) (step.Deliver (suc at)) (Ok told.Done) (meaning (record w { places = set w.places c x }))
+read_none_at w at m c x same there f e = subst (λ (i : ℕ). IsAt w i x → Steps (meaning w) (step.Deliver (suc at)) (Ok told.Done) (meaning (record w { places = set w.places i x }))) same own there
+  where
+    own : IsAt w m.client x → Steps (meaning w) (step.Deliver (suc at)) (Ok told.Done) (meaning (record w { places = set w.places m.client x }))
+    own a = places.read_by_nobody (meaning w) (meaning (record w { places = set w.places m.client x })) at m f (client_is w m.client x _ a (ap client_there e)) (unchanged_by w m.client x w.sent a.there (ap place_of a.is) refl)
 
 pub read_past : (w : Fields) (at : ℕ) (m : ToClient) → length w.places ≤ m.client → slice_get w.sent at ≡ Some (message.ToClient m) → Steps (meaning w) (step.Deliver (suc at)) (Ok told.Done) (meaning w)
 read_past w at m le f = places.read_by_nobody (meaning w) (meaning w) at m f (places.nobody_past w.places m.client le) refl

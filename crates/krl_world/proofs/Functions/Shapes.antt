@@ -2,7 +2,9 @@
 use Rattle.krl_world.proofs.Names.{◌≡◌, ℕ, ◌≤◌, ◌∙◌, Bool, true, false, cond, Option, Some, None, List, [], ◌∷◌, refl, sym, ap, subst, arith, nat_eq, nat_lt, if◌then◌else◌, ltb-false, eqb-true}
 use Rattle.krl_world.proofs.Names.{Result, Ok, Err, Durable, ToServer, ToClient, Client, Message, AppliedWrite, Step, Command, Answer, Refused, ServerPlace, Up, Down, ClientPlace, State, client_of}
 use Rattle.krl_world.proofs.Names.{range_believed, key_believed, set_place, opened, message_at, of_client, CanOpen, ServerReads, ClientReads, Delivers, Obeys, nudged, started, crashed, Takes, Steps}
-use Rattle.krl_world.proofs.Names.{Runs, RunsWith, IsReachable, ReachableStays, NobodyAbove63}
+use Rattle.krl_world.proofs.Names.{RunsWith, IsReachable, ReachableStays, NobodyAbove63}
+use Rattle.krl_world.specs.Steps.{opens, takes, resizes}
+use Rattle.krl_world.proofs.Reaching.{by_reaching}
 use Rattle.krl_modes.specs.declared.part.RangePart.TheVariants as range
 use Rattle.krl_modes.specs.declared.part.KeyPart.TheVariants as key
 use Rattle.krl_world.specs.declared.message.Message.TheVariants as message
@@ -101,36 +103,22 @@ opened_nobody : (d : Durable) → HasNobody (opened d)
 unfolding opened
 opened_nobody d c l = refl
 
-opened_opening : (d : Durable) → (opened d).opening ≡ d
+pub opened_opening : (d : Durable) → (opened d).opening ≡ d
 unfolding opened
 opened_opening d = refl
 
--- Runs
-
-run_opening : (w v : State) (steps : List Step) → HasNobody w → Runs w steps v → v.opening ≡ w.opening
-run_opening w v [] h r = ap (λ (x : State). x.opening) r
-run_opening w v (s ∷ steps) h r = let l = takes_left w r.1 s r.0 h r.2 in run_opening r.1 v steps (nobody_left w r.1 h l) r.3 ∙ opening_left w r.1 l
-
-run_nobody : (w v : State) (steps : List Step) → HasNobody w → Runs w steps v → HasNobody v
-run_nobody w v [] h r = subst HasNobody (sym r) h
-run_nobody w v (s ∷ steps) h r = run_nobody r.1 v steps (nobody_left w r.1 h (takes_left w r.1 s r.0 h r.2)) r.3
-
-run_on : (u w v : State) (steps : List Step) (s : Step) (answer : Answer) → Runs u steps w → Takes w s answer v → (more : List Step) × Runs u more v
-run_on u w v [] s answer r t = (s ∷ [], (answer, v, subst (λ x. Takes x s answer v) r t, refl))
-run_on u w v (x ∷ steps) s answer r t = let y = run_on r.1 w v steps s answer r.3 t in (x ∷ y.0, (r.0, r.1, r.2, y.1))
+-- Worlds that are reached
 
 pub reachable_nobody : (w : State) → IsReachable w → HasNobody w
-reachable_nobody w h = run_nobody (opened w.opening) w h.1 (opened_nobody w.opening) h.2
+reachable_nobody = by_reaching HasNobody (λ d h. opened_nobody d) (λ w v s answer r h t. nobody_left w v h (takes_left w v s answer h t)) (λ w d l r h e fits. h)
 
-takes_reachable : (w v : State) (s : Step) (answer : Answer) → IsReachable w → Takes w s answer v → IsReachable v
-takes_reachable w v s answer h t =
-    let e = opening_left w v (takes_left w v s answer (reachable_nobody w h) t) in
-    let r = run_on (opened w.opening) w v h.1 s answer h.2 t in
-    subst (λ d. CanOpen d × (steps : List Step) × Runs (opened d) steps v) (sym e) (h.0, r.0, r.1)
+-- a step keeps what the world began with
+pub reachable_opening : (w v : State) (s : Step) (answer : Answer) → IsReachable w → Takes w s answer v → v.opening ≡ w.opening
+reachable_opening w v s answer h t = opening_left w v (takes_left w v s answer (reachable_nobody w h) t)
 
 step_reachable : (w v : State) (s : Step) (r : Result Answer Refused) → IsReachable w → Steps w s r v → IsReachable v
 unfolding Steps
-step_reachable w v s (Ok answer) h t = takes_reachable w v s answer h t
+step_reachable w v s (Ok answer) h t = takes w v s answer h t
 step_reachable w v s (Err e) h t = subst IsReachable (sym t.0) h
 
 runs_reachable : (w v : State) (steps : List Step) (results : List (Result Answer Refused)) → IsReachable w → RunsWith w steps results v → IsReachable v
@@ -139,11 +127,8 @@ runs_reachable w v [] (x ∷ results) h r = absurd r
 runs_reachable w v (s ∷ steps) [] h r = absurd r
 runs_reachable w v (s ∷ steps) (x ∷ results) h r = runs_reachable r.0 v steps results (step_reachable w r.0 s x h r.1) r.2
 
-first_reachable : (d : Durable) → CanOpen d → IsReachable (opened d)
-first_reachable d h = subst (λ x. CanOpen x × (steps : List Step) × Runs (opened x) steps (opened d)) (sym (opened_opening d)) (h, [], refl)
-
 pub reachable_stays : ReachableStays
-reachable_stays = record { first = first_reachable; step = step_reachable; run = runs_reachable }
+reachable_stays = record { first = opens; step = step_reachable; run = runs_reachable; resized = resizes }
 
 pub nobody_above_63 : NobodyAbove63
 nobody_above_63 w h c p l = let n = reachable_nobody w h c l in (subst (λ o. range_believed o p ≡ range.N) (sym n) refl, subst (λ o. key_believed o p ≡ key.N) (sym n) refl)

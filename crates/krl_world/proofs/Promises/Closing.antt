@@ -2,7 +2,7 @@
 -- rebuilt, which lies within the bound.
 use Rattle.krl_world.proofs.Names.{◌≡◌, ℕ, ◌∙◌, Bool, true, false, Option, Some, None, List, [], ◌∷◌, refl, sym, ap, subst, nat_eq, if◌then◌else◌, END, RangePart, range_of, key_of, Pieces}
 use Rattle.krl_world.proofs.Names.{ToServer, ToClient, In, Record, Index, slot_of, is_slot, Durable, record_of, left_by, Rows, Server, is_recovering, case_of, Done, effect, Answered, stops, goes_on}
-use Rattle.krl_world.proofs.Names.{Kind, kind_of, Ends, at_once, recovers, serves, ServerFollows, answered_up, Step, ServerPlace, Up, Down, State, opened, range_held, key_held, Runs, IsReachable}
+use Rattle.krl_world.proofs.Names.{Kind, kind_of, Ends, at_once, recovers, serves, ServerFollows, answered_up, Step, ServerPlace, Up, Down, State, opened, range_held, key_held, IsReachable}
 use Rattle.krl_world.proofs.Names.{RecoveriesEnd, always_bounded, restarts_hold}
 use Rattle.std.specs.Prelude.{nat_lt}
 use Rattle.krl_modes.proofs.Basics.{not_both}
@@ -16,10 +16,11 @@ use Rattle.krl_table.specs.Points as table
 use Rattle.krl_server.proofs.Cased.{by_said}
 use Rattle.krl_server.proofs.Invariant.RowsSound.{adopted_queue}
 use Rattle.krl_world.specs.declared.message.Message.TheVariants as message
-use Rattle.krl_world.specs.Bounds.{Bound, table_of, first_bound, step_clears, cleared as cleared_bound, bound_at, bound_after, RunsWithin, IsRangeWithin, IsKeyWithin, report_message, IsRecoveryWithin}
+use Rattle.krl_world.specs.Bounds.{Bound, table_of, first_bound, step_clears, cleared as cleared_bound, bound_at, bound_after, IsRangeWithin, IsKeyWithin, report_message, IsRecoveryWithin}
+use Rattle.krl_world.proofs.Reaching.{by_reaching}
 use Rattle.krl_world.proofs.Refinement.Mirrors.{machine_of}
 use Rattle.krl_world.proofs.Refinement.Openings.{first_of}
-use Rattle.krl_world.proofs.Refinement.Reached.{reached_step, bound_reached}
+use Rattle.krl_world.proofs.Refinement.Reached.{reached_step, bound_reachable, bound_reached}
 use Rattle.krl_world.proofs.Promises.Bounded.{bounded_world}
 use Rattle.krl_world.proofs.Promises.Kept.{restarts_holds}
 use Rattle.krl_world.proofs.Promises.Unbroken.{none_missing, effect_serves}
@@ -76,16 +77,12 @@ way_quiet w v s h (reads old new m outs e f at t) =
 way_quiet w v s h (stops old e a f) = subst Quiet (sym f) tt
 way_quiet w v s h (begins d e f) = subst Quiet (sym f) (λ g n. refl)
 
-runs_quiet : (w v : State) (steps : List Step) → Quiet w.server → Runs w steps v → Quiet v.server
-runs_quiet w v [] h r = subst (λ x. Quiet x.server) (sym r) h
-runs_quiet w v (s ∷ steps) h r = runs_quiet r.1 v steps (way_quiet w r.1 s h (way w r.1 s r.0 r.2.1)) r.3
-
 first_quiet : (d : Durable) → Quiet (opened d).server
 unfolding opened
 first_quiet d g n = refl
 
 pub reachable_quiet : (w : State) → IsReachable w → Quiet w.server
-reachable_quiet w h = runs_quiet (opened w.opening) w h.1 (first_quiet w.opening) h.2
+reachable_quiet = by_reaching (λ w. Quiet w.server) (λ d h. first_quiet d) (λ w v s answer r h t. way_quiet w v s h (way w v s answer t.1)) (λ w d l r h e fits. tt)
 
 -- The end
 
@@ -162,10 +159,6 @@ effect_within w b s m at g h = by_said s m (λ k. is_recovering (effect s m k).s
 
 -- Each step with which a recovery ends
 
-run_of : (w v : State) (b d : Bound) (steps : List Step) → RunsWithin w b steps v d → Runs w steps v
-run_of w v b d [] h = h.0
-run_of w v b d (s ∷ steps) h = (h.0, h.1, h.2, run_of h.1 v (bound_after w s b h.1) d steps h.3)
-
 same_up : (a b : Server) → Up a ≡ Up b → a ≡ b
 same_up a b e = cc
 
@@ -195,6 +188,6 @@ recoveries_end owed w v b s t step answer h up g d up' e =
     let a = machine_of v.server r.of r.log in
     let low = bounded_world v r.of r.log (bound_after w step b v) r.mirrors r.index r.bound (always_bounded first END a r.reach) (restarts_hold first END a r.reach) in
     let is = bound_serving t (cleared_bound (step_clears w step) b) v.server up' e in (
-      end_within w v b s t step (h.0, h.1, run_of (opened w.opening) w (first_bound w.opening) b h.1 h.2) up g ((restarts_holds owed w b h).recovery s up g) up' e (way w v step answer d.1),
+      end_within w v b s t step (bound_reachable w b h) up g ((restarts_holds owed w b h).recovery s up g) up' e (way w v step answer d.1),
       λ c p. (subst (λ x. IsRangeWithin (range_held v c p) (x.range_at c p)) is (low.held_range c p), subst (λ x. IsKeyWithin (key_held v c p) (x.key_at c p)) is (low.held_key c p)),
     )

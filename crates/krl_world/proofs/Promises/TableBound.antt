@@ -1,6 +1,7 @@
 -- While it serves, the bound of a run is the server's table.
-use Rattle.krl_world.proofs.Names.{◌≡◌, Bool, true, false, List, [], ◌∷◌, refl, sym, subst, if◌then◌else◌, Durable, is_recovering, Step, ServerPlace, Up, Down, State, opened, Bound, table_of}
-use Rattle.krl_world.proofs.Names.{first_bound, step_clears, cleared, bound_at, bound_after, RunsWithin, BoundIsTable}
+use Rattle.krl_world.proofs.Names.{◌≡◌, Bool, true, false, refl, subst, if◌then◌else◌, Durable, is_recovering, ServerPlace, Up, Down, State, opened, Bound, table_of}
+use Rattle.krl_world.proofs.Names.{first_bound, step_clears, cleared, bound_at, HasBound, BoundIsTable}
+use Rattle.krl_world.specs.Bounds.{at_first, after_step, as_before}
 
 abbrev IsItsTable : ServerPlace → Bound → Type 0
 IsItsTable (Up s) b = is_recovering s.missing ≡ false → b ≡ table_of s
@@ -14,13 +15,14 @@ after_is (Up s) kept = by_test (is_recovering s.missing)
     by_test true e = absurd (cc)
     by_test false e = refl
 
-run_is : (w v : State) (b d : Bound) (steps : List Step) → IsItsTable w.server b → RunsWithin w b steps v d → IsItsTable v.server d
-run_is w v b d [] i h = subst (λ x. IsItsTable x.server d) (sym h.0) (subst (IsItsTable w.server) (sym h.1) i)
-run_is w v b d (s ∷ steps) i h = run_is h.1 v (bound_after w s b h.1) d steps (after_is h.1.server (cleared (step_clears w s) b)) h.3
-
 first_is : (d : Durable) → IsItsTable (opened d).server (first_bound d)
 unfolding opened
 first_is d e = refl
 
+bound_is : (w : State) (b : Bound) → HasBound w b → IsItsTable w.server b
+bound_is w b (at_first d h) = first_is d
+bound_is w b (after_step u v c s answer h t) = after_is v.server (cleared (step_clears u s) c)
+bound_is w b (as_before u c d l h e fits) = tt
+
 pub bound_is_table : BoundIsTable
-bound_is_table w b s h up = subst (λ n. IsItsTable n b) up (run_is (opened w.opening) w (first_bound w.opening) b h.1 (first_is w.opening) h.2)
+bound_is_table w b s h up = subst (λ n. IsItsTable n b) up (bound_is w b h)

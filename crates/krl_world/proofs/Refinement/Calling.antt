@@ -66,7 +66,7 @@ effect_called n s m (AnswersAgain number op o) = write_called n (acknowledged s 
 turn_called : (n : ℕ) (s : Server) (t : Turn) → AreCalled n (answer_first s t).outs
 turn_called n s t = outs_by n (asks_absent s.durable.index t.waiter) (tells_absent s t) (grants s t)
     (pushes_called n (with_rows s (dropped s.rows t.slot)) t.waiter.client (push.Absent t.waiter.req t.waiter.point))
-    (pushes_called n (with_rows s (granted s.durable.index s.rows t.slot)) t.waiter.client (push.Grant t.waiter.req (holdings (with_rows s (granted s.durable.index s.rows t.slot)) t.waiter.client (taken s.durable.index s.rows t.slot))))
+    (pushes_called n (with_rows s (granted s.durable.reach s.durable.index s.rows t.slot)) t.waiter.client (push.Grant t.waiter.req (holdings (with_rows s (granted s.durable.reach s.durable.index s.rows t.slot)) t.waiter.client (taken s.durable.reach s.durable.index s.rows t.slot))))
 
 answers_called : (n : ℕ) (s t : Server) (outs : List ToClient) → Answered s t outs → AreCalled n outs
 answers_called n s _ _ (stops s' e) = no_calls n

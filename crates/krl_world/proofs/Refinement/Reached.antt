@@ -1,10 +1,16 @@
 -- Each world that a run reaches shows in a machine's world that can be reached, and the run's bound is the machine's.
-use Rattle.krl_world.proofs.Names.{◌≡◌, ℕ, ◌∙◌, Bool, true, false, List, [], ◌∷◌, refl, sym, ap, subst, if◌then◌else◌, END, RangePart, KeyPart, Durable, Link, Logged, Reachable, steps_reachable}
+use Rattle.krl_world.proofs.Names.{◌≡◌, ℕ, ◌≤◌, ◌∙◌, Bool, true, false, List, [], refl, sym, ap, subst, if◌then◌else◌, END, RangePart, KeyPart, Durable, Link, Logged, Reachable, steps_reachable}
 use Rattle.krl_world.proofs.Names.{Server, is_recovering, start, Shows, BoundStays, ServerFollows, Step, Answer, ServerPlace, Up, Down, State, durable_of, index_of, is_serving, opened}
-use Rattle.krl_world.proofs.Names.{CanOpen, Takes, Runs, IsReachable, Bound, table_of, first_bound, step_clears, cleared, bound_at, bound_after, RunsWithin, HasBound}
+use Rattle.krl_world.proofs.Names.{CanOpen, Takes, IsReachable, Bound, table_of, first_bound, step_clears, cleared, bound_at, bound_after, HasBound}
 use Rattle.krl_modes.specs.declared.part.RangePart.TheVariants as range
 use Rattle.krl_modes.specs.declared.part.KeyPart.TheVariants as key
+use Rattle.krl_durable.specs.declared.limits.Limits.{Limits}
+use Rattle.krl_durable.specs.Limits.{sized}
 use Rattle.krl_refinement.proofs.Server.Follows.{serving_phase}
+use Rattle.krl_world.specs.Steps.{resized, opens, takes, resizes}
+use Rattle.krl_world.specs.Bounds.{at_first, after_step, as_before}
+use Rattle.krl_world.proofs.Functions.Shapes.{opened_opening, reachable_opening}
+use Rattle.krl_world.proofs.Refinement.Calling.{epoch_called}
 use Rattle.krl_world.proofs.Refinement.Mirrors.{machine_of, ServerShows, Mirrors}
 use Rattle.krl_world.proofs.Refinement.MachineOpens.{links_of}
 use Rattle.krl_world.proofs.Refinement.Openings.{first_of, first_reached, first_mirrors}
@@ -68,9 +74,28 @@ reached_step owed first w v b s answer r t =
       index = index_on v.server b (step_clears w s) (λ e. r.index ∙ sym (index_stands w v s (way w v s answer t.1) e));
     }
 
-run_reached : ServerFollows → (first : Durable) (w v : State) (b d : Bound) (steps : List Step) → Reached first w b → RunsWithin w b steps v d → Reached first v d
-run_reached owed first w v b d [] r h = subst (λ x. Reached first x d) (sym h.0) (subst (Reached first w) (sym h.1) r)
-run_reached owed first w v b d (s ∷ steps) r h = run_reached owed first h.1 v (bound_after w s b h.1) d steps (reached_step owed first w h.1 b s h.0 r h.2) h.3
+-- the machine sees no limits
+resized_shows : (n : ServerPlace) (d : Durable) (l : Limits) (of : ℕ → Link) → n ≡ Down d → ServerShows n of → ServerShows (Down (sized l d)) of
+resized_shows n d l of e h =
+    let x : ServerShows (Down d) of = subst (λ m. ServerShows m of) e h in
+    (x.0, record { near = x.1.near; begun = x.1.begun; strangers = x.1.strangers; placed = x.1.placed; clients = x.1.clients })
+
+reached_resized : (first : Durable) (w : State) (b : Bound) (d : Durable) (l : Limits) → Reached first w b → w.server ≡ Down d → Reached first (resized w d l) b
+reached_resized first w b d l r e = record {
+  of = r.of;
+  log = r.log;
+  reach = subst (λ n. Reachable (first_of first) END (machine_of n r.of r.log)) e r.reach;
+  mirrors = record {
+    places = r.mirrors.places;
+    from = r.mirrors.from;
+    to = r.mirrors.to;
+    called = λ m at. subst (λ n. epoch_called m.body ≤ (durable_of n).epoch) e (r.mirrors.called m at);
+    server = resized_shows w.server d l r.of e r.mirrors.server;
+    writes = r.mirrors.writes;
+  };
+  bound = r.bound;
+  index = r.index ∙ ap (λ n. (durable_of n).index) e;
+}
 
 opened_reached : ServerFollows → (d : Durable) → CanOpen d → Reached d (opened d) (first_bound d)
 unfolding opened
@@ -83,16 +108,21 @@ opened_reached owed d h = let m = first_mirrors owed d h in record {
   index = refl;
 }
 
+pub bound_reachable : (w : State) (b : Bound) → HasBound w b → IsReachable w
+bound_reachable w b (at_first d h) = opens d h
+bound_reachable w b (after_step u v c s answer h t) = takes u v s answer (bound_reachable u c h) t
+bound_reachable w b (as_before u c d l h e fits) = resizes u d l (bound_reachable u c h) e fits
+
 pub bound_reached : ServerFollows → (w : State) (b : Bound) → HasBound w b → Reached w.opening w b
-bound_reached owed w b h = run_reached owed w.opening (opened w.opening) w (first_bound w.opening) b h.1 (opened_reached owed w.opening h.0) h.2
+bound_reached owed w b (at_first d h) = subst (λ x. Reached x (opened d) (first_bound d)) (sym (opened_opening d)) (opened_reached owed d h)
+bound_reached owed w b (after_step u v c s answer h t) = subst (λ x. Reached x v (bound_after u s c v)) (sym (reachable_opening u v s answer (bound_reachable u c h) t)) (reached_step owed u.opening u v c s answer (bound_reached owed u c h) t)
+bound_reached owed w b (as_before u c d l h e fits) = reached_resized u.opening u c d l (bound_reached owed u c h) e
 
--- each run has a bound
-run_within : (w v : State) (b : Bound) (steps : List Step) → Runs w steps v → (d : Bound) × RunsWithin w b steps v d
-run_within w v b [] h = (b, (h, refl))
-run_within w v b (s ∷ steps) h = let r = run_within h.1 v (bound_after w s b h.1) steps h.3 in (r.0, (h.0, h.1, h.2, r.1))
-
+-- however a world is reached, there is a bound
 pub has_bound : (w : State) → IsReachable w → (b : Bound) × HasBound w b
-has_bound w h = let r = run_within (opened w.opening) w (first_bound w.opening) h.1 h.2 in (r.0, (h.0, h.1, r.1))
+has_bound w (opens d h) = (first_bound d, at_first d h)
+has_bound w (takes u v s answer r t) = let x = has_bound u r in (bound_after u s x.0 v, after_step u v x.0 s answer x.1 t)
+has_bound w (resizes u d l r e fits) = let x = has_bound u r in (x.0, as_before u x.0 d l x.1 e fits)
 
 pub world_reached : ServerFollows → (w : State) → IsReachable w → (b : Bound) × Reached w.opening w b
 world_reached owed w h = let x = has_bound w h in (x.0, bound_reached owed w x.0 x.1)

@@ -9,8 +9,10 @@ use Rattle.krl_wire.proofs.read_holdings.several.Given as goal
 abbrev pub invariant-loop : goal.invariant-loop
 invariant-loop l =
     record {
-      read : with_front l.holdings (holdings_from (l.count - l.counter) l.least l.reader) ≡ holdings_from l.count 0
+      read : with_front l.gathering.holdings (holdings_from (l.count - l.counter) l.least l.reader) ≡ holdings_from l.count 0
           l.fn.reader;
-      many : length l.holdings ≡ l.counter;
-      behind : (h : Holding) → l.least ≤ h.span.lo → Ascend (l.holdings ++ h ∷ []);
+      many : length l.gathering.holdings ≡ l.counter;
+      behind : (h : Holding) → l.least ≤ h.span.lo → Ascend (l.gathering.holdings ++ h ∷ []);
+      order : Ascend l.gathering.holdings;
+      room : l.count ≤ l.gathering.room;
     }

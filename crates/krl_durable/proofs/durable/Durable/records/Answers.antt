@@ -4,6 +4,6 @@ use Rattle.krl_durable.proofs.durable.Durable.records.Goals as goal
 
 pub returns-clause-again : goal.returns-clause-again
 returns-clause-again c =
-    let inside : Durable = record { room = c.self.inside.index.room; index = c.self.inside.index.index; epoch = c.self.inside.epoch; register = c.self.inside.register } in
+    let inside : Durable = record { room = c.self.inside.index.room; reach = c.self.inside.reach; index = c.self.inside.index.index; epoch = c.self.inside.epoch; register = c.self.inside.register } in
     subst (λ (d : Durable). IfOk c.records.result (λ records. MakesAgain d records.items)) c.self.view_is
-    (IfOk-weaker c.records.result _ _ (λ records h. makes_again inside records.items c.entries.ensures.below c.entries.ensures.few h.0) c.records.ensures)
+    (IfOk-weaker c.records.result _ _ (λ records h. makes_again inside records.items c.entries.ensures.below h.0) c.records.ensures)

@@ -8,10 +8,13 @@ use Rattle.krl_server.proofs.Outputs.Replayed.{change_said}
 use Rattle.krl_server.proofs.server.Server.step.Goals as goal
 
 pub invariant_of-self : goal.invariant_of-self
-invariant_of-self c = server_kept c.self.inside.state c.step.new.self c.args.message.now c.step.result c.self.invariant c.step.ensures.stepped c.step.ensures.formed c.step.ensures.refused
+invariant_of-self c = record {
+  server = server_kept c.self.inside.state c.step.new.self c.args.message.now c.step.result c.self.invariant.server c.step.ensures.stepped c.step.ensures.formed c.step.ensures.refused;
+  room = c.step.ensures.rooms;
+}
 
 pub returns-clause-few : goal.returns-clause-few
-returns-clause-few c = few_sent c.self.inside.state c.step.new.self c.args.message.now c.step.result c.self.invariant c.step.ensures.stepped
+returns-clause-few c = few_sent c.self.inside.state c.step.new.self c.args.message.now c.step.result c.self.invariant.server c.step.ensures.stepped
 
 pub returns-clause-durable : goal.returns-clause-durable
 returns-clause-durable c =

@@ -1,4 +1,4 @@
-use Rattle.krl_server.proofs.Names.{◌++◌, ◌∷◌, [], refl, sym, subst, arith, drop_of_length-le, drop_more, meaning, HaveWaiters}
+use Rattle.krl_server.proofs.Names.{◌++◌, ◌∷◌, [], refl, sym, ap, subst, ◌∙◌, arith, drop_of_length-le, drop_more, meaning, HaveWaiters}
 use Rattle.krl_server.proofs.Functions.Boxes.{sends_more, sends_length}
 use Rattle.krl_server.proofs.Functions.Rounds.{HasBegun, one_more, all_told}
 use Rattle.krl_server.proofs.Functions.Listed.{round_here, left_after_turn, none_left_at_all, still_listed}
@@ -31,6 +31,7 @@ loop-i-preserved c =
       left = left_after_turn (meaning c.loop-i.self) ns c.loop-i.i _ is i.left (meaning c.answer_first.new.self) r.turn r.next r.is r.none;
       begun = (b.0 ++ m ∷ [], subst (λ x. HasBegun (meaning c.args.self.now) x (b.0 ++ m ∷ [])) (sym r.is) (one_more (meaning c.args.self.now) (meaning c.loop-i.self) r.turn b.0 (m ∷ []) b.1 r.next r.outs), sends_more c.args.outbox.now c.loop-i.outbox c.answer_first.new.outbox b.0 (m ∷ []) b.2 a.sends);
       room = let less = r.less in let room = i.room in let more = a.sends.room in let long = sends_length c.loop-i.outbox c.answer_first.new.outbox (m ∷ []) a.sends in omega (arith, less, room, more, long);
+      rooms = c.answer_first.ensures.rooms;
     }
 
 pub returns-clause-answered : goal.returns-clause-answered

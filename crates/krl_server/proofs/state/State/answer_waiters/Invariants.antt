@@ -1,4 +1,5 @@
 use Rattle.krl_server.proofs.Names.{◌≤◌, ◌+◌, ◌-◌, List, length, ToClient, rows_of, IsTable, waiting, IsSound, meaning, IsFormed, Sends, HaveWaiters}
+use Rattle.krl_server.specs.GrantRooms.{HasGrantRooms}
 use Rattle.krl_server.proofs.Functions.Rounds.{HasBegun}
 use Rattle.krl_server.proofs.Functions.Listed.{AreLeft}
 use Rattle.krl_server.proofs.state.State.answer_waiters.Given as goal
@@ -12,6 +13,7 @@ invariant-loop-i l = record {
   left : AreLeft (meaning l.self) l.slots l.i;
   begun : (outs : List ToClient) × HasBegun (meaning l.fn.self) (meaning l.self) outs × Sends l.fn.outbox l.outbox outs;
   room : length l.outbox.sent + waiting (meaning l.self) ≤ l.outbox.room;
+  rooms : HasGrantRooms (meaning l.self) l.rooms;
 }
 
 abbrev pub decreases-loop-i : goal.decreases-loop-i

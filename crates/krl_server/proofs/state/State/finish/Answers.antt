@@ -1,4 +1,4 @@
-use Rattle.krl_server.proofs.Names.{sym, subst, meaning, HaveWaiters}
+use Rattle.krl_server.proofs.Names.{sym, subst, ◌∙◌, meaning, HaveWaiters}
 use Rattle.krl_server.proofs.Invariant.AnswersSound.{answering_sound}
 use Rattle.krl_server.proofs.Functions.Listed.{listed}
 use Rattle.krl_server.proofs.Functions.Finishing.{finish_rests, finish_recovers, finish_answers, finish_calls, room_for_calls}

@@ -1,4 +1,4 @@
-use Rattle.krl_server.proofs.Names.{◌≡◌, ◌<◌, ◌+◌, ℕ, List, [], ◌∷◌, ◌++◌, length, take, get_or, sym, ap, subst, ◌∙◌, arith, take_more, length-take-le, Holding, Server, meaning, holding, holdings}
+use Rattle.krl_server.proofs.Names.{◌≡◌, ◌≤◌, ◌<◌, ◌+◌, ℕ, zero, suc, List, [], ◌∷◌, ◌++◌, length, take, get_or, sym, ap, subst, ◌∙◌, arith, take_more, length-take-le, Holding, Server, meaning, holding, holdings}
 use Rattle.krl_messages.specs.Ascending.{Ascend}
 use Rattle.krl_server.proofs.Grants.{ascend_take, holdings_on, holdings_long}
 use Rattle.krl_server.proofs.state.State.holdings.Goals as goal
@@ -9,22 +9,32 @@ more s c i d ns all x n lt e f g =
     ap (λ l. l ++ x ∷ []) e ∙ ap (λ y. holdings s c (take i ns) ++ y ∷ []) (g ∙ ap (λ k. holding s k c) f)
     ∙ sym (holdings_on s c (take i ns) (get_or ns i d)) ∙ ap (holdings s c) (sym (take_more ns i d lt))
 
-pub push-requires-clause-room : goal.push-requires-clause-room
-push-requires-clause-room c =
+take_short : (i : ℕ) (ns : List ℕ) → length (take i ns) ≤ length ns
+take_short zero ns = omega arith
+take_short (suc i) [] = omega arith
+take_short (suc i) (n ∷ ns) = let x = take_short i ns in omega (arith, x)
+
+pub push-requires : goal.push-requires
+push-requires c =
     let s = meaning c.args.self.now in let ns = c.args.slots.now in
-    let a = ap length c.loop-i.invariant in
+    let a = ap length c.loop-i.invariant.0 in
     let b = holdings_long s c.args.client (take c.loop-i.i ns) in
     let d = length-take-le c.loop-i.i ns (let lt = c.loop-i-test.true in omega (arith, lt)) in
-    let few = c.requires.few in let lt = c.loop-i-test.true in
-    omega (arith, a, b, d, few, lt)
+    let room = c.requires.room in let more = c.loop-i.invariant.1 in let lt = c.loop-i-test.true in
+    omega (arith, a, b, d, room, more, lt)
 
-pub push-requires-clause-order : goal.push-requires-clause-order
-push-requires-clause-order c =
+pub into_holdings-requires-clause-few : goal.into_holdings-requires-clause-few
+into_holdings-requires-clause-few c =
     let s = meaning c.args.self.now in let ns = c.args.slots.now in
-    subst Ascend (sym (more s c.args.client c.loop-i.i c.index-slots-i.result ns c.loop-i.all c.holding-in-loop-i.result c.get-in-loop-i.result c.loop-i-test.true c.loop-i.invariant (c.get-in-loop-i.ensures.number ∙ c.index-slots-i.is) c.holding-in-loop-i.ensures))
-    (ascend_take s c.args.client (c.loop-i.i + 1) ns c.requires.order)
+    let a = ap length c.loop-i.invariant.0 in
+    let b = holdings_long s c.args.client (take c.loop-i.i ns) in
+    let d = take_short c.loop-i.i ns in
+    let few = c.requires.few in
+    omega (arith, a, b, d, few)
 
 pub loop-i-preserved : goal.loop-i-preserved
 loop-i-preserved c =
-    let s = meaning c.args.self.now in let ns = c.args.slots.now in
-    c.push.ensures ∙ more s c.args.client c.loop-i.i c.index-slots-i.result ns c.loop-i.all c.holding-in-loop-i.result c.get-in-loop-i.result c.loop-i-test.true c.loop-i.invariant (c.get-in-loop-i.ensures.number ∙ c.index-slots-i.is) c.holding-in-loop-i.ensures
+    let s = meaning c.args.self.now in let ns = c.args.slots.now in (
+      c.push.ensures.holdings ∙ more s c.args.client c.loop-i.i c.index-slots-i.result ns c.loop-i.all.holdings c.holding-span.result c.get.result c.loop-i-test.true c.loop-i.invariant.0 (c.get.ensures.number ∙ c.index-slots-i.is) c.holding-span.ensures,
+      (let r = c.push.ensures.room in let more = c.loop-i.invariant.1 in omega (arith, r, more)),
+    )

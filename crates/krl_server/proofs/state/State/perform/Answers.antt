@@ -51,16 +51,16 @@ answer_write-requires-in-AnswersAgain-clause-client c = (facts_of (meaning c.arg
 pub answer_write-requires-in-AnswersAgain-clause-key : goal.answer_write-requires-in-AnswersAgain-clause-key
 answer_write-requires-in-AnswersAgain-clause-key c = (facts_of (meaning c.args.self.now) c.args.message.now c.args.case.now _ c.requires.case c.in-AnswersAgain.is).key
 
-pub returns-in-Repeats-clause-performed : goal.returns-in-Repeats-clause-performed
-returns-in-Repeats-clause-performed c =
+pub returns-in_ok-again-in-Repeats-clause-performed : goal.returns-in_ok-again-in-Repeats-clause-performed
+returns-in_ok-again-in-Repeats-clause-performed c =
     let s = meaning c.args.self.now in
     let own = c.args.message.now.client in
-    let outs = as_list c.push_again.result in
+    let outs = as_list c.in_ok-again-in-Repeats.again in
     record {
       outs = outs;
       performed = subst (λ left. IsPerformed s c.args.message.now s left outs) (sym (ap (λ (d : Performed). d.after) c.unchanging-in-Repeats.ensures))
           (performed_repeat s c.args.message.now (s.sessions own).unacked outs
-          (sym (ap (λ f. meant s own c.args.message.now.body f) c.in-Repeats.is) ∙ c.requires.case) c.push_again.ensures);
+          (sym (ap (λ f. meant s own c.args.message.now.body f) c.in-Repeats.is) ∙ c.requires.case) c.in_ok-again-in-Repeats.ensures);
       sends = c.send_some.ensures;
     }
 

@@ -46,3 +46,9 @@ returns-clause-stepped c =
       alarm = sym (ap (λ k. if is_alarm k then Some m.client else None) e);
       change = sym (ap (change_of m) e);
     }
+
+pub returns-clause-waiters : goal.returns-clause-waiters
+returns-clause-waiters c =
+    let a = c.if-not-grant_at_once.ensures.answered refl in
+    (made_at_once c.args.self.now c.args.message.now c.args.case.now c.in-Waits.req c.in-Waits.point c.in-Waits.hi c.in-Waits.mode (meaning c.grant_at_once.new.self) a.out
+    c.requires.server c.requires.case c.in-Waits.is (sym c.is_recovering.ensures ∙ c.if-is_recovering.false) a.turned (c.if-not-grant_at_once.ensures.free refl)).came

@@ -1,7 +1,7 @@
 use Rattle.krl_server.proofs.Names.{◌++◌, [], sym, ap, subst, ◌∙◌, IsTable, meaning, IsSound, ServerStep, Sent}
 use Rattle.krl_server.proofs.Invariant.Kept.{effect_table}
 use Rattle.krl_server.proofs.Invariant.Sounds.{effect_sound}
-use Rattle.krl_server.proofs.Functions.Stepped.{room_left, step_is, alarm_said}
+use Rattle.krl_server.proofs.Functions.Stepped.{room_left, rooms_left, step_is, alarm_said}
 use Rattle.krl_server.proofs.state.State.step_by_turns.Goals as goal
 
 pub finish-requires-clause-sound : goal.finish-requires-clause-sound
@@ -30,3 +30,9 @@ returns-clause-stepped c =
       alarm = c.alarm.ensures ∙ alarm_said s m c.in_ok-done.done.after p.performed.after;
       change = c.in_ok-done.ensures.change;
     }
+
+pub finish-requires-clause-rooms : goal.finish-requires-clause-rooms
+finish-requires-clause-rooms c =
+    let s = meaning c.args.self.now in
+    rooms_left s c.args.message.now c.requires.server.sound c.requires.server.ordered.table c.args.case.now c.requires.case
+    (meaning c.perform.new.self) c.reserve_room.new.rooms c.in_ok-done.ensures.performed.performed.server c.reserve_room.ensures.rooms c.in_ok-reserve_room.ensures.room

@@ -2,14 +2,8 @@ use Rattle.krl_table.proofs.Names.{◌≡◌, ◌≤◌, ◌<◌, ℕ, Bool, tru
 use Rattle.krl_table.proofs.Calls.Raises.{IsGoing, begins, ends_rows, ends_taken, test_ends, goes}
 use Rattle.krl_table.proofs.table.Table.go_on.Goals as goal
 
-room : (b : Bool) (n : ℕ) → b ≡ false → b ≡ (n == 8) → n ≤ 8 → n < 8
-room b n t e le = grind (arith, nat_tests)
-
-filled : (b : Bool) (n : ℕ) → b ≡ true → b ≡ (n == 8) → n ≡ 8
-filled b n t e = grind (arith, nat_tests)
-
 pub loop-self-init : goal.loop-self-init
-loop-self-init c = (begins c.args.durable.now.index c.args.self.now.map c.args.slot c.args.waiter.now c.args.taken.now.items c.requires.over, refl)
+loop-self-init c = (begins c.args.durable.now.reach c.args.durable.now.index c.args.self.now.map c.args.slot c.args.waiter.now c.args.taken.now.items c.requires.over, refl)
 
 pub next_taken-requires : goal.next_taken-requires
 next_taken-requires c = record { over = c.loop-self.invariant.0.over; client = c.requires.client }
@@ -27,14 +21,14 @@ raise-requires c =
 pub returns-in_default-clause-rows : goal.returns-in_default-clause-rows
 returns-in_default-clause-rows c =
     let m = c.args.durable.now.index in let w = c.args.waiter.now in let t = c.loop-self.self.map in
-    ends_rows m c.args.self.now.map c.args.slot w c.args.taken.now.items t c.loop-self.at c.loop-self.taken.items c.loop-self.invariant.0
-    (test_ends m c.args.self.now.map c.args.slot w c.args.taken.now.items t c.loop-self.at c.loop-self.taken.items c.loop-self.invariant.0 c.in_default.ensures.none)
+    ends_rows c.args.durable.now.reach m c.args.self.now.map c.args.slot w c.args.taken.now.items t c.loop-self.at c.loop-self.taken.items c.loop-self.invariant.0
+    (test_ends c.args.durable.now.reach m c.args.self.now.map c.args.slot w c.args.taken.now.items t c.loop-self.at c.loop-self.taken.items c.loop-self.invariant.0 c.in_default.ensures.none)
 
 pub returns-in_default-clause-taken : goal.returns-in_default-clause-taken
 returns-in_default-clause-taken c =
     let m = c.args.durable.now.index in let w = c.args.waiter.now in let t = c.loop-self.self.map in
-    ends_taken m c.args.self.now.map c.args.slot w c.args.taken.now.items t c.loop-self.at c.loop-self.taken.items c.loop-self.invariant.0
-    (test_ends m c.args.self.now.map c.args.slot w c.args.taken.now.items t c.loop-self.at c.loop-self.taken.items c.loop-self.invariant.0 c.in_default.ensures.none)
+    ends_taken c.args.durable.now.reach m c.args.self.now.map c.args.slot w c.args.taken.now.items t c.loop-self.at c.loop-self.taken.items c.loop-self.invariant.0
+    (test_ends c.args.durable.now.reach m c.args.self.now.map c.args.slot w c.args.taken.now.items t c.loop-self.at c.loop-self.taken.items c.loop-self.invariant.0 c.in_default.ensures.none)
 
 pub returns-in_default-clause-slots : goal.returns-in_default-clause-slots
 returns-in_default-clause-slots c = c.loop-self.invariant.0.over
@@ -42,12 +36,12 @@ returns-in_default-clause-slots c = c.loop-self.invariant.0.over
 pub loop-self-preserved : goal.loop-self-preserved
 loop-self-preserved c =
     let m = c.args.durable.now.index in let w = c.args.waiter.now in let t = c.loop-self.self.map in let u = c.raise.new.self.map in let k = c.in-Some.next in let x = c.in-Some.ensures.some in
-    let g = goes m c.args.self.now.map c.args.slot w c.args.taken.now.items t c.loop-self.at c.loop-self.taken.items c.loop-self.invariant.0 u k
-    (room c.is_full.result (length c.loop-self.taken.items) c.loop-self-test.true c.is_full.ensures.value c.is_full.ensures.fits)
+    let g = goes c.args.durable.now.reach m c.args.self.now.map c.args.slot w c.args.taken.now.items t c.loop-self.at c.loop-self.taken.items c.loop-self.invariant.0 u k
+    (let lt = c.loop-self-test.true in let most = c.reach-most.ensures.reach in let long = c.len.ensures.value in omega (arith, lt, most, long))
     x.slot x.on
     (subst (λ i. (n : ℕ) → rows_of u n ≡ raised (rows_of t) i w n) c.get.ensures.number c.raise.ensures.raised)
     c.raise.ensures.slots in (
-      subst (λ i. IsGoing m c.args.self.now.map c.args.slot w c.args.taken.now.items u i c.push.new.self.items) (sym c.get-at.ensures.number)
-          (subst (λ l. IsGoing m c.args.self.now.map c.args.slot w c.args.taken.now.items u k l) (sym c.push.ensures.items) g),
+      subst (λ i. IsGoing c.args.durable.now.reach m c.args.self.now.map c.args.slot w c.args.taken.now.items u i c.push.new.self.items) (sym c.get-at.ensures.number)
+          (subst (λ l. IsGoing c.args.durable.now.reach m c.args.self.now.map c.args.slot w c.args.taken.now.items u k l) (sym c.push.ensures.items) g),
       c.raise.ensures.room ∙ c.loop-self.invariant.1,
     )

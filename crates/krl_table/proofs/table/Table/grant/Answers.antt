@@ -11,25 +11,27 @@ returns-in-Some-clause-granted c n =
     let m = c.args.durable.now.index in
     let rows = rows_of c.args.self.now.map in let w = c.in-Some.waiter in let k = c.args.slot in
     let first : rows_of c.grant_first.new.self.map ≡ granted_first rows k = fun_ext c.grant_first.ensures.granted in
-    let many : 8 - length c.push.new.self.items ≡ 7 = one_noted c.new-taken.result.items c.push.new.self.items _ c.new-taken.ensures c.push.ensures.items in
+    let j = c.args.durable.now.reach in
+    let many : j - length c.push.new.self.items ≡ j - 1 = one_noted j c.new-taken.result.items c.push.new.self.items _ c.new-taken.ensures c.push.ensures.items in
     ap (λ (r : Rows). r n) (c.go_on.ensures.rows
-    ∙ ap (λ j. raised_on (rows_of c.grant_first.new.self.map) (taken_after m (rows_of c.grant_first.new.self.map) k w j) w) many
-    ∙ ap (λ (r : Rows). raised_on r (taken_after m r k w 7) w) first
-    ∙ sym (granted_from m rows k w (sym c.front.ensures.front ∙ c.in-Some.is)))
+    ∙ ap (λ i. raised_on (rows_of c.grant_first.new.self.map) (taken_after m (rows_of c.grant_first.new.self.map) k w i) w) many
+    ∙ ap (λ (r : Rows). raised_on r (taken_after m r k w (j - 1)) w) first
+    ∙ sym (granted_from j m rows k w (sym c.front.ensures.front ∙ c.in-Some.is)))
 
 pub returns-in-Some-clause-taken : goal.returns-in-Some-clause-taken
 returns-in-Some-clause-taken c =
     let m = c.args.durable.now.index in
     let rows = rows_of c.args.self.now.map in let w = c.in-Some.waiter in let k = c.args.slot in
     let first : rows_of c.grant_first.new.self.map ≡ granted_first rows k = fun_ext c.grant_first.ensures.granted in
-    let many = one_noted c.new-taken.result.items c.push.new.self.items _ c.new-taken.ensures c.push.ensures.items in
+    let j = c.args.durable.now.reach in
+    let many = one_noted j c.new-taken.result.items c.push.new.self.items _ c.new-taken.ensures c.push.ensures.items in
     let at : c.unwrap.result ≡ k = unwrapped c.new.result c.unwrap.result k c.unwrap.ensures c.new.ensures.point in
     c.go_on.ensures.taken
-    ∙ ap (λ l. l ++ taken_after m (rows_of c.grant_first.new.self.map) k w (8 - length c.push.new.self.items)) (c.push.ensures.items ∙ ap (λ l. l ++ c.unwrap.result ∷ []) c.new-taken.ensures)
-    ∙ ap (λ i. i ∷ taken_after m (rows_of c.grant_first.new.self.map) k w (8 - length c.push.new.self.items)) at
-    ∙ ap (λ j. k ∷ taken_after m (rows_of c.grant_first.new.self.map) k w j) many
-    ∙ ap (λ (r : Rows). k ∷ taken_after m r k w 7) first
-    ∙ sym (taken_from m rows k w (sym c.front.ensures.front ∙ c.in-Some.is))
+    ∙ ap (λ l. l ++ taken_after m (rows_of c.grant_first.new.self.map) k w (j - length c.push.new.self.items)) (c.push.ensures.items ∙ ap (λ l. l ++ c.unwrap.result ∷ []) c.new-taken.ensures)
+    ∙ ap (λ i. i ∷ taken_after m (rows_of c.grant_first.new.self.map) k w (j - length c.push.new.self.items)) at
+    ∙ ap (λ i. k ∷ taken_after m (rows_of c.grant_first.new.self.map) k w i) many
+    ∙ ap (λ (r : Rows). k ∷ taken_after m r k w (j - 1)) first
+    ∙ sym (taken_from j m rows k w (sym c.front.ensures.front ∙ c.in-Some.is))
 
 pub grant_first-requires : goal.grant_first-requires
 grant_first-requires c = record { there = front_there c.args.self.now.map c.args.slot c.in-Some.waiter (sym c.front.ensures.front ∙ c.in-Some.is); is_compatible_there = c.requires.is_compatible_there }

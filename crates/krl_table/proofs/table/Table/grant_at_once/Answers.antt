@@ -25,11 +25,12 @@ returns-clause-granted c n =
     let at : slot_of m w.point ≡ k = ap (slot_of m) (sym c.get.ensures.number) ∙ sym c.slot_of-slot.ensures.slot in
     let free = first_of_two (nobody_waits (rows k).queue) (is_wanted_compatible rows k w) (sym c.is_free_for.ensures
     ∙ is_free) in
-    let many = one_noted c.new-taken.result.items c.push.new.self.items _ c.new-taken.ensures c.push.ensures.items in
+    let j = c.args.durable.now.reach in
+    let many = one_noted j c.new-taken.result.items c.push.new.self.items _ c.new-taken.ensures c.push.ensures.items in
     ap (λ (r : Rows). r n) (c.go_on.ensures.rows
-    ∙ ap (λ j. raised_on (rows_of c.raise.new.self.map) (taken_after m (rows_of c.raise.new.self.map) k w j) w) many
-    ∙ ap (λ (r : Rows). raised_on r (taken_after m r k w 7) w) (fun_ext c.raise.ensures.raised)
-    ∙ sym (at_once_granted m rows w k at free))
+    ∙ ap (λ i. raised_on (rows_of c.raise.new.self.map) (taken_after m (rows_of c.raise.new.self.map) k w i) w) many
+    ∙ ap (λ (r : Rows). raised_on r (taken_after m r k w (j - 1)) w) (fun_ext c.raise.ensures.raised)
+    ∙ sym (at_once_granted m rows w k at free j))
 
 pub returns-clause-taken : goal.returns-clause-taken
 returns-clause-taken c =
@@ -38,11 +39,12 @@ returns-clause-taken c =
     let at : slot_of m w.point ≡ k = ap (slot_of m) (sym c.get.ensures.number) ∙ sym c.slot_of-slot.ensures.slot in
     let free = first_of_two (nobody_waits (rows k).queue) (is_wanted_compatible rows k w) (sym c.is_free_for.ensures
     ∙ is_free) in
-    let many = one_noted c.new-taken.result.items c.push.new.self.items _ c.new-taken.ensures c.push.ensures.items in
+    let j = c.args.durable.now.reach in
+    let many = one_noted j c.new-taken.result.items c.push.new.self.items _ c.new-taken.ensures c.push.ensures.items in
     let point = unwrapped c.new.result c.unwrap.result k c.unwrap.ensures c.new.ensures.point in
     c.go_on.ensures.taken
-    ∙ ap (λ l. l ++ taken_after m (rows_of c.raise.new.self.map) k w (8 - length c.push.new.self.items)) (c.push.ensures.items ∙ ap (λ l. l ++ c.unwrap.result ∷ []) c.new-taken.ensures)
-    ∙ ap (λ i. i ∷ taken_after m (rows_of c.raise.new.self.map) k w (8 - length c.push.new.self.items)) point
-    ∙ ap (λ j. k ∷ taken_after m (rows_of c.raise.new.self.map) k w j) many
-    ∙ ap (λ (r : Rows). k ∷ taken_after m r k w 7) (fun_ext c.raise.ensures.raised)
-    ∙ sym (at_once_taken m rows w k at free)
+    ∙ ap (λ l. l ++ taken_after m (rows_of c.raise.new.self.map) k w (j - length c.push.new.self.items)) (c.push.ensures.items ∙ ap (λ l. l ++ c.unwrap.result ∷ []) c.new-taken.ensures)
+    ∙ ap (λ i. i ∷ taken_after m (rows_of c.raise.new.self.map) k w (j - length c.push.new.self.items)) point
+    ∙ ap (λ i. k ∷ taken_after m (rows_of c.raise.new.self.map) k w i) many
+    ∙ ap (λ (r : Rows). k ∷ taken_after m r k w (j - 1)) (fun_ext c.raise.ensures.raised)
+    ∙ sym (at_once_taken m rows w k at free j)

@@ -1,4 +1,4 @@
-use Rattle.krl_world.proofs.Names.{◌≡◌, ◌<◌, ◌⊎◌, inl, inr, length, ◌-◌, arith, the_view}
+use Rattle.krl_world.proofs.Names.{◌≡◌, ◌<◌, ◌⊎◌, inl, inr, length, ◌-◌, arith, refl, the_view}
 use Rattle.krl_world.specs.declared.message.Message.TheVariants as message
 use Rattle.krl_world.proofs.Functions.Server.{no_message, nth_delivered}
 use Rattle.krl_world.proofs.nodes.Nodes.deliver.Goals.{then-number-eq0-via-then-number-eq0, then-number-eq0-via-else-number-eq0+then-number-len}
@@ -20,4 +20,4 @@ returns-in-ToServer c =
 pub returns-in-ToClient : goal.returns-in-ToClient
 returns-in-ToClient c =
     nth_delivered (the_view c.self.inside) c.args.self.now _ c.args.number c.index.result.now (message.ToClient c.in-ToClient.message) c.deliver_to_client.result c.self.view_is c.if-number-eq0.false (omega (arith, c.self.inside.sent.ok.0)) c.index.ensures
-    c.in-ToClient.is (c.deliver_to_client.ensures (c.args.number - 1))
+    c.in-ToClient.is (λ f. c.deliver_to_client.ensures c.in-ToClient.message f refl)
