@@ -1,0 +1,163 @@
+//! The turns: in each of them all processes read and write in the same way.
+use crate::acknowledged::{Acknowledged, count_stale};
+use crate::cached::Cached;
+use crate::method::{Done, Found, Method, PROCESSES, Place, ROWS};
+use crate::plain::Plain;
+use crate::random::Random;
+use crate::redis::Aside;
+use std::sync::Barrier;
+use std::thread;
+use std::time::{Duration, Instant};
+
+/// What is measured.
+#[derive(Clone, Copy, Debug)]
+pub struct Plan {
+    /// Rows of a read.
+    pub reads: u64,
+    /// How many of a thousand calls write.
+    pub writes: u64,
+    /// How many rows are read and written.
+    pub hot: u64,
+    pub turns: u32,
+    pub time: Duration,
+}
+
+pub const METHODS: [&str; 3] = ["PostgreSQL", "Redis next to it", "krl-cache"];
+
+/// What the processes did in one way.
+#[derive(Clone, Debug, Default)]
+pub struct Measured {
+    /// How many calls ended in each turn.
+    pub calls: Vec<u32>,
+    pub reads: Vec<Duration>,
+    pub writes: Vec<Duration>,
+    pub rows: u64,
+    pub stale: u64,
+}
+
+impl Measured {
+    fn add(&mut self, other: Measured) {
+        self.calls.resize(other.calls.len(), 0);
+        self.calls.iter_mut().zip(other.calls).for_each(|(sum, calls)| *sum += calls);
+        self.reads.extend(other.reads);
+        self.writes.extend(other.writes);
+        self.rows += other.rows;
+        self.stale += other.stale;
+    }
+}
+
+/// Measures each way by turns.
+pub fn measure(place: &Place, plan: &Plan) -> Found<[Measured; METHODS.len()]> {
+    let acknowledged = METHODS.map(|_| Acknowledged::new());
+    let barrier = Barrier::new(PROCESSES.into());
+    thread::scope(|scope| {
+        let run = |number| Process::new(place, plan, number)?.run(&acknowledged, &barrier);
+        let start = |number| scope.spawn(move || run(number));
+        let started: Vec<_> = (0..PROCESSES).map(start).collect();
+        let mut sums = <[Measured; METHODS.len()]>::default();
+        for process in started {
+            let measured = process.join().map_err(|_| "a thread panicked")??;
+            sums.iter_mut().zip(measured).for_each(|(sum, one)| sum.add(one));
+        }
+        Ok(sums)
+    })
+}
+
+/// A process of the application. It is a thread here, with connections and memory of its own.
+struct Process<'p> {
+    plan: &'p Plan,
+    methods: [Box<dyn Method>; METHODS.len()],
+    random: Random,
+}
+
+impl<'p> Process<'p> {
+    fn new(place: &Place, plan: &'p Plan, number: u8) -> Found<Process<'p>> {
+        let methods: [Box<dyn Method>; METHODS.len()] = [
+            Box::new(Plain::new(place)?),
+            Box::new(Aside::new(place)?),
+            Box::new(Cached::new(place, number)?),
+        ];
+        Ok(Process { plan, methods, random: Random::of(number.into()) })
+    }
+
+    fn run(
+        mut self,
+        acknowledged: &[Acknowledged; METHODS.len()],
+        barrier: &Barrier,
+    ) -> Found<[Measured; METHODS.len()]> {
+        self.warm_up()?;
+        let mut measured = <[Measured; METHODS.len()]>::default();
+        for _ in 0..self.plan.turns {
+            for method in 0..METHODS.len() {
+                barrier.wait();
+                self.take_turn(method, &acknowledged[method], &mut measured[method])?;
+            }
+        }
+        barrier.wait();
+        Ok(measured)
+    }
+
+    /// Reads everything once.
+    fn warm_up(&mut self) -> Done {
+        let mut rows = Vec::new();
+        for method in &mut self.methods {
+            for lo in (0..ROWS).step_by(100) {
+                method.read(lo..lo + 100, &mut rows)?;
+            }
+        }
+        Ok(())
+    }
+
+    fn take_turn(
+        &mut self,
+        method: usize,
+        acknowledged: &Acknowledged,
+        measured: &mut Measured,
+    ) -> Done {
+        let (end, mut calls) = (Instant::now() + self.plan.time, 0);
+        while Instant::now() < end {
+            let key = self.random.below(self.plan.hot - self.plan.reads);
+            if self.random.below(1000) < self.plan.writes {
+                self.write(method, key, acknowledged, measured)?;
+            } else {
+                self.read(method, key, acknowledged, measured)?;
+            }
+            calls += 1;
+        }
+        measured.calls.push(calls);
+        Ok(())
+    }
+
+    fn write(
+        &mut self,
+        method: usize,
+        key: u64,
+        acknowledged: &Acknowledged,
+        measured: &mut Measured,
+    ) -> Done {
+        let began = Instant::now();
+        let count = self.methods[method].write(key)?;
+        measured.writes.push(began.elapsed());
+        acknowledged.note(key, count)
+    }
+
+    fn read(
+        &mut self,
+        method: usize,
+        key: u64,
+        acknowledged: &Acknowledged,
+        measured: &mut Measured,
+    ) -> Done {
+        let (mut rows, mut least) = (Vec::new(), Vec::new());
+        acknowledged.before(key..key + self.plan.reads, &mut least)?;
+        let began = Instant::now();
+        self.methods[method].read(key..key + self.plan.reads, &mut rows)?;
+        measured.reads.push(began.elapsed());
+        if rows.len() != least.len() {
+            return Err(format!("{} rows were read of {}", rows.len(), least.len()).into());
+        }
+        measured.rows += rows.len() as u64;
+        measured.stale += count_stale(&rows, &least);
+        Ok(())
+    }
+}
