@@ -10,14 +10,14 @@ use crate::event_log;
 use crate::frames::{Frames, GULP, LONGEST_TO_CLIENT};
 use crate::jobs::Jobs;
 use crate::lock_file::LockFile;
-use crate::poller::{Poller, Readiness, Ready, Watched};
+use crate::poller::{Poller, Readiness, Ready, SecondPoller, Watched};
 use crate::servers::Servers;
 use crate::session::Session;
 use crate::writer::{Writer, Written};
 use mio::Waker;
 use std::convert::Infallible;
 use std::io::{self, ErrorKind};
-use std::sync::{Arc, Condvar, Mutex, MutexGuard, PoisonError};
+use std::sync::{Arc, Condvar, Mutex, MutexGuard, PoisonError, TryLockError};
 use std::time::{Duration, Instant};
 
 /// How long a connection may take to be made.
@@ -36,6 +36,11 @@ pub(crate) struct Link {
     cache: Cache,
     writer: Writer,
     waker: Arc<Waker>,
+    /// The connection, as it is read.
+    reading: Mutex<Option<Reading>>,
+    /// A caller has its turn to wait for what comes, while it waits for an answer.
+    turn: Mutex<()>,
+    poller: SecondPoller,
     thread: Mutex<Thread>,
     changed: Condvar,
     /// None once the client is gone.
@@ -48,6 +53,20 @@ enum Thread {
     Runs,
     IsToEnd,
     HasEnded,
+}
+
+/// A connection, as it is read: by the thread, or by a caller that waits for an answer.
+struct Reading {
+    carrier: Carrier,
+    frames: Frames,
+    unread: Unread,
+    watched: Watched,
+    /// Until when the thread sleeps if nothing comes.
+    sleeps_until: Instant,
+    /// When the session has something to do if nothing comes.
+    is_due: Instant,
+    /// Why it has to end, as a caller has found.
+    failed: Option<io::Error>,
 }
 
 /// What may be read from the connection.
@@ -73,6 +92,9 @@ impl Link {
             servers,
             writer: Writer::default(),
             waker,
+            reading: Mutex::new(None),
+            turn: Mutex::new(()),
+            poller: SecondPoller::of(&poller)?,
             thread: Mutex::new(Thread::Runs),
             changed: Condvar::new(),
             lock_file: Mutex::new(lock_file),
@@ -176,33 +198,98 @@ impl Link {
     /// Connects, and serves the connection until it ends.
     fn connect_and_serve(&self, address: &Address, poller: &mut Poller) -> io::Result<Infallible> {
         self.begin_anew_if_due()?;
-        let mut carrier = Carrier::connect(address, self.servers.tls(), CONNECT)?;
+        let carrier = Carrier::connect(address, self.servers.tls(), CONNECT)?;
         self.keep_incarnation()?;
-        poller.add(CONNECTION, carrier.stream())?;
         let first = self.session().connected()?;
         self.writer.open(carrier.try_clone()?, first);
         event_log::connected(address);
-        let ended = self.serve(&mut carrier, poller);
-        poller.remove(carrier.stream());
-        carrier.shut();
+        let ended = self.serve(carrier, poller);
+        if let Some(reading) = lock(&self.reading).take() {
+            poller.remove(reading.carrier.stream());
+            reading.carrier.shut();
+        }
         ended
     }
 
     /// Hears what the server says, until the connection ends.
-    fn serve(&self, carrier: &mut Carrier, poller: &mut Poller) -> io::Result<Infallible> {
-        let mut frames = Frames::new(LONGEST_TO_CLIENT);
-        let (mut unread, mut watched) = (Unread::Nothing, Watched::Reads);
-        let (mut written, mut due_in) = self.proceed(None)?;
+    fn serve(&self, carrier: Carrier, poller: &mut Poller) -> io::Result<Infallible> {
+        self.open_reading(carrier, poller)?;
+        let mut due_in = self.go_on(std::iter::empty())?;
         while self.runs() {
-            if unread == Unread::Nothing {
-                watch(carrier, poller, &mut watched, written)?;
-                poller.wait(due_in)?;
-                unread = poller.ready().fold(unread, Unread::after);
-            }
-            let has_come = unread != Unread::Nothing && unread.read(carrier, &mut frames)?;
-            (written, due_in) = self.proceed(has_come.then_some(&mut frames))?;
+            poller.wait(due_in)?;
+            due_in = self.go_on(poller.ready())?;
+            self.let_caller_read();
         }
         Err(ErrorKind::Interrupted.into())
+    }
+
+    /// From now on the connection is read, by whoever learns first that something has come.
+    fn open_reading(&self, carrier: Carrier, poller: &Poller) -> io::Result<()> {
+        let watches = poller.add(CONNECTION, carrier.stream());
+        let now = Instant::now();
+        *lock(&self.reading) = Some(Reading {
+            carrier,
+            frames: Frames::new(LONGEST_TO_CLIENT),
+            unread: Unread::Something,
+            watched: Watched::Reads,
+            sleeps_until: now,
+            is_due: now,
+            failed: None,
+        });
+        watches
+    }
+
+    /// Takes what has come on the connection, and goes on with what the client was asked. It answers
+    /// when that is due again if nothing comes: the thread sleeps until then.
+    fn go_on(&self, ready: impl Iterator<Item = Ready>) -> io::Result<Duration> {
+        let mut reading = lock(&self.reading);
+        let reading = reading.as_mut().ok_or(ErrorKind::NotConnected)?;
+        if let Some(error) = reading.failed.take() {
+            return Err(error);
+        }
+        let due_in = self.read_on(reading, ready)?;
+        reading.is_due = Instant::now() + due_in;
+        reading.sleeps_until = reading.is_due;
+        Ok(due_in)
+    }
+
+    /// Reads what there is, and goes on with what the client was asked after each part.
+    fn read_on(
+        &self,
+        reading: &mut Reading,
+        ready: impl Iterator<Item = Ready>,
+    ) -> io::Result<Duration> {
+        reading.unread = ready.fold(reading.unread, Unread::after);
+        loop {
+            let Reading { carrier, frames, unread, .. } = reading;
+            let has_come = *unread != Unread::Nothing && unread.read(carrier, frames)?;
+            let (written, due_in) = self.proceed(has_come.then_some(frames))?;
+            if reading.unread == Unread::Nothing {
+                self.watch(reading, written)?;
+                return Ok(due_in);
+            }
+        }
+    }
+
+    /// If a caller waits for what comes, it is told that something has, since it has no other way to
+    /// learn of its answer; and it reads the connection until it leaves.
+    fn let_caller_read(&self) {
+        if matches!(self.turn.try_lock(), Err(TryLockError::WouldBlock)) {
+            self.wake();
+            drop(lock(&self.turn));
+        }
+    }
+
+    /// Watches the connection for writes too, while a part waits to be written.
+    fn watch(&self, reading: &mut Reading, written: Written) -> io::Result<()> {
+        let next = match written {
+            Written::Part => Watched::Both,
+            Written::AllOrNothing => Watched::Reads,
+        };
+        if std::mem::replace(&mut reading.watched, next) != next {
+            self.poller.watch(CONNECTION, reading.carrier.stream(), next)?;
+        }
+        Ok(())
     }
 
     /// Takes what has come, if something has; goes on with what the client was asked, and writes what
@@ -290,23 +377,6 @@ impl Drop for Ended<'_> {
 
 fn lock<T>(mutex: &Mutex<T>) -> MutexGuard<'_, T> {
     mutex.lock().unwrap_or_else(PoisonError::into_inner)
-}
-
-/// Watches the connection for writes too, while a part waits to be written.
-fn watch(
-    carrier: &Carrier,
-    poller: &Poller,
-    watched: &mut Watched,
-    written: Written,
-) -> io::Result<()> {
-    let next = match written {
-        Written::Part => Watched::Both,
-        Written::AllOrNothing => Watched::Reads,
-    };
-    if std::mem::replace(watched, next) != next {
-        poller.watch(CONNECTION, carrier.stream(), next)?;
-    }
-    Ok(())
 }
 
 mod asking;

@@ -2,9 +2,10 @@
 use crate::stream::{Listener, Stream};
 use mio::event::Event;
 use mio::unix::SourceFd;
-use mio::{Events, Interest, Poll, Token, Waker};
+use mio::{Events, Interest, Poll, Registry, Token, Waker};
+use nix::sys::epoll::{EpollEvent, EpollFlags, epoll_wait};
 use std::io::{self, ErrorKind};
-use std::os::fd::AsRawFd;
+use std::os::fd::{AsRawFd, BorrowedFd, OwnedFd};
 use std::sync::Arc;
 use std::time::Duration;
 
@@ -113,6 +114,44 @@ impl Poller {
     }
 }
 
+/// Another thread's part of a poller: it may wait at the same time.
+///
+/// An event is for one of those who wait. Linux wakes the one that began to wait last.
+#[derive(Debug)]
+pub(crate) struct SecondPoller {
+    registry: Registry,
+    poll: OwnedFd,
+}
+
+impl SecondPoller {
+    /// That of this poller.
+    pub fn of(poller: &Poller) -> io::Result<SecondPoller> {
+        let registry = poller.poll.registry().try_clone()?;
+        // SAFETY: the descriptor is open as long as the poller, which is borrowed.
+        let poll = unsafe { BorrowedFd::borrow_raw(poller.poll.as_raw_fd()) };
+        Ok(SecondPoller { registry, poll: poll.try_clone_to_owned()? })
+    }
+
+    /// Waits until something is ready, but not longer than this; a fraction of a millisecond counts
+    /// as one.
+    pub fn wait(&self, longest: Duration) -> io::Result<Option<Ready>> {
+        let mut events = [EpollEvent::empty()];
+        let longest = isize::try_from(whole_milliseconds(longest).as_millis());
+        let longest = longest.unwrap_or(isize::MAX);
+        match epoll_wait(self.poll.as_raw_fd(), &mut events, longest) {
+            Ok(0) | Err(nix::Error::EINTR) => Ok(None),
+            Ok(_) => Ok(Some(ready_of_system(events[0]))),
+            Err(error) => Err(error.into()),
+        }
+    }
+
+    /// Watches a connection for this from now on. What it is ready for already is told again.
+    pub fn watch(&self, connection: u64, stream: &Stream, watched: Watched) -> io::Result<()> {
+        let (token, socket) = (token_of(connection)?, stream.as_raw_fd());
+        self.registry.reregister(&mut SourceFd(&socket), token, watched.interest())
+    }
+}
+
 /// The time, or a little more. The system waits whole milliseconds, and a fraction that is cut off
 /// would make the loop turn without a pause until it has passed.
 fn whole_milliseconds(time: Duration) -> Duration {
@@ -138,9 +177,27 @@ fn ready_of(event: &Event) -> Ready {
     }
 }
 
+/// The same of an event as the system tells it.
+fn ready_of_system(event: EpollEvent) -> Ready {
+    let (token, flags) = (event.data(), event.events());
+    if token == WAKER.0 as u64 {
+        return Ready::Woken;
+    }
+    if token == LISTENER.0 as u64 {
+        return Ready::Listener;
+    }
+    let is_last =
+        flags.intersects(EpollFlags::EPOLLHUP | EpollFlags::EPOLLRDHUP | EpollFlags::EPOLLERR);
+    let reads = flags.intersects(EpollFlags::EPOLLIN | EpollFlags::EPOLLPRI) || is_last;
+    let writes = flags.intersects(EpollFlags::EPOLLOUT | EpollFlags::EPOLLERR);
+    Ready::Connection(token, Readiness { reads, is_last, writes })
+}
+
 #[cfg(test)]
 mod tests {
     use super::*;
+    use std::io::Write;
+    use std::os::unix::net::UnixStream;
 
     #[test]
     fn a_fraction_of_a_millisecond_counts_as_one() {
@@ -149,5 +206,29 @@ mod tests {
             assert_eq!(time, Duration::from_millis(milliseconds), "{nanoseconds}");
         }
         assert_eq!(whole_milliseconds(Duration::from_nanos(4_000_001)), Duration::from_millis(5));
+    }
+
+    #[test]
+    fn a_second_poller_is_told_the_same() {
+        let (poller, waker) = Poller::new().unwrap();
+        let (second, longest) = (SecondPoller::of(&poller).unwrap(), Duration::from_secs(30));
+        waker.wake().unwrap();
+        assert_eq!(second.wait(longest).unwrap(), Some(Ready::Woken));
+        assert_eq!(second.wait(Duration::ZERO).unwrap(), None, "an event is told once");
+        let (ours, mut theirs) = UnixStream::pair().unwrap();
+        let ours = Stream::Unix(ours);
+        poller.add(7, &ours).unwrap();
+        let next = || match second.wait(longest).unwrap() {
+            Some(Ready::Connection(7, readiness)) => readiness,
+            other => panic!("{other:?}"),
+        };
+        theirs.write_all(b"a").unwrap();
+        assert_eq!(next(), Readiness { reads: true, is_last: false, writes: false });
+        second.watch(7, &ours, Watched::Writes).unwrap();
+        assert_eq!(next(), Readiness { reads: false, is_last: false, writes: true });
+        second.watch(7, &ours, Watched::Reads).unwrap();
+        drop(theirs);
+        let last = next();
+        assert!(last.reads && (last.is_last || next().is_last));
     }
 }

@@ -28,13 +28,8 @@ impl Connections {
         self.next += 1;
         event_log::opened(&At { connection: number, peer: address });
         let connection = Connection::new(entry, self.longest, now);
-        let peer = Peer {
-            connection,
-            address,
-            opened: now,
-            is_in_ready: false,
-            is_in_sending: false,
-        };
+        let peer =
+            Peer { connection, address, opened: now, is_in_ready: false, is_in_sending: false };
         self.open.insert(number, peer);
         let gone = self.strangers.comes(number, address.machine(), now);
         self.close_one(gone, CloseReason::StrangerCrowded);

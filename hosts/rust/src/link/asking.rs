@@ -1,12 +1,12 @@
 //! What callers ask of a client, and how they wait for the answer.
-use super::Link;
+use super::{Link, lock};
 use crate::jobs::{Asked, BUSY_TICK, Jobs};
 use crate::refusal::Refusal;
 use crate::refused::Refused;
 use crate::session::Session;
 use crate::writer::Written;
 use std::sync::MutexGuard;
-use std::sync::mpsc::RecvTimeoutError;
+use std::sync::mpsc::{Receiver, RecvTimeoutError, TryRecvError};
 use std::time::{Duration, Instant};
 
 impl Link {
@@ -39,11 +39,16 @@ impl Link {
 
     /// Waits until the deadline for the answer to what was begun.
     ///
-    /// The thread of the connection says again what is not answered. It may sleep until a tick of a
-    /// client that was asked nothing: so one who waits for longer than until the first tick wakes it
-    /// once.
+    /// The caller reads the connection itself until the first tick. The thread of the connection sends
+    /// again what is not answered. It may sleep until a tick of a client that was asked nothing: so
+    /// one who waits for longer than until the first tick wakes it once.
     pub fn finish<T>(&self, asked: Asked<T>, end: Instant) -> Result<T, Refused> {
         let Asked { id, is_urgent, answer } = asked;
+        if is_urgent
+            && let Some(answered) = self.read_until(&answer, end.min(Instant::now() + BUSY_TICK))
+        {
+            return answered;
+        }
         let left = until(end);
         let first = if is_urgent { left.min(BUSY_TICK) } else { left };
         let mut answered = answer.recv_timeout(first);
@@ -59,6 +64,57 @@ impl Link {
                 answer.try_recv().unwrap_or(Err(why))
             }
         })
+    }
+
+    /// Reads the connection until the answer has come, if no other caller does so: then no thread has
+    /// to wake another one. It answers nothing if there is no answer by the end.
+    pub(super) fn read_until<T>(
+        &self,
+        answer: &Receiver<Result<T, Refused>>,
+        end: Instant,
+    ) -> Option<Result<T, Refused>> {
+        let _turn = self.turn.try_lock().ok()?;
+        let mut goes_on = true;
+        loop {
+            match answer.try_recv() {
+                Err(TryRecvError::Empty) if goes_on && Instant::now() < end => {}
+                answered => {
+                    self.leave_reading(goes_on);
+                    return match answered {
+                        Ok(answered) => Some(answered),
+                        Err(TryRecvError::Empty) => None,
+                        Err(TryRecvError::Disconnected) => Some(Err(Refused::Stopped)),
+                    };
+                }
+            }
+            goes_on = self.read_once(until(end));
+        }
+    }
+
+    /// Waits for something to come, and takes it. It answers whether to go on so.
+    pub(super) fn read_once(&self, longest: Duration) -> bool {
+        let Ok(ready) = self.poller.wait(longest) else { return false };
+        let mut reading = lock(&self.reading);
+        let Some(reading) = reading.as_mut().filter(|it| it.failed.is_none()) else { return false };
+        match self.read_on(reading, ready.into_iter()) {
+            Ok(due_in) => reading.is_due = Instant::now() + due_in,
+            Err(error) => reading.failed = Some(error),
+        }
+        reading.failed.is_none() && self.runs()
+    }
+
+    /// Wakes the thread of the connection if it has to do something before it would by itself, or if
+    /// what woke this one was meant for it.
+    pub(super) fn leave_reading(&self, is_whole: bool) {
+        let mut reading = lock(&self.reading);
+        let is_soon = reading.as_mut().is_some_and(|it| it.is_due < it.sleeps_until);
+        if let Some(reading) = reading.as_mut().filter(|_| is_soon) {
+            reading.sleeps_until = reading.is_due;
+        }
+        drop(reading);
+        if is_soon || !is_whole {
+            self.wake();
+        }
     }
 
     /// Sees whether what is asked can be done, and has the thread of the connection tick.

@@ -3,15 +3,40 @@ use super::*;
 use crate::boot_clock::Moment;
 use crate::client_handle::Scan;
 use crate::refused::Refused;
-use crate::stream::Stream;
+use crate::server::Server;
+use crate::store::MemoryStore;
+use crate::stream::{Listener, Stream};
 use crate::writer::STALL;
 use std::os::unix::net::UnixStream;
 
 const SHORT: Duration = Duration::from_millis(100);
 
+const LONG: Duration = Duration::from_secs(30);
+
 fn link() -> Link {
+    link_and_poller().0
+}
+
+fn link_and_poller() -> (Link, Poller) {
     let jobs = Jobs::new(ClientHandle::open(1, 1).unwrap(), Now::read());
-    Link::new("unix:nowhere".parse().unwrap(), jobs, None).unwrap().0
+    Link::new("unix:nowhere".parse().unwrap(), jobs, None).unwrap()
+}
+
+/// A link over this connection, whose thread does not run, and its poller.
+fn link_over(carrier: Carrier) -> (Link, Poller) {
+    let (link, poller) = link_and_poller();
+    link.session().confirm_incarnation().unwrap();
+    let first = link.session().connected().unwrap();
+    link.writer.open(carrier.try_clone().unwrap(), first);
+    link.open_reading(carrier, &poller).unwrap();
+    (link, poller)
+}
+
+/// The same over a pair of sockets, and the server's end.
+fn connected() -> (Link, Poller, UnixStream) {
+    let (ours, theirs) = UnixStream::pair().unwrap();
+    let (link, poller) = link_over(Carrier::over(Stream::Unix(ours), None).unwrap());
+    (link, poller, theirs)
 }
 
 #[test]
@@ -54,4 +79,62 @@ fn callers_hear_that_the_thread_has_panicked() {
     assert!(link.has_ended(Instant::now()));
     let later = link.ask(Instant::now() + 50 * SHORT, |jobs| jobs.read(0..9));
     assert_eq!(later, Err(Refused::Stopped));
+}
+
+#[test]
+fn a_caller_reads_the_connection_while_it_waits() {
+    let listener = Listener::bind(&"127.0.0.1:0".parse().unwrap()).unwrap();
+    let server = Server::start(listener, MemoryStore::default()).unwrap();
+    let carrier = Carrier::connect(server.address(), None, LONG).unwrap();
+    // No thread of the link runs, which would read it else.
+    let (link, _poller) = link_over(carrier);
+    let joining = link.begin(Jobs::join);
+    assert_eq!(link.read_until(&joining.answer, Instant::now() + LONG), Some(Ok(())));
+    let reading = link.begin(|jobs| jobs.read(0..9));
+    assert_eq!(link.read_until(&reading.answer, Instant::now() + LONG), Some(Ok(Vec::new())));
+    server.stop().unwrap();
+}
+
+#[test]
+fn a_caller_learns_of_the_answer_that_the_thread_has_read() {
+    let (link, _poller, _theirs) = &connected();
+    let (sender, answer) = std::sync::mpsc::sync_channel(1);
+    std::thread::scope(|scope| {
+        let begun = Instant::now();
+        let reading = scope.spawn(move || link.read_until::<u8>(&answer, begun + LONG));
+        while link.turn.try_lock().is_ok() {
+            std::thread::yield_now();
+        }
+        sender.send(Ok(7)).unwrap();
+        link.let_caller_read();
+        assert_eq!(reading.join().unwrap(), Some(Ok(7)));
+        assert!(begun.elapsed() < LONG, "it was woken");
+    });
+}
+
+#[test]
+fn a_caller_that_leaves_wakes_the_thread_for_what_is_due_before_it_wakes_by_itself() {
+    let (link, mut poller, _theirs) = connected();
+    let set = |is_due: Duration| {
+        let (now, mut reading) = (Instant::now(), lock(&link.reading));
+        let reading = reading.as_mut().unwrap();
+        (reading.is_due, reading.sleeps_until) = (now + is_due, now + LONG);
+    };
+    set(2 * LONG);
+    link.leave_reading(true);
+    poller.wait(Duration::ZERO).unwrap();
+    assert!(!poller.ready().any(|ready| ready == Ready::Woken));
+    set(SHORT);
+    link.leave_reading(true);
+    poller.wait(LONG).unwrap();
+    assert!(poller.ready().any(|ready| ready == Ready::Woken));
+}
+
+#[test]
+fn the_thread_ends_a_connection_of_which_a_caller_found_that_it_has_ended() {
+    let (link, _poller, theirs) = connected();
+    drop(theirs);
+    while link.read_once(LONG) {}
+    let end = link.go_on(std::iter::empty()).unwrap_err();
+    assert_eq!(end.kind(), ErrorKind::UnexpectedEof);
 }
