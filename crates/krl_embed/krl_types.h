@@ -146,7 +146,7 @@ enum krl_fault {
     KRL_FAULT_FLAG = 7,
     /* A value has more than 32 bytes. */
     KRL_FAULT_LENGTH = 8,
-    /* A grant has no holding, or more than eight. */
+    /* A grant has no holding, or more than 128. */
     KRL_FAULT_COUNT = 9,
     /* A holding does not lie behind the one before it. */
     KRL_FAULT_ORDER = 10,

@@ -1,6 +1,6 @@
 //! What a client is told and asked to do, one act after another, and what comes of it. If an
 //! allocation is refused, a client shows what it showed, and the refused call is made again.
-use crate::again::{CALLS, room_for};
+use crate::again::{CALLS, put, room_for};
 use crate::shown::{are_numbers, are_told};
 use krl_client::{Client, CommandRefused, LockStatus, ScanAnswer, Status, WriteStatus};
 use krl_messages::{
@@ -182,7 +182,7 @@ fn push(epoch: u64, number: u64, body: PushBody) -> ToClientBody {
 // The holding of one slot.
 fn one(alloc: Global, held: Held) -> Option<Holdings> {
     let mut items = room_for(alloc, 1)?;
-    items.push(holding(held)?).ok()?;
+    put(&mut items, holding(held))?;
     Holdings::new(items)
 }
 

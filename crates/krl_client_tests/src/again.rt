@@ -2,6 +2,7 @@
 //! test, or two in a row.
 use krl_messages::Holding;
 use std::alloc::Global;
+use std::slice::from_ref;
 
 /// How often a call is made at most: twice it may be refused.
 pub const CALLS: u64 = 3;
@@ -14,4 +15,9 @@ pub fn room_for(alloc: Global, count: usize) -> Option<Vec<Holding>> {
         }
     }
     None
+}
+
+/// Puts the holding after the others, if there is one.
+pub fn put(items: &mut Vec<Holding>, holding: Option<Holding>) -> Option<()> {
+    items.extend_from_slice(from_ref(&holding?)).ok()
 }

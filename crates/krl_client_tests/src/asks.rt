@@ -1,6 +1,6 @@
 //! Calls of a cache, one after another, and what each gives. If an allocation is refused, a
 //! cache believes what it believed, and the refused call is made again.
-use crate::again::{CALLS, room_for};
+use crate::again::{CALLS, put, room_for};
 use crate::shown::{are_rows, are_told};
 use krl_cache::{Belief, Scanned};
 use krl_messages::{Holding, Holdings, Value};
@@ -102,7 +102,7 @@ fn holding(held: Held) -> Option<Holding> {
 fn listed(alloc: Global, all: &[Held]) -> Option<Holdings> {
     let mut items = room_for(alloc, all.len())?;
     for held in all {
-        items.push(holding(*held)?).ok()?;
+        put(&mut items, holding(*held))?;
     }
     Holdings::new(items)
 }

@@ -69,21 +69,23 @@ Did Becomes k old l new _ = ⊥
 abbrev pub Refused : Code → Fields → List ℕ → Fields → List ℕ → Option Code → Type 0
 Refused due k old l new c = (l ≡ k) × (new ≡ old) × (c ≡ Some due)
 
--- bytes that are no message change nothing; the fault is told, unless memory runs out first
-abbrev pub IsUnread : Fault → Fields → List ℕ → Fields → List ℕ → Reply → Option Code → Type 0
-IsUnread f k old l new r (Some code.BadMessage) = (l ≡ k) × (new ≡ old) × (r.detail ≡ fault_number f)
-IsUnread f k old l new r (Some code.OutOfMemory) = (l ≡ k) × (new ≡ old) × (r.detail ≡ 0)
-IsUnread f k old l new r _ = ⊥
+-- Bytes that are no message change nothing. The reply names the fault, unless the bytes begin as a grant does and the
+-- memory for its list is refused before the fault is found.
+abbrev pub IsUnread : List ℕ → Fault → Fields → List ℕ → Fields → List ℕ → Reply → Option Code → Type 0
+IsUnread bytes f k old l new r (Some code.BadMessage) = (l ≡ k) × (new ≡ old) × (r.detail ≡ fault_number f)
+IsUnread bytes f k old l new r (Some code.OutOfMemory) =
+    (l ≡ k) × (new ≡ old) × (r.detail ≡ 0) × reading.BeginsGrant bytes
+IsUnread bytes f k old l new r _ = ⊥
 
--- the client is given these bytes
-abbrev pub HearsRead : Result ToClient Fault → Fields → List ℕ → Fields → List ℕ → Reply → Type 0
-HearsRead (Err f) k old l new r = IsUnread f k old l new r (code_of r)
-HearsRead (Ok m) k old l new r =
+-- the client is given these bytes, of which this is read
+abbrev pub HearsRead : List ℕ → Result ToClient Fault → Fields → List ℕ → Fields → List ℕ → Reply → Type 0
+HearsRead bytes (Err f) k old l new r = IsUnread bytes f k old l new r (code_of r)
+HearsRead bytes (Ok m) k old l new r =
     (r.detail ≡ 0)
     × Did (λ x list. Follows (meaning k) (case_of (meaning k) m) (meaning x) list) k old l new (code_of r)
 
 abbrev pub Hears : List ℕ → Fields → List ℕ → Fields → List ℕ → Reply → Type 0
-Hears bytes k old l new r = HearsRead (reading.to_client_of bytes) k old l new r
+Hears bytes k old l new r = HearsRead bytes (reading.to_client_of bytes) k old l new r
 
 -- it says again what is not answered
 abbrev pub Ticks : Fields → List ℕ → Fields → List ℕ → Reply → Type 0

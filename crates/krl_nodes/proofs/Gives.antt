@@ -6,8 +6,8 @@ use Rattle.krl_nodes.proofs.Names.{Change, MayGive, gave, HasNoMore}
 use mathlib.Core.Option as opt
 use Rattle.std.specs.Prelude.{Ok, slice_get, nat_eq, if◌then◌else◌}
 use Rattle.krl_steps.specs.declared.step.Step.{Step}
-use Rattle.krl_world.proofs.Functions.Shapes.{opening_left, takes_left, reachable_nobody}
-use Rattle.krl_world.proofs.Functions.Runs.{reachable_after}
+use Rattle.krl_world.proofs.Reaching.{by_run}
+use Rattle.krl_world.proofs.Functions.Shapes.{opening_left, takes_left, reachable_nobody, step_by_run}
 use Rattle.krl_nodes.specs.declared.post.Chair.TheVariants.{Taken, Free}
 use Rattle.krl_nodes.specs.declared.view.Node.{Node}
 use Rattle.krl_nodes.proofs.Views.{there_set, each_set, has_set_else, seated_set}
@@ -18,7 +18,7 @@ use Rattle.krl_nodes.proofs.Takes.{Goes, running_same}
 
 pub reaches_on : (opening : List (ℕ × Value)) (w v : State) (s : Step) (a : Answer) → ReachableFrom opening w → Steps w s (Ok a) v → ReachableFrom opening v
 unfolding Steps
-reaches_on opening w v s a h t = (reachable_after w v s (Ok a) h.0 t, opening_left w v (takes_left w v s a (reachable_nobody w h.0) t) ∙ h.1)
+reaches_on opening w v s a h t = (step_by_run w v s (Ok a) h.0 t, opening_left w v (takes_left w v s a (reachable_nobody w (by_run w h.0)) t) ∙ h.1)
 
 -- The seats of clients by number
 

@@ -9,7 +9,7 @@ use Rattle.krl_server.specs.Steps.{start}
 use Rattle.krl_server.specs.declared.state.State.{State as Kept}
 use Rattle.krl_world.specs.declared.node.ServerPlace.{ServerPlace as KeptNode}
 use Rattle.krl_world.specs.declared.node.ServerPlace.TheVariants as kept
-use Rattle.krl_world.proofs.Functions.Shapes.{reachable_stays}
+use Rattle.krl_world.proofs.Functions.Shapes.{first_by_run}
 use Rattle.krl_nodes.specs.declared.post.Chair.TheVariants.{Taken, Free}
 use Rattle.krl_nodes.proofs.Blanks.{opens}
 use Rattle.krl_nodes.proofs.Nodes.{self_view}
@@ -44,7 +44,7 @@ begun entries d e k = record { kept = subst IsKept e k; starts = refl; left = re
 
 fresh_from : (entries : List (ℕ × Value)) → CanOpen (unused entries) → ReachableFrom entries (fresh entries)
 unfolding opened
-fresh_from entries e = (reachable_stays.first (unused entries) e, refl)
+fresh_from entries e = (first_by_run (unused entries) e, refl)
 
 fresh_away : (entries : List (ℕ × Value)) (c : ℕ) → (fresh entries).places c ≡ down_at 0
 unfolding opened

@@ -7,7 +7,7 @@ use Rattle.atomic_table.specs.Table.{State as Table}
 use Rattle.krl_messages.specs.Values.{Value}
 use Rattle.krl_world.specs.declared.message.Message.{Message}
 use Rattle.krl_world.specs.States.{ServerPlace, ClientPlace, State, unused}
-use Rattle.krl_world.specs.Steps.{IsReachable}
+use Rattle.krl_world.specs.Steps.{IsReachedByRun}
 use Rattle.krl_world.specs.declared.message.Message.TheVariants as message
 use Rattle.krl_messages.specs.declared.to_server.ToServer.{ToServer}
 use Rattle.krl_messages.specs.declared.to_client.ToClient.{ToClient}
@@ -103,7 +103,7 @@ AllAway chairs w = (c i : ℕ) → slice_get chairs c ≡ Some (Free i) → w.pl
 
 -- some list of taken steps leads to the world from these entries
 abbrev pub ReachableFrom : List (ℕ × Value) → State → Type 0
-ReachableFrom entries w = IsReachable w × (w.opening ≡ unused entries)
+ReachableFrom entries w = IsReachedByRun w × (w.opening ≡ unused entries)
 
 pub record Running (mail : Mail) (views : List View) (w : State) : Type 0 where
   pub reach : ReachableFrom mail.opening w

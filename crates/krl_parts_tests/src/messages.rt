@@ -7,6 +7,7 @@ use krl_messages::{
 };
 use krl_modes::{END, KeyPart, MAX_HOLDINGS, Mode, RangePart, Span, TOP};
 use std::alloc::Global;
+use std::slice::from_ref;
 
 static KEYS: [KeyPiece; 2] = [
     KeyPiece {
@@ -149,11 +150,16 @@ fn room_for(alloc: Global, count: usize) -> Option<Vec<Holding>> {
     None
 }
 
+/// Puts the holding after the others, if there is one.
+fn put(items: &mut Vec<Holding>, holding: Option<Holding>) -> Option<()> {
+    items.extend_from_slice(from_ref(&holding?)).ok()
+}
+
 /// What a client reads of these slots, in their order.
 fn of_slots(alloc: Global, slots: &[u64]) -> Option<Holdings> {
     let mut items = room_for(alloc, slots.len())?;
     for n in slots {
-        items.push(nth(*n)?).ok()?;
+        put(&mut items, nth(*n))?;
     }
     Holdings::new(items)
 }
@@ -162,10 +168,10 @@ fn of_slots(alloc: Global, slots: &[u64]) -> Option<Holdings> {
 fn first_and(alloc: Global, n: u64, last: Option<Holding>) -> Option<Holdings> {
     let mut items = room_for(alloc, MAX_HOLDINGS + 2)?;
     for i in 0..n {
-        items.push(nth(i)?).ok()?;
+        put(&mut items, nth(i))?;
     }
-    if let Some(last) = last {
-        items.push(last).ok()?;
+    if last.is_some() {
+        put(&mut items, last)?;
     }
     Holdings::new(items)
 }

@@ -102,10 +102,10 @@ fn limits(room: usize, reach: usize) -> Option<Limits> {
 }
 
 // What a host kept of both entries, with these limits.
-fn limited(alloc: Global, limits: Limits) -> Option<Durable> {
+fn limited(alloc: Global, limits: &Limits) -> Option<Durable> {
     let entries = two_entries();
     for _ in 0..CALLS {
-        if let Ok(durable) = Durable::from_parts(alloc, limits, &entries, 0, &[]) {
+        if let Ok(durable) = Durable::from_parts(alloc, *limits, &entries, 0, &[]) {
             return Some(durable);
         }
     }
@@ -116,13 +116,13 @@ fn limited(alloc: Global, limits: Limits) -> Option<Durable> {
 fn brought_back(
     alloc: Global,
     durable: &Durable,
-    limits: Limits,
+    limits: &Limits,
 ) -> Result<Durable, EntriesRefused> {
     let records = durable.records(alloc)?;
-    Durable::from_parts(alloc, limits, durable.run(0), durable.epoch(), &records)
+    Durable::from_parts(alloc, *limits, durable.run(0), durable.epoch(), &records)
 }
 
-fn with_limits(alloc: Global, durable: &Durable, limits: Limits) -> Option<Durable> {
+fn with_limits(alloc: Global, durable: &Durable, limits: &Limits) -> Option<Durable> {
     for _ in 0..CALLS {
         if let Ok(durable) = brought_back(alloc, durable, limits) {
             return Some(durable);
@@ -208,12 +208,12 @@ fn ends_at_each_reach(alloc: Global) -> bool {
     let (Some(wide), Some(narrow)) = (limits(3, 2), limits(2, 1)) else {
         return false;
     };
-    let Some(durable) = survives(alloc, limited(alloc, wide), &ENDS_AT_THE_REACH) else {
+    let Some(durable) = survives(alloc, limited(alloc, &wide), &ENDS_AT_THE_REACH) else {
         return false;
     };
     gives(
         alloc,
-        with_limits(alloc, &durable, narrow),
+        with_limits(alloc, &durable, &narrow),
         &ENDS_AT_THE_NEXT_REACH,
     )
 }

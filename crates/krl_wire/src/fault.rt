@@ -35,7 +35,7 @@ pub enum Fault {
     /// A value has more than 32 bytes.
     #[error("a value has at most 32 bytes")]
     Length,
-    /// A grant has no holding, or more than eight.
+    /// A grant has no holding, or more than 128.
     #[error("a grant has 1 to 128 holdings")]
     Count,
     /// A holding does not lie behind the one before it.

@@ -275,6 +275,10 @@ RunsWith w (s ∷ steps) (r ∷ results) w' = (mid : State) × Steps w s r mid �
 
 -- What is reached
 
+-- some list of taken steps leads here from what the world began with
+abbrev pub IsReachedByRun : State → Type 0
+IsReachedByRun w = CanOpen w.opening × (steps : List Step) × Runs (opened w.opening) steps w
+
 -- what a server left that is down has these limits from now on: so the next one finds it
 abbrev pub resized : State → Durable → Limits → State
 resized w d l = record w { server = Down (sized l d) }

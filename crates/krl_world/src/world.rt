@@ -7,7 +7,7 @@ ghost use Rattle.krl_blocks.specs.Runs.{runs_of};
 ghost use Rattle.krl_durable.specs.Migrations.{migrated};
 ghost use Rattle.krl_world.specs.States.{index_of, opened, fresh, range_held, key_held};
 ghost use Rattle.krl_world.specs.Steps.{Steps, RunsWith, CanBegin, CannotBegin, CanOpen};
-ghost use Rattle.krl_world.specs.Steps.{CannotMigrate, IsReachable, message_at};
+ghost use Rattle.krl_world.specs.Steps.{CannotMigrate, IsReachable, IsReachedByRun, message_at};
 ghost use Rattle.krl_world.specs.Promises.{IsCompatible, ScansIndex, WritesOnce, CanGoOn};
 ghost use Rattle.krl_world.specs.Bounds.{Bound, HasBound, IsBounded, HoldsOverRestarts};
 ghost use Rattle.krl_world.specs.Fields.{meaning};
@@ -38,7 +38,7 @@ impl Drop for World {
 
 impl Model for World {
     ghost use Rattle.krl_world.specs.Fields.{Fields, meaning};
-    ghost use Rattle.krl_world.specs.Steps.{IsReachable};
+    ghost use Rattle.krl_world.specs.Steps.{IsReachedByRun};
     ghost use Rattle.krl_world.specs.contracts.nodes.Nodes as kept_nodes;
 
     ghost Value = { Fields };
@@ -47,7 +47,7 @@ impl Model for World {
 
     ghost view = { λ w. w.nodes };
 
-    ghost invariant = { λ w. IsReachable (meaning w.nodes) };
+    ghost invariant = { λ w. IsReachedByRun (meaning w.nodes) };
 }
 
 impl World {
@@ -109,6 +109,7 @@ impl World {
         ensures restarts { (b : Bound) → HasBound (meaning self.new) b
             → HoldsOverRestarts (meaning self.new) b }
         ensures reachable { IsReachable (meaning self.new) }
+        ensures by_run { IsReachedByRun (meaning self.new) }
         ensures goes_on { CanGoOn (meaning self.new) }
     {
         self.nodes.step(step)
@@ -131,6 +132,7 @@ impl World {
         ensures compatible { IsCompatible (meaning self.new) }
         ensures writes { WritesOnce (meaning self.new) }
         ensures reachable { IsReachable (meaning self.new) }
+        ensures by_run { IsReachedByRun (meaning self.new) }
     {
         // What holds of every world is known if its field is named.
         let _ = &self.nodes;

@@ -20,7 +20,13 @@ fn the_page_is_whole_without_scripts_and_may_do_little() {
     let serving = Serving::start(&folder.path().join("krl.db"));
     let client = serving.join(folder.path(), 3);
     assert_eq!(client.insert(10, Value::from(1)), Ok(Outcome::Applied));
-    until("client 3 holds something", || serving.get("/").1.contains("<text x=\"8\" "));
+    // What the status has comes a little later than what the picture has.
+    until("all is shown of client 3", || {
+        let page = serving.get("/").1;
+        ["<text x=\"8\" ", "<dd>1 of 65536</dd>", "<td>127.0.0.1:"]
+            .iter()
+            .all(|it| page.contains(it))
+    });
     let page = whole(&serving, "/");
     for part in [
         "HTTP/1.1 200 OK\r\n",

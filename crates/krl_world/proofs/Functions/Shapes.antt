@@ -2,9 +2,9 @@
 use Rattle.krl_world.proofs.Names.{◌≡◌, ℕ, ◌≤◌, ◌∙◌, Bool, true, false, cond, Option, Some, None, List, [], ◌∷◌, refl, sym, ap, subst, arith, nat_eq, nat_lt, if◌then◌else◌, ltb-false, eqb-true}
 use Rattle.krl_world.proofs.Names.{Result, Ok, Err, Durable, ToServer, ToClient, Client, Message, AppliedWrite, Step, Command, Answer, Refused, ServerPlace, Up, Down, ClientPlace, State, client_of}
 use Rattle.krl_world.proofs.Names.{range_believed, key_believed, set_place, opened, message_at, of_client, CanOpen, ServerReads, ClientReads, Delivers, Obeys, nudged, started, crashed, Takes, Steps}
-use Rattle.krl_world.proofs.Names.{RunsWith, IsReachable, ReachableStays, NobodyAbove63}
+use Rattle.krl_world.proofs.Names.{Runs, RunsWith, IsReachable, IsReachedByRun, ReachableStays, NobodyAbove63}
 use Rattle.krl_world.specs.Steps.{opens, takes, resizes}
-use Rattle.krl_world.proofs.Reaching.{by_reaching}
+use Rattle.krl_world.proofs.Reaching.{by_reaching, by_run}
 use Rattle.krl_modes.specs.declared.part.RangePart.TheVariants as range
 use Rattle.krl_modes.specs.declared.part.KeyPart.TheVariants as key
 use Rattle.krl_world.specs.declared.message.Message.TheVariants as message
@@ -126,6 +126,26 @@ runs_reachable w v [] [] h r = subst IsReachable (sym r) h
 runs_reachable w v [] (x ∷ results) h r = absurd r
 runs_reachable w v (s ∷ steps) [] h r = absurd r
 runs_reachable w v (s ∷ steps) (x ∷ results) h r = runs_reachable r.0 v steps results (step_reachable w r.0 s x h r.1) r.2
+
+-- Worlds that are reached by a run
+
+run_on : (u w v : State) (steps : List Step) (s : Step) (answer : Answer) → Runs u steps w → Takes w s answer v → (more : List Step) × Runs u more v
+run_on u w v [] s answer r t = (s ∷ [], (answer, v, subst (λ x. Takes x s answer v) r t, refl))
+run_on u w v (x ∷ steps) s answer r t = let y = run_on r.1 w v steps s answer r.3 t in (x ∷ y.0, (r.0, r.1, r.2, y.1))
+
+pub first_by_run : (d : Durable) → CanOpen d → IsReachedByRun (opened d)
+first_by_run d h = subst (λ x. CanOpen x × (steps : List Step) × Runs (opened x) steps (opened d)) (sym (opened_opening d)) (h, [], refl)
+
+takes_by_run : (w v : State) (s : Step) (answer : Answer) → IsReachedByRun w → Takes w s answer v → IsReachedByRun v
+takes_by_run w v s answer h t =
+    let e = reachable_opening w v s answer (by_run w h) t in
+    let r = run_on (opened w.opening) w v h.1 s answer h.2 t in
+    subst (λ d. CanOpen d × (steps : List Step) × Runs (opened d) steps v) (sym e) (h.0, r.0, r.1)
+
+pub step_by_run : (w v : State) (s : Step) (r : Result Answer Refused) → IsReachedByRun w → Steps w s r v → IsReachedByRun v
+unfolding Steps
+step_by_run w v s (Ok answer) h t = takes_by_run w v s answer h t
+step_by_run w v s (Err e) h t = subst IsReachedByRun (sym t.0) h
 
 pub reachable_stays : ReachableStays
 reachable_stays = record { first = opens; step = step_reachable; run = runs_reachable; resized = resizes }

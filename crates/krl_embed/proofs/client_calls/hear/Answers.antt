@@ -39,13 +39,14 @@ returns c =
     )
 
 -- memory ran out before the message was read
-unread : (read : Result ToClient Fault) (k : Fields) (old : List ℕ) (r : Reply) → replies.code_of r ≡ Some code.OutOfMemory → r.detail ≡ 0 → HearsRead read k old k old r
-unread (Ok m) k old r e d = (d, subst (Did (λ x list. Follows (meaning k) (case_of (meaning k) m) (meaning x) list) k old k old) (sym e) (refl, refl))
-unread (Err f) k old r e d = subst (IsUnread f k old k old r) (sym e) (refl, refl, d)
+unread : (bytes : List ℕ) (read : Result ToClient Fault) (k : Fields) (old : List ℕ) (r : Reply) → replies.code_of r ≡ Some code.OutOfMemory → r.detail ≡ 0 → reading.BeginsGrant bytes → HearsRead bytes read k old k old r
+unread bytes (Ok m) k old r e d g = (d, subst (Did (λ x list. Follows (meaning k) (case_of (meaning k) m) (meaning x) list) k old k old) (sym e) (refl, refl))
+unread bytes (Err f) k old r e d g = subst (IsUnread bytes f k old k old r) (sym e) (refl, refl, d, g)
 
 pub returns-in-Err-OutOfMemory : goal.returns-in-Err-OutOfMemory
 returns-in-Err-OutOfMemory c =
-    unread (reading.to_client_of c.args.bytes.now) c.args.client.now c.args.outgoing.now c.of.result c.of.ensures.code c.of.ensures.detail
+    unread c.args.bytes.now (reading.to_client_of c.args.bytes.now) c.args.client.now c.args.outgoing.now c.of.result c.of.ensures.code c.of.ensures.detail
+    (c.to_client_of.ensures.memory (c.in-Err-OutOfMemory.is ∙ ap Err c.in-Err-OutOfMemory.field-0-is))
 
 pub returns-in-Err-Fault : goal.returns-in-Err-Fault
 returns-in-Err-Fault c =
@@ -54,5 +55,5 @@ returns-in-Err-Fault c =
     subst (λ (q : Result ToClient ReadError). GivesIfRoom q (reading.to_client_of c.args.bytes.now)) e c.to_client_of.ensures.exact in
     let number : c.with.result.detail ≡ fault_number c.in-Err-Fault.fault = search rules in
     rw read
-    (subst (IsUnread c.in-Err-Fault.fault c.args.client.now c.args.outgoing.now c.args.client.now c.args.outgoing.now c.with.result) (sym c.with.ensures.code)
+    (subst (IsUnread c.args.bytes.now c.in-Err-Fault.fault c.args.client.now c.args.outgoing.now c.args.client.now c.args.outgoing.now c.with.result) (sym c.with.ensures.code)
     (refl, refl, number))
