@@ -50,6 +50,11 @@ HOST_KINDS = {
     "Shard": 22,
 }
 SERVER_HELLO = bytes([0, HOST_KINDS["Hello"]])
+"""How the Hello of a server begins, in each version."""
+VERSION = 2
+"""The version of the stream, which each Hello names from version 2 on."""
+MARKS = (0, 24, 40)
+"""How many bytes a mark has in the Hello of a client."""
 SHARD = ("first", "end", "version")
 SIGN = ("client", "incarnation", "moment", "length", "older")
 NUMBERS = {"Shard": SHARD, "Terms": ("incarnation", "moment", "length"), "Ended": ("incarnation",)}
@@ -74,7 +79,7 @@ def host_frame(said: dict[str, Any]) -> bytes:
         names = NUMBERS[said["host"]]
         return head + b"".join(said[name].to_bytes(8, "little") for name in names)
     if said["host"] == "Hello":
-        return head + bytes([1] if said.get("signs") else [])
+        return head + bytes([1 if said.get("signs") else 0, said.get("version", VERSION)])
     if said["host"] == "Refused":
         # What a shard refuses has a third number.
         numbers = [said[name] for name in ("first", "second", "version") if name in said]
@@ -86,7 +91,9 @@ def host_frame(said: dict[str, Any]) -> bytes:
 def read_frame(frame: bytes) -> dict[str, Any]:
     """What a client says."""
     if frame[:2] == b"\0\0":
-        return {"host": "Hello", "mark": frame[2:].hex() or None}
+        if len(frame) - 3 not in MARKS:
+            fail(f"the client's Hello names no version: {frame.hex()}")
+        return {"host": "Hello", "mark": frame[2:-1].hex() or None, "version": frame[-1]}
     for kind, name, fields in ((1, "Sign", SIGN), (2, "Shard", SHARD)):
         if frame[:2] == bytes([0, kind]):
             numbers = (int.from_bytes(frame[at : at + 8], "little") for at in range(2, 42, 8))
@@ -157,7 +164,7 @@ class Peer:
         """A script that expects no Sign is that of a server without leases: a client with leases
         goes on when it has heard so."""
         if not self._has_greeted:
-            self.send([SERVER_HELLO])
+            self.send([host_frame({"host": "Hello"})])
 
     def send(self, frames: list[bytes]) -> None:
         """Sends frames, all at once."""

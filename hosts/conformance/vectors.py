@@ -75,12 +75,16 @@ def reports() -> Iterator[dict[str, Any]]:
 
 
 def grants() -> Iterator[dict[str, Any]]:
-    """Grants of one to eight holdings."""
+    """Grants of one to nine holdings, and the longest one: 128 holdings with the longest values."""
     holdings = [HELD]
-    for place in range(8):
+    for place in range(9):
         yield message("Grant", **PUSHED, request=5, holdings=list(holdings))
         span = [11 + 10 * place, 21 + 10 * place]
         holdings.append({"span": span, "mode": "X", "value": None})
+    value = bytes(range(32)).hex()
+    spans = [[10 * place, 10 * place + 10] for place in range(128)]
+    longest = [{"span": span, "mode": "RangeS-S", "value": value} for span in spans]
+    yield message("Grant", **PUSHED, request=5, holdings=longest)
 
 
 def faulty() -> Iterator[tuple[str, bytes]]:

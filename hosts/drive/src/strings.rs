@@ -123,7 +123,7 @@ impl Table {
             ffi::krl_server_open(
                 &raw mut server,
                 ffi::DEFAULT_ROOM,
-                ffi::DEFAULT_REACH,
+                ffi::MAX_REACH,
                 0,
                 ptr::null(),
                 0,

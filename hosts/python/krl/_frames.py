@@ -4,8 +4,9 @@ from __future__ import annotations
 
 from collections.abc import Iterator
 
-LONGEST_TO_CLIENT = 1 << 10
-"""The longest message to a client: a grant of eight holdings has 451 bytes."""
+LONGEST_TO_CLIENT = 43 + 51 * 128
+"""The longest message to a client: a grant of 128 holdings, which is the most that a server may
+send."""
 
 _PREFIX = 8
 

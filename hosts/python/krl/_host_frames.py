@@ -10,6 +10,12 @@ from .errors import Reason, Refusal
 
 _HOST = 0
 
+VERSION = 2
+"""The version of the stream, which the Hello of each side names."""
+
+# The version of a Hello that names none.
+_BEFORE_VERSIONS = 1
+
 # A mark, and with it the bits of the store's first start. A server of an earlier release sends the
 # mark without them.
 _MARK_BYTES = 24
@@ -46,16 +52,18 @@ def is_of_host(frame: bytes) -> bool:
 
 def hello(seen: Mark | None) -> bytes:
     """The Hello of a client's host that has seen so much of the store, with its length."""
-    return framed(bytes([_HOST, _CLIENT_HELLO]) + (seen or b""))
+    return framed(bytes([_HOST, _CLIENT_HELLO]) + (seen or b"") + bytes([VERSION]))
 
 
 def read(frame: bytes) -> FromServer:
-    """What a frame of a server's host says. Bytes behind those that it knows are passed over."""
+    """What a frame of a server's host says. Bytes behind those that it knows are passed over. The
+    Hello of another version is a refusal for that reason."""
     if len(frame) < 2:
         return None
     kind, rest = frame[1], frame[2:]
     if kind == _SERVER_HELLO:
-        return Kind.HELLO
+        version = rest[1] if len(rest) > 1 else _BEFORE_VERSIONS
+        return Kind.HELLO if version == VERSION else Refusal(Reason.VERSION, version, 0)
     if kind == _REFUSED:
         return _refusal(rest)
     if kind == _MARK and len(rest) >= _MARK_BYTES:

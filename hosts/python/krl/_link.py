@@ -247,6 +247,8 @@ class Link:
             if said.reason is Reason.OTHER_STORE:
                 self._leave_other_store(said)
             self._refusal = said, time.monotonic()
+            if said.reason is Reason.VERSION:
+                raise Ended(str(said))
             if said.is_of_a_later(self._lock_file.number, self._lock_file.incarnation):
                 raise Stopped(f"the client has stopped, and its cache is dropped: {said}")
         elif isinstance(said, Mark):

@@ -121,7 +121,10 @@ class Refusal:
 
     def __str__(self) -> str:
         if self.reason is Reason.VERSION:
-            return f"the server reads messages of version {self.first} alone"
+            return (
+                f"the server speaks version {self.first} of the protocol, and this client another "
+                "one: run both by releases of one version"
+            )
         if self.reason is Reason.CLIENT_NUMBER:
             return f"a client's number is 0 to 63, and the server has no client {self.first}"
         if self.reason is Reason.INCARNATION:

@@ -353,7 +353,7 @@ class ConnectingTest(unittest.TestCase):
                 for attempt in range(1, 4):
                     with listener.accept()[0] as peer:
                         peer.settimeout(PATIENCE)
-                        self.assertEqual(peer.recv(10, socket.MSG_WAITALL), hello(None))
+                        self.assertEqual(peer.recv(11, socket.MSG_WAITALL), hello(None))
                         peer.sendall(framed(epoch))
                         until(lambda: len(ends) >= attempt)
         self.assertEqual(

@@ -23,19 +23,19 @@ from .serving import in_child
 
 class FramesTest(unittest.TestCase):
     def test_frames_come_in_pieces(self) -> None:
-        sent = framed(b"one") + framed(b"") + framed(b"x" * 1024)
+        sent = framed(b"one") + framed(b"") + framed(b"x" * 6571)
         frames, came = Frames(), []
         for place in range(len(sent)):
             frames.add(sent[place : place + 1])
             came += list(frames.take())
-        self.assertEqual(came, [b"one", b"", b"x" * 1024])
+        self.assertEqual(came, [b"one", b"", b"x" * 6571])
 
     def test_a_length_above_the_limit_is_refused_before_its_bytes_come(self) -> None:
         frames = Frames()
-        frames.add(framed(b"one") + (1025).to_bytes(8, "little"))
+        frames.add(framed(b"one") + (6572).to_bytes(8, "little"))
         taken = frames.take()
         self.assertEqual(next(taken), b"one")
-        with self.assertRaisesRegex(TooLong, "1025 bytes"):
+        with self.assertRaisesRegex(TooLong, "6572 bytes"):
             next(taken)
 
 
@@ -71,10 +71,15 @@ class HostFramesTest(unittest.TestCase):
         other_store = Refusal(Reason.OTHER_STORE, 0, 0)
         self.assertEqual(read(b"\0\x11\x09" + bytes(16)), other_store)
         self.assertIn("another store", str(other_store))
-        self.assertEqual(read(b"\0\x10"), Kind.HELLO)
+        self.assertEqual(read(b"\0\x10\x01\x02"), Kind.HELLO)
+        self.assertEqual(read(b"\0\x10\0\x02more"), Kind.HELLO)
+        for hello_, version in ((b"", 1), (b"\x01", 1), (b"\x01\x03", 3)):
+            refusal = Refusal(Reason.VERSION, version, 0)
+            self.assertEqual(read(b"\0\x10" + hello_), refusal)
+            self.assertIn(f"speaks version {version} of", str(refusal))
         self.assertEqual(read(b"\0\x13"), Kind.WENT_BACK)
-        self.assertEqual(hello(None), bytes([2, 0, 0, 0, 0, 0, 0, 0, 0, 0]))
-        self.assertEqual(hello(mark), bytes([26, 0, 0, 0, 0, 0, 0, 0, 0, 0]) + mark)
+        self.assertEqual(hello(None), bytes([3, 0, 0, 0, 0, 0, 0, 0, 0, 0, 2]))
+        self.assertEqual(hello(mark), bytes([27, 0, 0, 0, 0, 0, 0, 0, 0, 0]) + mark + b"\x02")
         self.assertTrue(is_of_host(refused))
         self.assertFalse(is_of_host(b"") or is_of_host(b"\1\0"))
 

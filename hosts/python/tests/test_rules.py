@@ -64,6 +64,9 @@ class RulesTest(unittest.TestCase):
     def test_other_shard(self) -> None:
         self.play("other_shard")
 
+    def test_other_version(self) -> None:
+        self.play("other_version")
+
     def test_each_script_is_played(self) -> None:
         played = {name[len("test_") :] for name in dir(self) if name.startswith("test_")}
         there = {script.stem for script in (KIT / "scripts").glob("*.jsonl")}

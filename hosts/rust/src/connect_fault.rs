@@ -1,4 +1,5 @@
 //! Why a client has no connection: the network failed, or the two sides do not take each other.
+use crate::refusal::Refusal;
 use crate::shard_fence::OtherShard;
 use std::fmt;
 use std::io::{self, ErrorKind};
@@ -12,6 +13,10 @@ const FINAL: u32 = 2;
 #[derive(Clone, Debug, PartialEq, Eq)]
 pub(crate) struct NotTaken(pub String);
 
+/// The server is of this version of the stream, and this side of another one.
+#[derive(Clone, Copy, Debug, PartialEq, Eq)]
+pub(crate) struct OtherVersion(pub u8);
+
 /// Why a connection was not made, or has ended.
 #[derive(Debug)]
 pub(crate) enum ConnectFault {
@@ -20,6 +25,7 @@ pub(crate) enum ConnectFault {
     Io(io::Error),
     NotTaken(NotTaken),
     OtherShard(OtherShard),
+    OtherVersion(OtherVersion),
 }
 
 impl From<io::Error> for ConnectFault {
@@ -29,6 +35,9 @@ impl From<io::Error> for ConnectFault {
         let carried = error.get_ref();
         if let Some(other) = carried.and_then(|it| it.downcast_ref()) {
             return ConnectFault::OtherShard(*other);
+        }
+        if let Some(other) = carried.and_then(|it| it.downcast_ref()) {
+            return ConnectFault::OtherVersion(*other);
         }
         match carried.and_then(|it| it.downcast_ref::<NotTaken>()) {
             Some(not_taken) => ConnectFault::NotTaken(not_taken.clone()),
@@ -43,6 +52,7 @@ impl From<ConnectFault> for io::Error {
             ConnectFault::Io(error) => error,
             ConnectFault::NotTaken(not_taken) => not_taken.into(),
             ConnectFault::OtherShard(other) => other.into(),
+            ConnectFault::OtherVersion(other) => other.into(),
         }
     }
 }
@@ -53,11 +63,18 @@ impl From<NotTaken> for io::Error {
     }
 }
 
+impl From<OtherVersion> for io::Error {
+    fn from(other: OtherVersion) -> io::Error {
+        io::Error::new(ErrorKind::Unsupported, other)
+    }
+}
+
 /// That the server rejected this side, if it did.
 #[derive(Clone, Debug, PartialEq, Eq)]
 pub(crate) enum Rejection {
     NotTaken(NotTaken),
     OtherShard(OtherShard),
+    OtherVersion(OtherVersion),
 }
 
 impl ConnectFault {
@@ -66,6 +83,7 @@ impl ConnectFault {
             ConnectFault::Io(_) => None,
             ConnectFault::NotTaken(not_taken) => Some(Rejection::NotTaken(not_taken.clone())),
             ConnectFault::OtherShard(other) => Some(Rejection::OtherShard(*other)),
+            ConnectFault::OtherVersion(other) => Some(Rejection::OtherVersion(*other)),
         }
     }
 }
@@ -119,12 +137,28 @@ impl fmt::Display for NotTaken {
 
 impl std::error::Error for NotTaken {}
 
+impl OtherVersion {
+    /// What callers hear of it.
+    pub fn refusal(self) -> Refusal {
+        Refusal::Version { read: self.0 }
+    }
+}
+
+impl fmt::Display for OtherVersion {
+    fn fmt(&self, f: &mut fmt::Formatter<'_>) -> fmt::Result {
+        self.refusal().fmt(f)
+    }
+}
+
+impl std::error::Error for OtherVersion {}
+
 impl fmt::Display for ConnectFault {
     fn fmt(&self, f: &mut fmt::Formatter<'_>) -> fmt::Result {
         match self {
             ConnectFault::Io(error) => error.fmt(f),
             ConnectFault::NotTaken(not_taken) => not_taken.fmt(f),
             ConnectFault::OtherShard(other) => other.fmt(f),
+            ConnectFault::OtherVersion(other) => other.fmt(f),
         }
     }
 }
@@ -145,6 +179,7 @@ mod tests {
     fn the_carried_type_decides_and_not_the_kind() {
         let is_rejected = |error: io::Error| ConnectFault::from(error).rejection().is_some();
         assert!(is_rejected(not_taken()) && is_rejected(other_shard()));
+        assert!(is_rejected(OtherVersion(1).into()));
         assert!(!is_rejected(ErrorKind::PermissionDenied.into()), "as of a lock file");
         assert!(!is_rejected(io::Error::new(ErrorKind::PermissionDenied, "no right")));
         assert!(!is_rejected(ErrorKind::ConnectionRefused.into()));
@@ -152,7 +187,8 @@ mod tests {
 
     #[test]
     fn a_fault_is_the_same_error_again() {
-        for error in [not_taken(), other_shard(), ErrorKind::ConnectionRefused.into()] {
+        let others = [OtherVersion(1).into(), ErrorKind::ConnectionRefused.into()];
+        for error in [not_taken(), other_shard()].into_iter().chain(others) {
             let (kind, text) = (error.kind(), error.to_string());
             let again = io::Error::from(ConnectFault::from(error));
             assert_eq!((again.kind(), again.to_string()), (kind, text));

@@ -92,7 +92,7 @@ impl Connection {
         Connection {
             entry,
             has_spoken: false,
-            incoming: Frames::new(longest),
+            incoming: Frames::to_server(longest),
             unread: Unread::Nothing,
             heard: now,
             outgoing: Outgoing::default(),

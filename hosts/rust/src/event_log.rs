@@ -40,6 +40,7 @@ pub(crate) struct EventLog {
     bad_messages: Seldom,
     other_shards: Seldom,
     other_stores: Seldom,
+    other_versions: Seldom,
     strangers: Seldom,
     denials: Seldom,
     far_ahead: Seldom,
@@ -60,6 +61,7 @@ impl EventLog {
             bad_messages: Seldom::default(),
             other_shards: Seldom::default(),
             other_stores: Seldom::default(),
+            other_versions: Seldom::default(),
             strangers: Seldom::default(),
             denials: Seldom::default(),
             far_ahead: Seldom::default(),
@@ -220,6 +222,19 @@ impl EventLog {
                 peer = %at.peer,
                 passed_over,
                 "a client is refused: it has seen another store than this one"
+            );
+        }
+    }
+
+    /// A client's host is of another version of the stream, and is refused.
+    pub fn other_version(&mut self, at: &At) {
+        if let Some(passed_over) = self.other_versions.lets(Instant::now()) {
+            tell!(
+                warn,
+                connection = at.connection,
+                peer = %at.peer,
+                passed_over,
+                "a client is refused: its release is of another version of the protocol"
             );
         }
     }

@@ -11,10 +11,10 @@ use crate::frames;
 use crate::handle::ServerHandle;
 use crate::held_back::HeldBack;
 use crate::history::History;
-use crate::host_frame::FromClient;
+use crate::host_frame::{self, FromClient};
 use crate::incoming::Incoming;
 use crate::leases::LeaseTable;
-use crate::message::{self, Head, Kind, Message};
+use crate::message::{Head, Kind, Message};
 use crate::refusal::{ClientSet, Refusal};
 use crate::routing::{Sender, sender};
 use crate::server::ServeError;
@@ -217,6 +217,10 @@ impl EventLoop {
                 self.greet(connection, seen);
                 Ok(())
             }
+            Incoming::Host(Some(FromClient::OtherVersion)) => {
+                self.refuse_other_version(connection);
+                Ok(())
+            }
             Incoming::Sign(sign) => self.hear_sign(connection, sign, now),
             Incoming::Host(_) => Ok(()),
         }
@@ -240,7 +244,7 @@ impl EventLoop {
                 let length = message.bytes().len();
                 self.log.bad_message(&self.connections.at(connection), length);
                 if message.is_of_another_version() {
-                    let refusal = Refusal::Version { read: message::VERSION };
+                    let refusal = Refusal::Version { read: host_frame::VERSION };
                     self.connections.refuse(connection, refusal);
                 }
                 self.connections.end(connection, CloseReason::BadMessage);

@@ -6,8 +6,8 @@ use std::ffi::c_void;
 /// For how many rows a server has room if nothing asks for another number.
 pub const DEFAULT_ROOM: usize = 65_536;
 
-/// How many slots one grant of a server takes at most if nothing asks for another number.
-pub const DEFAULT_REACH: usize = 8;
+/// The most slots that one grant of a server may take.
+pub const MAX_REACH: usize = 128;
 
 /// The most rows that a server may have room for.
 pub const MAX_ROOM: usize = 1_048_576;

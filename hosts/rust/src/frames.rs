@@ -1,6 +1,7 @@
 //! Messages on a stream: each has its length before it, in eight bytes, the lowest first.
 //!
 //! A frame of no bytes is no message: by it a server's host says that a Bye is kept.
+use crate::ffi;
 use std::io::{self, Read};
 use std::ops::Range;
 
@@ -14,8 +15,13 @@ pub(crate) const LONGEST_SHORT: usize = 1 << 10;
 /// The bytes of a message's head: its version, its kind, its client and the incarnation.
 pub(crate) const HEAD: usize = 18;
 
-/// The longest message to a client: a grant of eight holdings has 451 bytes.
-pub(crate) const LONGEST_TO_CLIENT: usize = 1 << 10;
+/// The bytes of a grant before its holdings, and the most that one of these has.
+const GRANT_HEAD: usize = 43;
+const LONGEST_HOLDING: usize = 51;
+
+/// The longest message to a client: a grant of a server with the greatest reach. A client does not
+/// know the reach of its server, and takes grants of any.
+pub(crate) const LONGEST_TO_CLIENT: usize = GRANT_HEAD + LONGEST_HOLDING * ffi::MAX_REACH;
 
 /// The frame of no bytes.
 pub(crate) const EMPTY: [u8; PREFIX] = [0; PREFIX];
@@ -34,7 +40,8 @@ const KEPT: usize = 4 * GULP;
 pub(crate) struct TooLong;
 
 /// The bytes that came and belong to no frame that was taken yet. It grows with what came, never by
-/// a length alone, and beyond `LONGEST_SHORT` only for a frame that was admitted by its head.
+/// a length alone, and at a server beyond `LONGEST_SHORT` only for a frame that was admitted by its
+/// head.
 #[derive(Debug, Default)]
 pub(crate) struct Frames {
     /// Room for bytes. What is behind `filled` was zero, or is of frames that were taken: no read
@@ -43,13 +50,22 @@ pub(crate) struct Frames {
     taken: usize,
     filled: usize,
     longest: usize,
+    /// A longer frame has to be admitted by its head.
+    longest_unadmitted: usize,
     /// The next frame is long, and was admitted.
     is_long_admitted: bool,
 }
 
 impl Frames {
-    pub fn new(longest: usize) -> Frames {
-        Frames { longest, ..Frames::default() }
+    /// What comes to a server, in which a frame has so many bytes at most.
+    pub fn to_server(longest: usize) -> Frames {
+        Frames { longest, longest_unadmitted: LONGEST_SHORT, ..Frames::default() }
+    }
+
+    /// What comes to a client. None of its frames has to be admitted.
+    pub fn to_client() -> Frames {
+        let longest = LONGEST_TO_CLIENT;
+        Frames { longest, longest_unadmitted: longest, ..Frames::default() }
     }
 
     /// Reads once from the stream, at most `GULP` bytes, and says how many came: none if it has
@@ -81,7 +97,7 @@ impl Frames {
     /// The head of the next frame, if that is long and waits to be admitted.
     pub fn long_head(&self) -> Option<[u8; HEAD]> {
         let (length, rest) = split_length(&self.bytes[self.taken..self.filled])?;
-        let is_long = length > LONGEST_SHORT as u64 && length <= self.longest as u64;
+        let is_long = length > self.longest_unadmitted as u64 && length <= self.longest as u64;
         let head = rest.first_chunk().filter(|_| is_long && !self.is_long_admitted)?;
         Some(*head)
     }
@@ -118,7 +134,7 @@ impl Frames {
         if length > self.longest {
             return Err(TooLong);
         }
-        if length > LONGEST_SHORT && !self.is_long_admitted {
+        if length > self.longest_unadmitted && !self.is_long_admitted {
             return Ok(None);
         }
         let start = self.taken + PREFIX;
@@ -156,7 +172,7 @@ mod tests {
     fn frames_that_come_in_pieces() {
         let sent = [frame(b"one"), frame(b""), frame(b"three")].concat();
         for step in 1..sent.len() {
-            let mut frames = Frames::new(5);
+            let mut frames = Frames::to_server(5);
             let mut found = Vec::new();
             for piece in sent.chunks(step) {
                 frames.fill(&mut &*piece).unwrap();
@@ -172,7 +188,7 @@ mod tests {
     #[test]
     fn a_length_past_the_limit_takes_no_memory() {
         for length in [6, 1 << 20, 1 << 60, u64::MAX] {
-            let mut frames = Frames::new(5);
+            let mut frames = Frames::to_server(5);
             frames.fill(&mut &length.to_le_bytes()[..]).unwrap();
             assert!(frames.is_broken() && !frames.needs_more());
             assert_eq!(frames.next(), Err(TooLong));
@@ -181,9 +197,20 @@ mod tests {
     }
 
     #[test]
+    fn a_client_takes_the_longest_grant_and_nothing_longer() {
+        assert_eq!(LONGEST_TO_CLIENT, 6571);
+        let mut frames = Frames::to_client();
+        frames.fill(&mut &frame(&[7; LONGEST_TO_CLIENT])[..]).unwrap();
+        assert_eq!((frames.long_head(), frames.needs_more()), (None, false));
+        assert_eq!(frames.next().unwrap().map(<[u8]>::len), Some(LONGEST_TO_CLIENT));
+        frames.fill(&mut &frame(&[7; LONGEST_TO_CLIENT + 1])[..]).unwrap();
+        assert_eq!(frames.next(), Err(TooLong));
+    }
+
+    #[test]
     fn a_long_frame_has_to_be_admitted_by_its_head() {
         let long = frame(&[7; LONGEST_SHORT + 1]);
-        let mut frames = Frames::new(1 << 20);
+        let mut frames = Frames::to_server(1 << 20);
         frames.fill(&mut &long[..PREFIX + HEAD - 1]).unwrap();
         assert_eq!((frames.long_head(), frames.needs_more()), (None, true));
         frames.fill(&mut &long[PREFIX + HEAD - 1..]).unwrap();
@@ -194,7 +221,7 @@ mod tests {
         // It was admitted once.
         frames.fill(&mut &long[..]).unwrap();
         assert!(frames.long_head().is_some() && frames.next() == Ok(None));
-        let mut short = Frames::new(1 << 20);
+        let mut short = Frames::to_server(1 << 20);
         short.fill(&mut &frame(&[7; LONGEST_SHORT])[..]).unwrap();
         assert_eq!((short.long_head(), short.needs_more()), (None, false));
     }
@@ -203,7 +230,7 @@ mod tests {
     fn the_room_of_a_long_frame_is_given_back() {
         let long = frame(&vec![7; 1 << 20]);
         let mut sent = &long[..];
-        let mut frames = Frames::new(1 << 20);
+        let mut frames = Frames::to_server(1 << 20);
         frames.admit_long();
         while frames.needs_more() {
             assert!(frames.fill(&mut sent).unwrap() <= GULP);

@@ -3,6 +3,7 @@ use crate::change::{Change, Outcome, Record, Snapshot, Write};
 use crate::code::Code;
 use crate::ffi;
 use crate::locks::HeldSlot;
+use crate::reach::Reach;
 use crate::room::Room;
 use crate::row::Row;
 use crate::watch::{CLIENTS, Waiting, mode_name};
@@ -96,9 +97,13 @@ pub(crate) struct ServerHandle {
 }
 
 impl ServerHandle {
-    /// Starts a server of this room on what was kept, and says its epoch: it has to be kept before
-    /// anything is sent.
-    pub fn open(snapshot: &Snapshot, room: Room) -> Result<(ServerHandle, u64), Code> {
+    /// Starts a server of this room and this reach on what was kept, and says its epoch: it has to
+    /// be kept before anything is sent.
+    pub fn open(
+        snapshot: &Snapshot,
+        room: Room,
+        reach: Reach,
+    ) -> Result<(ServerHandle, u64), Code> {
         let rows: Vec<Row> =
             snapshot.rows.iter().map(|(key, value)| Row { key: *key, value: *value }).collect();
         let records: Vec<_> = snapshot.records.iter().map(raw_record).collect();
@@ -108,7 +113,7 @@ impl ServerHandle {
             ffi::krl_server_open(
                 handle.raw(),
                 room.rows(),
-                ffi::DEFAULT_REACH,
+                reach.slots(),
                 snapshot.epoch,
                 rows.as_ptr(),
                 rows.len(),

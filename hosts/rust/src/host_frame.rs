@@ -2,6 +2,9 @@
 //! the messages. `docs/WIRE.md` has the table.
 //!
 //! The first byte of a host frame is 0. No message of the library begins so: its version is 1.
+//!
+//! A Hello names the version of the stream, and its layout is the same in each version from 2 on: so
+//! each side can tell the other that they do not fit together.
 use crate::history::{Mark, Seen};
 use crate::refusal::{ClientSet, Refusal};
 use crate::shard_bounds::ShardBounds;
@@ -9,8 +12,18 @@ use crate::shard_frame;
 
 const HOST: u8 = 0;
 
-/// What a server's host says behind its Hello if it answers signs.
+/// The version of the stream: of the frames of the hosts, and of the messages between them. In
+/// version 1 a grant had at most eight holdings, and a Hello named no version.
+pub(crate) const VERSION: u8 = 2;
+
+/// The version of a Hello that names none.
+const BEFORE_VERSIONS: u8 = 1;
+
+/// The second byte of a server's Hello if it answers signs; otherwise it is 0.
 const ANSWERS_SIGNS: u8 = 1;
+
+/// How many bytes a mark has: it may lack the store's first start, and a client may have heard none.
+const MARK_LENGTHS: [usize; 3] = [0, 24, 40];
 
 /// What the host of a client says.
 #[derive(Clone, Copy, Debug, PartialEq, Eq)]
@@ -18,6 +31,8 @@ pub(crate) enum FromClient {
     /// It takes host frames, and has seen so much of the store, if anything. This is the first
     /// frame of its connection.
     Hello(Option<Seen>),
+    /// The Hello of a host of another version.
+    OtherVersion,
     /// It takes the server for this shard's.
     Shard(ShardBounds),
     /// The same, with numbers that are no shard's. No host says it.
@@ -27,7 +42,8 @@ pub(crate) enum FromClient {
 /// What the host of a server says, and only to a host that has said Hello.
 #[derive(Clone, Copy, Debug, PartialEq, Eq)]
 pub(crate) enum FromServer {
-    /// It takes host frames. A host of before leases answers no signs.
+    /// It takes host frames. A host without leases answers no signs. The Hello of another version
+    /// is read as a refusal for that reason.
     Hello { answers_signs: bool },
     /// It does not serve the client, for this reason.
     Refused(Refusal),
@@ -52,8 +68,11 @@ impl FromClient {
     pub fn frame(self) -> Vec<u8> {
         match self {
             FromClient::Hello(seen) => {
-                framed(&[HOST, FromClient::HELLO], &seen.map(spelled_seen).unwrap_or_default())
+                let mut said = seen.map(spelled_seen).unwrap_or_default();
+                said.push(VERSION);
+                framed(&[HOST, FromClient::HELLO], &said)
             }
+            FromClient::OtherVersion => framed(&[HOST, FromClient::HELLO], &[]),
             FromClient::Shard(shard) => {
                 framed(&[HOST, FromClient::SHARD], &shard_frame::spelled_bytes(Some(shard)))
             }
@@ -66,7 +85,7 @@ impl FromClient {
     /// What the frame says, or `None` if it is of another kind: then it says nothing.
     pub fn read(frame: &[u8]) -> Option<FromClient> {
         match frame {
-            [HOST, FromClient::HELLO, seen @ ..] => Some(FromClient::Hello(read_seen(seen))),
+            [HOST, FromClient::HELLO, said @ ..] => Some(read_hello(said)),
             [HOST, FromClient::SHARD, shard @ ..] => {
                 Some(shard_frame::read(shard).map_or(FromClient::NoShard, FromClient::Shard))
             }
@@ -86,8 +105,8 @@ impl FromServer {
     pub fn frame(self) -> Vec<u8> {
         match self {
             FromServer::Hello { answers_signs } => {
-                let answers: &[u8] = if answers_signs { &[ANSWERS_SIGNS] } else { &[] };
-                framed(&[HOST, FromServer::HELLO], answers)
+                let signs = if answers_signs { ANSWERS_SIGNS } else { 0 };
+                framed(&[HOST, FromServer::HELLO], &[signs, VERSION])
             }
             FromServer::Refused(refusal) => {
                 let (reason, numbers) = spelled(refusal);
@@ -104,9 +123,7 @@ impl FromServer {
     /// What the frame says, or `None` if it is of another kind: then it says nothing.
     pub fn read(frame: &[u8]) -> Option<FromServer> {
         match frame {
-            [HOST, FromServer::HELLO, rest @ ..] => {
-                Some(FromServer::Hello { answers_signs: rest.first() == Some(&ANSWERS_SIGNS) })
-            }
+            [HOST, FromServer::HELLO, said @ ..] => Some(read_server_hello(said)),
             [HOST, FromServer::REFUSED, reason, numbers @ ..] => {
                 refusal(*reason, numbers).map(FromServer::Refused)
             }
@@ -117,6 +134,25 @@ impl FromServer {
             }
             _ => None,
         }
+    }
+}
+
+/// What follows the kind of a client's Hello: the mark, if it has heard one, and the version.
+fn read_hello(said: &[u8]) -> FromClient {
+    match said.split_last() {
+        Some((&VERSION, mark)) if MARK_LENGTHS.contains(&mark.len()) => {
+            FromClient::Hello(read_seen(mark))
+        }
+        _ => FromClient::OtherVersion,
+    }
+}
+
+/// What follows the kind of a server's Hello: whether it answers signs, and the version.
+fn read_server_hello(said: &[u8]) -> FromServer {
+    match *said {
+        [signs, VERSION, ..] => FromServer::Hello { answers_signs: signs == ANSWERS_SIGNS },
+        [_, read, ..] => FromServer::Refused(Refusal::Version { read }),
+        _ => FromServer::Refused(Refusal::Version { read: BEFORE_VERSIONS }),
     }
 }
 
@@ -231,6 +267,8 @@ mod tests {
             let hello = FromClient::Hello(seen);
             assert_eq!(FromClient::read(&body(&hello.frame())), Some(hello));
         }
+        let other = FromClient::OtherVersion;
+        assert_eq!(FromClient::read(&body(&other.frame())), Some(other));
         let mark = FromServer::Mark(SEEN_EARLIER);
         assert_eq!(FromServer::read(&body(&mark.frame())), Some(mark));
         for named in [FromClient::Shard(shard()), FromClient::NoShard] {
@@ -244,17 +282,17 @@ mod tests {
         let refused = FromServer::Refused(Refusal::Incarnation { client: 3, registered: 258 });
         let bytes = [0, 17, 2, 3, 0, 0, 0, 0, 0, 0, 0, 2, 1, 0, 0, 0, 0, 0, 0];
         assert_eq!(body(&refused.frame()), bytes);
-        assert_eq!(FromClient::Hello(None).frame(), [2, 0, 0, 0, 0, 0, 0, 0, 0, 0]);
+        assert_eq!(FromClient::Hello(None).frame(), [3, 0, 0, 0, 0, 0, 0, 0, 0, 0, 2]);
         let marked = [5, 0, 0, 0, 0, 0, 0, 0, 0, 0, 0, 0, 0, 0, 0, 128, 2, 1, 0, 0, 0, 0, 0, 0];
         let first = [7, 0, 0, 0, 0, 0, 0, 0, 0, 0, 0, 0, 0, 0, 0, 3];
         let marked_in = |seen| body(&FromServer::Mark(seen).frame());
         assert_eq!(marked_in(SEEN), [&[0, 18][..], &marked, &first].concat());
         assert_eq!(marked_in(SEEN_EARLIER), [&[0, 18][..], &marked].concat());
         let seen = FromClient::Hello(Some(SEEN));
-        assert_eq!(body(&seen.frame()), [&[0, 0][..], &marked, &first].concat());
-        assert_eq!(body(&HELLO.frame()), [0, 16, 1]);
-        let older = FromServer::Hello { answers_signs: false };
-        assert_eq!((body(&older.frame()), FromServer::read(&[0, 16])), (vec![0, 16], Some(older)));
+        assert_eq!(body(&seen.frame()), [&[0, 0][..], &marked, &first, &[2]].concat());
+        assert_eq!(body(&HELLO.frame()), [0, 16, 1, 2]);
+        let unsigned = FromServer::Hello { answers_signs: false };
+        assert_eq!(body(&unsigned.frame()), [0, 16, 0, 2]);
         let numbers = [5, 0, 0, 0, 0, 0, 0, 0, 2, 1, 0, 0, 0, 0, 0, 0, 7, 0, 0, 0, 0, 0, 0, 0];
         assert_eq!(body(&FromClient::Shard(shard()).frame()), [&[0, 2][..], &numbers].concat());
         assert_eq!(body(&FromServer::Shard(shard()).frame()), [&[0, 22][..], &numbers].concat());
@@ -263,11 +301,29 @@ mod tests {
     }
 
     #[test]
+    fn a_hello_of_another_version_is_known_by_both_sides() {
+        let refused = |read| Some(FromServer::Refused(Refusal::Version { read }));
+        for (hello, read) in [(&[0, 16][..], 1), (&[0, 16, 1], 1), (&[0, 16, 1, 3, 9], 3)] {
+            assert_eq!(FromServer::read(hello), refused(read), "{hello:?}");
+        }
+        let of_client = |said: &[u8]| FromClient::read(&[&[0, 0], said].concat());
+        // A mark of a host of before versions may end as a version does.
+        for said in [&[][..], &[2; 24], &[2; 40], &[1], &[3], &[2, 9], &[2; 26]] {
+            assert_eq!(of_client(said), Some(FromClient::OtherVersion), "{said:?}");
+        }
+        for length in MARK_LENGTHS {
+            let hello = of_client(&[&vec![7; length][..], &[VERSION]].concat());
+            assert!(matches!(hello, Some(FromClient::Hello(_))), "{length}");
+        }
+    }
+
+    #[test]
     fn what_is_cut_off_or_unknown_says_nothing() {
         for said in said() {
             let body = body(&said.frame());
             let shortest = match said {
-                HELLO => 2,
+                // One that is shorter names no version.
+                FromServer::Hello { .. } => 2,
                 FromServer::Mark(_) => 26,
                 _ => body.len(),
             };

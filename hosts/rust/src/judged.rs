@@ -2,6 +2,7 @@
 use crate::change::Snapshot;
 use crate::code::Code;
 use crate::handle::ServerHandle;
+use crate::reach::Reach;
 use crate::room::Room;
 
 impl Snapshot {
@@ -12,6 +13,6 @@ impl Snapshot {
     /// The code by which the library refuses it: it is not what a server kept, or memory was
     /// refused.
     pub fn judge(&self) -> Result<(), Code> {
-        ServerHandle::open(self, Room::MAX).map(drop)
+        ServerHandle::open(self, Room::MAX, Reach::default()).map(drop)
     }
 }

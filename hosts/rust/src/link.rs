@@ -7,7 +7,7 @@ use crate::client_handle::{Cache, ClientHandle};
 use crate::clocks::Now;
 use crate::connect_fault::Rejection;
 use crate::event_log;
-use crate::frames::{Frames, GULP, LONGEST_TO_CLIENT};
+use crate::frames::{Frames, GULP};
 use crate::jobs::Jobs;
 use crate::lock_file::LockFile;
 use crate::poller::{Poller, Readiness, Ready, SecondPoller, Watched};
@@ -229,7 +229,7 @@ impl Link {
         let now = Instant::now();
         *lock(&self.reading) = Some(Reading {
             carrier,
-            frames: Frames::new(LONGEST_TO_CLIENT),
+            frames: Frames::to_client(),
             unread: Unread::Something,
             watched: Watched::Reads,
             sleeps_until: now,

@@ -57,6 +57,7 @@ impl Page {
         gauge("krl_epoch", "How many times a server has started on this store", status.epoch);
         gauge("krl_rows", "The rows of the table", status.rows);
         gauge("krl_room_rows", "The most rows of the table", status.room.rows() as u64);
+        gauge("krl_reach_slots", "The most slots of one grant", status.reach.slots() as u64);
         gauge(
             "krl_serving",
             "1 if the server answers requests, 0 if it waits for reports of clients",
@@ -257,6 +258,7 @@ mod tests {
             "# TYPE krl_epoch gauge\nkrl_epoch 4",
             "# TYPE krl_rows gauge\nkrl_rows 5",
             "# TYPE krl_room_rows gauge\nkrl_room_rows 65536",
+            "# TYPE krl_reach_slots gauge\nkrl_reach_slots 128",
             "krl_serving 0",
             "krl_last_turn_seconds 0.03",
             "krl_commits_total 9",
@@ -301,6 +303,6 @@ mod tests {
                 assert!(helped.contains(family(line)), "{line}");
             }
         }
-        assert_eq!(helped.len(), 31);
+        assert_eq!(helped.len(), 32);
     }
 }

@@ -7,6 +7,7 @@ use crate::event_log::EventLog;
 use crate::event_loop::EventLoop;
 use crate::handle::ServerHandle;
 use crate::leases::{LeaseTable, Leases};
+use crate::reach::Reach;
 use crate::room::Room;
 use crate::room_at_start::RoomAtStart;
 use crate::server::ServeError;
@@ -22,6 +23,7 @@ pub(crate) struct Decided {
     pub leases: Option<Leases>,
     pub shard: Option<ShardBounds>,
     pub room: Option<Room>,
+    pub reach: Reach,
     pub max_connections: usize,
 }
 
@@ -41,13 +43,13 @@ impl Decided {
         timings: Arc<Timings>,
         clocks: impl FnOnce() -> Now,
     ) -> Result<Opened, ServeError> {
-        let Decided { leases, shard, room, max_connections } = self;
+        let Decided { leases, shard, room, reach, max_connections } = self;
         let snapshot = store.load()?;
         refuse_other_keys(&snapshot, shard)?;
         let at_start = RoomAtStart::of(&snapshot, room)?;
         let room = at_start.room;
         let (mut server, epoch) =
-            ServerHandle::open(&snapshot, room).map_err(ServeError::Refused)?;
+            ServerHandle::open(&snapshot, room, reach).map_err(ServeError::Refused)?;
         let record = snapshot.leases.at_start(leases);
         let revised = (record != snapshot.leases).then_some(Change::Leased(record));
         // The epoch, what is known of leases and the room are kept before anything is sent.
@@ -65,7 +67,8 @@ impl Decided {
         let log = EventLog::started(epoch, address, rows, records);
         EventLog::has_room(&at_start);
         let events = EventLoop::new(server, history, connections, table, timings, epoch, log);
-        Ok(Opened { events: events.of_shard(shard).of_table(rows, room), epoch, room })
+        let events = events.of_shard(shard).of_table(rows, room, reach);
+        Ok(Opened { events, epoch, room })
     }
 }
 

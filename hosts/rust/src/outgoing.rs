@@ -1,10 +1,9 @@
 //! What waits to be written to a connection.
-use crate::frames::LONGEST_TO_CLIENT;
 use std::io::{self, ErrorKind, Write};
 use std::time::{Duration, Instant};
 
-/// So much may wait before a batch more is lost: 256 of the longest messages.
-const MAX_WAITING: usize = 256 * LONGEST_TO_CLIENT;
+/// So much may wait before a batch more is lost: 39 of the longest messages.
+const MAX_WAITING: usize = 1 << 18;
 
 /// A peer that takes nothing for so long loses its connection.
 const STALL: Duration = Duration::from_secs(5);

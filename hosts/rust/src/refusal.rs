@@ -1,4 +1,5 @@
 //! Why a server does not serve a client, as the server's host tells it.
+use crate::host_frame::VERSION;
 use crate::shard_bounds::ShardBounds;
 use std::fmt;
 
@@ -8,9 +9,10 @@ use std::fmt;
 #[derive(Clone, Copy, Debug, PartialEq, Eq)]
 #[non_exhaustive]
 pub enum Refusal {
-    /// The client's messages are of another version.
+    /// The server and the client are of two versions of the stream. No server of an earlier version
+    /// serves a client of this one, nor the other way round.
     Version {
-        /// The version of the messages that the server reads.
+        /// The version of the server.
         read: u8,
     },
     /// The server has no client of this number.
@@ -147,7 +149,11 @@ impl fmt::Display for Refusal {
     fn fmt(&self, f: &mut fmt::Formatter<'_>) -> fmt::Result {
         match self {
             Refusal::Version { read } => {
-                write!(f, "the server reads messages of version {read} alone")
+                write!(
+                    f,
+                    "the server speaks version {read} of the protocol, and this client version \
+                     {VERSION}: run both by releases of one version"
+                )
             }
             Refusal::ClientNumber { number } => {
                 write!(f, "a client's number is 0 to 63, and the server has no client {number}")
@@ -218,5 +224,7 @@ mod tests {
         assert!(older.contains("knows incarnation 17 of client 3"), "{older}");
         let full = Refusal::Full { connections: 256 }.to_string();
         assert_eq!(full, "the server has all its connections, which are 256");
+        let version = Refusal::Version { read: 1 }.to_string();
+        assert!(version.contains("speaks version 1 of the protocol, and this client version 2"));
     }
 }

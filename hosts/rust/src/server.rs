@@ -8,6 +8,7 @@ use crate::identity::Identity;
 use crate::liveness::TimedStore;
 use crate::monitor::Monitor;
 use crate::opening::{Decided, Opened};
+use crate::reach::Reach;
 use crate::requests::Requests;
 use crate::room::Room;
 use crate::server_builder::{Options, ServerBuilder};
@@ -28,6 +29,7 @@ use std::time::Duration;
 pub struct Server {
     address: Address,
     room: Room,
+    reach: Reach,
     requests: Requests,
     status: Arc<Mutex<Status>>,
     timings: Arc<Timings>,
@@ -119,19 +121,19 @@ impl Server {
         mut store: impl Store + 'static,
         options: Options,
     ) -> Result<Server, ServeError> {
-        let Options { access, leases, shard, room, max_connections } = options;
+        let Options { access, leases, shard, room, reach, max_connections } = options;
         let address = listener.address()?;
         access.check(&address)?;
         if access.has_users() {
             listener.let_users_connect()?;
         }
         let timings = Arc::new(Timings::new());
-        let decided = Decided { leases, shard, room, max_connections };
+        let decided = Decided { leases, shard, room, reach, max_connections };
         let opened = decided.open(&mut store, &address, Arc::clone(&timings), Now::read)?;
         let Opened { events, epoch, room } = opened;
         let (sockets, waker) = Sockets::new(listener, max_connections, access)?;
         let (requests, asked) = Requests::new(waker);
-        let status = Arc::new(Mutex::new(Status { epoch, room, ..Status::default() }));
+        let status = Arc::new(Mutex::new(Status { epoch, room, reach, ..Status::default() }));
         let shown = Arc::clone(&status);
         let longest_store_wait = store.longest_wait();
         let store = TimedStore::new(store, Arc::clone(&timings));
@@ -139,7 +141,7 @@ impl Server {
         let thread = thread::Builder::new().name("krl-server".into());
         let thread = thread.spawn(move || serving.run_to_the_end(&shown))?;
         let thread = Some(thread);
-        Ok(Server { address, room, requests, status, timings, longest_store_wait, thread })
+        Ok(Server { address, room, reach, requests, status, timings, longest_store_wait, thread })
     }
 
     /// Where it listens.
@@ -152,6 +154,12 @@ impl Server {
     #[must_use]
     pub fn room(&self) -> Room {
         self.room
+    }
+
+    /// How many slots one grant takes at most.
+    #[must_use]
+    pub fn reach(&self) -> Reach {
+        self.reach
     }
 
     /// What it looks like now, or a few milliseconds ago. Who waits for whom, and what a client

@@ -2,6 +2,7 @@
 use crate::access::Access;
 use crate::connections::MAX_CONNECTIONS;
 use crate::leases::Leases;
+use crate::reach::Reach;
 use crate::room::Room;
 use crate::server::{ServeError, Server};
 use crate::shard_bounds::ShardBounds;
@@ -25,6 +26,7 @@ pub(crate) struct Options {
     pub leases: Option<Leases>,
     pub shard: Option<ShardBounds>,
     pub room: Option<Room>,
+    pub reach: Reach,
     pub max_connections: usize,
 }
 
@@ -35,6 +37,7 @@ impl<S: Store + 'static> ServerBuilder<S> {
             leases: None,
             shard: None,
             room: None,
+            reach: Reach::default(),
             max_connections: MAX_CONNECTIONS,
         };
         ServerBuilder { listener, store, options }
@@ -78,6 +81,16 @@ impl<S: Store + 'static> ServerBuilder<S> {
     /// the greatest, and the log tells of both.
     pub fn room(mut self, room: Room) -> ServerBuilder<S> {
         self.options.room = Some(room);
+        self
+    }
+
+    /// How many slots one grant takes at most: 128 if this is not called. A client that reads many
+    /// rows for the first time asks once for each so many slots. A grant of more slots keeps the
+    /// server longer from what others ask meanwhile.
+    ///
+    /// Each start may give another reach: the store keeps none.
+    pub fn reach(mut self, reach: Reach) -> ServerBuilder<S> {
+        self.options.reach = reach;
         self
     }
 

@@ -303,6 +303,9 @@ impl Session {
             (Some(Rejection::OtherShard(other)), WasSent::No) => {
                 return Refused::OtherShard(*other);
             }
+            (Some(Rejection::OtherVersion(other)), _) => {
+                return Refused::Unserved(other.refusal());
+            }
             (Some(Rejection::OtherShard(other)), WasSent::Yes) => {
                 return Refused::Unserved(Refusal::OtherShard(other.served));
             }

@@ -5,12 +5,13 @@ use crate::change::{Change, Outcome, Write};
 use crate::client_handle::{Cache, ClientHandle, Scan};
 use crate::clocks::Now;
 use crate::event_loop::{EventLoop, Heard};
-use crate::frames::{Frames, LONGEST_TO_CLIENT};
+use crate::frames::Frames;
 use crate::jobs::{Asked, Jobs};
 use crate::lease::Older;
 use crate::leases::Leases;
 use crate::opening::{Decided, Opened};
 use crate::poller::Readiness;
+use crate::reach::Reach;
 use crate::refused::Refused;
 use crate::row::Row;
 use crate::server::ServeError;
@@ -72,7 +73,8 @@ impl Server {
         leases: Option<Leases>,
         time: Duration,
     ) -> Result<Server, ServeError> {
-        let decided = Decided { leases, shard: None, room: None, max_connections: 256 };
+        let reach = Reach::default();
+        let decided = Decided { leases, shard: None, room: None, reach, max_connections: 256 };
         let address = Address::Unix("simulated".into());
         let timings = Arc::new(Timings::new());
         let opened = decided.open(store, &address, timings, || Now::simulated(time))?;
@@ -235,7 +237,7 @@ impl Client {
         let jobs = Jobs::new(handle(number, incarnation, before), Now::simulated(time));
         let cache = jobs.cache();
         let session = Session::new(Address::Unix("simulated".into()).into(), jobs, seed);
-        Client { session, cache, frames: Frames::new(LONGEST_TO_CLIENT) }
+        Client { session, cache, frames: Frames::to_client() }
     }
 
     fn at(&mut self, time: Duration) -> &mut Session {
@@ -258,7 +260,7 @@ impl Client {
     ///
     /// Those of the session.
     pub fn connect(&mut self, time: Duration) -> io::Result<Vec<u8>> {
-        self.frames = Frames::new(LONGEST_TO_CLIENT);
+        self.frames = Frames::to_client();
         self.at(time).confirm_incarnation()?;
         self.session.connected()
     }

@@ -1,6 +1,7 @@
 //! What an operator sees of a server.
 use crate::client_status::ClientStatus;
 use crate::connections::closing::ClosedConnections;
+use crate::reach::Reach;
 use crate::room::Room;
 use crate::watch::{HeldSlots, Wait};
 use std::fmt;
@@ -15,6 +16,8 @@ pub struct Status {
     pub rows: u64,
     /// For how many rows the server has room.
     pub room: Room,
+    /// How many slots one grant takes at most.
+    pub reach: Reach,
     /// It answers requests. Otherwise it waits for the reports of the clients in `missing`.
     pub is_serving: bool,
     /// The clients that have to report, or be evicted, before the server serves.
@@ -140,6 +143,7 @@ impl fmt::Display for Status {
             "messages: {taken} taken, {sent} sent, {refused} refused, {denied} denied, {held_back} \
              held back"
         )?;
+        writeln!(f, "grants: {} slots at most", self.reach)?;
         let Status { rows, room, changes, commits, .. } = self;
         writeln!(f, "store: {changes} changes in {commits} transactions, {rows} rows of {room}")
     }
@@ -177,6 +181,7 @@ mod tests {
         );
         assert!(text.contains("client 3 waits for 0, 2: RangeX-X at 10, for 40 ms\n"));
         assert!(text.contains("client 2 holds 7 slots\n"));
+        assert!(text.contains("\ngrants: 128 slots at most\n"));
         assert!(text.ends_with("store: 0 changes in 0 transactions, 5 rows of 65536\n"));
         assert!(!text.contains("ALARM") && !text.contains("leases"));
         let leased = Status {

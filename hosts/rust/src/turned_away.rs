@@ -27,18 +27,21 @@ pub(crate) fn tell(mut stream: Stream, connections: u64) {
         // What the peer has said beside it is read too: a stream that is closed with bytes unread
         // may take the answer with it.
         stream.shut_writing();
-        while Instant::now() < end && reads(&mut stream, &mut Frames::new(LONGEST)) {}
+        while Instant::now() < end && reads(&mut stream, &mut Frames::to_server(LONGEST)) {}
     }
     stream.shut();
 }
 
 /// Whether the first frame that comes is the Hello of a host.
 fn says_hello(stream: &mut Stream, end: Instant) -> bool {
-    let mut frames = Frames::new(LONGEST);
+    let mut frames = Frames::to_server(LONGEST);
     while Instant::now() < end && reads(stream, &mut frames) {
         match frames.next() {
             Ok(Some(frame)) => {
-                return matches!(FromClient::read(frame), Some(FromClient::Hello(_)));
+                return matches!(
+                    FromClient::read(frame),
+                    Some(FromClient::Hello(_) | FromClient::OtherVersion)
+                );
             }
             Ok(None) => {}
             Err(_) => return false,

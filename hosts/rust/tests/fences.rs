@@ -3,7 +3,7 @@ mod peer;
 
 use krl::{Change, Client, JoinError, MemoryStore, Outcome, Refused, ServeError, Server};
 use krl::{OtherShard, Refusal, Row, Shard, ShardBounds, ShardMap, ShardedClient, Value, evict};
-use peer::{HELLO, Peer, frame};
+use peer::{HELLO, HOST_ANSWER, HOST_HELLO, Peer, frame};
 use std::io::{Read, Write};
 use std::net::{SocketAddr, TcpListener, TcpStream};
 use std::num::NonZeroU64;
@@ -14,10 +14,6 @@ use std::time::{Duration, Instant};
 
 /// No wait of a test is longer.
 const LONG: Duration = Duration::from_secs(20);
-
-/// The Hello of a host, and the answer to it.
-const HOST_HELLO: [u8; 10] = [2, 0, 0, 0, 0, 0, 0, 0, 0, 0];
-const HOST_ANSWER: [u8; 11] = [3, 0, 0, 0, 0, 0, 0, 0, 0, 16, 1];
 
 fn bounds(text: &str) -> ShardBounds {
     text.parse().unwrap()

@@ -2,17 +2,18 @@
 mod peer;
 
 use krl::{Change, Client, JoinError, MemoryStore, Refusal, Refused, Server, Value, evict};
-use peer::{HELLO, Peer, frame, incarnation};
-use std::net::TcpListener;
+use peer::{HELLO, HOST_ANSWER, HOST_HELLO, Peer, frame, incarnation};
+use std::io::{Read, Write};
+use std::net::{SocketAddr, TcpListener};
 use std::path::PathBuf;
-use std::time::Duration;
-
-/// The Hello of a host, and the answer to it.
-const HOST_HELLO: [u8; 10] = [2, 0, 0, 0, 0, 0, 0, 0, 0, 0];
-const HOST_ANSWER: [u8; 11] = [3, 0, 0, 0, 0, 0, 0, 0, 0, 16, 1];
+use std::thread;
+use std::time::{Duration, Instant};
 
 /// Shorter than the second between two frames of one reason.
 const SHORT: Duration = Duration::from_millis(300);
+
+/// No wait of a test is longer.
+const LONG: Duration = Duration::from_secs(30);
 
 fn server(store: MemoryStore) -> Server {
     Server::start(TcpListener::bind("127.0.0.1:0").unwrap(), store).unwrap()
@@ -66,9 +67,71 @@ fn of_version(version: u8) -> Vec<u8> {
 #[test]
 fn a_message_of_another_version() {
     let server = server(MemoryStore::default());
-    assert_eq!(heard(&server, &[of_version(2)]), refused(0, [1, 0]));
+    assert_eq!(heard(&server, &[of_version(2)]), refused(0, [2, 0]));
     let no_message = [1, 0, 0, 0, 0, 0, 0, 0, 1].to_vec();
     assert_eq!(heard(&server, &[no_message]), [], "its version is the right one");
+}
+
+/// A host that names no version, or another one, is refused before its client is heard: it would
+/// take no long grant.
+#[test]
+fn a_host_of_another_version() {
+    let server = server(MemoryStore::default());
+    let hellos: [&[u8]; 3] = [
+        &[2, 0, 0, 0, 0, 0, 0, 0, 0, 0],
+        &[3, 0, 0, 0, 0, 0, 0, 0, 0, 0, 3],
+        &[&[26, 0, 0, 0, 0, 0, 0, 0, 0, 0][..], &[7; 24]].concat(),
+    ];
+    for hello in hellos {
+        let mut peer = Peer::new(&server);
+        peer.say(&[hello, &frame(HELLO, 3, 1, &[])].concat());
+        let begun = Instant::now();
+        assert_eq!(peer.hear(LONG), refused(0, [2, 0]), "{hello:?}");
+        assert!(begun.elapsed() < LONG, "the connection ends");
+    }
+    assert_eq!(server.status().taken, 0, "the library hears nothing");
+    let is_counted = || server.status().closed.counts().any(|it| it == ("other_version", 3));
+    let end = Instant::now() + LONG;
+    while !is_counted() {
+        assert!(Instant::now() < end, "{:?}", server.status().closed);
+        thread::sleep(Duration::from_millis(5));
+    }
+}
+
+/// A server that answers each connection by these bytes, and reads what comes until it ends.
+fn says(bytes: &'static [u8]) -> SocketAddr {
+    let listener = TcpListener::bind("127.0.0.1:0").unwrap();
+    let address = listener.local_addr().unwrap();
+    thread::spawn(move || {
+        for stream in listener.incoming() {
+            let mut stream = stream.unwrap();
+            let _ = stream.write_all(bytes);
+            let _ = stream.read_to_end(&mut Vec::new());
+        }
+    });
+    address
+}
+
+/// A client learns at once that its only server is of another version, and does not wait for its
+/// timeout.
+#[test]
+fn a_server_of_another_version() {
+    let answers: [(&[u8], u8); 3] = [
+        (&[3, 0, 0, 0, 0, 0, 0, 0, 0, 16, 1], 1),
+        (&[4, 0, 0, 0, 0, 0, 0, 0, 0, 16, 1, 3], 3),
+        (&[19, 0, 0, 0, 0, 0, 0, 0, 0, 17, 0, 5, 0, 0, 0, 0, 0, 0, 0, 0, 0, 0, 0, 0, 0, 0, 0], 5),
+    ];
+    for (answer, version) in answers {
+        let lock = lock_file(&format!("version-{version}"));
+        let client = Client::builder(says(answer)).number(3).lock_file(&lock).timeout(2 * LONG);
+        let begun = Instant::now();
+        let error = client.join().unwrap_err();
+        assert!(begun.elapsed() < LONG, "{:?}", begun.elapsed());
+        let expected = Refusal::Version { read: version };
+        assert!(matches!(error, JoinError::Unserved(why) if why == expected), "{error:?}");
+        assert!(error.to_string().contains(&format!("speaks version {version} of")), "{error}");
+        std::fs::remove_file(lock).unwrap();
+    }
 }
 
 #[test]

@@ -88,10 +88,10 @@ fn a_server_that_takes_nothing_holds_no_call_beyond_its_timeout() {
     let (mut stream, _) = listener.accept().unwrap();
     let mut said = Vec::new();
     stream.read_to_end(&mut said).unwrap();
-    let (hello, sign) = ([2, 0, 0, 0, 0, 0, 0, 0, 0, 0], [42, 0, 0, 0, 0, 0, 0, 0, 0, 1, 5]);
-    assert!(said.len() >= 60 && said.len() % 60 == 0, "{said:?}");
-    for greeting in said.chunks(60) {
-        assert_eq!((&greeting[..10], &greeting[10..21]), (&hello[..], &sign[..]));
+    let (hello, sign) = ([3, 0, 0, 0, 0, 0, 0, 0, 0, 0, 2], [42, 0, 0, 0, 0, 0, 0, 0, 0, 1, 5]);
+    assert!(said.len() >= 61 && said.len() % 61 == 0, "{said:?}");
+    for greeting in said.chunks(61) {
+        assert_eq!((&greeting[..11], &greeting[11..22]), (&hello[..], &sign[..]));
     }
 }
 
@@ -104,9 +104,9 @@ fn an_incarnation_is_in_the_lock_file_before_it_is_said() {
         scope.spawn(|| client.timeout(Duration::from_millis(300)).join());
         let (mut stream, _) = listener.accept().unwrap();
         // A Hello, and a sign with the client's number and its incarnation.
-        let mut said = [0; 60];
+        let mut said = [0; 61];
         stream.read_exact(&mut said).unwrap();
-        let incarnation = u64::from_le_bytes(said[28..36].try_into().unwrap());
+        let incarnation = u64::from_le_bytes(said[29..37].try_into().unwrap());
         let kept = std::fs::read_to_string(&lock).unwrap();
         assert_eq!(kept, format!("krl client 05 incarnation {incarnation:020}\n"));
     });

@@ -321,6 +321,10 @@ pub struct ServeOptions {
     /// a server over this store had before, and 65536 over a new store
     #[arg(long, env = "KRL_ROOM", value_name = "ROWS")]
     pub room: Option<String>,
+    /// How many slots one grant takes at most, from 1 to 128: a client that reads many rows for the
+    /// first time asks once for each so many
+    #[arg(long, env = "KRL_REACH", value_name = "SLOTS")]
+    pub reach: Option<String>,
     /// The shard that the server serves, as FIRST..END@VERSION: its keys, and the version of the map.
     /// Clients of another map are refused
     #[arg(long, env = "KRL_SHARD", value_name = "SHARD")]

@@ -352,6 +352,7 @@ fn as_json(status: &Status, state: &State, rates: Option<Rates>) -> Page {
         "epoch": status.epoch,
         "rows": status.rows,
         "room": status.room.rows(),
+        "reach": status.reach.slots(),
         "phase": if status.is_serving { "serving" } else { "recovering" },
         "failure": status.failure,
         "missing": status.missing,
@@ -504,6 +505,7 @@ mod tests {
             as_json(&status, &State::Starts, Some(Rates { commits: 2.5, ..Rates::default() }));
         let value: serde_json::Value = serde_json::from_str(&page.text).unwrap();
         assert_eq!((&value["epoch"], &value["room"]), (&json!(4), &json!(65_536)));
+        assert_eq!(value["reach"], 128);
         assert_eq!((&value["rows"], &value["phase"]), (&json!(5), &json!("recovering")));
         assert_eq!((&value["commits_total"], &value["rates"]["commits"]), (&json!(9), &json!(2.5)));
         assert_eq!(value["clients"], json!([]));

@@ -160,13 +160,15 @@ fn serve_store(
     Ok(())
 }
 
-/// Starts a server that lets these in, with the leases, the room and the shard of the settings.
+/// Starts a server that lets these in, with the leases, the room, the reach and the shard of the
+/// settings.
 pub fn start(
     settings: &Settings,
     listener: Listener,
     (store, access): (impl Store + 'static, &Access),
 ) -> Result<Server, ServeError> {
     let mut builder = Server::builder(listener, store).access(access.clone());
+    builder = builder.reach(settings.reach.value);
     if let Some(room) = settings.room.value.0 {
         builder = builder.room(room);
     }
@@ -188,6 +190,7 @@ pub fn ready(settings: &Settings, server: &Server, role: &Role) {
         address = %server.address(),
         store = %settings.store.value,
         room = %server.room(),
+        reach = %server.reach(),
         shard = %settings.shard.value,
         "ready"
     );

@@ -10,7 +10,7 @@ pub use value::{Drift, LeaseLength, LogFormat, Optional, Seconds, StatusAddress,
 use crate::command_line::ServeOptions;
 use clap::ArgMatches;
 use clap::parser::ValueSource;
-use krl::{Address, Room, ShardBounds};
+use krl::{Address, Reach, Room, ShardBounds};
 use serde::Deserialize;
 use std::fmt;
 use std::path::{Path, PathBuf};
@@ -48,6 +48,7 @@ pub struct Settings {
     pub store_certificate: Setting<Optional<PathBuf>>,
     pub store_key: Setting<Optional<PathBuf>>,
     pub room: Setting<Optional<Room>>,
+    pub reach: Setting<Reach>,
     pub shard: Setting<Optional<ShardBounds>>,
     pub advertise: Setting<Optional<Address>>,
     pub election_lease: Setting<Seconds>,
@@ -74,6 +75,7 @@ struct ConfigFile {
     store_certificate: Option<String>,
     store_key: Option<String>,
     room: Option<u64>,
+    reach: Option<u64>,
     shard: Option<String>,
     advertise: Option<String>,
     election_lease: Option<u64>,
@@ -134,6 +136,12 @@ impl Settings {
                 options.room.as_ref(),
                 file.room.map(|rows| rows.to_string()),
                 value::parse_room,
+            )?,
+            reach: given.setting(
+                &key::REACH,
+                options.reach.as_ref(),
+                file.reach.map(|slots| slots.to_string()),
+                value::parse_reach,
             )?,
             shard: given.setting(
                 &key::SHARD,
@@ -279,6 +287,7 @@ impl fmt::Display for Settings {
         optional_line(f, &key::STORE_CERTIFICATE, &self.store_certificate)?;
         optional_line(f, &key::STORE_KEY, &self.store_key)?;
         optional_line(f, &key::ROOM, &self.room)?;
+        line(f, &key::REACH, &self.reach)?;
         optional_line(f, &key::SHARD, &self.shard)?;
         if let StorePlace::Etcd(_) = self.store.value {
             optional_line(f, &key::ADVERTISE, &self.advertise)?;
@@ -293,7 +302,8 @@ impl fmt::Display for Settings {
 }
 
 /// The settings that are numbers in a file.
-const NUMBERS: [&str; 3] = [key::ELECTION_LEASE.name, key::DRIFT.name, key::ROOM.name];
+const NUMBERS: [&str; 4] =
+    [key::ELECTION_LEASE.name, key::DRIFT.name, key::ROOM.name, key::REACH.name];
 
 fn line<T: fmt::Display>(
     f: &mut fmt::Formatter<'_>,

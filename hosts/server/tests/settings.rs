@@ -8,6 +8,7 @@ use std::process::Output;
 const DEFAULTS: &str = "\
 listen = \"127.0.0.1:7400\" # by default
 store = \"krl.db\" # by default
+reach = 128 # by default
 status = \"127.0.0.1:7401\" # by default
 log-level = \"info\" # by default
 log-format = \"text\" # by default
@@ -57,6 +58,7 @@ fn a_flag_comes_before_the_environment_and_that_before_the_file() {
         "listen = \"127.0.0.1:1\"\n\
          store = \"1.db\"\n\
          room = 100\n\
+         reach = 64\n\
          status = \"127.0.0.1:1\"\n\
          log-level = \"warn\"\n\
          lease = \"500ms\"\n\
@@ -65,6 +67,7 @@ fn a_flag_comes_before_the_environment_and_that_before_the_file() {
     let mut command = program();
     command
         .env("KRL_DRIFT", "30")
+        .env("KRL_REACH", "8")
         .env("KRL_LISTEN", "127.0.0.1:2")
         .env("KRL_STORE", "2.db")
         .env("KRL_STATUS", "off");
@@ -74,6 +77,7 @@ fn a_flag_comes_before_the_environment_and_that_before_the_file() {
         "listen = \"unix:/run/krl\" # from the flag --listen\n\
          store = \"2.db\" # from the environment, KRL_STORE\n\
          room = 100 # from the file {path}\n\
+         reach = 8 # from the environment, KRL_REACH\n\
          status = \"[::1]:3\" # from the flag --status\n\
          log-level = \"warn\" # from the file {path}\n\
          log-format = \"text\" # by default\n\
@@ -141,7 +145,7 @@ fn the_packaged_file_sets_each_key() {
     let output = run(&["config", "--config", path]);
     let end = format!("# from the file {path}");
     let said = text(&output);
-    assert_eq!((said.lines().count(), output.status.code()), (7, Some(0)), "{}", errors(&output));
+    assert_eq!((said.lines().count(), output.status.code()), (8, Some(0)), "{}", errors(&output));
     assert!(said.lines().all(|line| line.ends_with(&end)), "{said}");
 }
 

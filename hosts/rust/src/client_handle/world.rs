@@ -5,6 +5,7 @@ use crate::clocks::Now;
 use crate::frames::split;
 use crate::handle::ServerHandle;
 use crate::message::Message;
+use crate::reach::Reach;
 use crate::room::Room;
 use crate::row::{Row, Value};
 use std::ops::Range;
@@ -49,8 +50,9 @@ impl<S: Scanned> World<S> {
     /// A world in which the scanned client knows all rows.
     pub fn new(scanned: impl FnOnce(ClientHandle) -> S) -> World<S> {
         let rows = (0..ROWS).map(|place| (STEP * place, Value::from(place))).collect();
+        let snapshot = Snapshot { rows, ..Snapshot::default() };
         let (mut server, epoch) =
-            ServerHandle::open(&Snapshot { rows, ..Snapshot::default() }, Room::default()).unwrap();
+            ServerHandle::open(&snapshot, Room::default(), Reach::default()).unwrap();
         server.confirm(&[Change::Started { epoch }]).unwrap();
         let [first, other] = [0, 1].map(|number| ClientHandle::open(number, 1).unwrap());
         let mut world = World { server, scanned: scanned(first), other, frames: Vec::new() };

@@ -33,6 +33,8 @@ pub(crate) enum CloseReason {
     Denied,
     /// Its client takes the server for another shard's.
     OtherShard,
+    /// Its client's host is of another version of the stream.
+    OtherVersion,
     /// Its client has seen what the store lacks.
     OlderStore,
     /// Its client has seen another store.
@@ -42,7 +44,7 @@ pub(crate) enum CloseReason {
 }
 
 impl CloseReason {
-    const ALL: [CloseReason; 15] = [
+    const ALL: [CloseReason; 16] = [
         CloseReason::Ended,
         CloseReason::Silent,
         CloseReason::TakesNothing,
@@ -55,6 +57,7 @@ impl CloseReason {
         CloseReason::BadMessage,
         CloseReason::Denied,
         CloseReason::OtherShard,
+        CloseReason::OtherVersion,
         CloseReason::OlderStore,
         CloseReason::OtherStore,
         CloseReason::Full,
@@ -75,6 +78,7 @@ impl CloseReason {
             CloseReason::BadMessage => "bad_message",
             CloseReason::Denied => "denied",
             CloseReason::OtherShard => "other_shard",
+            CloseReason::OtherVersion => "other_version",
             CloseReason::OlderStore => "older_store",
             CloseReason::OtherStore => "other_store",
             CloseReason::Full => "full",

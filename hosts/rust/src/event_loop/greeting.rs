@@ -4,7 +4,7 @@ use super::{EventLoop, LAST_TURNS};
 use crate::clocks::Now;
 use crate::connections::closing::CloseReason;
 use crate::history::{Comparison, Mark, Seen};
-use crate::host_frame::FromServer;
+use crate::host_frame::{FromServer, VERSION};
 use crate::identity::Identity;
 use crate::refusal::Refusal;
 use crate::server::ServeError;
@@ -29,6 +29,15 @@ impl EventLoop {
 
     fn greet_back(&mut self, connection: u64) {
         self.connections.greet(connection, FromServer::Hello { answers_signs: true });
+    }
+
+    /// Refuses a client whose host is of another version of the stream, before anything of it is
+    /// heard: it would take no long grant, and ask for it again and again.
+    pub(super) fn refuse_other_version(&mut self, connection: u64) {
+        self.log.other_version(&self.connections.at(connection));
+        let refusal = Refusal::Version { read: VERSION };
+        self.connections.greet(connection, FromServer::Refused(refusal));
+        self.connections.end(connection, CloseReason::OtherVersion);
     }
 
     /// Refuses a client that has seen another store: its address is wrong, or a new store has

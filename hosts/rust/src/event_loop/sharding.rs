@@ -28,7 +28,7 @@ impl EventLoop {
                 self.refuse(connection, OtherShard { expected: None, served: self.shard });
                 false
             }
-            Incoming::Host(Some(FromClient::Hello(_)) | None) => true,
+            Incoming::Host(Some(FromClient::Hello(_) | FromClient::OtherVersion) | None) => true,
             Incoming::Message(_) | Incoming::Sign(_) => {
                 self.connections.is_let_in(connection) || self.compare(connection, None)
             }

@@ -1,16 +1,19 @@
 //! What a server's loop shows of itself.
 use super::{EventLoop, SHOWN_FOR};
 use crate::change::Change;
+use crate::reach::Reach;
 use crate::room::Room;
 use crate::status::Status;
 use std::sync::{Mutex, PoisonError};
 use std::time::Duration;
 
 impl EventLoop {
-    /// From now on it shows how many rows the table has, and for how many there is room.
-    pub(crate) fn of_table(mut self, rows: usize, room: Room) -> EventLoop {
+    /// From now on it shows how many rows the table has, for how many there is room, and how many
+    /// slots a grant takes at most.
+    pub(crate) fn of_table(mut self, rows: usize, room: Room, reach: Reach) -> EventLoop {
         self.status.rows = rows as u64;
         self.status.room = room;
+        self.status.reach = reach;
         self
     }
 

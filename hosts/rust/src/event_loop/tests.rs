@@ -8,6 +8,7 @@ use crate::history::{Mark, Seen};
 use crate::lease::{Older, Sign};
 use crate::lease_record::LeaseRecord;
 use crate::leases::{Answer, Leases};
+use crate::reach::Reach;
 use crate::refusal::ClientSet;
 use crate::requests::Requests;
 use crate::room::Room;
@@ -67,7 +68,9 @@ fn event_loop() -> (ServerThread<Watching>, TcpStream, Arc<Mutex<Vec<usize>>>) {
     peer.set_nonblocking(true).unwrap();
     let heard = Arc::default();
     let mut store = MemoryStore::default();
-    let (mut server, epoch) = ServerHandle::open(&store.load().unwrap(), Room::default()).unwrap();
+    let snapshot = store.load().unwrap();
+    let (mut server, epoch) =
+        ServerHandle::open(&snapshot, Room::default(), Reach::default()).unwrap();
     store.commit(&[Change::Started { epoch }]).unwrap();
     server.confirm(&[Change::Started { epoch }]).unwrap();
     let (batches, is_deposed) = Default::default();

@@ -2,9 +2,14 @@ use super::*;
 use crate::client_handle::ClientHandle;
 use crate::frames::split;
 
+/// A server without rows, and its epoch.
+fn open() -> (ServerHandle, u64) {
+    ServerHandle::open(&Snapshot::default(), Room::default(), Reach::default()).unwrap()
+}
+
 /// A server without rows whose epoch is kept.
 fn started() -> ServerHandle {
-    let (mut server, epoch) = ServerHandle::open(&Snapshot::default(), Room::default()).unwrap();
+    let (mut server, epoch) = open();
     server.confirm(&[Change::Started { epoch }]).unwrap();
     server
 }
@@ -24,7 +29,7 @@ fn register(server: &mut ServerHandle, client: u8) -> Change {
 
 #[test]
 fn what_is_said_waits_for_the_start_and_for_each_change() {
-    let (mut server, epoch) = ServerHandle::open(&Snapshot::default(), Room::default()).unwrap();
+    let (mut server, epoch) = open();
     assert_eq!(server.take(&mut Vec::new()), Ok(0), "nothing is said");
     let change = register(&mut server, 0);
     assert_eq!(server.take(&mut Vec::new()), Err(Code::Unkept));

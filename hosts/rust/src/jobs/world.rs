@@ -6,6 +6,7 @@ use crate::clocks::Now;
 use crate::frames::split;
 use crate::handle::ServerHandle;
 use crate::message::Message;
+use crate::reach::Reach;
 use crate::room::Room;
 use crate::row::{Row, Value};
 use std::ops::Range;
@@ -26,7 +27,7 @@ pub(crate) fn messages(take: impl FnOnce(&mut Vec<u8>)) -> Vec<Vec<u8>> {
 impl World {
     pub fn new() -> World {
         let (mut server, epoch) =
-            ServerHandle::open(&Snapshot::default(), Room::default()).unwrap();
+            ServerHandle::open(&Snapshot::default(), Room::default(), Reach::default()).unwrap();
         server.confirm(&[Change::Started { epoch }]).unwrap();
         let clients =
             [0, 1].map(|number| Jobs::new(ClientHandle::open(number, 1).unwrap(), Now::read()));

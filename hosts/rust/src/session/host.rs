@@ -1,6 +1,6 @@
 //! What a client's host and that of its server say to one another beneath the messages.
 use super::Session;
-use crate::connect_fault::NotTaken;
+use crate::connect_fault::{NotTaken, OtherVersion};
 use crate::event_log;
 use crate::host_frame::{FromClient, FromServer};
 use crate::jobs::Dropped;
@@ -35,6 +35,9 @@ impl Session {
                 return Err(self.connection()?.fence.is_refused(served).into());
             }
             Some(FromServer::Refused(Refusal::OtherStore)) => return Err(self.leave_other_store()),
+            Some(FromServer::Refused(Refusal::Version { read })) => {
+                return Err(OtherVersion(read).into());
+            }
             Some(FromServer::Refused(refusal)) => {
                 self.refusal = Some((refusal, self.now()));
                 self.end_join_if_hopeless();

@@ -2,7 +2,7 @@
 use super::*;
 use crate::client_handle::ClientHandle;
 use crate::connect_fault::NotTaken;
-use crate::frames::{LONGEST_TO_CLIENT, split};
+use crate::frames::split;
 use crate::history::Mark;
 use crate::host_frame::{FromClient, FromServer};
 use crate::lease::{Grant, Older, Sign};
@@ -30,7 +30,7 @@ fn connect(session: &mut Session) -> Vec<u8> {
 }
 
 fn hear(session: &mut Session, sent: &[u8]) -> io::Result<()> {
-    let mut frames = Frames::new(LONGEST_TO_CLIENT);
+    let mut frames = Frames::to_client();
     frames.fill(&mut &*sent).unwrap();
     session.receive(&mut frames)
 }

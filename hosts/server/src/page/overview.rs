@@ -54,6 +54,7 @@ impl Overview<'_> {
         };
         figure("epoch", &status.epoch.to_string());
         figure("rows", &format!("{} of {}", status.rows, status.room.rows()));
+        figure("reach", &format!("{} slots", status.reach));
         figure("clients", &status.clients.len().to_string());
         figure("waiting", &waiting(status));
         figure("evicted", &status.evicted.to_string());

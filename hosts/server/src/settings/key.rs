@@ -118,6 +118,14 @@ pub const ROOM: Key = Key {
     default: "",
     expected: "the most rows of the table, from 1 to 1048576",
 };
+pub const REACH: Key = Key {
+    name: "reach",
+    flag: "--reach",
+    variable: "KRL_REACH",
+    id: "reach",
+    default: "128",
+    expected: "the most slots of one grant, from 1 to 128",
+};
 pub const SHARD: Key = Key {
     name: "shard",
     flag: "--shard",

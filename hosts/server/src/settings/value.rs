@@ -1,6 +1,6 @@
 //! The values of settings, as they are written and read.
 use super::key;
-use krl::{Address, Identity, Leases, Room, ShardBounds, TableName};
+use krl::{Address, Identity, Leases, Reach, Room, ShardBounds, TableName};
 use krl_etcd::EtcdAddress;
 use krl_postgres::PostgresAddress;
 use std::fmt;
@@ -125,6 +125,10 @@ pub fn parse_room(text: &str) -> Option<Optional<Room>> {
         "" => Some(Optional(None)),
         _ => text.parse().ok().map(|room| Optional(Some(room))),
     }
+}
+
+pub fn parse_reach(text: &str) -> Option<Reach> {
+    text.parse().ok()
 }
 
 pub fn parse_shard(text: &str) -> Option<Optional<ShardBounds>> {
