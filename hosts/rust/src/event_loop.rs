@@ -152,9 +152,9 @@ impl EventLoop {
         self.until.is_none_or(|until| !was_to_end || judged > 0 && began.monotonic < until)
     }
 
-    /// Why it has ended, if nobody has told it to.
-    pub fn failure(self) -> Option<ServeError> {
-        self.failure
+    /// Why it has ended, if nobody has told it to. It is told once.
+    pub fn take_failure(&mut self) -> Option<ServeError> {
+        self.failure.take()
     }
 
     /// How long to wait for the next turn if nothing comes.

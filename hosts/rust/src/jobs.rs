@@ -26,7 +26,7 @@ pub(crate) use anew::Dropped;
 use bound::{Bound, Wanted};
 use crossed::Crossed;
 use hold::Taking;
-pub(crate) use hold::{Held, Purpose};
+pub use hold::{Held, Purpose};
 use leased::Speech;
 use watched::Watched;
 use writing::Written;

@@ -1,60 +1,119 @@
 //! Runs worlds by their seeds, and tells what is wrong.
-use krl_simulation::world::{Report, Settings, World};
+use clap::{ArgGroup, Args, Parser};
+use krl_simulation::run::{self, Done, Plan};
 use std::io::{self, Write};
+use std::ops::Range;
+use std::path::PathBuf;
 use std::process::ExitCode;
-use std::time::{Duration, Instant};
+use std::str::FromStr;
+use std::time::Duration;
 
-const USAGE: &str = "usage: krl-simulation [--log] [FIRST_SEED [SEEDS [SECONDS]]]\n\
-    runs SEEDS worlds, one for each seed from FIRST_SEED on, with faults for SECONDS of their time;\n\
-    --log prints what happens in them";
+/// Runs servers and clients of krl in one thread, over a network, disks and clocks that a seed draws.
+///
+/// Each run judges what clients are told. The first seed of which something is wrong is printed, and
+/// ends the program with status 1.
+#[derive(Debug, Parser)]
+#[command(name = "krl-simulation", version)]
+struct Words {
+    #[command(flatten)]
+    worlds: Worlds,
+    /// For so many seconds of a world there are faults
+    #[arg(long, default_value_t = 20)]
+    seconds: u64,
+    /// Print what happens, a line each
+    #[arg(long)]
+    log: bool,
+    /// Print a line for each seed
+    #[arg(long)]
+    each: bool,
+}
 
-fn main() -> io::Result<ExitCode> {
-    let mut words: Vec<String> = std::env::args().skip(1).collect();
-    let logs = words.first().is_some_and(|word| word == "--log");
-    words.drain(..usize::from(logs));
-    let numbers: Result<Vec<u64>, _> = words.iter().map(|word| word.parse()).collect();
-    let Some([first, seeds, seconds]) = numbers.ok().and_then(|numbers| settings(&numbers)) else {
-        let given = words.join(" ");
-        eprintln!("krl-simulation: expected at most three numbers, and not: {given}\n{USAGE}");
-        return Ok(ExitCode::from(2));
-    };
-    let began = Instant::now();
-    let time = Duration::from_secs(seconds);
-    let mut events = 0;
-    let mut is_wrong = false;
+/// Which worlds are run.
+#[derive(Args, Debug)]
+#[command(group = ArgGroup::new("which").required(true).multiple(false))]
+struct Worlds {
+    /// The world of this seed
+    #[arg(long, group = "which")]
+    seed: Option<u64>,
+    /// The worlds of the seeds from A on below B
+    #[arg(long = "seeds", group = "which", value_name = "A..B")]
+    range: Option<SeedRange>,
+    /// The worlds of a file: a line for each, its seed first
+    #[arg(long, group = "which", value_name = "PATH")]
+    file: Option<PathBuf>,
+    /// Worlds of fresh seeds, for so many seconds of the processor
+    #[arg(long, group = "which", value_name = "SECONDS")]
+    fresh: Option<u64>,
+}
+
+/// Seeds in their order.
+#[derive(Clone, Debug, PartialEq, Eq)]
+struct SeedRange(Range<u64>);
+
+impl FromStr for SeedRange {
+    type Err = String;
+
+    fn from_str(text: &str) -> Result<SeedRange, String> {
+        let read = text.split_once("..").and_then(|(first, end)| {
+            let (first, end) = (first.parse().ok()?, end.parse().ok()?);
+            (first < end).then_some(SeedRange(first..end))
+        });
+        read.ok_or_else(|| {
+            format!("expected two numbers, the first one less, as in 1..100: {text}")
+        })
+    }
+}
+
+fn main() -> ExitCode {
+    let words = Words::parse();
+    match run(&words) {
+        Ok(is_right) => ExitCode::from(u8::from(!is_right)),
+        Err(error) => {
+            eprintln!("krl-simulation: {error}");
+            ExitCode::from(2)
+        }
+    }
+}
+
+/// Runs the worlds, and answers whether nothing is wrong.
+fn run(words: &Words) -> io::Result<bool> {
+    let Words { worlds, seconds, log, each } = words;
+    let plan = Plan { time: Duration::from_secs(*seconds), keeps_lines: *log, tells_each: *each };
     let mut out = io::stdout().lock();
-    for seed in first..first.saturating_add(seeds) {
-        let report = World::new(Settings { seed, time, logs }).run();
-        events += report.events;
-        out.write_all(report.log.as_bytes())?;
-        is_wrong |= !report.wrong.is_empty();
-        tell(&mut out, seed, &report)?;
-    }
-    let milliseconds = began.elapsed().as_millis().max(1);
-    writeln!(out, "{events} events, {} a second", u128::from(events) * 1000 / milliseconds)?;
-    Ok(if is_wrong { ExitCode::FAILURE } else { ExitCode::SUCCESS })
+    let done = match worlds {
+        Worlds { seed: Some(seed), .. } => run::run_all(*seed..=*seed, plan, &mut out)?,
+        Worlds { range: Some(SeedRange(seeds)), .. } => {
+            run::run_all(seeds.clone(), plan, &mut out)?
+        }
+        Worlds { file: Some(path), .. } => run::run_all(run::seeds_of_file(path)?, plan, &mut out)?,
+        Worlds { fresh, .. } => {
+            let processor = Duration::from_secs(fresh.unwrap_or_default());
+            run::run_fresh(processor, plan, &mut out)?
+        }
+    };
+    writeln!(out, "{done}")?;
+    Ok(matches!(done, Done { wrong: None, .. }))
 }
 
-/// The numbers that were given, and those that are taken otherwise.
-fn settings(numbers: &[u64]) -> Option<[u64; 3]> {
-    let mut settings = [1, 1, 20];
-    if numbers.len() > settings.len() {
-        return None;
-    }
-    settings[..numbers.len()].copy_from_slice(numbers);
-    Some(settings)
-}
+#[cfg(test)]
+mod tests {
+    use super::*;
+    use clap::CommandFactory;
 
-fn tell(out: &mut impl Write, seed: u64, report: &Report) -> io::Result<()> {
-    let &Report { events, ended, changes, starts, fingerprint, .. } = report;
-    writeln!(
-        out,
-        "seed {seed}: {events} events, {starts} starts, {changes} changes, {} reads, {} from caches, {} \
-         writes, {} refused, fingerprint {fingerprint:016x}",
-        ended.reads, ended.cached, ended.writes, ended.refused
-    )?;
-    for wrong in &report.wrong {
-        writeln!(out, "seed {seed}: WRONG: {wrong}")?;
+    #[test]
+    fn a_range_of_seeds_is_two_numbers() {
+        assert_eq!("3..7".parse(), Ok(SeedRange(3..7)));
+        for text in ["", "3", "3..", "..7", "7..3", "3..3", "a..b", "3-7"] {
+            let told = text.parse::<SeedRange>().unwrap_err();
+            assert!(told.contains("1..100"), "{told}");
+        }
     }
-    Ok(())
+
+    #[test]
+    fn the_words_name_one_kind_of_seeds() {
+        Words::command().debug_assert();
+        assert!(Words::try_parse_from(["krl-simulation"]).is_err());
+        assert!(Words::try_parse_from(["krl-simulation", "--seed", "1", "--fresh", "2"]).is_err());
+        assert!(Words::try_parse_from(["krl-simulation", "--seeds", "1..9"]).is_ok());
+    }
 }

@@ -1,72 +1,91 @@
 //! One run: what happens, in the order of its moments.
-use crate::caller::{Calls, Ended};
+mod callers;
+mod client;
+mod faults;
+mod server;
+mod store;
+
+use crate::calls::Calls;
+pub use crate::counts::Counts;
 use crate::dice::Dice;
 use crate::disk::Disk;
-use crate::judge::Judge;
-use crate::network::{Faults, Network, Side};
-use krl::simulated::{Client, Said, Server};
-use krl::{Change, Leases, Row, ServeError, Value, Write};
-use std::cmp::Reverse;
-use std::collections::BinaryHeap;
-use std::fmt::{self, Write as _};
-use std::io::ErrorKind;
-use std::ops::Range;
+use crate::judge::{Judge, Left};
+use crate::network::{Network, Side};
+use crate::record::{Happened, Line, Node, Record};
+use crate::timer::{Fired, Timer};
+use crate::weather::Weather;
+use krl::Change;
+use krl::simulated::{Call, Client, Server};
+use std::cmp::{Ordering, Reverse};
+use std::collections::{BTreeMap, BTreeSet, BinaryHeap};
 use std::time::Duration;
+use store::{Commit, Does, Stored};
 
-/// The keys lie below this one.
-const KEYS: u64 = 16;
+/// How soon after the last fault each client has to be served.
+pub const BOUND: Duration = Duration::from_secs(30);
 
-/// A client that waits is made to go on after this time.
-const BUSY: Duration = Duration::from_millis(20);
-
-/// In how many seconds after the last fault each client has to be served.
-pub const BOUND: Duration = Duration::from_secs(60);
+/// For so long all goes on without faults when each client is served again.
+const CALM: Duration = Duration::from_secs(4);
 
 /// What a run is made of.
-#[derive(Clone, Copy, Debug)]
+#[derive(Clone, Debug)]
 pub struct Settings {
     /// What all is drawn by.
     pub seed: u64,
     /// For so long there are faults.
     pub time: Duration,
-    /// Whether what happens is kept as text.
-    pub logs: bool,
+    /// The faults of these numbers are left out.
+    pub without: BTreeSet<u64>,
+    /// Whether the lines of what happens are kept.
+    pub keeps_lines: bool,
+}
+
+impl Settings {
+    /// A run by this seed.
+    #[must_use]
+    pub fn of(seed: u64, time: Duration) -> Settings {
+        Settings { seed, time, without: BTreeSet::new(), keeps_lines: false }
+    }
 }
 
 /// What a run has come to.
 #[derive(Clone, Debug, PartialEq, Eq)]
 pub struct Report {
-    /// How many events there were.
+    /// How many events there were: each is a step of a server or of a client.
     pub events: u64,
-    /// How calls ended.
-    pub ended: Ended,
-    /// How many changes were committed.
-    pub changes: usize,
-    /// How often a server was started.
-    pub starts: u64,
+    /// How long it took by the clock of the world.
+    pub time: Duration,
+    /// What there was.
+    pub counts: Counts,
+    /// The longest time that a call took when all was calm.
+    pub longest: Duration,
     /// What is wrong, as a sentence each.
     pub wrong: Vec<String>,
     /// A number that two runs have in common if all that happened was the same.
     pub fingerprint: u64,
-    /// What happened, a line each, if that is kept.
-    pub log: String,
+    /// What happened, if that is kept.
+    pub lines: Vec<Line>,
 }
 
 /// What happens at a moment.
-#[derive(Clone, Debug, PartialEq, Eq, PartialOrd, Ord)]
+#[derive(Debug)]
 enum Event {
-    /// The server makes a turn.
-    Turn { start: u64 },
-    /// The store answers.
-    Kept { start: u64, does: Keeps },
-    /// A server is started.
-    Start,
-    /// Bytes come to one side of a connection.
-    Comes { link: u64, to: Side, bytes: Vec<u8> },
+    /// A server makes a turn, if its timer is set to this moment.
+    Turn { site: usize, start: u64, armed: Duration },
+    /// The store takes what a server commits.
+    Store { start: u64 },
+    /// The server learns what the store has done.
+    Stored { site: usize, start: u64, stored: Stored },
+    /// A server is started, if none runs.
+    Start { site: usize },
+    /// By now this server has to have ended.
+    HasEnded { site: usize, start: u64, why: &'static str },
+    /// A frame comes to one side of a connection.
+    Comes { link: u64, to: Side, number: u64, bytes: Vec<u8> },
     /// One side learns that a connection has ended.
     Ends { link: u64, to: Side },
-    /// A client goes on.
-    Proceed { client: usize, life: u64 },
+    /// A client goes on, if its timer is set to this moment.
+    Proceed { client: usize, life: u64, armed: Duration },
     /// A client connects.
     Connect { client: usize, life: u64 },
     /// A client is started.
@@ -77,87 +96,171 @@ enum Event {
     Fault,
 }
 
-/// What a store does with a commit.
-#[derive(Clone, Copy, Debug, PartialEq, Eq, PartialOrd, Ord)]
-enum Keeps {
-    All,
-    /// It fails, and has kept so many of the changes.
-    Only(usize),
+/// An event, in the order of moments and of numbers.
+#[derive(Debug)]
+struct Scheduled {
+    moment: Duration,
+    number: u64,
+    event: Event,
+}
+
+impl PartialEq for Scheduled {
+    fn eq(&self, other: &Scheduled) -> bool {
+        self.cmp(other) == Ordering::Equal
+    }
+}
+
+impl Eq for Scheduled {}
+
+impl PartialOrd for Scheduled {
+    fn partial_cmp(&self, other: &Scheduled) -> Option<Ordering> {
+        Some(self.cmp(other))
+    }
+}
+
+impl Ord for Scheduled {
+    fn cmp(&self, other: &Scheduled) -> Ordering {
+        (self.moment, self.number).cmp(&(other.moment, other.number))
+    }
+}
+
+/// A machine's clock, which goes a little faster or slower than time.
+#[derive(Clone, Copy, Debug)]
+struct Clock {
+    offset: u64,
+    /// In a thousand.
+    pace: u64,
+}
+
+/// A machine on which a server may run.
+#[derive(Debug)]
+struct Site {
+    clock: Clock,
+    serving: Option<Serving>,
+    /// Its processes stand still until then.
+    frozen_until: Duration,
 }
 
 /// A server that runs.
 #[derive(Debug)]
 struct Serving {
     server: Server,
-    /// What is being committed, and since when by the server's clock.
-    commits: Option<(Vec<Change>, Duration)>,
-    /// When its next turn is due.
-    turn: Duration,
+    start: u64,
+    was_frozen: bool,
+    /// What is being committed.
+    commits: Option<Commit>,
+    timer: Timer,
+    /// The connections by the numbers that it has given them.
+    links: BTreeMap<u64, u64>,
 }
 
-/// A machine's clock, which goes a little faster or slower than time.
-#[derive(Clone, Copy, Debug)]
-struct Clock {
-    offset: Duration,
-    /// In a thousand.
-    pace: u32,
+/// What a client's process is there for.
+#[derive(Debug)]
+enum Errand {
+    /// Its callers.
+    Work,
+    /// An operator evicts the client of this machine.
+    Evict { victim: usize, joining: Option<Call<()>>, leaving: Option<Call<()>> },
+}
+
+/// Why a client is not started.
+#[derive(Clone, Copy, Debug, PartialEq, Eq)]
+enum Down {
+    /// An operator evicts it.
+    Evicted,
+    /// For good.
+    Retired,
 }
 
 /// A client's machine.
 #[derive(Debug)]
 struct Machine {
     clock: Clock,
+    number: u8,
+    signs: bool,
+    errand: Errand,
     client: Option<Client>,
     /// How often it was started.
     life: u64,
-    /// The last incarnation that is on its disk.
+    /// Its last incarnation, or 0.
     incarnation: u64,
+    /// The last one that is on its disk: it may have been said.
+    kept: u64,
+    /// How far its clock is ahead that people set.
+    ahead: Duration,
+    /// Why it is not started, if it is not.
+    stays_down: Option<Down>,
     link: Option<u64>,
-    /// It can't reach the server.
-    is_cut: bool,
+    /// It can't reach the server of this machine.
+    is_cut: [bool; 2],
+    /// Its connections are rejected until then.
+    rejected_until: Duration,
+    rejections: u32,
+    frozen_until: Duration,
     calls: Calls,
-    /// When it goes on next.
-    proceeds: Duration,
-    /// It was served since the last fault.
-    is_served: bool,
+    timer: Timer,
+    /// What the table was as the store went back, if the client may still answer from that.
+    before: Option<Left>,
+    /// It may have seen what the store lacks, and has not been told so.
+    may_lack: bool,
+    /// Connections in a row on which no message came, and when the first of them was made.
+    fruitless: (u32, Duration),
+    /// Since the last fault it has read, and written.
+    is_served: [bool; 2],
 }
 
 /// All there is in a run.
 #[derive(Debug)]
 pub struct World {
     settings: Settings,
+    weather: Weather,
     dice: Dice,
+    /// The dice of faults, and of what callers do.
+    fault_dice: Dice,
+    call_dice: Dice,
     now: Duration,
-    events: BinaryHeap<Reverse<(Duration, u64, Event)>>,
+    queue: BinaryHeap<Reverse<Scheduled>>,
     scheduled: u64,
+    /// How many steps of servers and of clients there were.
     happened: u64,
-    clock: Clock,
     disk: Disk,
-    serving: Option<Serving>,
-    starts: u64,
+    /// What servers have asked the store for, and what it does then.
+    asked: Vec<(u64, Vec<Change>, Does)>,
+    sites: Vec<Site>,
     machines: Vec<Machine>,
     network: Network,
     judge: Judge,
-    ended: Ended,
+    /// The last connection that was made before the store went back.
+    last_before: u64,
+    counts: Counts,
     next_value: u64,
-    fingerprint: u64,
-    log: String,
+    /// When all was whole again.
+    healed: Option<Duration>,
+    /// When each client was served after that.
+    calm_since: Option<Duration>,
+    longest: Duration,
+    record: Record,
 }
 
 impl Clock {
+    /// A clock that goes from nine tenths to eleven tenths as fast as time: two of them differ by
+    /// 22 percent at most, and leases allow for 25.
     fn draw(dice: &mut Dice) -> Clock {
-        let pace = u32::try_from(dice.among(900..1100)).unwrap_or(1000);
-        Clock { offset: dice.time(0..1_000_000_000), pace }
+        Clock { offset: dice.among(0..1_000_000_000_000), pace: dice.among(900..1101) }
     }
 
     fn at(self, now: Duration) -> Duration {
-        self.offset + now * self.pace / 1000
+        Duration::from_nanos(self.offset + nanoseconds(now) * self.pace / 1000)
     }
 
     /// How long a time by this clock takes.
     fn takes(self, time: Duration) -> Duration {
-        time * 1000 / self.pace + Duration::from_micros(1)
+        Duration::from_nanos(nanoseconds(time) * 1000 / self.pace) + Duration::from_micros(1)
     }
+}
+
+fn nanoseconds(time: Duration) -> u64 {
+    u64::try_from(time.as_nanos()).unwrap_or(u64::MAX)
 }
 
 impl World {
@@ -165,112 +268,215 @@ impl World {
     #[must_use]
     pub fn new(settings: Settings) -> World {
         let mut dice = Dice::new(settings.seed);
-        let clock = Clock::draw(&mut dice);
-        let clients = usize::try_from(dice.among(2..9)).unwrap_or(2);
-        let machine = |dice: &mut Dice| Machine {
+        let weather = Weather::draw(&mut dice.named(1));
+        let site = |dice: &mut Dice| Site {
             clock: Clock::draw(dice),
-            client: None,
-            life: 0,
-            incarnation: 0,
-            link: None,
-            is_cut: false,
-            calls: Calls::default(),
-            proceeds: Duration::MAX,
-            is_served: false,
+            serving: None,
+            frozen_until: Duration::ZERO,
         };
-        let machines = (0..clients).map(|_| machine(&mut dice)).collect();
-        let mut network = Network::default();
-        if dice.happens(700) {
-            let [loses, repeats, reorders] = [100, 50, 200].map(|most| dice.among(0..most));
-            network.faults = Faults { loses, repeats, reorders };
+        let sites = (0..weather.sites).map(|_| site(&mut dice)).collect();
+        // The last machine is the operators'.
+        let machines = 0..=weather.clients;
+        let machines = machines.map(|place| Machine::new(place, &weather, &mut dice));
+        let mut machines: Vec<_> = machines.collect();
+        if weather.has_second_process {
+            // It runs on the same machine, with a lock file of its own.
+            machines[weather.clients - 1].clock = machines[0].clock;
         }
         let mut world = World {
+            network: Network::new(dice.named(2), weather.network.clone(), weather.latency.clone()),
+            disk: Disk::new(dice.named(3), weather.has_history),
+            fault_dice: dice.named(4),
+            call_dice: dice.named(5),
+            judge: Judge::new(weather.keys),
+            record: Record::new(settings.keeps_lines),
             settings,
+            weather,
             dice,
             now: Duration::ZERO,
-            events: BinaryHeap::new(),
+            queue: BinaryHeap::new(),
             scheduled: 0,
             happened: 0,
-            clock,
-            disk: Disk::default(),
-            serving: None,
-            starts: 0,
+            asked: Vec::new(),
+            sites,
             machines,
-            network,
-            judge: Judge::new(),
-            ended: Ended::default(),
+            last_before: 0,
+            counts: Counts::default(),
             next_value: 0,
-            fingerprint: 0xcbf2_9ce4_8422_2325,
-            log: String::new(),
+            healed: None,
+            calm_since: None,
+            longest: Duration::ZERO,
         };
         world.begin();
         world
     }
 
     fn begin(&mut self) {
-        self.after(Duration::ZERO, Event::Start);
-        for client in 0..self.machines.len() {
-            self.after(Duration::from_millis(1), Event::Join { client });
+        self.after(Duration::ZERO, Event::Start { site: 0 });
+        for client in 0..self.weather.clients {
+            // No two processes of one machine start at the same nanosecond.
+            self.after(Duration::from_micros(1000 + client as u64), Event::Join { client });
             self.after(Duration::from_millis(2), Event::Call { client });
         }
-        self.after(Duration::from_millis(500), Event::Fault);
+        self.after(Duration::from_millis(300), Event::Fault);
     }
 
-    /// Goes on until the faults are over and each client is served again, or should have been.
+    /// Goes on until something is wrong; or until the faults are over, each client is served again,
+    /// and all was calm for a while.
     #[must_use]
     pub fn run(mut self) -> Report {
-        while self.now < self.settings.time {
-            self.step();
-        }
+        self.run_until(self.settings.time);
         self.heal();
-        while self.now < self.settings.time + BOUND && !self.machines.iter().all(|it| it.is_served)
-        {
-            self.step();
-        }
-        for (client, machine) in self.machines.iter().enumerate() {
-            if !machine.is_served {
-                self.judge.wrong.push(format!("client {client} was not served within {BOUND:?}"));
-            }
-        }
+        self.run_until_served();
+        let calm = self.now + CALM;
+        self.calm_since = Some(self.now);
+        self.run_until(calm);
+        self.find_who_waits();
         Report {
             events: self.happened,
-            ended: self.ended,
-            changes: self.judge.version(),
-            starts: self.starts,
+            time: self.now,
+            counts: self.counts,
+            longest: self.longest,
             wrong: self.judge.wrong,
-            fingerprint: self.fingerprint,
-            log: self.log,
+            fingerprint: self.record.fingerprint(),
+            lines: self.record.lines(),
         }
     }
 
+    fn run_until(&mut self, end: Duration) {
+        while self.now < end && self.judge.wrong.is_empty() {
+            self.step();
+        }
+    }
+
+    fn run_until_served(&mut self) {
+        let end = self.now + BOUND;
+        while self.judge.wrong.is_empty() && !self.are_all_served() {
+            if self.now >= end {
+                self.tell_unserved();
+                return;
+            }
+            self.step();
+        }
+    }
+
+    fn are_all_served(&self) -> bool {
+        self.workers().all(|machine| machine.is_served == [true; 2])
+    }
+
+    fn workers(&self) -> impl Iterator<Item = &Machine> {
+        self.machines[..self.weather.clients]
+            .iter()
+            .filter(|machine| machine.stays_down != Some(Down::Retired))
+    }
+
+    fn tell_unserved(&mut self) {
+        for client in 0..self.weather.clients {
+            let machine = &self.machines[client];
+            if let [reads, writes] = machine.is_served
+                && !(machine.stays_down == Some(Down::Retired) || reads && writes)
+            {
+                self.judge.find(format!(
+                    "client {client} was not served within {BOUND:?}: reads {reads}, writes {writes}"
+                ));
+            }
+        }
+    }
+
+    /// Schedules an event.
     fn after(&mut self, time: Duration, event: Event) {
+        self.at(self.now + time, event);
+    }
+
+    fn at(&mut self, moment: Duration, event: Event) {
         self.scheduled += 1;
-        self.events.push(Reverse((self.now + time, self.scheduled, event)));
+        self.queue.push(Reverse(Scheduled { moment, number: self.scheduled, event }));
     }
 
-    fn note(&mut self, what: fmt::Arguments<'_>) {
-        let mut line = String::new();
-        // A text takes all that is written to it.
-        let _ = writeln!(line, "{:?} {what}", self.now);
-        for byte in line.bytes() {
-            self.fingerprint = (self.fingerprint ^ u64::from(byte)).wrapping_mul(0x0100_0000_01b3);
-        }
-        if self.settings.logs {
-            self.log.push_str(&line);
-        }
+    /// Something happens at a machine. The kind tells such lines apart.
+    fn note(&mut self, node: Node, kind: u64, what: impl FnOnce() -> String) {
+        let place = match node {
+            Node::Client(client) => client as u64,
+            Node::Server(site) => 1000 + site as u64,
+        };
+        self.record.note(self.now, &[kind, place], || Happened::At(node, what()));
     }
 
+    /// Makes the next event happen. Those for a process that stands still wait.
     fn step(&mut self) {
-        let Some(Reverse((moment, _, event))) = self.events.pop() else { return };
+        let Some(Reverse(Scheduled { moment, event, .. })) = self.queue.pop() else { return };
         self.now = moment;
-        self.happened += 1;
+        if let Some(until) = self.frozen_until(&event).filter(|until| *until > moment) {
+            return self.at(until, event);
+        }
+        if self.fires(&event) {
+            self.happens(event);
+        }
+    }
+
+    /// Whether the event is none of a timer, or one of a timer that is due.
+    fn fires(&mut self, event: &Event) -> bool {
+        let now = self.now;
+        let fired = match *event {
+            Event::Turn { site, start, armed } => {
+                let serving = self.sites[site].serving.as_mut().filter(|it| it.start == start);
+                let fired = serving.map_or(Fired::Stale, |it| it.timer.fires(armed, now));
+                if let Fired::Later(due) = fired {
+                    self.at(due, Event::Turn { site, start, armed: due });
+                }
+                fired
+            }
+            Event::Proceed { client, life, armed } => {
+                let machine = Some(&mut self.machines[client]).filter(|it| it.life == life);
+                let fired = machine.map_or(Fired::Stale, |it| it.timer.fires(armed, now));
+                if let Fired::Later(due) = fired {
+                    self.at(due, Event::Proceed { client, life, armed: due });
+                }
+                fired
+            }
+            _ => Fired::Due,
+        };
+        fired == Fired::Due
+    }
+
+    /// Until when the process of the event stands still.
+    fn frozen_until(&self, event: &Event) -> Option<Duration> {
+        match *event {
+            Event::Turn { site, .. } | Event::Stored { site, .. } => {
+                Some(self.sites[site].frozen_until)
+            }
+            Event::Comes { link, to, .. } | Event::Ends { link, to } => {
+                let link = self.network.link(link)?;
+                Some(match to {
+                    Side::Client => self.machines[link.client].frozen_until,
+                    Side::Server => self.sites[link.site].frozen_until,
+                })
+            }
+            Event::Proceed { client, .. }
+            | Event::Connect { client, .. }
+            | Event::Call { client } => Some(self.machines[client].frozen_until),
+            Event::Store { .. }
+            | Event::Start { .. }
+            | Event::HasEnded { .. }
+            | Event::Join { .. }
+            | Event::Fault => None,
+        }
+    }
+
+    fn happens(&mut self, event: Event) {
         match event {
-            Event::Turn { start } => self.turn(start),
-            Event::Kept { start, does } => self.kept(start, does),
-            Event::Start => self.start(),
-            Event::Comes { link, to, bytes } => self.comes(link, to, &bytes),
+            Event::Turn { site, start, .. } => self.turn(site, start),
+            Event::Store { start } => self.store(start),
+            Event::Stored { site, start, stored } => self.stored(site, start, stored),
+            Event::Start { site } => self.start_if_none_runs(site),
+            Event::HasEnded { site, start, why } => self.has_ended(site, start, why),
+            Event::Comes { link, to, number, bytes } => self.comes(link, to, number, &bytes),
             Event::Ends { link, to } => self.ends(link, to),
-            Event::Proceed { client, life } => self.proceed_if_due(client, life),
+            Event::Proceed { client, .. } => {
+                self.happened += 1;
+                self.proceed(client);
+                self.look(client);
+            }
             Event::Connect { client, life } => self.connect(client, life),
             Event::Join { client } => self.join(client),
             Event::Call { client } => self.call(client),
@@ -279,6 +485,31 @@ impl World {
     }
 }
 
-mod client;
-mod faults;
-mod server;
+impl Machine {
+    fn new(place: usize, weather: &Weather, dice: &mut Dice) -> Machine {
+        let is_second = weather.has_second_process && place + 1 == weather.clients;
+        Machine {
+            clock: Clock::draw(dice),
+            number: if is_second { 0 } else { u8::try_from(place).unwrap_or(u8::MAX) },
+            signs: place >= weather.unsigned,
+            errand: Errand::Work,
+            client: None,
+            life: 0,
+            incarnation: 0,
+            kept: 0,
+            ahead: Duration::ZERO,
+            stays_down: (place == weather.clients).then_some(Down::Retired),
+            link: None,
+            is_cut: [false; 2],
+            rejected_until: Duration::ZERO,
+            rejections: 0,
+            frozen_until: Duration::ZERO,
+            calls: Calls::default(),
+            timer: Timer::IDLE,
+            before: None,
+            may_lack: false,
+            fruitless: (0, Duration::ZERO),
+            is_served: [false; 2],
+        }
+    }
+}

@@ -1,28 +1,41 @@
-//! The same seed gives the same run, and no run finds anything wrong.
-use krl_simulation::world::{Report, Settings, World};
+//! The same seed gives the same run, and each kind of thing happens in some run.
+use krl_simulation::world::{Counts, Report, Settings, World};
 use std::time::Duration;
 
-fn run(seed: u64, seconds: u64, logs: bool) -> Report {
-    World::new(Settings { seed, time: Duration::from_secs(seconds), logs }).run()
+fn run(seed: u64, keeps_lines: bool) -> Report {
+    let settings = Settings { keeps_lines, ..Settings::of(seed, Duration::from_secs(2)) };
+    World::new(settings).run()
 }
 
 #[test]
 fn a_run_by_a_seed_is_the_same_byte_for_byte() {
     for seed in 1..=3 {
-        let (first, second) = (run(seed, 5, true), run(seed, 5, true));
-        assert!(first.log.len() > 10_000, "it tells what happens");
-        assert!(first == second, "two runs of seed {seed} differ");
+        let (first, second) = (run(seed, true), run(seed, true));
+        let [log, again] = [&first, &second].map(|report| {
+            let lines: Vec<_> = report.lines.iter().map(ToString::to_string).collect();
+            lines.join("\n")
+        });
+        assert!(log.len() > 10_000, "it tells what happens");
+        assert_eq!(log, again, "two runs of seed {seed}");
+        assert_eq!(first, second, "two runs of seed {seed}");
+        let unlogged = run(seed, false);
+        assert_eq!(unlogged.fingerprint, first.fingerprint, "it is the same without a log");
     }
-    assert_ne!(run(1, 5, false).fingerprint, run(2, 5, false).fingerprint);
+    assert_ne!(run(1, false).fingerprint, run(2, false).fingerprint);
 }
 
 #[test]
-fn clients_are_told_what_is_so_and_are_served() {
-    let mut ended = 0;
-    for seed in 100..105 {
-        let report = run(seed, 10, false);
+fn each_kind_of_thing_happens() {
+    let mut all = Counts::default();
+    for seed in 100..140 {
+        let report = run(seed, false);
         assert_eq!(report.wrong, [""; 0], "seed {seed}");
-        ended += report.ended.reads.min(report.ended.writes).min(report.ended.cached);
+        all.add(&report.counts);
     }
-    assert!(ended > 50, "they read and write: {ended}");
+    let Counts { reads, cached, writes, pins, bound, watched, .. } = all;
+    let Counts { left, evicted, refused, starts, went_back, faults, .. } = all;
+    let happened = [reads, cached, writes, pins, bound, watched];
+    assert!(happened.iter().all(|count| *count > 100), "{all}");
+    let happened = [left, evicted, refused, starts, went_back, faults];
+    assert!(happened.iter().all(|count| *count > 0), "{all}");
 }

@@ -57,7 +57,7 @@ impl<S: Store> ServerThread<S> {
         }
         self.events.show(shown);
         self.sockets.finish(self.events.connections(), Instant::now() + LAST_WRITES);
-        self.events.failure().map_or(Ok(()), Err)
+        self.events.take_failure().map_or(Ok(()), Err)
     }
 
     /// Takes what waits, judges it all, commits what it changed, and only then sends. It answers

@@ -7,7 +7,7 @@ use std::ops::Range;
 
 /// What a range is held for.
 #[derive(Clone, Copy, Debug, PartialEq, Eq)]
-pub(crate) enum Purpose {
+pub enum Purpose {
     /// Others may read and pin the range too.
     Read,
     /// Others may read the range, and nobody else may change it next.
@@ -18,8 +18,10 @@ pub(crate) enum Purpose {
 
 /// The rows of a range that is held, and its pin.
 #[derive(Debug, PartialEq, Eq)]
-pub(crate) struct Held {
+pub struct Held {
+    /// The rows.
     pub rows: Vec<Row>,
+    /// The name of the pin.
     pub pin: u64,
 }
 

@@ -24,6 +24,12 @@ impl Jobs {
     /// Frees a pin, and gives back what was called back meanwhile. If a write that is bound to the
     /// pin is not judged, the pin stays until it is: the server may still make that write.
     pub fn unpin(&mut self, id: u64) {
+        self.unpin_if_judged(id);
+        // What is given back the client knows no more.
+        self.tell_changes();
+    }
+
+    fn unpin_if_judged(&mut self, id: u64) {
         if self.awaits_a_write_of(id) {
             self.unpinned.push(id);
         } else {
@@ -34,7 +40,7 @@ impl Jobs {
     /// Frees the pins that stayed for a write that is judged by now.
     pub(super) fn free_unpinned(&mut self) {
         for id in std::mem::take(&mut self.unpinned) {
-            self.unpin(id);
+            self.unpin_if_judged(id);
         }
     }
 

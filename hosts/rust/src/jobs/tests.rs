@@ -126,6 +126,20 @@ fn what_is_called_back_in_a_pin_is_given_back_behind_it() {
 }
 
 #[test]
+fn who_waits_for_a_change_learns_at_once_of_what_goes_with_a_pin() {
+    let mut world = World::new();
+    world.write(1, Write::Insert(row(10, 1)));
+    let rows = world.read(0, 0..30);
+    let pin = world.clients[0].pin(5..15).unwrap();
+    let watched = world.clients[0].watch(0..30, rows);
+    let _put = world.clients[1].write(Write::Put(row(10, 2)));
+    world.settle();
+    assert!(watched.answer.try_recv().is_err(), "the pin keeps it");
+    world.clients[0].unpin(pin);
+    assert_eq!(watched.answer.try_recv(), Ok(Ok(())));
+}
+
+#[test]
 fn a_client_that_drops_all_answers_says_and_hears_nothing_until_it_begins_anew() {
     let mut world = World::new();
     assert_eq!(world.write(1, Write::Insert(row(10, 1))), Outcome::Applied);

@@ -1,23 +1,37 @@
 //! What happens at the clients.
-use super::{
-    BUSY, Client, Duration, ErrorKind, Event, KEYS, Machine, Range, Row, Side, Value, World, Write,
-};
-use std::io;
+use super::{Down, Errand, Event, Machine, World};
+use crate::calls::Calls;
+use crate::network::{Carried, PREFIX, Side};
+use crate::record::{Delivery, Fate, Happened, Node};
+use crate::timer::Timer;
+use krl::simulated::{self, Before, Begin, Client, FrameKind};
+use std::io::{self, ErrorKind};
+use std::time::Duration;
 
-/// No incarnation is less: incarnations are moments of the clock that people set.
+/// What the clocks of people show as machines start. Incarnations are moments of them.
 const STARTED: u64 = 1_800_000_000_000_000_000;
 
+/// How far a clock is ahead that is set wrong.
+const FAR: Duration = Duration::from_secs(3 * 24 * 3600);
+
+/// So many connections in a row without a message take this long at least.
+const ATTEMPTS: u32 = 20;
+const TAKE_AT_LEAST: Duration = Duration::from_secs(2);
+
+/// The incarnation that begins at this time of a clock.
+pub(super) fn incarnation_at(time: Duration) -> u64 {
+    STARTED + super::nanoseconds(time)
+}
+
 impl Machine {
-    fn time(&self, now: Duration) -> Duration {
+    pub(super) fn time(&self, now: Duration) -> Duration {
         self.clock.at(now)
     }
 
-    /// Has a greater incarnation on the disk, and answers the one before.
-    fn renew(&mut self, now: Duration) -> u64 {
-        let moment = u64::try_from(self.time(now).as_nanos()).unwrap_or(0);
-        let before = self.incarnation;
-        self.incarnation = (STARTED + moment).max(before + 1);
-        before
+    /// Takes a greater incarnation, and answers what is known of those before.
+    fn renew(&mut self, now: Duration) -> Before {
+        self.incarnation = incarnation_at(self.time(now) + self.ahead).max(self.incarnation + 1);
+        if self.kept > 0 { Before::IsOver(self.kept) } else { Before::Unknown }
     }
 }
 
@@ -25,37 +39,60 @@ impl World {
     /// A client is started.
     pub(super) fn join(&mut self, client: usize) {
         let (now, seed) = (self.now, self.dice.draw());
+        let is_far_ahead = self.dice.happens(self.weather.far_ahead);
+        let ahead = if is_far_ahead { FAR } else { Duration::ZERO };
         let machine = &mut self.machines[client];
-        if machine.client.is_some() {
+        if machine.client.is_some() || machine.stays_down.is_some() {
             return;
         }
+        // The clock was set right, and the client has a new lock file.
+        if std::mem::replace(&mut machine.ahead, ahead) > Duration::ZERO {
+            machine.kept = 0;
+        }
+        machine.incarnation = machine.kept;
         let before = machine.renew(now);
+        self.start_client(client, before, seed);
+    }
+
+    pub(super) fn start_client(&mut self, client: usize, before: Before, seed: u64) {
+        let servers = self.sites.len();
+        let machine = &mut self.machines[client];
+        let Machine { number, incarnation, signs, .. } = *machine;
+        let begin = Begin { number, incarnation, before, servers, signs, seed };
+        machine.client = Some(Client::new(begin, machine.time(self.now)));
+        self.happened += 1;
         machine.life += 1;
-        let before = (before > 0).then_some(before);
-        let (number, time) = (number_of(client), machine.time(now));
-        machine.client = Some(Client::new(number, machine.incarnation, before, seed, time));
+        machine.frozen_until = Duration::ZERO;
+        machine.timer = Timer::IDLE;
+        machine.before = None;
+        machine.may_lack = false;
+        machine.fruitless = (0, Duration::ZERO);
         let life = machine.life;
-        self.note(format_args!("client {client} starts"));
+        self.note(Node::Client(client), 10, || format!("starts as incarnation {incarnation}"));
         self.after(Duration::ZERO, Event::Connect { client, life });
     }
 
+    /// A client's process ends. Its server learns of it, or not.
     pub(super) fn kill_client(&mut self, client: usize, is_told: bool) {
         let machine = &mut self.machines[client];
         if machine.client.take().is_none() {
             return;
         }
-        machine.calls = super::Calls::default();
-        if let Some(link) = machine.link.take().filter(|_| is_told) {
-            self.lose(link, Side::Server);
+        machine.calls = Calls::default();
+        machine.life += 1;
+        match machine.link.take() {
+            Some(link) if is_told => self.end_link(link, Side::Client),
+            Some(link) => drop(self.network.end(link, Side::Client)),
+            None => {}
         }
-        self.note(format_args!("client {client} ends"));
+        self.note(Node::Client(client), 11, || "ends".into());
         let pause = self.dice.time(1_000..4_000_000);
         self.after(pause, Event::Join { client });
     }
 
     /// A client of this life makes a connection.
     pub(super) fn connect(&mut self, client: usize, life: u64) {
-        let (now, server_time) = (self.now, self.clock.at(self.now));
+        let now = self.now;
         let machine = &mut self.machines[client];
         let time = machine.time(now);
         if machine.life != life || machine.link.is_some() {
@@ -63,22 +100,55 @@ impl World {
         }
         let Some(it) = &mut machine.client else { return };
         if it.has_to_begin_anew(time) {
-            let before = machine.incarnation;
-            machine.incarnation = before + 1;
-            it.begin_anew(number_of(client), machine.incarnation, before, time);
+            if let Errand::Evict { victim, .. } = machine.errand {
+                return self.end_eviction(client, victim);
+            }
+            let before = machine.renew(now);
+            machine.before = None;
+            let Some(it) = &mut machine.client else { return };
+            it.begin_anew(machine.number, machine.incarnation, before, time);
         }
-        let serving = self.serving.as_mut().filter(|_| !machine.is_cut);
-        let connection = serving.and_then(|serving| serving.server.connect(server_time));
-        let Some(connection) = connection else {
-            return self.disconnect(client, ErrorKind::ConnectionRefused.into());
-        };
-        let link = self.network.connect(client, connection);
+        let site = machine.client.as_ref().map_or(0, Client::place);
+        self.happened += 1;
+        self.count_attempt(client);
+        match self.open_link(client, site) {
+            Ok(link) => self.greet(client, link),
+            Err(error) => self.disconnect(client, error),
+        }
+    }
+
+    /// Opens a connection to a server, if it runs and can be reached.
+    fn open_link(&mut self, client: usize, site: usize) -> io::Result<u64> {
         let machine = &mut self.machines[client];
-        machine.link = Some(link);
+        if machine.rejected_until > self.now {
+            machine.rejections += 1;
+            return Err(simulated::not_taken());
+        }
+        let number = machine.number;
+        let is_cut = machine.is_cut[site];
+        let shown = self.weather.is_identified.then_some(number);
+        let time = self.sites[site].clock.at(self.now);
+        let serving = self.sites[site].serving.as_mut().filter(|_| !is_cut);
+        let opened = serving.and_then(|it| Some((it.server.connect(shown, time)?, it)));
+        let Some((connection, serving)) = opened else {
+            let kinds =
+                [ErrorKind::ConnectionRefused, ErrorKind::TimedOut, ErrorKind::PermissionDenied];
+            return Err(self.dice.pick(&kinds).into());
+        };
+        let link = self.network.connect(client, site, connection);
+        serving.links.insert(connection, link);
+        self.machines[client].link = Some(link);
+        Ok(link)
+    }
+
+    fn greet(&mut self, client: usize, link: u64) {
+        let machine = &mut self.machines[client];
+        let time = machine.clock.at(self.now);
         let Some(it) = &mut machine.client else { return };
+        machine.kept = machine.incarnation;
         match it.connect(time) {
             Ok(greeting) => {
-                self.note(format_args!("client {client} connects by {link}"));
+                self.note(Node::Client(client), 12, || format!("connects by {link}"));
                 self.carry(link, Side::Server, &greeting);
                 self.proceed(client);
             }
@@ -86,62 +156,135 @@ impl World {
         }
     }
 
+    /// Connections on which no message comes are made ever less often.
+    fn count_attempt(&mut self, client: usize) {
+        let fruitless = &mut self.machines[client].fruitless;
+        if fruitless.0 == 0 {
+            fruitless.1 = self.now;
+        }
+        fruitless.0 += 1;
+        let took = self.now.saturating_sub(fruitless.1);
+        if fruitless.0 == ATTEMPTS && took < TAKE_AT_LEAST {
+            self.judge.find(format!("client {client} connects {ATTEMPTS} times within {took:?}"));
+        }
+        if fruitless.0 >= ATTEMPTS {
+            *fruitless = (0, self.now);
+        }
+    }
+
     /// The client's connection has ended, or was not made.
-    fn disconnect(&mut self, client: usize, why: io::Error) {
-        self.note(format_args!("client {client} is not connected: {why}"));
+    pub(super) fn disconnect(&mut self, client: usize, why: io::Error) {
+        self.note(Node::Client(client), 13, || format!("is not connected: {why}"));
         let machine = &mut self.machines[client];
         let time = machine.clock.at(self.now);
         let Some(it) = &mut machine.client else { return };
         let pause = machine.clock.takes(it.disconnect(why, time));
         let life = machine.life;
         if let Some(link) = machine.link.take() {
-            self.lose(link, Side::Server);
+            self.end_link(link, Side::Client);
         }
         self.after(pause, Event::Connect { client, life });
     }
 
-    /// Bytes come to one side of a connection.
-    pub(super) fn comes(&mut self, link: u64, to: Side, bytes: &[u8]) {
-        let Some(found) = self.network.link(link).filter(|it| !it.swallows) else { return };
-        let (client, connection) = (found.client, found.connection);
-        if to == Side::Server {
-            return self.server_hears(connection, bytes);
+    /// Carries what is said on a connection.
+    pub(super) fn carry(&mut self, link: u64, to: Side, bytes: &[u8]) {
+        if bytes.is_empty() {
+            return;
         }
+        for Carried { number, moment, is_lost, bytes } in
+            self.network.carry(link, to, bytes, self.now)
+        {
+            if is_lost {
+                self.note_frame(link, to, number, &bytes, Fate::Lost);
+            } else {
+                self.at(moment, Event::Comes { link, to, number, bytes });
+            }
+        }
+    }
+
+    /// This side ends a connection. The other one learns of it after what was sent before.
+    pub(super) fn end_link(&mut self, link: u64, by: Side) {
+        let moment = self.network.arrives(link, by.other(), self.now);
+        if self.network.end(link, by) {
+            self.at(moment, Event::Ends { link, to: by.other() });
+        }
+    }
+
+    fn note_frame(&mut self, link: u64, to: Side, number: u64, bytes: &[u8], fate: Fate) {
+        let Some(link) = self.network.link(link) else { return };
+        let (client, site) = (Node::Client(link.client), Node::Server(link.site));
+        let (from, to) = match to {
+            Side::Client => (site, client),
+            Side::Server => (client, site),
+        };
+        self.record.mix_bytes(bytes);
+        self.record.note(self.now, &[number, u64::from(fate == Fate::Taken)], || {
+            let what = simulated::describe(&bytes[PREFIX..]);
+            Happened::Delivery(Delivery { number, from, to, fate, what })
+        });
+    }
+
+    /// A frame comes to one side of a connection.
+    pub(super) fn comes(&mut self, link: u64, to: Side, number: u64, bytes: &[u8]) {
+        let Some(found) = self.network.link(link) else { return };
+        let (client, site, connection) = (found.client, found.site, found.connection);
+        let is_taken = !found.has_ended[to as usize] && !found.swallows[to as usize];
+        let fate = if is_taken { Fate::Taken } else { Fate::Lost };
+        self.note_frame(link, to, number, bytes, fate);
+        match (is_taken, to) {
+            (false, _) => {}
+            (true, Side::Server) => self.server_hears(site, connection, bytes),
+            (true, Side::Client) => self.client_hears(client, link, bytes),
+        }
+    }
+
+    fn client_hears(&mut self, client: usize, link: u64, bytes: &[u8]) {
+        self.happened += 1;
+        let kind = FrameKind::of(&bytes[PREFIX..]);
         let machine = &mut self.machines[client];
         let time = machine.clock.at(self.now);
-        let Some(it) = machine.client.as_mut().filter(|_| machine.link == Some(link)) else {
-            return;
-        };
+        let Some(it) = &mut machine.client else { return };
+        if kind == FrameKind::OtherStore || kind == FrameKind::WentBack && !machine.may_lack {
+            self.judge.find(format!("client {client} is told {kind:?}, and it is not so"));
+        }
         match it.deliver(bytes, time) {
             Ok(()) => self.proceed(client),
             Err(error) => self.disconnect(client, error),
         }
         self.look(client);
+        let machine = &mut self.machines[client];
+        if kind != FrameKind::Host {
+            machine.fruitless.0 = 0;
+            if link > self.last_before {
+                machine.before = None;
+                machine.may_lack = false;
+            }
+        }
     }
 
-    /// One side learns that a connection has ended. The connection is gone with that.
+    /// One side learns that a connection has ended.
     pub(super) fn ends(&mut self, link: u64, to: Side) {
-        let Some(ended) = self.network.close(link) else { return };
-        if to == Side::Server {
-            return self.server_loses(ended.connection);
+        let Some(found) = self.network.link(link).filter(|it| !it.swallows[to as usize]) else {
+            return;
+        };
+        let (client, site, connection) = (found.client, found.site, found.connection);
+        if !self.network.end(link, to) {
+            return;
         }
-        if self.machines[ended.client].link == Some(link) {
-            self.machines[ended.client].link = None;
-            self.disconnect(ended.client, ErrorKind::UnexpectedEof.into());
-        }
-        self.server_loses(ended.connection);
-    }
-
-    pub(super) fn proceed_if_due(&mut self, client: usize, life: u64) {
-        let machine = &self.machines[client];
-        if machine.life == life && machine.proceeds == self.now {
-            self.proceed(client);
-            self.look(client);
+        match to {
+            Side::Server => self.server_loses(site, connection),
+            Side::Client if self.machines[client].link == Some(link) => {
+                self.machines[client].link = None;
+                self.happened += 1;
+                self.disconnect(client, ErrorKind::UnexpectedEof.into());
+                self.look(client);
+            }
+            Side::Client => {}
         }
     }
 
     /// The client goes on with what it was asked, and says what it has to say.
-    fn proceed(&mut self, client: usize) {
+    pub(super) fn proceed(&mut self, client: usize) {
         let machine = &mut self.machines[client];
         let time = machine.clock.at(self.now);
         let (Some(it), Some(_)) = (&mut machine.client, machine.link) else { return };
@@ -155,75 +298,74 @@ impl World {
         }
     }
 
-    fn proceed_in(&mut self, client: usize, time: Duration) {
+    pub(super) fn proceed_in(&mut self, client: usize, time: Duration) {
+        let armed = self.now + time;
         let machine = &mut self.machines[client];
-        machine.proceeds = self.now + time;
         let life = machine.life;
-        self.after(time, Event::Proceed { client, life });
+        if machine.timer.set(armed) {
+            self.at(armed, Event::Proceed { client, life, armed });
+        }
     }
 
-    fn says_to_server(&mut self, client: usize) {
+    pub(super) fn says_to_server(&mut self, client: usize) {
         let machine = &mut self.machines[client];
         let time = machine.clock.at(self.now);
         let Some(it) = &mut machine.client else { return };
-        let said = it.take(time);
+        let mut said = Vec::new();
+        it.take(&mut said, time);
         if let Some(link) = machine.link {
             self.carry(link, Side::Server, &said);
         }
     }
 
-    /// The client's callers look for something to do.
-    pub(super) fn call(&mut self, client: usize) {
-        let pause = self.dice.time(500..50_000);
-        self.after(pause, Event::Call { client });
-        let (keys, write) = (self.draw_keys(), self.draw_write());
-        let machine = &mut self.machines[client];
+    /// An operator evicts a client of which no process is left, but for one of a greater incarnation
+    /// that waits for this.
+    pub(super) fn evict(&mut self, victim: usize) {
+        let operator = self.weather.clients;
+        let number = self.machines[victim].number;
+        let records = &self.disk.snapshot().records;
+        let known = records.iter().find(|record| record.client == number && !record.left);
+        let is_free = self.machines[operator].client.is_none();
+        let Some(known) = known.filter(|_| is_free) else { return };
+        let incarnation = known.incarnation + 1;
+        let machine = &self.machines[victim];
+        if machine.client.is_some() && machine.incarnation <= incarnation {
+            return;
+        }
+        let (seed, clock) = (self.dice.draw(), machine.clock);
+        self.machines[victim].stays_down = Some(Down::Evicted);
+        let machine = &mut self.machines[operator];
+        machine.clock = clock;
+        (machine.number, machine.incarnation, machine.kept) = (number, incarnation, 0);
+        self.start_client(operator, Before::Vouched, seed);
+        let machine = &mut self.machines[operator];
         let time = machine.clock.at(self.now);
-        let Some(it) = &mut machine.client else { return };
-        if let Some(rows) = it.cached(&keys, time) {
-            self.ended.cached += 1;
-            let now = self.judge.version();
-            self.judge.read(&format!("the cache of client {client}"), &keys, &rows, now..=now);
-        } else if !machine.calls.is_reading() {
-            machine.calls.read(it, keys, &self.judge, time);
-        }
-        if !machine.calls.is_writing() && self.dice.happens(300) {
-            machine.calls.write(it, write, &self.judge, time);
-        }
-        self.says_to_server(client);
-        self.look(client);
-        if self.machines[client].proceeds > self.now + BUSY {
-            self.proceed_in(client, BUSY);
-        }
+        let joining = machine.client.as_mut().map(|it| it.join(time));
+        machine.errand = Errand::Evict { victim, joining, leaving: None };
     }
 
-    /// The callers take the answers that have come.
-    fn look(&mut self, client: usize) {
-        let machine = &mut self.machines[client];
+    /// The operator's client leaves when it has joined, and ends when it has left.
+    pub(super) fn look_at_eviction(&mut self, operator: usize) {
+        let machine = &mut self.machines[operator];
         let time = machine.clock.at(self.now);
-        let Some(it) = &mut machine.client else { return };
-        let before = self.ended.reads;
-        let who = format!("client {client}");
-        machine.calls.look(it, &who, &mut self.judge, time, &mut self.ended);
-        machine.is_served |= self.ended.reads > before && self.now >= self.settings.time;
-    }
-
-    fn draw_keys(&mut self) -> Range<u64> {
-        let start = self.dice.among(0..KEYS);
-        start..self.dice.among(start + 1..KEYS + 1)
-    }
-
-    fn draw_write(&mut self) -> Write {
-        self.next_value += 1;
-        let row = Row { key: self.dice.among(0..KEYS), value: Value::from(self.next_value) };
-        match self.dice.among(0..5) {
-            0 | 1 => Write::Insert(row),
-            2 | 3 => Write::Put(row),
-            _ => Write::Delete(row.key),
+        let Errand::Evict { victim, joining, leaving } = &mut machine.errand else { return };
+        let (victim, Some(it)) = (*victim, &mut machine.client) else { return };
+        if joining.as_ref().is_some_and(|call| call.answer().is_some()) {
+            *joining = None;
+            *leaving = Some(it.leave(time));
+        }
+        let has_left = leaving.as_ref().and_then(simulated::Call::answer);
+        if let Some(left) = has_left {
+            self.counts.evicted += u64::from(left.is_ok());
+            self.end_eviction(operator, victim);
         }
     }
-}
 
-fn number_of(client: usize) -> u8 {
-    u8::try_from(client).unwrap_or(u8::MAX)
+    pub(super) fn end_eviction(&mut self, operator: usize, victim: usize) {
+        self.kill_client(operator, true);
+        self.machines[operator].errand = Errand::Work;
+        self.machines[victim].stays_down = None;
+        let pause = self.dice.time(1_000..4_000_000);
+        self.after(pause, Event::Join { client: victim });
+    }
 }

@@ -1,167 +1,229 @@
-//! What happens at the server.
-use super::{
-    Change, Duration, Event, Keeps, Leases, Said, ServeError, Server, Serving, Side, World,
-};
+//! What happens at the servers.
+use super::store::{Commit, Stored};
+use super::{Event, Serving, World};
+use crate::network::Side;
+use crate::record::Node;
+use crate::timer::Timer;
+use crate::weather::{self, Terms};
+use krl::simulated::{FrameKind, Said, Server, Start};
+use krl::{Leases, Room, ServeError};
+use std::collections::BTreeMap;
+use std::time::Duration;
 
-/// How long a lease is.
-const LEASE: Duration = Duration::from_secs(2);
+/// By then a server has ended that has found its store to be an older one.
+const ENDS_BY: Duration = Duration::from_secs(2);
 
 impl World {
-    /// A server is started over what the disk has.
-    pub(super) fn start(&mut self) {
-        if self.serving.is_some() {
+    /// Whether the server runs that may commit.
+    fn runs_the_owner(&self) -> bool {
+        let owner = self.disk.owner();
+        self.sites.iter().any(|site| site.serving.as_ref().is_some_and(|it| it.start == owner))
+    }
+
+    pub(super) fn start_if_none_runs(&mut self, site: usize) {
+        if self.runs_the_owner() {
             return;
         }
-        self.starts += 1;
-        let (leases, time) = (Leases::of(LEASE).ok(), self.clock.at(self.now));
-        match Server::start(&mut self.disk, leases, time) {
-            Ok(server) => {
-                let start = self.starts;
-                self.note(format_args!("server {start} starts"));
-                self.serving = Some(Serving { server, commits: None, turn: self.now });
-                self.after(Duration::ZERO, Event::Turn { start });
-            }
-            Err(error) => self.judge.wrong.push(format!("no server starts: {error}")),
+        if self.sites[site].serving.is_some() {
+            return self.after(Duration::from_millis(200), Event::Start { site });
+        }
+        self.start(site);
+    }
+
+    /// A server is started over what the disk has. No earlier one commits any more.
+    pub(super) fn start(&mut self, site: usize) {
+        self.counts.starts += 1;
+        let start = self.counts.starts;
+        let (leases, room) = (self.draw_leases(), self.draw_room(start));
+        let time = self.sites[site].clock.at(self.now);
+        self.disk.take(start);
+        let server = match Server::start(&mut self.disk, Start { leases, room }, time) {
+            Ok(server) => server,
+            Err(error) => return self.judge.find(format!("no server starts: {error}")),
+        };
+        self.note(Node::Server(site), 1, || format!("starts as number {start} with {leases:?}"));
+        let serving = Serving {
+            server,
+            start,
+            was_frozen: false,
+            commits: None,
+            timer: Timer::IDLE,
+            links: BTreeMap::new(),
+        };
+        self.sites[site].serving = Some(serving);
+        self.sites[site].frozen_until = Duration::ZERO;
+        self.turn_in(site, Duration::ZERO);
+    }
+
+    fn draw_leases(&mut self) -> Option<Leases> {
+        match self.weather.terms {
+            Terms::Endless => None,
+            Terms::One(leases) => Some(leases),
+            Terms::Each if self.dice.happens(200) => None,
+            Terms::Each => Some(weather::leases(&mut self.dice)),
         }
     }
 
-    /// The server ends, and all its connections with it.
-    pub(super) fn kill_server(&mut self, why: &str) {
-        self.note(format_args!("the server ends: {why}"));
-        self.serving = None;
-        for link in self.network.names() {
-            self.lose(link, Side::Client);
+    /// The first server has little room; each later one has as much, or more, or is given none.
+    fn draw_room(&mut self, start: u64) -> Option<Room> {
+        let few = self.weather.room?;
+        let drawn = match self.dice.among(0..3) {
+            _ if start == 1 => Some(few),
+            0 if self.disk.snapshot().rows.len() <= few => Some(few),
+            1 => Some(few + 2),
+            _ => None,
+        };
+        let kept = self.disk.snapshot().room.map_or(few, Room::rows);
+        self.judge.room = drawn.unwrap_or(kept);
+        drawn.and_then(|rows| Room::of(rows).ok())
+    }
+
+    /// A server ends, and all its connections with it.
+    pub(super) fn end_server(&mut self, site: usize, why: &str) {
+        let Some(serving) = self.sites[site].serving.take() else { return };
+        self.note(Node::Server(site), 2, || format!("ends: {why}"));
+        self.forget_asked(serving.start);
+        for link in serving.links.into_values() {
+            self.end_link(link, Side::Server);
         }
         let pause = self.dice.time(1_000..2_000_000);
-        self.after(pause, Event::Start);
+        let next = self.dice.below(self.sites.len());
+        self.after(pause, Event::Start { site: next });
     }
 
-    pub(super) fn turn(&mut self, start: u64) {
-        let (time, now) = (self.clock.at(self.now), self.now);
-        let is_of_now = start == self.starts;
-        let Some(serving) = self.serving.as_mut().filter(|it| is_of_now && it.turn == now) else {
-            return;
-        };
-        if serving.commits.is_some() {
-            return;
+    /// By now this server has to have ended, if it did not stand still in between.
+    pub(super) fn has_ended(&mut self, site: usize, start: u64, why: &str) {
+        let serving = self.sites[site].serving.as_ref();
+        if serving.is_some_and(|it| it.start == start && !it.was_frozen) {
+            self.judge.find(format!("server {site} has not ended, though {why}"));
         }
+    }
+
+    pub(super) fn turn(&mut self, site: usize, start: u64) {
+        let time = self.sites[site].clock.at(self.now);
+        let serving = self.sites[site].serving.as_mut().filter(|it| it.start == start);
+        let Some(serving) = serving.filter(|it| it.commits.is_none()) else { return };
+        self.happened += 1;
         match serving.server.turn(time) {
-            Ok(None) => self.send(),
+            Ok(None) => self.send(site),
             Ok(Some(changes)) => {
-                serving.commits = Some((changes, time));
-                self.commit();
+                self.judge_incarnations(site, &changes);
+                self.ask_store(start, &changes);
+                if let Some(serving) = &mut self.sites[site].serving {
+                    serving.commits = Some(Commit { changes, began: time });
+                }
             }
-            Err(error) => self.fail(&error),
+            Err(error) => self.fail(site, &error),
         }
     }
 
-    /// Draws what the store does with the commit, and when it answers.
-    fn commit(&mut self) {
-        let Some((changes, _)) = self.serving.as_ref().and_then(|it| it.commits.as_ref()) else {
-            return;
+    /// The store has answered.
+    pub(super) fn stored(&mut self, site: usize, start: u64, stored: Stored) {
+        let time = self.sites[site].clock.at(self.now);
+        let serving = self.sites[site].serving.as_mut().filter(|it| it.start == start);
+        let Some(serving) = serving else { return };
+        match stored {
+            Stored::Kept => {}
+            Stored::Failed => return self.end_server(site, "its store has failed"),
+            Stored::Deposed => return self.end_server(site, "another server has its store"),
+        }
+        let Some(Commit { changes, began }) = serving.commits.take() else { return };
+        self.happened += 1;
+        match serving.server.committed(&changes, began, time) {
+            Ok(()) => self.send(site),
+            Err(error) => self.fail(site, &error),
+        }
+    }
+
+    fn send(&mut self, site: usize) {
+        let time = self.sites[site].clock.at(self.now);
+        let Some(serving) = &mut self.sites[site].serving else { return };
+        let said = match serving.server.send(time) {
+            Ok(said) => said,
+            Err(error) => return self.fail(site, &error),
         };
-        let count = changes.len() as u64;
-        let fails = self.are_faults() && self.dice.happens(1);
-        let kept = usize::try_from(self.dice.among(0..count + 1)).unwrap_or(0);
-        let does = if fails { Keeps::Only(kept) } else { Keeps::All };
-        let hangs = self.are_faults() && self.dice.happens(2);
-        let time = if hangs { self.dice.time(10_000..3_000_000) } else { self.dice.time(20..500) };
-        self.after(time, Event::Kept { start: self.starts, does });
+        for said in &said {
+            self.says(site, said);
+        }
+        let clock = self.sites[site].clock;
+        let Some(serving) = &mut self.sites[site].serving else { return };
+        if serving.server.goes_on() {
+            let due = clock.takes(serving.server.due_in());
+            return self.turn_in(site, due);
+        }
+        self.end_in_order(site);
     }
 
-    pub(super) fn kept(&mut self, start: u64, does: Keeps) {
-        let time = self.clock.at(self.now);
-        let Some(serving) = self.serving.as_mut().filter(|_| start == self.starts) else { return };
-        let Some((changes, began)) = serving.commits.take() else { return };
-        let kept = match does {
-            Keeps::All => &changes[..],
-            Keeps::Only(count) => &changes[..count],
-        };
-        self.disk.keep(kept);
-        self.judge.kept(kept);
-        if kept.len() < changes.len() || does != Keeps::All {
-            return self.kill_server("its store has failed");
+    /// A server has ended by itself, or since it was told so.
+    fn end_in_order(&mut self, site: usize) {
+        let failure = self.sites[site].serving.as_mut().and_then(|it| it.server.take_failure());
+        match failure {
+            None => {}
+            Some(ServeError::OlderStore { .. }) if self.judge.went_back() => {}
+            Some(error) => return self.fail(site, &error),
         }
-        if let Err(error) = serving.server.committed(&changes, began, time) {
-            return self.fail(&error);
-        }
-        self.note_changes(&changes);
-        self.send();
+        self.end_server(site, "in order");
     }
 
-    fn note_changes(&mut self, changes: &[Change]) {
-        if !changes.is_empty() {
-            self.note(format_args!("kept {changes:?}"));
+    /// What leaves of a server on a connection.
+    fn says(&mut self, site: usize, said: &Said) {
+        let Some(serving) = &mut self.sites[site].serving else { return };
+        let start = serving.start;
+        let Some(link) = serving.links.get(&said.connection).copied() else { return };
+        if said.closes {
+            serving.links.remove(&said.connection);
         }
-    }
-
-    fn send(&mut self) {
-        let time = self.clock.at(self.now);
-        let Some(serving) = &mut self.serving else { return };
-        match serving.server.send(time) {
-            Ok(said) => said.into_iter().for_each(|said| self.says(&said)),
-            Err(error) => return self.fail(&error),
+        if self.weather.is_identified && tells_that_it_went_back(&said.bytes) {
+            let why = "it has found its store to be an older one";
+            self.after(ENDS_BY, Event::HasEnded { site, start, why });
         }
-        let Some(serving) = &mut self.serving else { return };
-        let due = self.clock.takes(serving.server.due_in());
-        self.turn_in(due);
-    }
-
-    /// What leaves of the server on a connection.
-    fn says(&mut self, said: &Said) {
-        let Some(link) = self.network.of_server(said.connection) else { return };
         self.carry(link, Side::Client, &said.bytes);
         if said.closes {
-            self.lose(link, Side::Client);
+            self.end_link(link, Side::Server);
         }
     }
 
     /// The next turn is due then, or before.
-    pub(super) fn turn_in(&mut self, time: Duration) {
-        let Some(serving) = &mut self.serving else { return };
-        serving.turn = self.now + time;
-        self.after(time, Event::Turn { start: self.starts });
-    }
-
-    fn fail(&mut self, error: &ServeError) {
-        self.judge.wrong.push(format!("the server has failed: {error}"));
-        self.kill_server("it has failed");
-    }
-
-    /// Carries what is said on a connection.
-    pub(super) fn carry(&mut self, link: u64, to: Side, bytes: &[u8]) {
-        if bytes.is_empty() {
-            return;
-        }
-        self.note(format_args!("{link} to {to:?}: {bytes:?}"));
-        for (moment, bytes) in self.network.carry(link, to, bytes, self.now, &mut self.dice) {
-            self.after(moment.saturating_sub(self.now), Event::Comes { link, to, bytes });
+    pub(super) fn turn_in(&mut self, site: usize, time: Duration) {
+        let armed = self.now + time;
+        let Some(serving) = &mut self.sites[site].serving else { return };
+        let start = serving.start;
+        if serving.timer.set(armed) {
+            self.at(armed, Event::Turn { site, start, armed });
         }
     }
 
-    /// The connection ends, and this side learns of it.
-    pub(super) fn lose(&mut self, link: u64, to: Side) {
-        let time = self.dice.time(50..2000);
-        self.after(time, Event::Ends { link, to });
+    fn fail(&mut self, site: usize, error: &ServeError) {
+        self.judge.find(format!("server {site} has failed: {error}"));
+        self.end_server(site, "it has failed");
     }
 
-    /// Bytes have come to the server.
-    pub(super) fn server_hears(&mut self, connection: u64, bytes: &[u8]) {
-        let time = self.clock.at(self.now);
-        let Some(serving) = &mut self.serving else { return };
+    /// Bytes have come to a server.
+    pub(super) fn server_hears(&mut self, site: usize, connection: u64, bytes: &[u8]) {
+        let time = self.sites[site].clock.at(self.now);
+        let Some(serving) = &mut self.sites[site].serving else { return };
+        self.happened += 1;
         serving.server.deliver(connection, bytes, time);
         if serving.commits.is_none() {
-            self.turn_in(Duration::ZERO);
+            self.turn_in(site, Duration::ZERO);
         }
     }
 
-    /// The server learns that a connection has ended.
-    pub(super) fn server_loses(&mut self, connection: u64) {
-        let time = self.clock.at(self.now);
-        let Some(serving) = &mut self.serving else { return };
+    /// A server learns that a connection has ended.
+    pub(super) fn server_loses(&mut self, site: usize, connection: u64) {
+        let time = self.sites[site].clock.at(self.now);
+        let Some(serving) = &mut self.sites[site].serving else { return };
+        serving.links.remove(&connection);
+        self.happened += 1;
         serving.server.hang_up(connection, time);
         if serving.commits.is_none() {
-            self.turn_in(Duration::ZERO);
+            self.turn_in(site, Duration::ZERO);
         }
     }
+}
+
+/// Whether a frame among these tells a client that the store lacks what it has seen.
+fn tells_that_it_went_back(bytes: &[u8]) -> bool {
+    crate::network::frames(bytes)
+        .any(|frame| FrameKind::of(&frame[crate::network::PREFIX..]) == FrameKind::WentBack)
 }
