@@ -71,13 +71,13 @@ run() {
     serve)
         [ -x "$target/release/krl-server" ] || ! asks_for_help "$@" ||
             tell_without_help krl-server './krl serve' docs/OPERATING.md
-        build_if_older krl-server "$hosts/rust" "$hosts/server" "$hosts/etcd" "$hosts/postgres"
+        build_if_older krl-server "$hosts/rust" "$hosts/server" "$hosts/etcd" "$hosts/postgres" "$hosts/rows"
         ;;
     *)
         shift
         [ -x "$target/release/krl-client" ] || ! asks_for_help "$@" ||
             tell_without_help krl-client './krl client' hosts/client/README.md
-        build_if_older krl-client "$hosts/rust" "$hosts/client"
+        build_if_older krl-client "$hosts/rust" "$hosts/client" "$hosts/rows"
         ;;
     esac
     rm -rf "$work"

@@ -2,11 +2,12 @@
 mod bench_words;
 
 use crate::failure::{Failure, sentence};
-use crate::values::ValueForm;
 use crate::words::{self, Numbers};
 pub use bench_words::{BenchWords, Mix, Skew};
 use clap::{Args, Parser, Subcommand, ValueEnum};
+use clap_complete::Shell;
 use krl::{Servers, TableName, TlsConfig};
+use krl_rows::{Existing, ValueForm};
 use std::ffi::OsString;
 use std::ops::Range;
 use std::path::PathBuf;
@@ -24,8 +25,8 @@ Values have at most 32 bytes. A value is text, or
 digits, or as numbers (and x with digits for what is no number, as the scripts
 of krl do).
 
-A row is printed as KEY=VALUE, one a line. What is printed reads back: insert
-and put take KEY=VALUE in place of KEY VALUE. A value that is no text is
+A row is printed as KEY=VALUE, one a line. What is printed reads back: insert,
+put and set take KEY=VALUE in place of KEY VALUE. A value that is no text is
 printed as u64: and a number if it has eight bytes, else as hex: and digits.
 
 The client's number: one process at a time is the client of a number, from 0
@@ -34,6 +35,9 @@ eight commands run at once. Lock files in $XDG_STATE_HOME/krl, or
 ~/.local/state/krl, tell which are free on this machine to this user. If the
 server tells that another user or machine has a number, the next one is tried
 after a second: give --number, or KRL_NUMBER, to each of them, as 40-47.
+--number auto takes any free number.
+
+The command of hold finds the incarnation of the client in KRL_INCARNATION.
 
 A table of several servers is named by --map FILE, or KRL_MAP, in place of
 --server. The file has a line version = N, and for each shard a table [[shard]]
@@ -55,7 +59,11 @@ Exit status:
 
 Examples:
   krl-client insert 15 one
+  krl-client set 15 two
   krl-client scan 10 20
+  krl-client del 10..20
+  krl-client import rows.csv
+  krl-client export --json
   krl-client watch 10..20 --count 1
   krl-client --map map.toml scan ..
   krl-client hold 10..20 --update -- ./rebuild.sh
@@ -118,7 +126,8 @@ pub struct Options {
     /// By TLS: the name of the table, if certificates have one
     #[arg(long, global = true, env = "KRL_TABLE", value_name = "NAME")]
     pub table: Option<TableName>,
-    /// The client's number, 0 to 63, or two as in 40-47: the greatest free one of them is taken
+    /// The client's number, 0 to 63, or two as in 40-47, or auto for all: the greatest free one of
+    /// them is taken
     #[arg(long, global = true, env = "KRL_NUMBER", value_name = "NUMBER", default_value = "56-63")]
     pub number: Numbers,
     /// The lock file, in place of one in the user's folder. It needs a --number that is one
@@ -210,6 +219,13 @@ pub enum Command {
     Client(ClientCommand),
     /// Measure a server with clients of its own, on keys that have no row
     Bench(BenchWords),
+    /// Write the rows of a file of CSV or JSON lines to the table
+    Import(ImportWords),
+    /// Print a script by which a shell completes the words of krl-client
+    Completion {
+        /// The shell
+        shell: Shell,
+    },
 }
 
 /// A command of one client.
@@ -235,10 +251,21 @@ pub enum ClientCommand {
         #[command(flatten)]
         row: RowWords,
     },
-    /// Delete a row; refused if there is none
+    /// Give a key a value, whether or not it has a row
+    Set {
+        #[command(flatten)]
+        row: RowWords,
+    },
+    /// Delete a row, refused if there is none; or the rows of a range, one after the other
+    #[command(visible_alias = "del")]
     Delete {
-        /// The key
-        key: String,
+        #[command(flatten)]
+        keys: KeyOrRangeWords,
+    },
+    /// Print the rows of a range as CSV, or with --json as JSON lines
+    Export {
+        #[command(flatten)]
+        range: OptionalRangeWords,
     },
     /// Tell how long each server takes to answer: it reads the greatest key there
     Ping,
@@ -268,8 +295,12 @@ impl ClientCommand {
     pub fn keys(&self) -> Result<Range<u64>, Failure> {
         let one = |key: u64| key..key + 1;
         match self {
-            ClientCommand::Get { key } | ClientCommand::Delete { key } => words::key(key).map(one),
-            ClientCommand::Insert { row } | ClientCommand::Put { row } => row.key().map(one),
+            ClientCommand::Get { key } => words::key(key).map(one),
+            ClientCommand::Delete { keys } => keys.parse().map(KeyOrRange::keys),
+            ClientCommand::Insert { row }
+            | ClientCommand::Put { row }
+            | ClientCommand::Set { row } => row.key().map(one),
+            ClientCommand::Export { range } => range.range(),
             ClientCommand::Scan { range }
             | ClientCommand::Watch { range, .. }
             | ClientCommand::Hold { range, .. } => range.range(),
@@ -293,6 +324,76 @@ impl RangeWords {
     pub fn range(&self) -> Result<Range<u64>, Failure> {
         words::range(&self.first, self.second.as_deref())
     }
+}
+
+/// A range in one word or two, or all keys.
+#[derive(Clone, Debug, Args)]
+pub struct OptionalRangeWords {
+    /// The least key, or the whole range as LO..HI; all keys if nothing is said
+    #[arg(value_name = "LO")]
+    first: Option<String>,
+    /// One past the greatest key
+    #[arg(value_name = "HI")]
+    second: Option<String>,
+}
+
+impl OptionalRangeWords {
+    pub fn range(&self) -> Result<Range<u64>, Failure> {
+        let Some(first) = &self.first else { return Ok(words::ALL) };
+        words::range(first, self.second.as_deref())
+    }
+}
+
+/// A key, or a range in one word or two.
+#[derive(Clone, Debug, Args)]
+pub struct KeyOrRangeWords {
+    /// The key, or the least key of a range, or the whole range as LO..HI
+    #[arg(value_name = "KEY")]
+    first: String,
+    /// One past the greatest key of a range
+    #[arg(value_name = "HI")]
+    second: Option<String>,
+}
+
+/// What a delete is about.
+#[derive(Clone, Debug, PartialEq, Eq)]
+pub enum KeyOrRange {
+    Key(u64),
+    Range(Range<u64>),
+}
+
+impl KeyOrRangeWords {
+    pub fn parse(&self) -> Result<KeyOrRange, Failure> {
+        if self.second.is_some() || self.first.contains("..") {
+            words::range(&self.first, self.second.as_deref()).map(KeyOrRange::Range)
+        } else {
+            words::key(&self.first).map(KeyOrRange::Key)
+        }
+    }
+}
+
+impl KeyOrRange {
+    /// The keys that it needs.
+    fn keys(self) -> Range<u64> {
+        match self {
+            KeyOrRange::Key(key) => key..key + 1,
+            KeyOrRange::Range(keys) => keys,
+        }
+    }
+}
+
+/// What an import takes.
+#[derive(Clone, Debug, Args)]
+pub struct ImportWords {
+    /// The file: JSON lines if its name ends in .jsonl, .ndjson or .json or --json is given,
+    /// otherwise CSV
+    pub file: PathBuf,
+    /// What is done with a row whose key has a row in the table
+    #[arg(long, value_enum, default_value = "refuse")]
+    pub existing: Existing,
+    /// By how many clients the rows are written at once
+    #[arg(long, value_name = "COUNT", default_value_t = 1, value_parser = clap::value_parser!(u8).range(1..=64))]
+    pub clients: u8,
 }
 
 /// A row in one word or two.
@@ -346,5 +447,21 @@ mod tests {
         assert_eq!(row("15=", None).value.as_ref(), b"");
         assert!(words("15", None).row(ValueForm::Text).is_err());
         assert!(words("END=a", None).row(ValueForm::Text).is_err());
+    }
+
+    #[test]
+    fn what_a_delete_is_about() {
+        let parse = |first: &str, second: Option<&str>| {
+            let words = KeyOrRangeWords { first: first.into(), second: second.map(Into::into) };
+            words.parse().ok()
+        };
+        assert_eq!(parse("15", None), Some(KeyOrRange::Key(15)));
+        assert_eq!(parse("15..16", None), Some(KeyOrRange::Range(15..16)));
+        assert_eq!(parse("15", Some("20")), Some(KeyOrRange::Range(15..20)));
+        for (first, second) in
+            [("ten", None), ("END", None), ("20", Some("15")), ("1..2", Some("3"))]
+        {
+            assert_eq!(parse(first, second), None, "{first} {second:?}");
+        }
     }
 }

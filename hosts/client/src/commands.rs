@@ -1,10 +1,10 @@
 //! The commands that ask once.
-use crate::arguments::ClientCommand;
+use crate::arguments::{ClientCommand, KeyOrRange};
 use crate::failure::Failure;
 use crate::output::Printer;
 use crate::session::Session;
 use crate::signals::Signals;
-use crate::{holding, pinging, watching, words};
+use crate::{deleting, exporting, holding, pinging, watching, words};
 use krl::{Outcome, Row, ShardRefused};
 
 /// What commands run with.
@@ -24,7 +24,12 @@ impl Context<'_> {
             }
             ClientCommand::Insert { row } => self.insert(&row.row(self.printer.values)?)?,
             ClientCommand::Put { row } => self.put(&row.row(self.printer.values)?)?,
-            ClientCommand::Delete { key } => self.delete(words::key(key)?)?,
+            ClientCommand::Set { row } => self.set(&row.row(self.printer.values)?)?,
+            ClientCommand::Delete { keys } => match keys.parse()? {
+                KeyOrRange::Key(key) => self.delete(key)?,
+                KeyOrRange::Range(keys) => deleting::delete(self, keys)?,
+            },
+            ClientCommand::Export { range } => exporting::export(self, range.range()?)?,
             ClientCommand::Ping => pinging::ping(self)?,
             ClientCommand::Watch { range, count } => {
                 watching::watch(self, &range.range()?, *count)?;
@@ -52,6 +57,11 @@ impl Context<'_> {
         self.judged(outcome, row.key)
     }
 
+    fn set(&self, row: &Row) -> Result<(), Failure> {
+        let outcome = self.session.table.set(row.key, row.value);
+        self.judged(outcome, row.key)
+    }
+
     fn delete(&self, key: u64) -> Result<(), Failure> {
         let outcome = self.session.table.delete(key);
         self.judged(outcome, key)
@@ -60,15 +70,18 @@ impl Context<'_> {
     fn judged(&self, outcome: Result<Outcome, ShardRefused>, key: u64) -> Result<(), Failure> {
         let outcome = outcome.map_err(|refused| Failure::of_write(refused, key))?;
         self.printer.outcome(outcome)?;
-        match outcome {
-            Outcome::Applied => Ok(()),
-            Outcome::Exists => {
-                Err(Failure::Refused(format!("there is a row of key {key} already")))
-            }
-            Outcome::Absent => Err(no_row(key)),
-            Outcome::Full => Err(Failure::Refused(self.session.place.full(key))),
-            Outcome::NotHeld => Err(Failure::Refused("the server refused the write".into())),
-        }
+        applied(self.session, outcome, key)
+    }
+}
+
+/// Fails unless the write of this key was applied.
+pub fn applied(session: &Session, outcome: Outcome, key: u64) -> Result<(), Failure> {
+    match outcome {
+        Outcome::Applied => Ok(()),
+        Outcome::Exists => Err(Failure::Refused(format!("there is a row of key {key} already"))),
+        Outcome::Absent => Err(no_row(key)),
+        Outcome::Full => Err(Failure::Refused(session.place.full(key))),
+        Outcome::NotHeld => Err(Failure::Refused("the server refused the write".into())),
     }
 }
 

@@ -1,6 +1,7 @@
 //! Why a command did not do what it should, and the exit status that tells it.
 use crate::output;
 use krl::{JoinError, LockFileError, Refusal, Refused, ShardRefused};
+use krl_rows::{BadFile, BadValue};
 use std::fmt;
 use std::io;
 use std::process::ExitStatus;
@@ -106,6 +107,18 @@ impl From<Refused> for Failure {
     }
 }
 
+impl From<BadFile> for Failure {
+    fn from(bad: BadFile) -> Failure {
+        Failure::Usage(bad.to_string())
+    }
+}
+
+impl From<BadValue> for Failure {
+    fn from(bad: BadValue) -> Failure {
+        Failure::Usage(bad.to_string())
+    }
+}
+
 impl From<ShardRefused> for Failure {
     fn from(ShardRefused { shard, refused, .. }: ShardRefused) -> Failure {
         Failure::from(refused).at_shard(shard)
@@ -127,12 +140,16 @@ impl Failure {
     /// The same failure, at this shard of the table, if it has some.
     pub fn at_shard(self, shard: Option<usize>) -> Failure {
         let Some(shard) = shard else { return self };
-        let at = |why: String| format!("shard {shard}: {why}");
+        self.reworded(|why| format!("shard {shard}: {why}"))
+    }
+
+    /// The same failure in other words, if it is told in words.
+    pub fn reworded(self, how: impl FnOnce(String) -> String) -> Failure {
         match self {
-            Failure::Refused(why) => Failure::Refused(at(why)),
-            Failure::Usage(why) => Failure::Usage(at(why)),
-            Failure::NoAnswer(why) => Failure::NoAnswer(at(why)),
-            Failure::NotJoined(why) => Failure::NotJoined(at(why)),
+            Failure::Refused(why) => Failure::Refused(how(why)),
+            Failure::Usage(why) => Failure::Usage(how(why)),
+            Failure::NoAnswer(why) => Failure::NoAnswer(how(why)),
+            Failure::NotJoined(why) => Failure::NotJoined(how(why)),
             failure @ (Failure::Output(_) | Failure::NotStarted(..) | Failure::NotHeld(_)) => {
                 failure
             }

@@ -11,6 +11,9 @@ use std::ops::Range;
 use std::os::unix::process::ExitStatusExt;
 use std::process::{Child, Command, ExitStatus};
 
+/// The variable by which the command knows the incarnation of the client that holds the range.
+const INCARNATION: &str = "KRL_INCARNATION";
+
 /// Pins the range, runs the command, and answers its exit status. It fails if the range was not
 /// pinned until the command had ended.
 pub fn hold(
@@ -23,7 +26,8 @@ pub fn hold(
     let [name, arguments @ ..] = words else {
         return Err(Failure::Usage("a command is expected behind --".into()));
     };
-    let start = || Command::new(name).args(arguments).spawn();
+    let incarnation = context.session.table.incarnation();
+    let start = || Command::new(name).args(arguments).env(INCARNATION, &incarnation).spawn();
     let (mut command, number, signals) = context.signals.to_command(start).map_err(|error| {
         let why = format!("{} can't be run: {error}", name.to_string_lossy());
         Failure::NotStarted(why, error.kind())

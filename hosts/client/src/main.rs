@@ -2,8 +2,12 @@
 mod arguments;
 mod bench;
 mod commands;
+mod completion;
+mod deleting;
+mod exporting;
 mod failure;
 mod holding;
+mod importing;
 mod output;
 mod pinging;
 mod place;
@@ -11,7 +15,6 @@ mod prompt;
 mod session;
 mod signals;
 mod table;
-mod values;
 mod waiting;
 mod watching;
 mod words;
@@ -38,8 +41,11 @@ fn main() -> ExitCode {
 fn run(arguments: &Arguments) -> Result<u8, Failure> {
     let options = &arguments.options;
     let signals = Signals::take()?;
-    if let Some(Command::Bench(words)) = &arguments.command {
-        return bench::run(options, words, &signals);
+    match &arguments.command {
+        Some(Command::Bench(words)) => return bench::run(options, words, &signals),
+        Some(Command::Import(words)) => return importing::import(options, words, &signals),
+        Some(Command::Completion { shell }) => return completion::print(*shell),
+        Some(Command::Client(_)) | None => {}
     }
     let session = Session::join(options, &keys_of(arguments.command.as_ref())?)?;
     signals.ends(&session.table);
@@ -56,7 +62,9 @@ fn run(arguments: &Arguments) -> Result<u8, Failure> {
 fn keys_of(command: Option<&Command>) -> Result<Range<u64>, Failure> {
     match command {
         Some(Command::Client(command)) => command.keys(),
-        Some(Command::Bench(_)) | None => Ok(words::ALL),
+        Some(Command::Bench(_) | Command::Import(_) | Command::Completion { .. }) | None => {
+            Ok(words::ALL)
+        }
     }
 }
 
@@ -64,6 +72,8 @@ fn run_one(command: &Command, options: &Options, context: &Context<'_>) -> Resul
     let ended = match command {
         Command::Client(command) => context.run(command),
         Command::Bench(words) => bench::run(options, words, context.signals),
+        Command::Import(words) => importing::import(options, words, context.signals),
+        Command::Completion { shell } => completion::print(*shell),
     };
     context.signals.settle();
     ended

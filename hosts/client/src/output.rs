@@ -1,8 +1,8 @@
 //! What is printed, as text and as JSON.
 use crate::arguments::{Format, Options};
 use crate::failure::Failure;
-use crate::values::{ValueForm, digits_of};
 use krl::{Outcome, Row};
+use krl_rows::{ValueForm, digits_of};
 use serde_json::{Value as Json, json};
 use std::io::{self, Write};
 
@@ -38,6 +38,25 @@ impl Printer {
         }
     }
 
+    /// How many rows of a range were deleted.
+    pub fn deleted(self, count: usize) -> Result<(), Failure> {
+        match self.format {
+            Format::Text => print(&format!("deleted {}\n", rows(count))),
+            Format::Json => print_json(&json!({ "deleted": count })),
+        }
+    }
+
+    /// How many rows of a file were written, and how many the table had already and kept.
+    pub fn imported(self, written: usize, kept: usize) -> Result<(), Failure> {
+        match (self.format, kept) {
+            (Format::Json, _) => print_json(&json!({ "imported": written, "kept": kept })),
+            (Format::Text, 0) => print(&format!("imported {}\n", rows(written))),
+            (Format::Text, _) => {
+                print(&format!("imported {}, kept {kept} that were there\n", rows(written)))
+            }
+        }
+    }
+
     /// What a watched range has after so many changes.
     pub fn change(self, number: u64, rows: &[Row]) -> Result<(), Failure> {
         match self.format {
@@ -62,6 +81,11 @@ impl Printer {
         };
         rows.iter().map(of_row).collect()
     }
+}
+
+/// A number of rows, as words.
+pub fn rows(count: usize) -> String {
+    format!("{count} {}", if count == 1 { "row" } else { "rows" })
 }
 
 /// Tells the user a sentence, on standard error. If nobody takes it, the exit status tells enough.

@@ -155,8 +155,8 @@ mod tests {
         let mut run = |command: &Command| {
             count += 1;
             match command {
-                Command::Bench(_) => Err(Failure::Refused("no".into())),
                 Command::Client(_) => Ok(0),
+                _ => Err(Failure::Refused("no".into())),
             }
         };
         let status = run_lines(text.as_bytes(), &mut run).unwrap();

@@ -1,5 +1,7 @@
 //! The table that a client works on: that of one server, or that of all servers of a map.
-use krl::{Client, Outcome, Pin, Refused, Row, ShardRefused, ShardedClient, ShardedPin, Value};
+use krl::{
+    Client, Outcome, Pin, Refused, Row, ShardRefused, ShardStatus, ShardedClient, ShardedPin, Value,
+};
 use std::ops::Range;
 use std::sync::{Arc, Weak};
 use std::time::Duration;
@@ -57,6 +59,13 @@ impl Table {
         }
     }
 
+    pub fn set(&self, key: u64, value: Value) -> Answer<Outcome> {
+        match self {
+            Table::One(client) => Ok(client.set(key, value)?),
+            Table::Sharded(client) => client.set(key, value),
+        }
+    }
+
     pub fn delete(&self, key: u64) -> Answer<Outcome> {
         match self {
             Table::One(client) => Ok(client.delete(key)?),
@@ -87,6 +96,17 @@ impl Table {
                 let status = client.status();
                 let shard = shard.and_then(|shard| status.get(shard));
                 shard.map_or(Err(Refused::Stopped), |shard| shard.epoch)
+            }
+        }
+    }
+
+    /// The incarnation of the client; of a table of shards, that of each shard, as `SHARD:NUMBER`.
+    pub fn incarnation(&self) -> String {
+        match self {
+            Table::One(client) => client.incarnation().to_string(),
+            Table::Sharded(client) => {
+                let of_shard = |it: &ShardStatus| format!("{}:{}", it.shard, it.incarnation);
+                client.status().iter().map(of_shard).collect::<Vec<_>>().join(",")
             }
         }
     }

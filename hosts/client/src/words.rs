@@ -63,12 +63,15 @@ impl FromStr for Numbers {
     type Err = String;
 
     fn from_str(word: &str) -> Result<Numbers, String> {
+        if word == "auto" {
+            return Ok(Numbers(0..=MAX_NUMBER));
+        }
         let (least, greatest) = word.split_once('-').unwrap_or((word, word));
         let bounds = least.parse().ok().zip(greatest.parse().ok());
         bounds
             .filter(|(least, greatest)| least <= greatest && *greatest <= MAX_NUMBER)
             .map(|(least, greatest)| Numbers(least..=greatest))
-            .ok_or_else(|| "a number of 0 to 63, or two as in 56-63, is expected".into())
+            .ok_or_else(|| "a number of 0 to 63, two as in 56-63, or auto is expected".into())
     }
 }
 
@@ -114,6 +117,7 @@ mod tests {
     fn numbers() {
         assert_eq!("7".parse(), Ok(Numbers(7..=7)));
         assert_eq!("56-63".parse(), Ok(Numbers(56..=63)));
+        assert_eq!("auto".parse(), Ok(Numbers(0..=63)));
         assert_eq!(Numbers(7..=7).only(), Some(7));
         assert_eq!(Numbers(7..=8).only(), None);
         for word in ["", "64", "-1", "5-", "9-8", "60-64", "a"] {

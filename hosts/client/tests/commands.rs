@@ -119,7 +119,10 @@ fn words_that_cannot_be_understood_are_status_2() {
         (&["fetch", "15"], "fetch"),
         (&["get"], "<KEY>"),
         (&["--server", "nowhere", "get", "1"], "--server"),
-        (&["--number", "64", "get", "1"], "a number of 0 to 63, or two as in 56-63, is expected"),
+        (
+            &["--number", "64", "get", "1"],
+            "a number of 0 to 63, two as in 56-63, or auto is expected",
+        ),
         (&["--timeout", "soon", "get", "1"], "--timeout"),
         (&["--lock-file", "file", "get", "1"], "--lock-file needs --number and one number"),
         (&["bench", "--mix", "90,5"], "two numbers with the sum 100 are expected"),

@@ -63,6 +63,15 @@ class Link:
 
     # Of the callers.
 
+    @property
+    def number(self) -> int:
+        """The client's number."""
+        return self._lock_file.number
+
+    def servers(self) -> str:
+        """Where the servers are, as people write it."""
+        return ",".join(str(server) for server in self._servers)
+
     def ask(self, job: Asked[T], timeout: float) -> T:
         """Begins a job, and waits for its answer so many seconds at most."""
         with self.lock:

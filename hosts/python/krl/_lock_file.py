@@ -10,7 +10,7 @@ import os
 import time
 import weakref
 
-from .errors import LockFileError
+from .errors import LockFileError, LockFileTaken
 
 _LENGTH = len("krl client 00 incarnation 00000000000000000000\n")
 _MAX = (1 << 63) - 1
@@ -22,8 +22,8 @@ class LockFile:
     def __init__(self, path: str | os.PathLike[str], number: int) -> None:
         """Takes the file, and makes it if there is none.
 
-        Raises ``LockFileError`` if another process has it, if it is no lock file of this number,
-        or if it can't be used.
+        Raises ``LockFileTaken`` if another process has it, and ``LockFileError`` if it is no lock
+        file of this number, or if it can't be used.
         """
         self._number = number
         self._path = os.fspath(path)
@@ -87,7 +87,7 @@ class LockFile:
         try:
             fcntl.flock(self._file, fcntl.LOCK_EX | fcntl.LOCK_NB)
         except BlockingIOError as error:
-            raise LockFileError(
+            raise LockFileTaken(
                 f"another process is the client of this number: it has {self._path}"
             ) from error
         except OSError as error:

@@ -19,7 +19,11 @@ class JoinError(Error):
 
 
 class LockFileError(JoinError):
-    """Another process has the lock file, or it can't be used."""
+    """The lock file can't be used, or another process has it: then it is ``LockFileTaken``."""
+
+
+class LockFileTaken(LockFileError):
+    """Another process has the lock file."""
 
 
 class Refused(Error):

@@ -23,6 +23,7 @@ from krl._address import addresses_of
 from krl._frames import framed
 from krl._handle import ClientHandle
 from krl._host_frames import hello
+from krl._job import WriteKind
 from krl._jobs import Jobs
 from krl._link import LOG, Link
 from krl._lock_file import LockFile
@@ -73,6 +74,55 @@ class CallsTest(Served):
         self.assertEqual(other.put(10, b"2"), Outcome.APPLIED)
         self.assertIsNone(one.cached(0, 20))
         self.assertEqual(one.read(0, 20), [Row(10, b"2")])
+
+    def test_a_key_is_set_whether_or_not_it_has_a_row(self) -> None:
+        one, other = self.join(0), self.join(1)
+        for value in (b"1", b"2"):
+            self.assertEqual(one.set(10, value), Outcome.APPLIED)
+            self.assertEqual(other.read(10, 11), [Row(10, value)])
+        with one.pin(5, 30) as pin:
+            self.assertEqual(pin.set(10, b"3"), Outcome.APPLIED)
+            self.assertEqual(pin.set(20, b"4"), Outcome.APPLIED)
+        with self.assertRaises(krl.PinIsVoid):
+            pin.set(20, b"5")
+        self.assertEqual(other.read(), [Row(10, b"3"), Row(20, b"4")])
+        for bad in (-1, END):
+            with self.assertRaises(krl.BadKey):
+                one.set(bad, b"")
+
+    def test_a_set_goes_on_by_turns_while_others_make_and_delete_the_row(self) -> None:
+        client = self.join(0)
+        answers = [Outcome.ABSENT, Outcome.EXISTS, Outcome.ABSENT, Outcome.APPLIED]
+        with mock.patch.object(client._link, "ask", side_effect=answers) as ask:
+            self.assertEqual(client.set(10, b"1"), Outcome.APPLIED)
+        kinds = [call.args[0]._kind for call in ask.call_args_list]
+        self.assertEqual(kinds, [WriteKind.PUT, WriteKind.INSERT] * 2)
+        with mock.patch.object(client._link, "ask", side_effect=[Outcome.ABSENT, Outcome.FULL]):
+            self.assertEqual(client.set(10, b"1"), Outcome.FULL)
+
+    def test_a_call_waits_for_a_time_of_its_own(self) -> None:
+        one, other = self.join(0), self.join(1)
+        one.insert(10, b"1")
+        begun = time.monotonic()
+        with one.pin(5, 15):
+            one.read(0, 20)
+            with self.assertRaises(krl.TimedOut):
+                other.put(10, b"2", timeout=0.1)
+            with self.assertRaises(krl.TimedOut):
+                other.set(10, b"2", 0.1)
+            with self.assertRaises(krl.TimedOut):
+                other.delete(10, timeout=0)
+        self.assertLess(time.monotonic() - begun, other.timeout)
+        self.assertEqual(other.timeout, PATIENCE)
+        self.assertEqual(other.read(0, 20, timeout=PATIENCE)[0].key, 10)
+        for timeout in (-1.0, float("nan")):
+            with self.assertRaisesRegex(ValueError, "a timeout is"):
+                other.insert(20, b"", timeout)
+
+    def test_what_a_client_is_shown_as(self) -> None:
+        client = self.join(7)
+        self.assertEqual(client.number, 7)
+        self.assertEqual(repr(client), f"<krl.Client 7 of {self.address}>")
 
     def test_what_is_forgotten_is_not_cached(self) -> None:
         client = self.join(0)
@@ -428,6 +478,30 @@ class BadInputTest(Served):
         with self.assertRaisesRegex(krl.JoinError, "did not answer in time: .*No such file"):
             krl.join(f"unix:{self.folder}/none", 1, self.lock_file(1), 0.5)
         krl.join(self.address, 1, self.lock_file(1), PATIENCE).leave()
+
+    def test_the_first_free_number_of_several_is_taken(self) -> None:
+        clients = [krl.join(self.address, range(3, 5), self.folder, PATIENCE) for _ in range(2)]
+        self.assertEqual([client.number for client in clients], [3, 4])
+        with self.assertRaisesRegex(krl.LockFileError, "another process has each") as raised:
+            krl.join(self.address, [4, 3], self.folder)
+        self.assertIsInstance(raised.exception.__cause__, krl.LockFileTaken)
+        clients[0].leave()
+        with krl.join(self.address, range(3, 5), self.folder, PATIENCE) as client:
+            self.assertEqual((client.number, client.timeout), (3, PATIENCE))
+        clients[1].leave()
+        for bad in ([], [64], "3", [True]):
+            with self.assertRaises(ValueError):
+                krl.join(self.address, bad, self.folder)  # type: ignore[arg-type]
+        with self.assertRaisesRegex(krl.LockFileError, "can't be used"):
+            krl.join(self.address, range(2), self.folder / "none")
+
+    def test_a_number_that_another_machine_has_is_left_for_the_next_one(self) -> None:
+        there = self.folder / "another machine"
+        there.mkdir()
+        with krl.join(self.address, 3, there / "client-3.lock", PATIENCE) as first:
+            # The server hears no second process while the first one speaks.
+            with krl.join(self.address, range(3, 5), self.folder, PATIENCE) as second:
+                self.assertEqual((first.number, second.number), (3, 4))
 
     def test_an_older_incarnation_hears_why(self) -> None:
         self.join(0)

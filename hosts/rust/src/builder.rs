@@ -1,5 +1,7 @@
 //! How a client is told to join.
 use crate::client::{Client, Errand};
+use crate::lock_file::LockFileError;
+use crate::numbers;
 use crate::refused::JoinError;
 use crate::servers::Servers;
 #[cfg(feature = "tls")]
@@ -27,31 +29,70 @@ impl Waits {
 }
 
 /// What a client is told before it joins: its servers, its number and its lock file, and how long
-/// its calls wait. The number and the lock file have to be said.
+/// its calls wait. The number and the lock file have to be said, or several numbers and a folder.
 #[derive(Clone, Debug)]
 #[must_use = "a builder does nothing before `join`"]
 pub struct ClientBuilder {
     servers: Servers,
-    number: Option<u8>,
-    lock_file: Option<PathBuf>,
+    numbers: Vec<u8>,
+    lock_file: Option<LockPlace>,
     waits: Waits,
+}
+
+/// Where the lock file of a number is.
+#[derive(Clone, Debug)]
+enum LockPlace {
+    File(PathBuf),
+    Folder(PathBuf),
+}
+
+impl LockPlace {
+    fn of(&self, number: u8) -> PathBuf {
+        match self {
+            LockPlace::File(file) => file.clone(),
+            LockPlace::Folder(folder) => folder.join(format!("client-{number}.lock")),
+        }
+    }
 }
 
 impl ClientBuilder {
     pub(crate) fn new(servers: Servers) -> ClientBuilder {
-        ClientBuilder { servers, number: None, lock_file: None, waits: Waits::by_default() }
+        ClientBuilder { servers, numbers: vec![], lock_file: None, waits: Waits::by_default() }
     }
 
     /// The client's number, from 0 to 63. One process at a time may be the client of a number.
     pub fn number(mut self, number: u8) -> ClientBuilder {
-        self.number = Some(number);
+        self.numbers = vec![number];
+        self
+    }
+
+    /// Several numbers, of which the client takes the first that is free: [`Client::number`] tells
+    /// which. They need a [`ClientBuilder::lock_folder`]. A number whose lock file another process has
+    /// is left for the next one at once, and one of which the server tells that another process has
+    /// it after a second.
+    ///
+    /// ```no_run
+    /// # use krl::{Address, Client};
+    /// let address: Address = "127.0.0.1:7400".parse()?;
+    /// let client = Client::builder(address).numbers(0..=9).lock_folder("/var/lib/app").join()?;
+    /// # Ok::<(), Box<dyn std::error::Error>>(())
+    /// ```
+    pub fn numbers(mut self, numbers: impl IntoIterator<Item = u8>) -> ClientBuilder {
+        self.numbers = numbers.into_iter().collect();
+        self
+    }
+
+    /// The folder of the lock files, in place of one file: that of number 3 is `client-3.lock` there.
+    /// The folder has to be there.
+    pub fn lock_folder(mut self, path: impl Into<PathBuf>) -> ClientBuilder {
+        self.lock_file = Some(LockPlace::Folder(path.into()));
         self
     }
 
     /// The file that keeps a second process of this machine off the number, and that holds the
     /// incarnation of the last one. It is made if there is none.
     pub fn lock_file(mut self, path: impl Into<PathBuf>) -> ClientBuilder {
-        self.lock_file = Some(path.into());
+        self.lock_file = Some(LockPlace::File(path.into()));
         self
     }
 
@@ -85,10 +126,22 @@ impl ClientBuilder {
     ///
     /// # Errors
     ///
-    /// `Incomplete` if the number or the lock file was not said; else those of [`Client::join`].
+    /// `Incomplete` if no number or no lock file was said, or several numbers and one file;
+    /// `LockFile` if other processes have the files of all numbers; else those of [`Client::join`].
     pub fn join(self) -> Result<Client, JoinError> {
-        let number = self.number.ok_or(JoinError::Incomplete("a number"))?;
-        let lock_file = self.lock_file.ok_or(JoinError::Incomplete("a lock file"))?;
-        Client::start(self.servers, number, &lock_file, self.waits, Errand::Work)
+        let place = self.lock_file.ok_or(JoinError::Incomplete("a lock file"))?;
+        let (servers, waits) = (self.servers, self.waits);
+        let join = |number, waits| {
+            Client::start(servers.clone(), number, &place.of(number), waits, Errand::Work)
+        };
+        match (&self.numbers[..], &place) {
+            ([], _) => Err(JoinError::Incomplete("a number")),
+            (&[number], _) => join(number, waits),
+            (_, LockPlace::File(_)) => Err(JoinError::Incomplete("a folder of lock files")),
+            (numbers, LockPlace::Folder(_)) => {
+                let joined = numbers::join_first(numbers, waits, join, |error| error);
+                joined.unwrap_or(Err(JoinError::LockFile(LockFileError::Taken)))
+            }
+        }
     }
 }

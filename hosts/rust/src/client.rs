@@ -1,10 +1,10 @@
 //! A client over a network.
 use crate::builder::{ClientBuilder, Waits};
-use crate::change::{Outcome, Write};
+use crate::change::Outcome;
 use crate::client_handle::ClientHandle;
 use crate::clocks::Now;
 use crate::connect_fault::{NotTaken, Rejection};
-use crate::jobs::{Asked, Jobs};
+use crate::jobs::Jobs;
 use crate::lease::Older;
 use crate::link::Link;
 use crate::lock_file::LockFile;
@@ -12,8 +12,9 @@ use crate::pin::Pin;
 use crate::range::keys_of;
 use crate::refusal::Refusal;
 use crate::refused::{JoinError, Refused};
-use crate::row::{END, Row, Value};
+use crate::row::{Row, Value};
 use crate::servers::Servers;
+use crate::within::Within;
 use std::fmt;
 use std::ops::RangeBounds;
 use std::path::Path;
@@ -163,6 +164,26 @@ impl Client {
         Duration::from_nanos(self.timeout.load(Ordering::Relaxed))
     }
 
+    /// The same calls, each of which waits so long for an answer, a year at most. Calls of other
+    /// threads wait as before.
+    ///
+    /// ```no_run
+    /// # use std::time::Duration;
+    /// # fn read(client: &krl::Client) -> Result<(), krl::Refused> {
+    /// let rows = client.within(Duration::from_millis(50)).read(10..20)?;
+    /// # Ok(())
+    /// # }
+    /// ```
+    pub fn within(&self, timeout: Duration) -> Within<'_> {
+        Within::new(self, timeout)
+    }
+
+    /// The client's number, from 0 to 63.
+    #[must_use]
+    pub fn number(&self) -> u8 {
+        self.number
+    }
+
     /// The rows of the range: from the cache, with no message and no waiting, if the client holds
     /// it; else it locks what it lacks and waits. They are that range of the server's table at one
     /// moment of the call. An empty range has no rows.
@@ -172,11 +193,7 @@ impl Client {
     /// `BadRange` if the range begins above its end, or ends above 2^63; `TimedOut` or `Unserved`;
     /// `TurnedAway` or `OtherShard`; `StoreWentBack`; `OutOfMemory`; `Stopped`.
     pub fn read(&self, keys: impl RangeBounds<u64>) -> Result<Vec<Row>, Refused> {
-        let keys = keys_of(&keys)?;
-        match self.cached(keys.clone()) {
-            Some(rows) => Ok(rows),
-            None => self.ask(|jobs| jobs.read(keys)),
-        }
+        self.within(self.timeout()).read(keys)
     }
 
     /// Inserts a row. The outcome is `Applied`, `Exists` or `Full`.
@@ -187,7 +204,7 @@ impl Client {
     /// then the table may have changed or may still change; `LeaseEnded`: then it may have changed;
     /// `TurnedAway` or `OtherShard`: the write was not sent and changes nothing; `OutOfMemory`.
     pub fn insert(&self, key: u64, value: Value) -> Result<Outcome, Refused> {
-        self.write(Write::Insert(Row { key, value }))
+        self.within(self.timeout()).insert(key, value)
     }
 
     /// Gives a row another value. The outcome is `Applied` or `Absent`.
@@ -196,7 +213,21 @@ impl Client {
     ///
     /// Those of `insert`.
     pub fn put(&self, key: u64, value: Value) -> Result<Outcome, Refused> {
-        self.write(Write::Put(Row { key, value }))
+        self.within(self.timeout()).put(key, value)
+    }
+
+    /// Gives a key this value, whether or not it has a row. The outcome is `Applied`, or `Full` if
+    /// there was no row and there is no room for one.
+    ///
+    /// It puts, and inserts if there is no row: two writes, one after the other. Another client may
+    /// make or delete the row between the two; then it tries again. All of them together take the
+    /// timeout at most.
+    ///
+    /// # Errors
+    ///
+    /// Those of `insert`.
+    pub fn set(&self, key: u64, value: Value) -> Result<Outcome, Refused> {
+        self.within(self.timeout()).set(key, value)
     }
 
     /// Deletes a row. The outcome is `Applied` or `Absent`.
@@ -205,23 +236,7 @@ impl Client {
     ///
     /// Those of `insert`.
     pub fn delete(&self, key: u64) -> Result<Outcome, Refused> {
-        self.write(Write::Delete(key))
-    }
-
-    fn write(&self, write: Write) -> Result<Outcome, Refused> {
-        self.ask_to_write(write, Jobs::write)
-    }
-
-    /// Asks for a write, if its key may be one.
-    pub(crate) fn ask_to_write(
-        &self,
-        write: Write,
-        ask: impl FnOnce(&mut Jobs, Write) -> Asked<Outcome>,
-    ) -> Result<Outcome, Refused> {
-        if write.key() >= END {
-            return Err(Refused::BadKey);
-        }
-        self.ask(|jobs| ask(jobs, write))
+        self.within(self.timeout()).delete(key)
     }
 
     /// Pins the range: what the client holds of it, or is granted while the pin lives, no callback
@@ -269,8 +284,7 @@ impl Client {
     /// pin; `TimedOut` or `Unserved`; `TurnedAway` or `OtherShard`; `StoreWentBack`; `OutOfMemory`;
     /// `Stopped`.
     pub fn forget(&self, keys: impl RangeBounds<u64>) -> Result<(), Refused> {
-        let keys = keys_of(&keys)?;
-        if keys.is_empty() { Ok(()) } else { self.ask(|jobs| jobs.forget(keys)) }
+        self.within(self.timeout()).forget(keys)
     }
 
     /// Gives back all that the client holds, and waits until the server has kept that it left.
@@ -282,10 +296,6 @@ impl Client {
     pub fn leave(mut self) -> Result<(), Refused> {
         let timeout = self.timeout();
         self.end(timeout)
-    }
-
-    pub(crate) fn ask<T>(&self, ask: impl FnOnce(&mut Jobs) -> Asked<T>) -> Result<T, Refused> {
-        self.link.ask(Instant::now() + self.timeout(), ask)
     }
 
     /// Leaves. A thread that hangs at the deadline ends by itself later, and says nothing more.

@@ -275,7 +275,9 @@ impl EventLoop {
             (Sender::Registered, _) => {
                 let now = self.connections.now().monotonic;
                 self.open.heard(client, message, now, &self.timings);
-                self.watch.may_change(client);
+                if kind.may_change_holdings() {
+                    self.watch.may_change(client);
+                }
                 self.connections.route(client, connection);
             }
             // The frame leaves after the change is on the disk, and tells the client that it need
@@ -379,7 +381,9 @@ impl EventLoop {
                 continue;
             }
             self.open.said(client, message, now.monotonic, &self.timings);
-            self.watch.may_change(client);
+            if is_push {
+                self.watch.may_change(client);
+            }
             sending.put(client, frame);
             self.status.sent += 1;
         }

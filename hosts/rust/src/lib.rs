@@ -65,6 +65,7 @@ mod map_file;
 mod message;
 mod metrics;
 mod monitor;
+mod numbers;
 mod one_moment;
 mod opening;
 mod outgoing;
@@ -87,6 +88,7 @@ mod server;
 mod server_builder;
 mod servers;
 mod session;
+mod set;
 mod shard_bounds;
 mod shard_fence;
 mod shard_frame;
@@ -104,6 +106,8 @@ mod sockets;
 #[cfg(feature = "sqlite")]
 mod sqlite;
 #[cfg(feature = "sqlite")]
+mod sqlite_checksum;
+#[cfg(feature = "sqlite")]
 mod sqlite_copy;
 #[cfg(feature = "sqlite")]
 mod sqlite_version;
@@ -118,6 +122,7 @@ mod tls;
 mod turned_away;
 mod unix_peer;
 mod watch;
+mod within;
 mod writer;
 
 pub use access::Access;
@@ -162,6 +167,8 @@ pub use sharded_refused::{ShardJoinError, ShardRefused};
 #[cfg(feature = "sqlite")]
 pub use sqlite::SqliteStore;
 #[cfg(feature = "sqlite")]
+pub use sqlite_checksum::Checksum;
+#[cfg(feature = "sqlite")]
 pub use sqlite_copy::StoreFile;
 pub use status::Status;
 pub use store::{MemoryStore, Store, StoreError};
@@ -172,3 +179,4 @@ pub use timings::{Counts, Measured};
 #[cfg(feature = "tls")]
 pub use tls::{Certificate, TlsConfig, TlsError, TlsSession};
 pub use watch::{HeldSlots, Wait};
+pub use within::Within;

@@ -86,6 +86,12 @@ impl Kind {
         matches!(self, Kind::Grant | Kind::Absent | Kind::Answer)
     }
 
+    /// Whether a server that takes it from a client may give the client something or take something
+    /// away. What an idle client says is none of these.
+    pub fn may_change_holdings(self) -> bool {
+        !matches!(self, Kind::Hello | Kind::Bye | Kind::Ack)
+    }
+
     /// Whether it may be a part of the end of a client.
     pub fn is_of_an_end(self) -> bool {
         matches!(self, Kind::Hello | Kind::Bye | Kind::Report | Kind::Ack)

@@ -3,7 +3,9 @@ use crate::change::{Outcome, Write};
 use crate::client::Client;
 use crate::refused::Refused;
 use crate::row::{Row, Value};
+use crate::set;
 use std::fmt;
+use std::time::Instant;
 
 /// A pinned range: no other client takes away what the client holds of it, as long as this lives.
 /// If the server's store goes back, or the client's lease ends, the pin is void: [`Client`] says
@@ -57,6 +59,18 @@ impl<'c> Pin<'c> {
         self.write(Write::Put(Row { key, value }))
     }
 
+    /// Gives a key this value, whether or not it has a row, while the pin holds, or never. The
+    /// outcome is that of [`Client::set`]. The key may lie outside the pinned range.
+    ///
+    /// # Errors
+    ///
+    /// Those of [`Pin::insert`].
+    pub fn set(&self, key: u64, value: Value) -> Result<Outcome, Refused> {
+        let within = self.client.within(self.client.timeout());
+        let (first, end) = (within.likely(Row { key, value }), within.end());
+        set::set(first, end, |write| self.write_by(end, write))
+    }
+
     /// Deletes a row while the pin holds, or never. The outcome is that of [`Client::delete`]. The
     /// key may lie outside the pinned range.
     ///
@@ -68,7 +82,12 @@ impl<'c> Pin<'c> {
     }
 
     fn write(&self, write: Write) -> Result<Outcome, Refused> {
-        self.client.ask_to_write(write, |jobs, write| jobs.write_under(self.id, write))
+        self.write_by(self.client.within(self.client.timeout()).end(), write)
+    }
+
+    fn write_by(&self, end: Instant, write: Write) -> Result<Outcome, Refused> {
+        let within = self.client.within(self.client.timeout());
+        within.write_by(end, write, |jobs, write| jobs.write_under(self.id, write))
     }
 }
 

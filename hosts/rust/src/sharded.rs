@@ -79,6 +79,16 @@ impl ShardedPin<'_> {
         self.at(key, |pin| pin.put(key, value))
     }
 
+    /// Gives a key this value, whether or not it has a row, while the pin holds at the shard of the
+    /// key, or never, as [`Pin::set`] does.
+    ///
+    /// # Errors
+    ///
+    /// Those of [`ShardedPin::insert`].
+    pub fn set(&self, key: u64, value: Value) -> Result<Outcome, ShardRefused> {
+        self.at(key, |pin| pin.set(key, value))
+    }
+
     /// Deletes a row while the pin holds at the shard of the key, or never, as [`Pin::delete`] does.
     ///
     /// # Errors
@@ -380,6 +390,16 @@ impl ShardedClient {
     /// Those of [`ShardedClient::insert`].
     pub fn put(&self, key: u64, value: Value) -> Result<Outcome, ShardRefused> {
         self.at(key, |client| client.put(key, value))
+    }
+
+    /// Gives a key this value, whether or not it has a row, as [`Client::set`] does. The outcome is
+    /// `Applied`, or `Full` if there was no row and the key's shard is full.
+    ///
+    /// # Errors
+    ///
+    /// Those of [`ShardedClient::insert`].
+    pub fn set(&self, key: u64, value: Value) -> Result<Outcome, ShardRefused> {
+        self.at(key, |client| client.set(key, value))
     }
 
     /// Deletes a row. The outcome is `Applied` or `Absent`.

@@ -1,6 +1,8 @@
 //! How a sharded client is told to join.
 use crate::builder::Waits;
 use crate::client::{Client, Errand};
+use crate::lock_file::LockFileError;
+use crate::numbers;
 use crate::refused::JoinError;
 use crate::row::END;
 use crate::shard_map::{Shard, ShardMap};
@@ -18,7 +20,7 @@ use std::time::Duration;
 #[must_use = "a builder does nothing before `join`"]
 pub struct ShardedBuilder {
     map: ShardMap,
-    number: Option<u8>,
+    numbers: Vec<u8>,
     lock_folder: Option<PathBuf>,
     keys: Range<u64>,
     waits: Waits,
@@ -28,13 +30,22 @@ type Joined = Result<Client, JoinError>;
 
 impl ShardedBuilder {
     pub(crate) fn new(map: ShardMap) -> ShardedBuilder {
-        let (number, lock_folder, waits) = (None, None, Waits::by_default());
-        ShardedBuilder { map, number, lock_folder, keys: 0..END + 1, waits }
+        let (numbers, lock_folder, waits) = (vec![], None, Waits::by_default());
+        ShardedBuilder { map, numbers, lock_folder, keys: 0..END + 1, waits }
     }
 
     /// The client's number at each shard, from 0 to 63.
     pub fn number(mut self, number: u8) -> ShardedBuilder {
-        self.number = Some(number);
+        self.numbers = vec![number];
+        self
+    }
+
+    /// Several numbers, of which the client takes the first that is free at each of its shards, as
+    /// [`ClientBuilder::numbers`] says.
+    ///
+    /// [`ClientBuilder::numbers`]: crate::ClientBuilder::numbers
+    pub fn numbers(mut self, numbers: impl IntoIterator<Item = u8>) -> ShardedBuilder {
+        self.numbers = numbers.into_iter().collect();
         self
     }
 
@@ -72,18 +83,37 @@ impl ShardedBuilder {
     ///
     /// # Errors
     ///
-    /// `Incomplete` if the number or the folder was not said, or no shard has any of the keys; else
-    /// those of [`Client::join`], with the shard.
+    /// `Incomplete` if no number or no folder was said, or no shard has any of the keys; `LockFile` if
+    /// other processes have the lock files of all numbers; else those of [`Client::join`], with the
+    /// shard.
     pub fn join(self) -> Result<ShardedClient, ShardJoinError> {
         let of_none = |error| ShardJoinError { shard: None, error };
-        let number = self.number.ok_or(of_none(JoinError::Incomplete("a number")))?;
         let missing = of_none(JoinError::Incomplete("a folder of lock files"));
         let folder = self.lock_folder.as_deref().ok_or(missing)?;
         let places = self.places().ok_or(of_none(JoinError::Incomplete("keys of a shard")))?;
+        let join = |number, waits| self.join_as(number, waits, folder, places.clone());
+        match self.numbers[..] {
+            [] => Err(of_none(JoinError::Incomplete("a number"))),
+            [number] => join(number, self.waits),
+            ref numbers => {
+                let joined = numbers::join_first(numbers, self.waits, join, |failed| &failed.error);
+                joined.unwrap_or(Err(of_none(JoinError::LockFile(LockFileError::Taken))))
+            }
+        }
+    }
+
+    /// Joins the shards of these places as the client of this number.
+    fn join_as(
+        &self,
+        number: u8,
+        waits: Waits,
+        folder: &Path,
+        places: Range<usize>,
+    ) -> Result<ShardedClient, ShardJoinError> {
         let joined: Vec<Joined> = thread::scope(|scope| {
             let joining = places.clone().map(|place| {
                 let shard = &self.map.shards()[place];
-                let (lock_file, waits) = (lock_file(folder, shard, number), self.waits);
+                let lock_file = lock_file(folder, shard, number);
                 let servers = self.map.servers_of(place, shard);
                 let join = move || Client::start(servers, number, &lock_file, waits, Errand::Work);
                 thread::Builder::new().spawn_scoped(scope, join)
@@ -100,7 +130,7 @@ impl ShardedBuilder {
                 }
             }
         }
-        let client = ShardedClient::of(self.map, places.start, clients);
+        let client = ShardedClient::of(self.map.clone(), places.start, clients);
         failed.map_or(Ok(client), Err)
     }
 

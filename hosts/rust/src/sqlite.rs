@@ -5,6 +5,7 @@ use crate::lease_record::LeaseRecord;
 use crate::refusal::ClientSet;
 use crate::room::Room;
 use crate::row::{Row, Value};
+use crate::sqlite_checksum::{self, Checksum};
 use crate::sqlite_copy;
 use crate::sqlite_version::{self, Found};
 use crate::store::{Store, StoreError};
@@ -92,7 +93,8 @@ impl SqliteStore {
     ///
     /// If another process has the file open; if it is a database of another program, a file without
     /// tables, such as a copy that lacks its log, or a store of a version that this program does not
-    /// know; if SQLite can't read, make or write it.
+    /// know; if it was not opened since it was made, and differs from what was written then; if SQLite
+    /// can't read, make or write it.
     pub fn open(path: impl AsRef<Path>) -> Result<SqliteStore, StoreError> {
         SqliteStore::open_by(path.as_ref(), "EXCLUSIVE")
     }
@@ -108,6 +110,22 @@ impl SqliteStore {
         let (last, transaction) = (self.last, self.begin()?);
         is_own(&transaction, last)?;
         run(&transaction, DELETE_FROM, params![signed(key)?])?;
+        self.last = finish(transaction, last, &[])?;
+        Ok(())
+    }
+
+    /// Writes these rows, each in place of the one of its key if there is one, all or none. No server
+    /// may run on it, and each client has left: one that has not would go on to answer from its cache
+    /// what is no longer so.
+    ///
+    /// # Errors
+    ///
+    /// `Deposed` if somebody else has changed the store since it was loaded; `Failed` if SQLite
+    /// can't write it.
+    pub fn write_rows(&mut self, rows: impl IntoIterator<Item = Row>) -> Result<(), StoreError> {
+        let (last, transaction) = (self.last, self.begin()?);
+        is_own(&transaction, last)?;
+        rows.into_iter().try_for_each(|row| commit_write(&transaction, &Write::Put(row)))?;
         self.last = finish(transaction, last, &[])?;
         Ok(())
     }
@@ -140,8 +158,20 @@ impl SqliteStore {
         if found != Found::Current {
             prepare(&connection)?;
         }
+        take_checksum(&connection)?;
         let last = progress::last_mark(&connection)?;
         Ok(SqliteStore { connection, last })
+    }
+}
+
+/// Removes the checksum of a store that was not opened since it was made, if it matches.
+fn take_checksum(connection: &Connection) -> Result<(), StoreError> {
+    if !sqlite_checksum::is_there(connection)? {
+        return Ok(());
+    }
+    match sqlite_checksum::compare(connection, &load(connection)?)? {
+        Checksum::Differs => Err(StoreError::says(sqlite_checksum::DIFFERS)),
+        Checksum::Matches | Checksum::Absent => sqlite_checksum::remove(connection),
     }
 }
 
@@ -303,6 +333,7 @@ pub(crate) fn save(connection: &mut Connection, snapshot: &Snapshot) -> Result<(
     if let Some(room) = snapshot.room {
         keep(&Change::Room(room))?;
     }
+    sqlite_checksum::write(&transaction, snapshot)?;
     Ok(transaction.commit()?)
 }
 

@@ -1,6 +1,7 @@
 //! Stores as files: one that is read, and a new one that is written.
 use crate::change::Snapshot;
 use crate::sqlite::{self, SqliteStore};
+use crate::sqlite_checksum::{self, Checksum};
 use crate::sqlite_copy::part::Part;
 use crate::sqlite_version::{self, Found, VERSION, look};
 use crate::store::StoreError;
@@ -22,10 +23,27 @@ pub struct StoreFile {
     pub page_size: i64,
     /// All that was kept.
     pub snapshot: Snapshot,
+    /// Whether that is what was written when the file was made, if no server has opened it since.
+    pub checksum: Checksum,
+}
+
+impl StoreFile {
+    /// The same, unless it differs from its checksum.
+    ///
+    /// # Errors
+    ///
+    /// If the file is damaged.
+    pub fn undamaged(self) -> Result<StoreFile, StoreError> {
+        match self.checksum {
+            Checksum::Differs => Err(StoreError::says(sqlite_checksum::DIFFERS)),
+            Checksum::Matches | Checksum::Absent => Ok(self),
+        }
+    }
 }
 
 impl SqliteStore {
-    /// Reads the file, and changes nothing in it. Nobody may write to it meanwhile.
+    /// Reads the file, and changes nothing in it. Nobody may write to it meanwhile. One that differs
+    /// from its checksum is read too: [`StoreFile::undamaged`] refuses it.
     ///
     /// # Errors
     ///
@@ -39,7 +57,9 @@ impl SqliteStore {
             Found::Current => VERSION,
         };
         let page_size = sqlite::page_size(&connection)?;
-        Ok(StoreFile { version, page_size, snapshot: sqlite::load(&connection)? })
+        let snapshot = sqlite::load(&connection)?;
+        let checksum = sqlite_checksum::compare(&connection, &snapshot)?;
+        Ok(StoreFile { version, page_size, snapshot, checksum })
     }
 
     /// Looks at the first bytes of the file, and opens nothing by SQLite: so it does not matter
@@ -213,10 +233,50 @@ pub(crate) mod tests {
         SqliteStore::create(&file, &snapshot()).unwrap();
         assert_eq!(folder.names(), ["copy.db"]);
         assert_eq!(file.metadata().unwrap().permissions().mode() & 0o777, 0o600);
-        let expected = StoreFile { version: 5, page_size: 1024, snapshot: snapshot() };
+        let checksum = Checksum::Matches;
+        let expected = StoreFile { version: 5, page_size: 1024, snapshot: snapshot(), checksum };
         assert_eq!(SqliteStore::read(&file).unwrap(), expected);
         assert_eq!(folder.names(), ["copy.db"]);
         assert_eq!(SqliteStore::open(&file).unwrap().load().unwrap(), snapshot());
+        assert_eq!(SqliteStore::read(&file).unwrap().checksum, Checksum::Absent, "it was opened");
+    }
+
+    #[test]
+    fn a_copy_that_is_damaged_is_told_and_not_opened() {
+        let folder = Folder::new("damaged");
+        let changes = [
+            "UPDATE entry SET value = x'ff' WHERE key = 3",
+            "DELETE FROM entry WHERE key = 3",
+            "UPDATE epoch SET epoch = 8",
+            "UPDATE record SET incarnation = 99 WHERE client = 9",
+            "UPDATE checksum SET sha256 = x'00'",
+            "DELETE FROM checksum",
+        ];
+        for (place, change) in changes.iter().enumerate() {
+            let file = folder.0.join(format!("{place}.db"));
+            SqliteStore::create(&file, &snapshot()).unwrap();
+            Connection::open(&file).unwrap().execute_batch(change).unwrap();
+            let read = SqliteStore::read(&file).unwrap();
+            assert_eq!(read.checksum, Checksum::Differs, "{change}");
+            let refused = [read.undamaged().map(drop), SqliteStore::open(&file).map(drop)];
+            for refused in refused.map(|it| it.unwrap_err().to_string()) {
+                assert!(refused.contains("the file is damaged"), "{refused}");
+            }
+        }
+    }
+
+    #[test]
+    fn a_byte_of_a_value_that_changes_on_the_disk_is_noticed() {
+        let folder = Folder::new("byte");
+        let file = folder.0.join("copy.db");
+        let value = Value::new(b"a value that is easy to find").unwrap();
+        let rows = [(5, value)].into();
+        SqliteStore::create(&file, &Snapshot { rows, ..snapshot() }).unwrap();
+        let mut bytes = std::fs::read(&file).unwrap();
+        let at = bytes.windows(7).position(|part| part == b"a value").unwrap();
+        bytes[at] = b'b';
+        std::fs::write(&file, bytes).unwrap();
+        assert_eq!(SqliteStore::read(&file).unwrap().checksum, Checksum::Differs);
     }
 
     #[test]
@@ -320,7 +380,7 @@ pub(crate) mod tests {
             SqliteStore::create(&file, &snapshot()).unwrap();
             let room = if version < 4 { "DROP TABLE room;" } else { "DELETE FROM room;" };
             let older = format!(
-                "ALTER TABLE record DROP COLUMN commits; {room} {marks}
+                "DROP TABLE checksum; ALTER TABLE record DROP COLUMN commits; {room} {marks}
                 PRAGMA user_version = {version};"
             );
             let leases = LeaseRecord::UNKNOWN;

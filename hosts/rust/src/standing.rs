@@ -2,7 +2,7 @@
 //! wait, changes, its epoch, and leaving while others use it.
 use crate::client::Client;
 use crate::code::Code;
-use crate::jobs::{Held, Jobs, Purpose};
+use crate::jobs::Jobs;
 use crate::pin::Pin;
 use crate::range::keys_of;
 use crate::refused::Refused;
@@ -32,7 +32,7 @@ impl Client {
         &self,
         keys: impl RangeBounds<u64>,
     ) -> Result<(Vec<Row>, Pin<'_>), Refused> {
-        self.hold(&keys, Purpose::Read)
+        self.within(self.timeout()).pin_for_read(keys)
     }
 
     /// The same, and no other client pins an overlapping range for an update while the pin lives:
@@ -59,7 +59,7 @@ impl Client {
         &self,
         keys: impl RangeBounds<u64>,
     ) -> Result<(Vec<Row>, Pin<'_>), Refused> {
-        self.hold(&keys, Purpose::Update)
+        self.within(self.timeout()).pin_for_update(keys)
     }
 
     /// The same, and no other client reads the range either while the pin lives: the client holds
@@ -78,20 +78,7 @@ impl Client {
         &self,
         keys: impl RangeBounds<u64>,
     ) -> Result<(Vec<Row>, Pin<'_>), Refused> {
-        self.hold(&keys, Purpose::Write)
-    }
-
-    fn hold(
-        &self,
-        keys: &impl RangeBounds<u64>,
-        purpose: Purpose,
-    ) -> Result<(Vec<Row>, Pin<'_>), Refused> {
-        let keys = keys_of(keys)?;
-        if keys.is_empty() {
-            return Err(Refused::BadRange);
-        }
-        let Held { rows, pin } = self.ask(|jobs| jobs.hold(keys, purpose))?;
-        Ok((rows, self.pin_of(pin)))
+        self.within(self.timeout()).pin_for_write(keys)
     }
 
     /// Waits until the client no longer knows that the range has these rows: another client's write

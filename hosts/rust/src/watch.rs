@@ -91,6 +91,19 @@ impl Watch {
         self.changed = self.changed.with(client);
     }
 
+    /// A row was made or deleted: so each client that holds something there holds another number of
+    /// slots.
+    pub fn slots_change(&mut self) {
+        for holding in &self.holdings {
+            self.changed = self.changed.with(holding.client);
+        }
+    }
+
+    /// Whether the client may hold something.
+    pub fn may_hold(&self, client: u8) -> bool {
+        self.changed.has(client) || self.holdings.iter().any(|it| it.client == client)
+    }
+
     /// A new incarnation of the client has joined, and holds nothing yet.
     pub fn joined(&mut self, client: u8) {
         self.left(client);
@@ -194,6 +207,33 @@ mod tests {
         watch.left(3);
         assert_eq!(watch.holdings(), [HeldSlots { client: 8, slots: 1 }]);
         assert_eq!(watch.next_to_count(), None);
+    }
+
+    #[test]
+    fn who_was_counted_to_hold_nothing_holds_nothing_until_that_may_change() {
+        let mut watch = Watch::default();
+        assert!(!watch.may_hold(3));
+        watch.joined(3);
+        assert!(watch.may_hold(3));
+        assert_eq!(watch.next_to_count(), Some(3));
+        watch.counted(3, 0);
+        assert!(!watch.may_hold(3));
+        watch.may_change(3);
+        assert!(watch.may_hold(3));
+        assert_eq!(watch.next_to_count(), Some(3));
+        watch.counted(3, 5);
+        assert!(watch.may_hold(3));
+        watch.left(3);
+        assert!(!watch.may_hold(3));
+    }
+
+    #[test]
+    fn a_row_that_comes_or_goes_changes_how_many_slots_others_hold() {
+        let mut watch = Watch::default();
+        watch.counted(3, 5);
+        watch.counted(4, 0);
+        watch.slots_change();
+        assert_eq!((watch.next_to_count(), watch.next_to_count()), (Some(3), None));
     }
 
     #[test]

@@ -1,6 +1,6 @@
 //! Each call of a client, over TCP and over a Unix socket.
-use krl::{Address, Client, JoinError, Listener, LockFileError, MemoryStore, Outcome, Refused};
-use krl::{Row, Server, Value, evict};
+use krl::{Address, Client, JoinError, Leases, Listener, LockFileError, MemoryStore, Outcome};
+use krl::{Refused, Row, Server, Value, evict};
 use std::path::{Path, PathBuf};
 use std::thread;
 use std::time::{Duration, Instant};
@@ -94,6 +94,79 @@ fn cached_rows_are_visited_behind_the_scan() {
     assert_eq!(first.read(0..40).unwrap()[1], row(20, "b"));
     assert!(first.cached_into(..=20, &mut kept) && kept == [row(10, "a"), row(20, "b")]);
     assert!(first.for_each_cached(7..7, |_| panic!("it has no rows")));
+}
+
+#[test]
+fn a_key_is_set_whether_or_not_it_has_a_row() {
+    let (server, folder) = (server("127.0.0.1:0"), Folder::new("set"));
+    let (client, other) = (folder.join(&server, 0), folder.join(&server, 1));
+    for text in ["a", "b"] {
+        assert_eq!(client.set(10, value(text)), Ok(Outcome::Applied));
+        assert_eq!(other.read(10..11), Ok(vec![row(10, text)]));
+    }
+    assert_eq!(other.delete(10), Ok(Outcome::Applied));
+    assert_eq!(client.read(..), Ok(vec![]), "it knows that there is no row");
+    assert_eq!(client.set(10, value("c")), Ok(Outcome::Applied));
+    assert_eq!(client.set(krl::END, value("c")), Err(Refused::BadKey));
+    let (_, pin) = client.pin_for_update(10..21).unwrap();
+    assert_eq!(pin.set(10, value("d")), Ok(Outcome::Applied));
+    assert_eq!(pin.set(20, value("e")), Ok(Outcome::Applied));
+    drop(pin);
+    assert_eq!(other.read(..), Ok(vec![row(10, "d"), row(20, "e")]));
+}
+
+#[test]
+fn a_full_table_takes_no_new_row_and_another_value() {
+    let folder = Folder::new("full");
+    let listener = Listener::bind(&"127.0.0.1:0".parse().unwrap()).unwrap();
+    let builder = Server::builder(listener, MemoryStore::default());
+    let server = builder.room(krl::Room::of(1).unwrap()).start().unwrap();
+    let client = folder.join(&server, 0);
+    assert_eq!(client.set(10, value("a")), Ok(Outcome::Applied));
+    assert_eq!(client.set(20, value("a")), Ok(Outcome::Full));
+    assert_eq!(client.set(10, value("b")), Ok(Outcome::Applied));
+}
+
+#[test]
+fn a_call_waits_for_a_time_of_its_own() {
+    let (server, folder) = (server("127.0.0.1:0"), Folder::new("within"));
+    let (client, other) = (folder.join(&server, 0), folder.join(&server, 1));
+    assert_eq!(client.insert(10, value("a")), Ok(Outcome::Applied));
+    let (_, pin) = client.pin_for_write(10..11).unwrap();
+    let (begun, short) = (Instant::now(), Duration::from_millis(50));
+    assert_eq!(other.within(short).timeout(), short);
+    assert_eq!(other.within(short).read(10..11), Err(Refused::TimedOut));
+    assert_eq!(other.within(short).set(10, value("b")), Err(Refused::TimedOut));
+    assert!(other.within(short).pin_for_read(10..11).is_err());
+    assert!(begun.elapsed() < other.timeout(), "it waited as its other calls do");
+    drop(pin);
+    assert_eq!(other.within(Duration::MAX).put(10, value("c")), Ok(Outcome::Applied));
+    assert_eq!(other.within(other.timeout()).forget(..), Ok(()));
+    assert_eq!(client.read(10..11), Ok(vec![row(10, "c")]));
+}
+
+#[test]
+fn the_first_free_number_of_several_is_taken() {
+    let folder = Folder::new("numbers");
+    let listener = Listener::bind(&"127.0.0.1:0".parse().unwrap()).unwrap();
+    let leases = Leases::of(Duration::from_secs(60)).unwrap();
+    let server = Server::builder(listener, MemoryStore::default()).leases(leases).start().unwrap();
+    let builder = || Client::builder(server.address().clone()).numbers(3..=4);
+    let join = || builder().lock_folder(&folder.0).join();
+    let (first, second) = (join().unwrap(), join().unwrap());
+    assert_eq!((first.number(), second.number()), (3, 4));
+    let refused = join().unwrap_err();
+    assert!(matches!(refused, JoinError::LockFile(LockFileError::Taken)), "{refused}");
+    first.leave().unwrap();
+    assert_eq!(join().unwrap().number(), 3);
+    // Another machine has other lock files: the server tells that the number is in use.
+    let there = Folder::new("numbers-there");
+    let other = builder().lock_folder(&there.0).numbers([4, 9]).join().unwrap();
+    assert_eq!(other.number(), 9);
+    let refused = builder().lock_file(folder.lock(3)).join().unwrap_err();
+    assert!(matches!(refused, JoinError::Incomplete("a folder of lock files")), "{refused}");
+    let refused = builder().numbers([]).lock_folder(&folder.0).join().unwrap_err();
+    assert!(matches!(refused, JoinError::Incomplete("a number")), "{refused}");
 }
 
 #[test]

@@ -7,13 +7,22 @@ use krl::{Monitor, SqliteStore};
 use serde::{Deserialize, Serialize};
 use std::error::Error;
 use std::path::{Path, PathBuf};
-use std::time::Duration;
+use std::sync::atomic::{AtomicU64, Ordering};
+use std::time::{Duration, SystemTime, UNIX_EPOCH};
 
 /// How long a backup may take: one of 1,048,576 rows may take minutes on a busy machine.
 pub const TIMEOUT: Duration = Duration::from_secs(600);
 
 /// The path at which a status port takes the order.
 pub const PATH: &str = "/backup";
+
+/// When this process last made a backup, in seconds since 1970; 0 if it has made none.
+static LAST: AtomicU64 = AtomicU64::new(0);
+
+/// When this process last made a backup, in seconds since 1970.
+pub fn last() -> Option<u64> {
+    Some(LAST.load(Ordering::Relaxed)).filter(|last| *last > 0)
+}
 
 /// The order to make a backup.
 #[derive(Debug, Deserialize, Serialize)]
@@ -42,6 +51,8 @@ pub fn make(monitor: &Monitor, order: &Order) -> Result<String, Box<dyn Error + 
     }
     let snapshot = monitor.snapshot()?;
     SqliteStore::create(file, &snapshot).map_err(|error| cause(&error))?;
+    let now = SystemTime::now().duration_since(UNIX_EPOCH).unwrap_or_default();
+    LAST.store(now.as_secs(), Ordering::Relaxed);
     let (rows, epoch) = (snapshot.rows.len(), snapshot.epoch);
     tracing::info!(file = %file.display(), rows, epoch, "backup");
     Ok(format!("{}: {rows} rows, as of epoch {epoch}\n", file.display()))

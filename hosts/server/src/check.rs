@@ -1,14 +1,44 @@
-//! What a store holds, and whether a server can start on it.
+//! What a store holds, and whether a server can start on it; and until when certificates last.
 use crate::cause;
+use crate::certificates;
 use crate::output;
 use crate::owner;
-use krl::{Record, SqliteStore};
+use krl::{Certificate, Checksum, Record, SqliteStore};
 use std::error::Error;
+use std::fs::{self, File};
+use std::io::{self, Read};
 use std::path::Path;
 use std::process::ExitCode;
+use std::time::SystemTime;
 
-/// Prints what the file holds. The exit status is 1 if no server can start on it.
-pub fn check(path: &Path) -> Result<ExitCode, Box<dyn Error>> {
+/// So many bytes tell what a file is.
+const FIRST_BYTES: u64 = 4096;
+
+/// Prints what the file holds: a store, or certificates. The exit status is 1 if no server can start
+/// on the store, or a certificate is not valid now and for so many days.
+pub fn check(path: &Path, days: u32) -> Result<ExitCode, Box<dyn Error>> {
+    match first_bytes(path) {
+        Ok(bytes) if certificates::is_pem(&bytes) => check_certificates(path, days),
+        _ => check_store(path),
+    }
+}
+
+/// What tells a file as PEM from a store.
+fn first_bytes(path: &Path) -> io::Result<Vec<u8>> {
+    let mut bytes = Vec::new();
+    File::open(path)?.take(FIRST_BYTES).read_to_end(&mut bytes)?;
+    Ok(bytes)
+}
+
+fn check_certificates(path: &Path, days: u32) -> Result<ExitCode, Box<dyn Error>> {
+    let unreadable = || format!("{} has no certificate that can be read", path.display());
+    let read = Certificate::all_of_pem(&fs::read(path)?).ok_or_else(unreadable)?;
+    let (text, are_valid) = certificates::judge(&read, SystemTime::now(), days);
+    output::print(&text)?;
+    Ok(if are_valid { ExitCode::SUCCESS } else { ExitCode::FAILURE })
+}
+
+fn check_store(path: &Path) -> Result<ExitCode, Box<dyn Error>> {
     if let Some(by) = owner::served_by(path) {
         return Err(format!("the store {} is served, by {by}", path.display()).into());
     }
@@ -17,9 +47,15 @@ pub fn check(path: &Path) -> Result<ExitCode, Box<dyn Error>> {
     })?;
     let snapshot = &file.snapshot;
     let (gone, there): (Vec<_>, Vec<_>) = snapshot.records.iter().partition(|it| it.left);
-    let (judgment, status) = match snapshot.judge() {
-        Ok(()) => ("a server can start on it".to_string(), ExitCode::SUCCESS),
-        Err(code) => (format!("no server can start on it: {code}"), ExitCode::FAILURE),
+    let (judgment, status) = match (file.checksum, snapshot.judge()) {
+        (Checksum::Differs, _) => ("it is damaged: take another backup".into(), ExitCode::FAILURE),
+        (_, Ok(())) => ("a server can start on it".to_string(), ExitCode::SUCCESS),
+        (_, Err(code)) => (format!("no server can start on it: {code}"), ExitCode::FAILURE),
+    };
+    let checksum = match file.checksum {
+        Checksum::Absent => "none, as of a store that a server has opened",
+        Checksum::Matches => "it matches",
+        Checksum::Differs => "it does not match",
     };
     output::print(&format!(
         "version: {}\n\
@@ -27,6 +63,7 @@ pub fn check(path: &Path) -> Result<ExitCode, Box<dyn Error>> {
          epoch: {}\n\
          rows: {}\n\
          room: {}\n\
+         checksum: {checksum}\n\
          clients that have not left: {}\n\
          clients that have left: {}\n\
          {judgment}\n",

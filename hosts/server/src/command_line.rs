@@ -3,6 +3,8 @@ use crate::next_map::{MergeMap, SplitMap};
 use crate::pages::{JSON, TEXT};
 use crate::settings::StorePlace;
 use clap::{Args, Parser, Subcommand, ValueEnum};
+use clap_complete::Shell;
+use krl_rows::Existing;
 use std::path::PathBuf;
 
 /// A key-range lock server over a file of SQLite, a cluster of etcd, or PostgreSQL.
@@ -49,6 +51,9 @@ Examples:
   krl-server backup 127.0.0.1:7401 /var/lib/krl/monday.db
   krl-server check /var/lib/krl/monday.db
   krl-server restore /var/lib/krl/monday.db --store /var/lib/krl/krl.db --clients-are-stopped
+  krl-server import rows.csv --store /var/lib/krl/krl.db
+  krl-server export /var/lib/krl/monday.db
+  krl-server check server.crt --days 14
   krl-server split /var/lib/krl/krl.db 500000 /var/lib/krl/upper.db
   krl-server evict 127.0.0.1:7400 3 client-3.lock";
 
@@ -196,10 +201,58 @@ of both: a server that still ran on one of them would show rows that nobody chan
         #[command(flatten)]
         map: MergeMap,
     },
-    /// Say what a store holds, and whether a server can start on it
-    Check {
-        /// The store. It is only read, and no server may run on it
+    /// Write the rows of a file of CSV or JSON lines to a store that no server serves
+    #[command(long_about = "\
+Write the rows of a file of CSV or JSON lines to a store that no server serves.
+
+All rows are written, or none. A file of SQLite that is there keeps its other rows; no server may run
+on it, and each client has to have left: one that has not is named. A store that is not there is made.
+While a server serves the store, krl-client import does the same, row by row.")]
+    Import {
+        /// The file: JSON lines if its name ends in .jsonl, .ndjson or .json, otherwise CSV
         file: PathBuf,
+        /// The store: a file of SQLite, which is made if there is none; or a new place in a cluster,
+        /// as <etcd://10.0.0.1:2379/krl/orders>, or a database that has no table yet, as
+        /// <postgres://krl@10.0.0.1/orders?sslmode=verify-full>
+        #[arg(long, value_name = "STORE", value_parser = StorePlace::parse)]
+        store: StorePlace,
+        /// What is done with a row whose key has a row in the store
+        #[arg(long, value_enum, default_value = "refuse")]
+        existing: Existing,
+        /// The file is JSON lines, whatever its name is
+        #[arg(long)]
+        json: bool,
+    },
+    /// Print the rows of a store or a backup as CSV, or as JSON lines
+    #[command(long_about = "\
+Print the rows of a store or a backup as CSV, or as JSON lines.
+
+No server may run on it. While one does, krl-client export does the same.")]
+    Export {
+        /// The store or the backup, a file of SQLite. It is only read
+        file: PathBuf,
+        /// Print JSON lines
+        #[arg(long)]
+        json: bool,
+    },
+    /// Say what a store holds, and whether a server can start on it; or until when certificates last
+    #[command(long_about = "\
+Say what a store holds, and whether a server can start on it; or until when certificates last.
+
+Of a backup, or another store that no server has served since it was made, it compares the checksum.
+The exit status is 1 if no server can start on the store, if it is damaged, or if a certificate is not
+valid now and for so many days.")]
+    Check {
+        /// The store, which no server may run on; or a file of certificates, as PEM. It is only read
+        file: PathBuf,
+        /// For how many days from now on certificates have to be valid
+        #[arg(long, default_value_t = 0)]
+        days: u32,
+    },
+    /// Print a script by which a shell completes the words of krl-server
+    Completion {
+        /// The shell
+        shell: Shell,
     },
 }
 

@@ -1,13 +1,18 @@
 //! A krl server over SQLite, and what its operator needs. `krl-server --help` says its words, and
 //! `docs/OPERATING.md` how it is run.
 mod backup;
+mod certificates;
 mod check;
 mod clients;
 mod command_line;
+mod completion;
+mod export;
 mod health;
 mod http;
+mod import;
 mod locks;
 mod log;
+mod long_waits;
 mod next_map;
 mod origin;
 mod output;
@@ -101,7 +106,12 @@ fn run(command: Command, matches: &ArgMatches) -> Result<ExitCode, Box<dyn Error
         Command::Merge { lower, upper, new_store, map } => {
             reshard::merge(&lower, &upper, &new_store, &map)?;
         }
-        Command::Check { file } => return check::check(&file),
+        Command::Import { file, store, existing, json } => {
+            import::import(&file, json, &store, existing)?;
+        }
+        Command::Export { file, json } => export::export(&file, json)?,
+        Command::Check { file, days } => return check::check(&file, days),
+        Command::Completion { shell } => completion::print(shell)?,
     }
     Ok(ExitCode::SUCCESS)
 }

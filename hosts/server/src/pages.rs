@@ -244,8 +244,13 @@ fn process_as_metrics(state: &State) -> String {
          krl_leader {serves}\n\
          # HELP krl_log_lost_total Lines of the log that could not be written\n\
          # TYPE krl_log_lost_total counter\n\
-         krl_log_lost_total {}\n",
-        log::lost()
+         krl_log_lost_total {}\n\
+         # HELP krl_last_backup_timestamp_seconds When this process last made a backup, in seconds \
+         since 1970\n\
+         # TYPE krl_last_backup_timestamp_seconds gauge\n{}",
+        log::lost(),
+        backup::last()
+            .map_or(String::new(), |at| format!("krl_last_backup_timestamp_seconds {at}\n"))
     )
 }
 

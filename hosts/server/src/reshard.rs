@@ -3,7 +3,7 @@ use crate::cause;
 use crate::next_map::{MergeMap, NextMap, SplitMap};
 use crate::output;
 use crate::owner::Owner;
-use krl::{END, Snapshot, SqliteStore, Store};
+use krl::{END, Snapshot, SqliteStore, Store, StoreFile};
 use std::error::Error;
 use std::path::Path;
 
@@ -57,7 +57,7 @@ fn tell(done: &str, next: Option<&NextMap>) -> Done {
 }
 
 /// No server starts on the store while this process has it.
-fn own(store: &Path) -> Result<Owner, Box<dyn Error>> {
+pub fn own(store: &Path) -> Result<Owner, Box<dyn Error>> {
     if !store.exists() {
         return Err(format!("there is no store {}", store.display()).into());
     }
@@ -65,8 +65,8 @@ fn own(store: &Path) -> Result<Owner, Box<dyn Error>> {
 }
 
 /// All that was kept, if no client may still answer for it.
-fn read(store: &Path) -> Result<Snapshot, Box<dyn Error>> {
-    let file = SqliteStore::read(store).map_err(|error| {
+pub fn read(store: &Path) -> Result<Snapshot, Box<dyn Error>> {
+    let file = SqliteStore::read(store).and_then(StoreFile::undamaged).map_err(|error| {
         format!("{} can't be read as a store: {}", store.display(), cause(&error))
     })?;
     let present = file.snapshot.present();

@@ -4,7 +4,7 @@ use crate::output;
 use crate::owner;
 use crate::settings::{BadSetting, StorePlace};
 use crate::stand_by;
-use krl::{END, LeaseRecord, Snapshot, SqliteStore};
+use krl::{END, LeaseRecord, Snapshot, SqliteStore, StoreFile};
 use krl_etcd::EtcdStore;
 use krl_postgres::PostgresStore;
 use std::error::Error;
@@ -34,7 +34,7 @@ pub fn restore(backup: &Path, store: &StorePlace, are_stopped: bool) -> Result<(
             return Err(format!("the store {} is served, by {by}", path.display()).into());
         }
     }
-    let file = SqliteStore::read(backup).map_err(|error| {
+    let file = SqliteStore::read(backup).and_then(StoreFile::undamaged).map_err(|error| {
         format!("{} can't be read as a store: {}", backup.display(), cause(&error))
     })?;
     let before = file.snapshot.epoch;

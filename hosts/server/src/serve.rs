@@ -5,7 +5,7 @@ use crate::output;
 use crate::owner::Owner;
 use crate::role::Role;
 use crate::settings::{BadSetting, Settings, StatusAddress, StorePlace};
-use crate::{reload, stand_by, status_port, watchdog};
+use crate::{long_waits, reload, stand_by, status_port, watchdog};
 use krl::{Access, Listener, Seldom, ServeError, Server, SqliteStore, Store, StoreError};
 use krl_postgres::{PostgresAddress, PostgresStore};
 use sd_notify::NotifyState;
@@ -72,6 +72,7 @@ fn run(settings: &Settings) -> Result<(), Box<dyn Error>> {
     }
     reload::start(tls.clone())?;
     watchdog::start(role.clone())?;
+    long_waits::start(role.clone())?;
     if let StatusAddress::At(address) = &settings.status.value {
         let at = status_port::start(address, tls, role.clone())
             .map_err(|error| format!("can't serve the status at {address}: {error}"))?;

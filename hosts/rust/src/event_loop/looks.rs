@@ -1,6 +1,6 @@
 //! What a server's loop looks up for others: who waits, and who holds what.
 use super::EventLoop;
-use crate::change::Change;
+use crate::change::{Change, Outcome, Write};
 use crate::clocks::Now;
 use crate::lock_search::{Page, Search};
 use crate::locks::HeldSlot;
@@ -14,8 +14,12 @@ impl EventLoop {
         Page { held, waits: self.status.waits.clone(), rest: search, took: Duration::ZERO }
     }
 
-    /// A client that has not registered, or has left, holds nothing: the table is not searched.
+    /// A client that was counted to hold nothing, has not registered, or has left: the table is not
+    /// searched for it.
     fn next_held(&mut self, client: u8, from: u64) -> Option<HeldSlot> {
+        if !self.watch.may_hold(client) {
+            return None;
+        }
         match self.server.record(client) {
             Ok(Some(record)) if !record.left => self.server.next_held(client, from),
             _ => None,
@@ -46,6 +50,14 @@ impl EventLoop {
             match *change {
                 Change::Registered { client, .. } => self.watch.joined(client),
                 Change::Left { client } => self.watch.left(client),
+                Change::Judged {
+                    write: Write::Insert(_) | Write::Delete(_),
+                    outcome: Outcome::Applied,
+                    ..
+                } => {
+                    self.watch.slots_change();
+                    continue;
+                }
                 _ => continue,
             }
             self.status.holdings = self.watch.holdings().to_vec();

@@ -85,7 +85,7 @@ fn event_loop() -> (ServerThread<Watching>, TcpStream, Arc<Mutex<Vec<usize>>>) {
     let leases = LeaseTable::start(KEPT, &[], Some(terms), now);
     let timings = Arc::new(Timings::new());
     let events = EventLoop::new(server, None, connections, leases, timings, epoch, log);
-    (ServerThread { events, store, sockets, asked }, peer, heard)
+    (ServerThread::new(events, store, sockets, asked), peer, heard)
 }
 
 #[test]
@@ -279,4 +279,24 @@ fn the_greatest_incarnation_is_not_evicted_and_ends_no_server() {
         (record.incarnation, record.left, serving.events.status.evicted),
         (GREATEST, false, 0)
     );
+}
+
+#[test]
+fn an_idle_client_is_counted_once() {
+    let (mut serving, mut peer, _) = event_loop();
+    peer.write_all(&HELLO).unwrap();
+    let turn_until_taken = |serving: &mut ServerThread<Watching>, taken| {
+        while serving.events.status.taken < taken {
+            assert!(serving.turn().unwrap());
+        }
+    };
+    turn_until_taken(&mut serving, 1);
+    while serving.events.count_next() {}
+    // It says that it is there, and is answered.
+    for taken in 2..5 {
+        peer.write_all(&HELLO).unwrap();
+        turn_until_taken(&mut serving, taken);
+        assert!(serving.turn().unwrap());
+        assert!(!serving.events.count_next(), "it is counted again");
+    }
 }

@@ -22,6 +22,10 @@ pub(super) const MAX_AT_ONCE: usize = 256;
 /// How long a turn counts what clients hold.
 const COUNTS: Duration = Duration::from_millis(2);
 
+/// Counting takes one part in so many of the loop's time: to count one client takes as long as to go
+/// through the whole table.
+const COUNT_SHARE: u32 = 20;
+
 /// How long a turn looks up who holds what, if somebody asks.
 const LOOKS: Duration = Duration::from_millis(10);
 
@@ -34,9 +38,20 @@ pub(crate) struct ServerThread<S> {
     pub store: S,
     pub sockets: Sockets,
     pub asked: Receiver<Request>,
+    /// When it counts next what clients hold; at once if it has counted nothing yet.
+    counts_from: Option<Instant>,
 }
 
 impl<S: Store> ServerThread<S> {
+    pub fn new(
+        events: EventLoop,
+        store: S,
+        sockets: Sockets,
+        asked: Receiver<Request>,
+    ) -> ServerThread<S> {
+        ServerThread { events, store, sockets, asked, counts_from: None }
+    }
+
     /// Serves until it is stopped or fails, and shows how it failed.
     pub fn run_to_the_end(self, shown: &Mutex<Status>) -> Result<(), ServeError> {
         let run = catch_unwind(AssertUnwindSafe(|| self.run(shown)));
@@ -136,8 +151,13 @@ impl<S: Store> ServerThread<S> {
     /// Counts how much the clients hold of which that may have changed: of one at least, and of more
     /// as long as that takes little time.
     fn count_held(&mut self) {
-        let end = Instant::now() + COUNTS;
-        while self.events.count_next() && Instant::now() < end {}
+        let began = Instant::now();
+        if self.counts_from.is_some_and(|from| began < from) {
+            return;
+        }
+        while self.events.count_next() && began.elapsed() < COUNTS {}
+        let ended = Instant::now();
+        self.counts_from = Some(ended + (ended - began) * (COUNT_SHARE - 1));
     }
 
     /// Commits what the turn has changed, or asks whether the store is still this server's.

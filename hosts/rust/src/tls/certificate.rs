@@ -3,7 +3,7 @@ use crate::identity::{Role, TableName};
 use openssl::asn1::{Asn1Time, Asn1TimeRef};
 use openssl::error::ErrorStack;
 use openssl::nid::Nid;
-use openssl::x509::{X509NameRef, X509Ref};
+use openssl::x509::{X509, X509NameRef, X509Ref};
 use std::fmt::Write;
 
 /// The most characters of a subject that are shown.
@@ -18,11 +18,13 @@ pub struct Certificate {
     pub subject: String,
     /// Its names of the kind URI, such as `krl:server`.
     pub names: Vec<String>,
-    /// When it begins to be valid, and when it expires, in seconds since 1970.
+    /// When it begins to be valid, in seconds since 1970.
     pub valid_from: i64,
     /// When it expires, in seconds since 1970.
     pub expires: i64,
-    /// The same, for people: `Nov 26 06:00:00 2027 GMT`.
+    /// When it begins to be valid, for people: `Nov 26 06:00:00 2026 GMT`.
+    pub valid_from_at: String,
+    /// When it expires, for people: `Nov 26 06:00:00 2027 GMT`.
     pub expires_at: String,
 }
 
@@ -35,12 +37,21 @@ pub(super) enum Unfit {
 }
 
 impl Certificate {
+    /// The certificates of a text as PEM, in their order; or `None` if there are none, or one can't be
+    /// read.
+    #[must_use]
+    pub fn all_of_pem(pem: &[u8]) -> Option<Vec<Certificate>> {
+        let read = X509::stack_from_pem(pem).ok().filter(|read| !read.is_empty())?;
+        read.iter().map(|certificate| Certificate::of(certificate).ok()).collect()
+    }
+
     pub(super) fn of(certificate: &X509Ref) -> Result<Certificate, ErrorStack> {
         Ok(Certificate {
             subject: shown(certificate.subject_name()),
             names: names_of(certificate),
             valid_from: seconds(certificate.not_before())?,
             expires: seconds(certificate.not_after())?,
+            valid_from_at: certificate.not_before().to_string(),
             expires_at: certificate.not_after().to_string(),
         })
     }
@@ -99,6 +110,7 @@ mod tests {
             names: vec!["krl:server@orders".into()],
             valid_from: 100,
             expires: 200,
+            valid_from_at: "now".into(),
             expires_at: "then".into(),
         };
         let (orders, none) = ("orders".parse::<TableName>().unwrap(), None);

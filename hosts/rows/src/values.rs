@@ -1,9 +1,8 @@
 //! Values as words.
 //!
 //! What is printed reads back: a value that is shown in a form is the value that the form reads.
-use crate::failure::Failure;
 use krl::Value;
-use std::fmt::Write;
+use std::fmt::{self, Write};
 
 /// How a value without a prefix is read, and how values are shown.
 #[derive(Clone, Copy, Debug, PartialEq, Eq)]
@@ -17,23 +16,36 @@ pub enum ValueForm {
     Number,
 }
 
+/// A word that is no value: why, and what is expected.
+#[derive(Clone, Debug, PartialEq, Eq)]
+pub struct BadValue(String);
+
+impl fmt::Display for BadValue {
+    fn fmt(&self, f: &mut fmt::Formatter<'_>) -> fmt::Result {
+        f.write_str(&self.0)
+    }
+}
+
+impl std::error::Error for BadValue {}
+
 const TEXT: &str = "text:";
 const HEX: &str = "hex:";
 const NUMBER: &str = "u64:";
 
 impl ValueForm {
     /// The value of a word.
-    pub fn read(self, word: &str) -> Result<Value, Failure> {
+    ///
+    /// # Errors
+    ///
+    /// If it is no word of this form, or has more than 32 bytes.
+    pub fn read(self, word: &str) -> Result<Value, BadValue> {
         let bytes = self.bytes_of(word)?;
         Value::new(&bytes).ok_or_else(|| {
-            Failure::Usage(format!(
-                "a value has at most 32 bytes, and '{word}' has {}",
-                bytes.len()
-            ))
+            BadValue(format!("a value has at most 32 bytes, and '{word}' has {}", bytes.len()))
         })
     }
 
-    fn bytes_of(self, word: &str) -> Result<Vec<u8>, Failure> {
+    fn bytes_of(self, word: &str) -> Result<Vec<u8>, BadValue> {
         if let Some(text) = word.strip_prefix(TEXT) {
             return Ok(text.into());
         }
@@ -54,6 +66,7 @@ impl ValueForm {
     }
 
     /// The word that this form reads as the value.
+    #[must_use]
     pub fn show(self, value: &Value) -> String {
         let bytes = value.as_ref();
         match (self, number_of(bytes)) {
@@ -71,6 +84,7 @@ impl ValueForm {
 }
 
 /// The hexadecimal digits of the bytes.
+#[must_use]
 pub fn digits_of(bytes: &[u8]) -> String {
     bytes.iter().fold(String::new(), |mut digits, byte| {
         // A string takes all that is written to it.
@@ -93,21 +107,21 @@ fn number_of(bytes: &[u8]) -> Option<u64> {
     bytes.try_into().ok().map(u64::from_be_bytes)
 }
 
-fn bytes_of_number(digits: &str, word: &str) -> Result<Vec<u8>, Failure> {
+fn bytes_of_number(digits: &str, word: &str) -> Result<Vec<u8>, BadValue> {
     let is_number = !digits.is_empty() && digits.bytes().all(|digit| digit.is_ascii_digit());
     let number = digits.parse::<u64>().ok().filter(|_| is_number);
     let number = number.ok_or_else(|| {
-        Failure::Usage(format!("'{word}' is no value: a number of 0 to 2^64 - 1 is expected"))
+        BadValue(format!("'{word}' is no value: a number of 0 to 2^64 - 1 is expected"))
     })?;
     Ok(number.to_be_bytes().into())
 }
 
-fn bytes_of_digits(digits: &str, word: &str) -> Result<Vec<u8>, Failure> {
+fn bytes_of_digits(digits: &str, word: &str) -> Result<Vec<u8>, BadValue> {
     let pairs = digits.as_bytes().chunks(2);
     let bytes: Option<Vec<u8>> = pairs.map(byte_of_pair).collect();
     bytes.ok_or_else(|| {
         let expected = "an even number of hexadecimal digits is expected";
-        Failure::Usage(format!("'{word}' is no value: {expected}"))
+        BadValue(format!("'{word}' is no value: {expected}"))
     })
 }
 

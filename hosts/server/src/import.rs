@@ -1,0 +1,141 @@
+//! Rows of a file into a store that no server serves.
+use crate::cause;
+use crate::output;
+use crate::reshard;
+use crate::settings::{BadSetting, StorePlace};
+use crate::stand_by;
+use krl::{Room, Snapshot, SqliteStore, Store};
+use krl_etcd::EtcdStore;
+use krl_postgres::PostgresStore;
+use krl_rows::{Existing, FileFormat, Line, ValueForm, read_file};
+use std::error::Error;
+use std::path::Path;
+
+type Done = Result<(), Box<dyn Error>>;
+
+/// A store with rows that an import adds to it.
+#[derive(Debug, Default, PartialEq, Eq)]
+struct Added {
+    store: Snapshot,
+    /// The lines whose rows are new or replace another one.
+    written: Vec<Line>,
+    /// How many rows of the file the store had already and keeps.
+    kept: usize,
+}
+
+/// Writes the rows of the file to the store, all or none, and says what it has then.
+pub fn import(file: &Path, is_json: bool, place: &StorePlace, existing: Existing) -> Done {
+    let format = if is_json { FileFormat::JsonLines } else { FileFormat::of_name(file) };
+    let lines = read_file(file, format, ValueForm::Text)
+        .map_err(|error| BadSetting::new(error.to_string()))?;
+    let added = match place {
+        StorePlace::File(path) if path.exists() => into_store(path, lines, existing)?,
+        _ => into_new_store(place, lines)?,
+    };
+    let Added { store, written, kept } = added;
+    let (written, rows) = (written.len(), store.rows.len());
+    let kept = if kept == 0 { String::new() } else { format!(", {kept} were there and stay") };
+    Ok(output::print_done(&format!("{place}: imported {written} rows{kept}; it has {rows}\n"))?)
+}
+
+fn into_store(path: &Path, lines: Vec<Line>, existing: Existing) -> Result<Added, Box<dyn Error>> {
+    let _owner = reshard::own(path)?;
+    let added = add(reshard::read(path)?, lines, existing)?;
+    judge(&added.store)?;
+    let mut file = SqliteStore::open(path).map_err(|error| cause(&error))?;
+    file.load().map_err(|error| cause(&error))?;
+    let rows = added.written.iter().map(|line| line.row);
+    file.write_rows(rows).map_err(|error| cause(&error))?;
+    Ok(added)
+}
+
+fn into_new_store(place: &StorePlace, lines: Vec<Line>) -> Result<Added, Box<dyn Error>> {
+    let added = add(Snapshot::default(), lines, Existing::Refuse)?;
+    judge(&added.store)?;
+    let made = match place {
+        StorePlace::File(path) => SqliteStore::create(path, &added.store),
+        StorePlace::Etcd(address) => {
+            EtcdStore::create(address, &stand_by::credentials_of_environment(), &added.store)
+        }
+        StorePlace::Postgres(address) => {
+            PostgresStore::create(address, stand_by::user().as_ref(), &added.store)
+        }
+    };
+    made.map_err(|error| cause(&error))?;
+    Ok(added)
+}
+
+fn judge(store: &Snapshot) -> Done {
+    let judged = store.judge();
+    Ok(judged.map_err(|code| format!("no server could start on the store then: {code}"))?)
+}
+
+/// Adds the rows of the lines to what a store has.
+fn add(store: Snapshot, lines: Vec<Line>, existing: Existing) -> Result<Added, String> {
+    let mut added = Added { store, ..Added::default() };
+    for line in lines {
+        let is_there = added.store.rows.contains_key(&line.row.key);
+        match existing {
+            Existing::Refuse if is_there => {
+                let (place, key) = (line.place, line.row.key);
+                return Err(format!(
+                    "line {place}: the store has a row of key {key}: --existing keep leaves such \
+                     rows as they are, and --existing replace gives them the values of the file"
+                ));
+            }
+            Existing::Keep if is_there => added.kept += 1,
+            Existing::Refuse | Existing::Keep | Existing::Replace => {
+                added.store.rows.insert(line.row.key, line.row.value);
+                added.written.push(line);
+            }
+        }
+    }
+    let (rows, most) = (added.store.rows.len(), Room::MAX);
+    if rows > most.rows() {
+        return Err(format!("the store would have {rows} rows, and a table has at most {most}"));
+    }
+    Ok(added)
+}
+
+#[cfg(test)]
+mod tests {
+    use super::*;
+    use krl::{Row, Value};
+
+    fn line(key: u64, place: u64) -> Line {
+        Line { row: Row { key, value: Value::from(key + place) }, place }
+    }
+
+    /// A store with the rows 1 and 2.
+    fn store() -> Snapshot {
+        let rows = [1, 2].map(|key| (key, Value::from(key)));
+        Snapshot { epoch: 7, rows: rows.into(), ..Snapshot::default() }
+    }
+
+    #[test]
+    fn rows_that_are_there_are_refused_kept_or_replaced() {
+        let lines = || vec![line(2, 1), line(3, 2)];
+        let told = add(store(), lines(), Existing::Refuse).unwrap_err();
+        assert!(
+            told.starts_with("line 1: the store has a row of key 2: --existing keep"),
+            "{told}"
+        );
+        let kept = add(store(), lines(), Existing::Keep).unwrap();
+        assert_eq!((kept.kept, &kept.written), (1, &vec![line(3, 2)]));
+        assert_eq!(kept.store.rows[&2], Value::from(2));
+        assert_eq!(kept.store.rows[&3], Value::from(5));
+        let replaced = add(store(), lines(), Existing::Replace).unwrap();
+        assert_eq!((replaced.kept, &replaced.written), (0, &lines()));
+        assert_eq!(replaced.store.rows[&2], Value::from(3));
+        assert_eq!((replaced.store.epoch, replaced.store.rows.len()), (7, 3));
+    }
+
+    #[test]
+    fn no_table_has_more_rows_than_a_server_may_have() {
+        let most = Room::MAX.rows() as u64;
+        let lines = |count| (10..10 + count).map(|key| line(key, key)).collect();
+        assert!(add(store(), lines(most - 2), Existing::Refuse).is_ok());
+        let told = add(store(), lines(most - 1), Existing::Refuse).unwrap_err();
+        assert!(told.ends_with("1048577 rows, and a table has at most 1048576"), "{told}");
+    }
+}
