@@ -43,18 +43,22 @@ inline constexpr std::uint64_t end_of_ranges = KRLC_TOP;
 class error : public std::runtime_error {
   public:
     explicit error(const krlc_error &failed)
-        : std::runtime_error(failed.sentence), code_(static_cast<krlc_code>(failed.code)), shard_(failed.shard) {}
-    error(krlc_code code, const char *sentence) : std::runtime_error(sentence), code_(code), shard_(-1) {}
+        : std::runtime_error(failed.sentence), code_(static_cast<krlc_code>(failed.code)), shard_(failed.shard),
+          reason_(static_cast<krlc_reason>(failed.reason)) {}
+    error(krlc_code code, const char *sentence) : std::runtime_error(sentence), code_(code) {}
 
     krlc_code code() const noexcept { return code_; }
     /* The shard that refused the call, from 0, or -1. */
     int shard() const noexcept { return shard_; }
+    /* With KRLC_UNSERVED, why the server does not serve the client. */
+    krlc_reason reason() const noexcept { return reason_; }
     /* Whether a write that failed so may have been applied, or may still be: a read of the key shows it. */
     bool is_unknown_outcome() const noexcept { return krlc_is_unknown_outcome(code_); }
 
   private:
     krlc_code code_;
-    int shard_;
+    int shard_ = -1;
+    krlc_reason reason_ = KRLC_NO_REASON;
 };
 
 /* How a write was judged. Only `applied` has changed the table. */
@@ -221,24 +225,40 @@ struct options {
     std::uint64_t hi = 0;
 };
 
+namespace detail {
+
+inline krlc_options options_of(const options &wanted) {
+    krlc_options options = {};
+    options.size = sizeof options;
+    options.servers = or_null(wanted.servers);
+    options.map = or_null(wanted.map);
+    options.lock_file = or_null(wanted.lock_file);
+    options.number = wanted.number;
+    options.timeout_ms = milliseconds(wanted.timeout);
+    options.wait_if_in_use_ms = milliseconds(wanted.wait_if_in_use);
+    options.tls_authority = or_null(wanted.tls_authority);
+    options.tls_certificate = or_null(wanted.tls_certificate);
+    options.tls_key = or_null(wanted.tls_key);
+    options.table = or_null(wanted.table);
+    options.lo = wanted.lo;
+    options.hi = wanted.hi;
+    return options;
+}
+
+} // namespace detail
+
+/* Ends the client of a number for good, as `krlc_evict`: its process has to be dead. */
+inline void evict(const options &wanted) {
+    krlc_options options = detail::options_of(wanted);
+    krlc_error failed;
+    detail::check(krlc_evict(&options, &failed), failed);
+}
+
 /* A client that has joined. Its destructor leaves, and waits at most a second for that. */
 class client {
   public:
     explicit client(const options &wanted) {
-        krlc_options options = {};
-        options.size = sizeof options;
-        options.servers = detail::or_null(wanted.servers);
-        options.map = detail::or_null(wanted.map);
-        options.lock_file = detail::or_null(wanted.lock_file);
-        options.number = wanted.number;
-        options.timeout_ms = detail::milliseconds(wanted.timeout);
-        options.wait_if_in_use_ms = detail::milliseconds(wanted.wait_if_in_use);
-        options.tls_authority = detail::or_null(wanted.tls_authority);
-        options.tls_certificate = detail::or_null(wanted.tls_certificate);
-        options.tls_key = detail::or_null(wanted.tls_key);
-        options.table = detail::or_null(wanted.table);
-        options.lo = wanted.lo;
-        options.hi = wanted.hi;
+        krlc_options options = detail::options_of(wanted);
         krlc_client *joined = nullptr;
         krlc_error failed;
         detail::check(krlc_join(&options, &joined, &failed), failed);

@@ -73,7 +73,7 @@ extern "C" {
 #define KRLC_MAX_VALUE_BYTES 32
 
 /* The most bytes of an error's sentence, with the zero that ends it. */
-#define KRLC_MAX_SENTENCE_BYTES 504
+#define KRLC_MAX_SENTENCE_BYTES 500
 
 /* A lease that does not end. */
 #define KRLC_FOR_EVER UINT64_MAX
@@ -87,7 +87,7 @@ typedef enum krlc_code {
 
     /* An insert of a key that has a row. */
     KRLC_EXISTS = 1,
-    /* A put or a delete of a key that has no row. */
+    /* A put or a delete of a key that has no row, or a read of one. */
     KRLC_ABSENT = 2,
     /* An insert into a table that has as many rows as its server has room for. */
     KRLC_FULL = 3,
@@ -160,6 +160,32 @@ typedef enum krlc_code {
     KRLC_NO_THREAD = 64
 } krlc_code;
 
+/* Why a server does not serve a client. The numbers are those of `docs/WIRE.md`. */
+typedef enum krlc_reason {
+    /* The server gave no reason, or the error is another one. */
+    KRLC_NO_REASON = -1,
+    /* It reads messages of another version. */
+    KRLC_REASON_VERSION = 0,
+    /* It has no client of this number. */
+    KRLC_REASON_CLIENT_NUMBER = 1,
+    /* It knows a later incarnation of the client: another process is that client, or it was evicted. */
+    KRLC_REASON_INCARNATION = 2,
+    /* It has all the connections that it takes. */
+    KRLC_REASON_FULL = 3,
+    /* It recovers, and waits for the reports of other clients. */
+    KRLC_REASON_MISSING = 4,
+    /* An earlier incarnation of the client may still answer from its cache: its process lives, or its lease runs. */
+    KRLC_REASON_LEASE_RUNS = 5,
+    /* This side of the connection has no right to the client's number. */
+    KRLC_REASON_DENIED = 6,
+    /* It serves another shard, or by another map. */
+    KRLC_REASON_OTHER_SHARD = 7,
+    /* The client's clock is more than a day ahead of the server's. */
+    KRLC_REASON_FAR_AHEAD = 8,
+    /* It serves another store than the one that the client has seen. */
+    KRLC_REASON_OTHER_STORE = 9
+} krlc_reason;
+
 /* A client. */
 typedef struct krlc_client krlc_client;
 
@@ -183,6 +209,8 @@ typedef struct krlc_error {
     uint32_t code;
     /* The shard that refused the call, from 0; -1 if there is no map or no shard did. */
     int32_t shard;
+    /* A `krlc_reason`: with KRLC_UNSERVED that of the server, otherwise KRLC_NO_REASON. */
+    int32_t reason;
     /* In English, in UTF-8, ended by a zero. */
     char sentence[KRLC_MAX_SENTENCE_BYTES];
 } krlc_error;
@@ -251,6 +279,16 @@ bool krlc_is_unknown_outcome(uint32_t code);
  * KRLC_TIMED_OUT, KRLC_UNSERVED, KRLC_TURNED_AWAY, KRLC_OTHER_SHARD, KRLC_OUT_OF_MEMORY. Then `client` is null. */
 KRLC_NODISCARD uint32_t krlc_join(const krlc_options *options, krlc_client **client, krlc_error *error);
 
+/* Ends the client of a number for good, if its process is gone and will not come back: an operator's call. It joins by
+ * the options as an incarnation that is greater than that one, which takes all from it, and leaves. Only `servers`,
+ * `number`, `lock_file` and the options for TLS are set.
+ *
+ * A client with a lease is evicted when that ends: this call waits a minute at most for it. A client that lives is not
+ * evicted, since its lease does not end. *The process of a client without a lease has to be dead*: one that runs may
+ * go on to answer from its cache what is no longer so. Errors: those of `krlc_join`; KRLC_UNSERVED, by
+ * KRLC_REASON_LEASE_RUNS, if the lease does not end in time. */
+KRLC_NODISCARD uint32_t krlc_evict(const krlc_options *options, krlc_error *error);
+
 /* Gives back all that the client holds, and waits until each server has that on its disk. From then on calls return
  * KRLC_LEFT, and the cache has nothing. Errors: KRLC_TIMED_OUT, KRLC_UNSERVED, KRLC_TURNED_AWAY, KRLC_OTHER_SHARD,
  * KRLC_STOPPED: other clients may wait for what this client held. */
@@ -286,6 +324,10 @@ KRLC_NODISCARD uint32_t krlc_cached(krlc_client *client, uint64_t lo, uint64_t h
  * if that is more than the room has, and then the first rows fill the room. */
 KRLC_NODISCARD uint32_t krlc_cached_into(krlc_client *client, uint64_t lo, uint64_t hi, krlc_row *at, size_t room,
                                          size_t *count);
+
+/* Reads one row from the cache only: KRLC_OK, and then `row` receives it; KRLC_ABSENT if the cache has the key and
+ * there is no row; or KRLC_MISS. Errors: KRLC_MISUSE, KRLC_BAD_KEY, KRLC_FORKED. */
+KRLC_NODISCARD uint32_t krlc_cached_row(krlc_client *client, uint64_t key, krlc_row *row);
 
 /* Reads from the cache if that has the range; otherwise locks what it lacks, and waits. Errors: KRLC_BAD_RANGE,
  * KRLC_TIMED_OUT, KRLC_UNSERVED, KRLC_TURNED_AWAY, KRLC_OTHER_SHARD, KRLC_STORE_WENT_BACK, KRLC_OUT_OF_MEMORY,

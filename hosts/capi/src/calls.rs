@@ -95,6 +95,19 @@ pub unsafe extern "C" fn krlc_join(
 }
 
 #[unsafe(no_mangle)]
+pub unsafe extern "C" fn krlc_evict(options: *const Options, error: *mut ErrorRoom) -> u32 {
+    let evict = || {
+        // SAFETY: the caller vouches for the options and their texts.
+        let options = unsafe { options_at(options) }?;
+        // SAFETY: as above.
+        unsafe { options.wish() }?.evict()?;
+        Ok(Code::Ok)
+    };
+    // SAFETY: the caller vouches for the room of the error.
+    unsafe { answer(error, evict) }
+}
+
+#[unsafe(no_mangle)]
 pub unsafe extern "C" fn krlc_leave(client: *mut Client, error: *mut ErrorRoom) -> u32 {
     let leave = || {
         // SAFETY: the caller frees the client after this call.
@@ -216,6 +229,24 @@ pub unsafe extern "C" fn krlc_cached_into(
         // SAFETY: the caller vouches for the room.
         unsafe { put_out("a count", count, found) }?;
         Ok(if found <= room { Code::Ok } else { Code::TooShort })
+    };
+    // SAFETY: there is no room for an error.
+    unsafe { answer(ptr::null_mut(), read) }
+}
+
+#[unsafe(no_mangle)]
+pub unsafe extern "C" fn krlc_cached_row(client: *mut Client, key: u64, row: *mut Row) -> u32 {
+    let read = || {
+        // SAFETY: the caller frees the client after this call.
+        let table = unsafe { table(client) }?;
+        let mut found = None;
+        if !table.for_each_cached(input::key(key)?, |row| found = Some(*row)) {
+            return Ok(Code::Miss);
+        }
+        let Some(found) = found else { return Ok(Code::Absent) };
+        // SAFETY: the caller vouches for the room.
+        unsafe { put_out("a row", row, found) }?;
+        Ok(Code::Ok)
     };
     // SAFETY: there is no room for an error.
     unsafe { answer(ptr::null_mut(), read) }

@@ -1,5 +1,6 @@
 //! Why a call failed, and how C learns it.
 use crate::code::Code;
+use crate::reason::Reason;
 use krl::{JoinError, Refused, ShardJoinError, ShardRefused};
 use std::borrow::Cow;
 use std::fmt::Display;
@@ -7,13 +8,14 @@ use std::mem;
 use std::panic::{AssertUnwindSafe, catch_unwind};
 
 /// The most bytes of a sentence, with the zero that ends it.
-pub const MAX_SENTENCE_BYTES: usize = 504;
+pub const MAX_SENTENCE_BYTES: usize = 500;
 
 /// Why a call failed.
 #[derive(Debug)]
 pub struct Fault {
     pub code: Code,
     shard: Option<usize>,
+    reason: Reason,
     sentence: Cow<'static, str>,
 }
 
@@ -24,12 +26,13 @@ pub struct Fault {
 pub struct ErrorRoom {
     pub code: u32,
     pub shard: i32,
+    pub reason: i32,
     pub sentence: [u8; MAX_SENTENCE_BYTES],
 }
 
 impl Fault {
     pub fn new(code: Code, sentence: impl Into<Cow<'static, str>>) -> Fault {
-        Fault { code, shard: None, sentence: sentence.into() }
+        Fault { code, shard: None, reason: Reason::None, sentence: sentence.into() }
     }
 
     pub fn misuse(sentence: impl Into<Cow<'static, str>>) -> Fault {
@@ -46,7 +49,7 @@ impl Fault {
         let end = self.sentence.floor_of(MAX_SENTENCE_BYTES - 1);
         sentence[..end].copy_from_slice(&self.sentence.as_bytes()[..end]);
         let shard = self.shard.and_then(|shard| i32::try_from(shard).ok()).unwrap_or(-1);
-        ErrorRoom { code: self.code as u32, shard, sentence }
+        ErrorRoom { code: self.code as u32, shard, reason: self.reason as i32, sentence }
     }
 }
 
@@ -74,7 +77,7 @@ impl From<ShardRefused> for Fault {
             Code::Left => Cow::Borrowed("the client has left"),
             _ => Cow::Owned(refused.to_string()),
         };
-        Fault { code, shard: refused.shard, sentence }
+        Fault { code, shard: refused.shard, reason: Reason::of_call(&refused.refused), sentence }
     }
 }
 
@@ -86,8 +89,8 @@ impl From<JoinError> for Fault {
 
 impl From<ShardJoinError> for Fault {
     fn from(error: ShardJoinError) -> Fault {
-        let sentence = Cow::Owned(error.to_string());
-        Fault { code: Code::from(&error.error), shard: error.shard, sentence }
+        let (code, reason) = (Code::from(&error.error), Reason::of_join(&error.error));
+        Fault { code, shard: error.shard, reason, sentence: Cow::Owned(error.to_string()) }
     }
 }
 
@@ -140,7 +143,7 @@ mod tests {
         let long = "é".repeat(MAX_SENTENCE_BYTES);
         let room = Fault::misuse(long).written();
         let end = room.sentence.iter().position(|byte| *byte == 0).unwrap();
-        assert_eq!(end, 502);
+        assert_eq!(end, 498);
         assert!(std::str::from_utf8(&room.sentence[..end]).is_ok());
         assert_eq!(Fault::misuse("short").written().sentence[..6], *b"short\0");
     }
@@ -151,5 +154,16 @@ mod tests {
         assert_eq!(Fault::from(refused).written().shard, -1);
         let fault = Fault { shard: Some(3), ..Fault::from(refused) };
         assert_eq!(fault.written().shard, 3);
+    }
+
+    #[test]
+    fn a_fault_has_the_reason_of_the_server() {
+        let unserved = Refused::Unserved(krl::Refusal::Denied);
+        assert_eq!(Fault::from(unserved).written().reason, 6);
+        assert_eq!(Fault::from(JoinError::Refused(unserved)).written().reason, 6);
+        let full = krl::Refusal::Full { connections: 2 };
+        assert_eq!(Fault::from(JoinError::Unserved(full)).written().reason, 3);
+        assert_eq!(Fault::from(Refused::TimedOut).written().reason, -1);
+        assert_eq!(Fault::misuse("").written().reason, -1);
     }
 }

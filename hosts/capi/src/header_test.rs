@@ -5,6 +5,7 @@ use crate::code::Code;
 use crate::fault::{ErrorRoom, MAX_SENTENCE_BYTES};
 use crate::input::GivenRow;
 use crate::options::Options;
+use crate::reason::Reason;
 use crate::status::Status;
 use std::collections::{BTreeMap, BTreeSet};
 use std::fmt::Write as _;
@@ -103,6 +104,23 @@ fn program(header: &str) -> String {
         let (name, number) = (code.name().to_str().unwrap(), *code as u32);
         writeln!(program, "_Static_assert({name} == {number}, \"{name}\");").unwrap();
     }
+    let reasons = [
+        ("NO_REASON", Reason::None),
+        ("REASON_VERSION", Reason::Version),
+        ("REASON_CLIENT_NUMBER", Reason::ClientNumber),
+        ("REASON_INCARNATION", Reason::Incarnation),
+        ("REASON_FULL", Reason::Full),
+        ("REASON_MISSING", Reason::Missing),
+        ("REASON_LEASE_RUNS", Reason::LeaseRuns),
+        ("REASON_DENIED", Reason::Denied),
+        ("REASON_OTHER_SHARD", Reason::OtherShard),
+        ("REASON_FAR_AHEAD", Reason::FarAhead),
+        ("REASON_OTHER_STORE", Reason::OtherStore),
+    ];
+    for (name, reason) in reasons {
+        let is_same = format!("KRLC_{name} == {}", reason as i32);
+        writeln!(program, "_Static_assert({is_same}, \"{name}\");").unwrap();
+    }
     let numbers = [
         ("KRLC_VERSION", u64::from(krlc_version())),
         ("KRLC_END", krl::END),
@@ -115,7 +133,7 @@ fn program(header: &str) -> String {
         writeln!(program, "_Static_assert({name} == UINT64_C({number}), \"{name}\");").unwrap();
     }
     layout!(program, GivenRow, "krlc_row", key length bytes);
-    layout!(program, ErrorRoom, "krlc_error", code shard sentence);
+    layout!(program, ErrorRoom, "krlc_error", code shard reason sentence);
     layout!(program, Status, "krlc_status", shard epoch incarnation lease_left_ms is_connected);
     layout!(program, Options, "krlc_options", size servers map lock_file number timeout_ms
         wait_if_in_use_ms tls_authority tls_certificate tls_key table lo hi);
@@ -164,6 +182,7 @@ fn a_header_that_differs_is_found() {
         ),
         ("uint64_t length;", "uint32_t length;"),
         ("KRLC_MISS = 5", "KRLC_MISS = 9"),
+        ("KRLC_REASON_FULL = 3", "KRLC_REASON_FULL = 4"),
         ("#define KRLC_VERSION_MINOR 1", "#define KRLC_VERSION_MINOR 2"),
         ("void krlc_rows_free(krlc_rows *rows);", ""),
     ] {

@@ -63,6 +63,14 @@ pub fn range(lo: u64, hi: u64) -> Result<Range<u64>, Fault> {
     Err(Fault::new(Code::BadRange, what))
 }
 
+/// The range of one key.
+pub fn key(key: u64) -> Result<Range<u64>, Fault> {
+    if key < END {
+        return Ok(key..key + 1);
+    }
+    Err(Fault::new(Code::BadKey, format!("a key is below 2^63 - 1, and not {key}")))
+}
+
 /// A `krlc_row` of the header, as a caller writes it: its length may be anything.
 #[derive(Clone, Copy, Debug)]
 #[repr(C)]
@@ -120,6 +128,10 @@ mod tests {
         assert_eq!(range(0, TOP).unwrap(), 0..TOP);
         for (lo, hi) in [(5, 4), (0, TOP + 1), (u64::MAX, u64::MAX), (u64::MAX, 0)] {
             assert_eq!(range(lo, hi).unwrap_err().code, Code::BadRange, "{lo} {hi}");
+        }
+        assert_eq!(key(END - 1).unwrap(), END - 1..END);
+        for none in [END, u64::MAX] {
+            assert_eq!(key(none).unwrap_err().code, Code::BadKey);
         }
     }
 

@@ -12,6 +12,7 @@ mod handle;
 mod input;
 mod options;
 mod pin;
+mod reason;
 mod status;
 mod table;
 #[cfg_attr(not(feature = "tls"), path = "no_tls.rs")]

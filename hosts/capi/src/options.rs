@@ -5,7 +5,7 @@ use crate::fault::Fault;
 use crate::input::{range, text};
 use crate::table::Table;
 use crate::tls::{Tls, TlsTexts};
-use krl::{Client, END, Servers, Shard, ShardMap, ShardedClient};
+use krl::{Client, END, Servers, Shard, ShardMap, ShardedClient, evict};
 use std::ffi::c_char;
 use std::mem::MaybeUninit;
 use std::ops::Range;
@@ -164,6 +164,19 @@ fn with_tls(map: &ShardMap, tls: &Tls) -> Result<ShardMap, Fault> {
 }
 
 impl Wish<'_> {
+    /// Evicts the client of the number.
+    pub fn evict(self) -> Result<(), Fault> {
+        if self.timeout.is_some() || self.wait_if_in_use.is_some() {
+            return Err(Fault::misuse("an eviction has no options of time"));
+        }
+        match self.place {
+            Place::One(servers) => {
+                Ok(evict(self.tls.show_to(servers), self.number, self.lock_file)?)
+            }
+            Place::Sharded(_) => Err(Fault::misuse("a client is evicted at one server, not a map")),
+        }
+    }
+
     /// Joins.
     pub fn join(self) -> Result<Joined, Fault> {
         let table = match self.place {

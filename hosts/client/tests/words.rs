@@ -123,7 +123,7 @@ fn a_bad_file_is_told_and_nothing_is_written() {
 #[test]
 fn several_clients_import_at_once() {
     let world = World::new("clients");
-    let text: String = (0..500).map(|key| format!("{},v{key}\n", 7 * key)).collect();
+    let text = (0..500).map(|key| format!("{},v{key}\n", 7 * key)).collect::<Vec<_>>().concat();
     let path = file(&world, "rows.csv", &text);
     let ended = import(&world, &path, &["--clients", "4"]);
     assert_eq!((ended.status, ended.out.as_str()), (0, "imported 500 rows\n"), "{ended:?}");
@@ -201,7 +201,7 @@ fn shells_complete_its_words() {
 fn others_write_while_a_range_is_deleted_and_a_file_is_imported() {
     let world = World::new("others");
     let client = world.client(1);
-    let text: String = (0..300).map(|key| format!("{key},a\n")).collect();
+    let text = (0..300).map(|key| format!("{key},a\n")).collect::<Vec<_>>().concat();
     let path = file(&world, "rows.csv", &text);
     thread::scope(|scope| {
         let writes = scope.spawn(|| {

@@ -109,7 +109,7 @@ mod tests {
         let mut waits = LongWaits::default();
         waits.look(&[wait(7, 20)]);
         let ended = News::HasEnded { client: 7, waited: Duration::from_secs(20) };
-        assert_eq!(waits.look(&[wait(7, 1)]), [ended.clone()]);
+        assert_eq!(waits.look(&[wait(7, 1)]), [ended]);
         waits.look(&[wait(7, 30)]);
         let again = [News::HasEnded { client: 7, waited: Duration::from_secs(30) }];
         assert_eq!(waits.look(&[wait(7, 15)])[..1], again);

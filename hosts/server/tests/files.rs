@@ -118,7 +118,8 @@ fn a_store_whose_clients_may_still_answer_is_not_changed() {
 fn a_store_may_have_more_rows_than_a_server_by_default() {
     let folder = Folder::new();
     let rows = Room::default().rows() as u64 + 1;
-    let text: String = (0..rows).map(|key| format!("{},value {key}\n", 8 * key)).collect();
+    let text =
+        (0..rows).map(|key| format!("{},value {key}\n", 8 * key)).collect::<Vec<_>>().concat();
     let (csv, store) = (folder.file("rows.csv", &text), folder.name("krl.db"));
     let said = format!("{store}: imported {rows} rows; it has {rows}\n");
     assert_eq!(ended(&import(&csv, &store, &[])), (Some(0), said));

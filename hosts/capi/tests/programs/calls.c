@@ -18,7 +18,8 @@ static void writes(krlc_client *client, krlc_rows *rows) {
     EXPECT(KRLC_OK, krlc_read(client, 0, KRLC_TOP, rows, &error));
     WANT(are(rows, 3, keys, values));
     EXPECT(KRLC_BAD_KEY, krlc_insert(client, KRLC_END, "", 0, &error));
-    WANT(error.code == KRLC_BAD_KEY && error.shard == -1 && strlen(error.sentence) > 10);
+    WANT(error.code == KRLC_BAD_KEY && error.shard == -1 && error.reason == KRLC_NO_REASON);
+    WANT(strlen(error.sentence) > 10);
     EXPECT(KRLC_TOO_LONG, krlc_put(client, 15, "123456789 123456789 123456789 123", 33, &error));
     EXPECT(KRLC_OK, krlc_put(client, 15, "123456789 123456789 123456789 12", 32, &error));
     EXPECT(KRLC_OK, krlc_put(client, 15, "five", 4, &error));
@@ -47,6 +48,14 @@ static void reads(krlc_client *client, krlc_rows *rows) {
     count = 7;
     EXPECT(KRLC_MISS, krlc_cached_into(client, 10, 20, room, 3, &count));
     WANT(count == 7);
+    EXPECT(KRLC_MISS, krlc_cached_row(client, 15, room));
+    EXPECT(KRLC_OK, krlc_read(client, 10, 20, rows, &error));
+    EXPECT(KRLC_OK, krlc_cached_row(client, 15, room));
+    WANT(room[0].key == 15 && room[0].length == 4 && memcmp(room[0].bytes, "five", 4) == 0);
+    EXPECT(KRLC_ABSENT, krlc_cached_row(client, 16, room));
+    WANT(room[0].key == 15);
+    EXPECT(KRLC_BAD_KEY, krlc_cached_row(client, KRLC_END, room));
+    EXPECT(KRLC_OK, krlc_forget(client, 10, 20, &error));
     EXPECT(KRLC_BAD_RANGE, krlc_cached(client, 20, 10, rows));
     EXPECT(KRLC_BAD_RANGE, krlc_cached_into(client, 0, KRLC_TOP + 1, room, 3, &count));
     EXPECT(KRLC_BAD_RANGE, krlc_read(client, 20, 10, rows, &error));

@@ -16,12 +16,14 @@ static void null_pointers(krlc_client *client, krlc_rows *rows) {
     EXPECT(KRLC_MISUSE, krlc_join(NULL, &client, &error));
     WANT(client == NULL && strstr(error.sentence, "null") != NULL);
     EXPECT(KRLC_MISUSE, krlc_join(NULL, NULL, NULL));
+    EXPECT(KRLC_MISUSE, krlc_evict(NULL, &error));
     EXPECT(KRLC_MISUSE, krlc_leave(NULL, &error));
     EXPECT(KRLC_MISUSE, krlc_set_timeout(NULL, 5, &error));
     EXPECT(KRLC_MISUSE, krlc_reload_tls(NULL, &error));
     WANT(krlc_joined(NULL) == 0);
     EXPECT(KRLC_MISUSE, krlc_cached(NULL, 1, 2, rows));
     EXPECT(KRLC_MISUSE, krlc_cached_into(NULL, 1, 2, &row, 1, &count));
+    EXPECT(KRLC_MISUSE, krlc_cached_row(NULL, 1, &row));
     EXPECT(KRLC_MISUSE, krlc_read(NULL, 1, 2, rows, NULL));
     EXPECT(KRLC_MISUSE, krlc_wait_for_change(NULL, 1, 2, NULL, 0, 1, &error));
     EXPECT(KRLC_MISUSE, krlc_forget(NULL, 1, 2, &error));
@@ -83,6 +85,17 @@ static void expect_no_join(uint32_t wanted, const krlc_options *options, const c
     }
 }
 
+/* A client whose process lives is not evicted from its own machine. */
+static void evictions(const krlc_options *good) {
+    krlc_options bad = *good;
+    EXPECT(KRLC_MISUSE, krlc_evict(&bad, &error));
+    WANT(strstr(error.sentence, "time") != NULL);
+    bad.timeout_ms = 0;
+    EXPECT(KRLC_LOCK_FILE, krlc_evict(&bad, &error));
+    bad.servers = NULL;
+    EXPECT(KRLC_MISUSE, krlc_evict(&bad, NULL));
+}
+
 static void options(const world *world) {
     char lock_file[512];
     snprintf(lock_file, sizeof lock_file, "%s/hostile.lock", world->folder);
@@ -133,7 +146,10 @@ static void options(const world *world) {
     EXPECT(KRLC_OK, krlc_join(&longer.options, &client, &error));
     bad = good, bad.number = 6;
     expect_no_join(KRLC_LOCK_FILE, &bad, "");
+    evictions(&good);
     krlc_free(client);
+    bad = good, bad.timeout_ms = 0;
+    EXPECT(KRLC_OK, krlc_evict(&bad, &error));
     bad = good, bad.size = offsetof(krlc_options, tls_authority), bad.tls_authority = NOWHERE;
     EXPECT(KRLC_OK, krlc_join(&bad, &client, &error));
     krlc_free(client);

@@ -27,13 +27,18 @@ template <class Call> void throws(krlc_code code, Call &&call) {
     want(false, krlc_code_name(code));
 }
 
-krl::client join(char **words, std::uint32_t number) {
+krl::options options(char **words, std::uint32_t number) {
     krl::options options;
     options.servers = words[2];
     options.lock_file = std::string(words[3]) + "/own-" + std::to_string(number) + ".lock";
     options.number = number;
-    options.timeout = 60s;
-    return krl::client(options);
+    return options;
+}
+
+krl::client join(char **words, std::uint32_t number) {
+    krl::options with_timeout = options(words, number);
+    with_timeout.timeout = 60s;
+    return krl::client(with_timeout);
 }
 
 static_assert(!std::is_copy_constructible_v<krl::client> && std::is_nothrow_move_constructible_v<krl::client>);
@@ -99,6 +104,8 @@ int main(int count, char **words) {
     throws(KRLC_BAD_KEY, [&] { (void)moved.insert(krl::end_of_keys, ""); });
     throws(KRLC_TOO_LONG, [&] { (void)moved.insert(1, std::string(33, 'x')); });
     throws(KRLC_LOCK_FILE, [&] { join(words, 1); });
+    throws(KRLC_LOCK_FILE, [&] { krl::evict(options(words, 1)); });
+    krl::evict(options(words, 2));
     throws(KRLC_MISUSE, [&] { krl::client nowhere{krl::options()}; });
     throws(KRLC_BAD_TLS, [&] { moved.reload_tls(); });
     moved.set_timeout(30s);
