@@ -11,7 +11,7 @@ use crate::stream::Listener;
 use std::fmt;
 
 /// A server that has not started: its listener, its store, whom it lets in, how many connections it
-/// takes, for how many rows it has room, and the leases that it grants.
+/// takes, for how many rows it has room, how many slots a grant takes, and the leases that it grants.
 #[must_use = "a builder does nothing before `start`"]
 pub struct ServerBuilder<S> {
     listener: Listener,

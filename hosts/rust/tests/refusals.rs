@@ -222,11 +222,13 @@ fn a_client_that_was_replaced() {
 fn a_server_that_misses_reports() {
     let (server, lock) = (server(store(&[3, 7])), lock_file("missing"));
     let client = Client::builder(server.address().clone()).number(5).lock_file(&lock);
-    // It joins, and no request is answered before the reports have come.
-    let told = match client.timeout(SHORT).join() {
-        Ok(client) => client.read(0..9).unwrap_err().to_string(),
-        Err(error) => error.to_string(),
-    };
-    assert!(told.contains("waits for the reports of the clients 3, 7,"), "{told}");
+    // It joins, and no request is answered before the reports have come. The server may have told
+    // nothing yet at a timeout.
+    let (client, end) = (client.timeout(LONG).join().unwrap(), Instant::now() + LONG);
+    client.set_timeout(SHORT);
+    let told = || client.read(0..9).unwrap_err().to_string();
+    while !told().contains("waits for the reports of the clients 3, 7,") {
+        assert!(Instant::now() < end, "{}", told());
+    }
     std::fs::remove_file(lock).unwrap();
 }

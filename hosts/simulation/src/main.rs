@@ -20,6 +20,9 @@ struct Words {
     /// For so many seconds of a world there are faults
     #[arg(long, default_value_t = 20)]
     seconds: u64,
+    /// Run no further world after so many events
+    #[arg(long, default_value_t = u64::MAX, hide_default_value = true)]
+    events: u64,
     /// Print what happens, a line each
     #[arg(long)]
     log: bool,
@@ -77,8 +80,13 @@ fn main() -> ExitCode {
 
 /// Runs the worlds, and answers whether nothing is wrong.
 fn run(words: &Words) -> io::Result<bool> {
-    let Words { worlds, seconds, log, each } = words;
-    let plan = Plan { time: Duration::from_secs(*seconds), keeps_lines: *log, tells_each: *each };
+    let Words { worlds, seconds, events, log, each } = words;
+    let plan = Plan {
+        time: Duration::from_secs(*seconds),
+        keeps_lines: *log,
+        tells_each: *each,
+        most_events: *events,
+    };
     let mut out = io::stdout().lock();
     let done = match worlds {
         Worlds { seed: Some(seed), .. } => run::run_all(*seed..=*seed, plan, &mut out)?,

@@ -4,6 +4,7 @@ use std::fmt;
 use std::fs;
 use std::hash::{BuildHasher, RandomState};
 use std::io::{self, ErrorKind, Write};
+use std::panic::{AssertUnwindSafe, catch_unwind};
 use std::path::Path;
 use std::time::{Duration, Instant};
 
@@ -16,6 +17,8 @@ pub struct Plan {
     pub keeps_lines: bool,
     /// Whether a line is printed for each seed.
     pub tells_each: bool,
+    /// No further world is run after so many events.
+    pub most_events: u64,
 }
 
 /// What was done.
@@ -78,7 +81,7 @@ pub fn run_all(
     let mut done = Done::new();
     for seed in seeds {
         run_one(seed, plan, &mut done, out)?;
-        if done.wrong.is_some() {
+        if done.wrong.is_some() || done.events >= plan.most_events {
             break;
         }
     }
@@ -97,7 +100,7 @@ pub fn run_fresh(processor: Duration, plan: Plan, out: &mut impl Write) -> io::R
     writeln!(out, "fresh seeds from {first} on")?;
     let began = Processor::now();
     let mut done = Done::new();
-    while done.wrong.is_none() && began.took() < processor {
+    while done.wrong.is_none() && done.events < plan.most_events && began.took() < processor {
         run_one(first + done.worlds, plan, &mut done, out)?;
     }
     done.took = began.took();
@@ -106,7 +109,8 @@ pub fn run_fresh(processor: Duration, plan: Plan, out: &mut impl Write) -> io::R
 
 fn run_one(seed: u64, plan: Plan, done: &mut Done, out: &mut impl Write) -> io::Result<()> {
     let settings = Settings { keeps_lines: plan.keeps_lines, ..Settings::of(seed, plan.time) };
-    let report = World::new(settings).run();
+    let run = || World::new(settings).run();
+    let report = catch_unwind(AssertUnwindSafe(run)).unwrap_or_else(|_| Report::of_panic());
     done.add(seed, &report);
     for line in &report.lines {
         writeln!(out, "{line}")?;

@@ -24,6 +24,9 @@ use store::{Commit, Does, Stored};
 /// How soon after the last fault each client has to be served.
 pub const BOUND: Duration = Duration::from_secs(30);
 
+/// No more events happen at one moment.
+const AT_ONCE: u64 = 100_000;
+
 /// For so long all goes on without faults when each client is served again.
 const CALM: Duration = Duration::from_secs(4);
 
@@ -65,6 +68,22 @@ pub struct Report {
     pub fingerprint: u64,
     /// What happened, if that is kept.
     pub lines: Vec<Line>,
+}
+
+impl Report {
+    /// That of a run that has panicked.
+    #[must_use]
+    pub fn of_panic() -> Report {
+        Report {
+            events: 0,
+            time: Duration::ZERO,
+            counts: Counts::default(),
+            longest: Duration::ZERO,
+            wrong: vec!["something has panicked".into()],
+            fingerprint: 0,
+            lines: Vec::new(),
+        }
+    }
 }
 
 /// What happens at a moment.
@@ -219,6 +238,8 @@ pub struct World {
     fault_dice: Dice,
     call_dice: Dice,
     now: Duration,
+    /// How many events there were at this moment.
+    at_once: u64,
     queue: BinaryHeap<Reverse<Scheduled>>,
     scheduled: u64,
     /// How many steps of servers and of clients there were.
@@ -294,6 +315,7 @@ impl World {
             weather,
             dice,
             now: Duration::ZERO,
+            at_once: 0,
             queue: BinaryHeap::new(),
             scheduled: 0,
             happened: 0,
@@ -405,12 +427,21 @@ impl World {
     /// Makes the next event happen. Those for a process that stands still wait.
     fn step(&mut self) {
         let Some(Reverse(Scheduled { moment, event, .. })) = self.queue.pop() else { return };
-        self.now = moment;
+        self.pass_to(moment);
         if let Some(until) = self.frozen_until(&event).filter(|until| *until > moment) {
             return self.at(until, event);
         }
         if self.fires(&event) {
             self.happens(event);
+        }
+    }
+
+    /// It is this moment now. Many events may happen at one moment, but not without end.
+    fn pass_to(&mut self, moment: Duration) {
+        self.at_once = if moment == self.now { self.at_once + 1 } else { 0 };
+        self.now = moment;
+        if self.at_once == AT_ONCE {
+            self.judge.find(format!("{AT_ONCE} events happen at one moment"));
         }
     }
 

@@ -1,7 +1,7 @@
 //! A session whose server is a few frames, and whose time is passed by hand.
 use super::*;
 use crate::client_handle::ClientHandle;
-use crate::connect_fault::NotTaken;
+use crate::connect_fault::{NotTaken, OtherVersion};
 use crate::frames::split;
 use crate::history::Mark;
 use crate::host_frame::{FromClient, FromServer};
@@ -151,6 +151,20 @@ fn the_connection_ends_with_the_lease() {
 }
 
 #[test]
+fn the_hello_of_another_version_ends_the_connection() {
+    let mut session = session("unix:one");
+    connect(&mut session);
+    let ended = hear(&mut session, &refused(Refusal::Version { read: 3 })).unwrap_err();
+    assert!(ended.to_string().contains("speaks version 3 of the protocol"), "{ended}");
+    let read = session.jobs().read(0..9);
+    for _ in 0..2 {
+        session.disconnected(OtherVersion(3).into());
+    }
+    let expected = Refused::Unserved(Refusal::Version { read: 3 });
+    assert_eq!(read.answer.try_recv(), Ok(Err(expected)));
+}
+
+#[test]
 fn all_jobs_end_when_the_only_server_has_rejected_this_side_twice() {
     let reject = |session: &mut Session| session.disconnected(NotTaken("no".into()).into());
     let mut alone = session("unix:one");
@@ -185,7 +199,9 @@ fn a_write_that_was_sent_may_be_applied_whatever_rejects_the_client() {
     let other = OtherShard { expected: None, served: None };
     assert_eq!(ended(not_taken(), WasSent::No), Refused::TurnedAway);
     assert_eq!(ended(other.into(), WasSent::No), Refused::OtherShard(other));
-    for fault in [not_taken(), other.into()] {
+    let version = Refused::Unserved(Refusal::Version { read: 1 });
+    assert_eq!(ended(OtherVersion(1).into(), WasSent::No), version);
+    for fault in [not_taken(), other.into(), OtherVersion(1).into()] {
         let refused = ended(fault, WasSent::Yes);
         assert!(refused.is_unknown_outcome(), "{refused:?}");
     }

@@ -21,8 +21,9 @@ const PATIENCE: Range<u64> = 50_000..20_000_000;
 /// The same when all is well.
 const LONG_PATIENCE: Duration = Duration::from_secs(60);
 
-/// The longest time that a call takes when all is calm.
-pub const LONGEST: Duration = Duration::from_secs(2);
+/// The longest time that a call takes when all is calm. Clients that contend for a range may keep one
+/// another waiting until a deadline.
+pub const LONGEST: Duration = Duration::from_secs(20);
 
 impl World {
     /// The client's callers look for something to do.
