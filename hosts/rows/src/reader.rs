@@ -231,9 +231,7 @@ mod tests {
             for values in [ValueForm::Text, ValueForm::Hex, ValueForm::Number] {
                 let mut text = Vec::new();
                 let mut writer = RowWriter::new(&mut text, format, values).unwrap();
-                for row in &rows {
-                    writer.write(row).unwrap();
-                }
+                rows.iter().try_for_each(|row| writer.write(row)).unwrap();
                 writer.finish().unwrap();
                 let read: Result<Vec<Row>, _> = RowReader::new(&*text, format, values).collect();
                 assert_eq!(read.unwrap(), rows, "{format:?} {values:?}");

@@ -43,11 +43,11 @@ mod tests {
 
     const WAITS: Waits = Waits { timeout: Duration::from_secs(9), if_in_use: Duration::MAX };
 
-    /// What an attempt to join came to, and which numbers were tried, with whether for long.
-    type Joined = (Option<Result<u8, JoinError>>, Vec<(u8, bool)>);
+    /// What came of a search, and which numbers were tried, with whether for long.
+    type Searched = (Option<Result<u8, JoinError>>, Vec<(u8, bool)>);
 
-    /// What becomes of these numbers, of which each is free, taken (`l`), in use (`u`) or fails.
-    fn run(numbers: &[(u8, char)]) -> Joined {
+    /// What becomes of these numbers, of which each is free, taken (`l`), in use (`u`) or fails (`f`).
+    fn run(numbers: &[(u8, char)]) -> Searched {
         let tried = RefCell::new(Vec::new());
         let join = |number: u8, waits: Waits| {
             tried.borrow_mut().push((number, waits.if_in_use == WAITS.if_in_use));

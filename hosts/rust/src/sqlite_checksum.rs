@@ -73,9 +73,7 @@ fn digest(snapshot: &Snapshot) -> [u8; 32] {
         sum.update((value.as_bytes().len() as u64).to_le_bytes());
         sum.update(value.as_bytes());
     }
-    for record in records {
-        sum.update(bytes_of(record));
-    }
+    sum.update(records.iter().flat_map(bytes_of).collect::<Vec<_>>());
     sum.finalize().into()
 }
 
@@ -103,11 +101,17 @@ mod tests {
 
     #[test]
     fn whatever_changes_has_another_digest() {
-        let changes: [fn(&mut Snapshot); 11] = [
+        let damages: [fn(&mut Snapshot); 11] = [
             |it| it.epoch = 5,
-            |it| assert!(it.rows.insert(2, Value::from(3)).is_some()),
-            |it| assert!(it.rows.insert(3, Value::from(2)).is_none()),
-            |it| assert!(it.rows.remove(&2).is_some()),
+            |it| {
+                it.rows.insert(2, Value::from(3));
+            },
+            |it| {
+                it.rows.insert(3, Value::from(2));
+            },
+            |it| {
+                it.rows.remove(&2);
+            },
             |it| it.records[0].client = 4,
             |it| it.records[0].incarnation = 6,
             |it| it.records[0].last = None,
@@ -118,10 +122,10 @@ mod tests {
         ];
         let before = digest(&snapshot());
         assert_eq!(digest(&snapshot()), before);
-        for (place, change) in changes.iter().enumerate() {
+        for (place, damage) in damages.iter().enumerate() {
             let mut other = snapshot();
-            change(&mut other);
-            assert_ne!(digest(&other), before, "change {place}");
+            damage(&mut other);
+            assert_ne!(digest(&other), before, "damage {place}");
         }
     }
 
