@@ -109,7 +109,7 @@ WORDS
     mkdir "$folder/clients"
     echo
     echo "load $(cut -d ' ' -f 1-3 /proc/loadavg)"
-    "$measure" --postgres "host=127.0.0.1 port=$postgres user=postgres dbname=postgres" --redis "127.0.0.1:$redis" \
+    "$measure" --postgres "postgres://postgres@127.0.0.1:$postgres/postgres" --redis "127.0.0.1:$redis" \
         --krl "127.0.0.1:$krl" --folder "$folder/clients" --bytes "$bytes" --reads "$reads" --writes "$writes" \
         --hot "${hot:-4000}" --turns "$turns" --milliseconds "$milliseconds"
     end_servers

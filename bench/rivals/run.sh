@@ -2,7 +2,11 @@
 # krl beside Redis, etcd and PostgreSQL: the same work for each, over TCP on this machine and on the same disk. It
 # prints the first table of docs/BENCH_HOSTS.md, which says what each figure is.
 #
-#     bench/rivals/run.sh [ROUNDS]     7 rounds if nothing is said: two to three minutes, besides the build
+#     bench/rivals/run.sh [ROUNDS]         7 rounds by default: two to three minutes, besides the build
+#     bench/rivals/run.sh reads [ROUNDS]   50 rounds by default: a minute, besides the build
+#
+# `reads` measures only what a client reads first: scans of 100 rows, and all rows into an empty cache. It has a second
+# server of krl, whose grants take 8 slots at most.
 #
 # For KRL_LIBRARY, KRL_KIT_C and CARGO_TARGET_DIR see tests/hosts. The rivals are taken where they are installed, from
 # Debian 12's packages redis-server, etcd-server and postgresql, and the others are named as NOT RUN. What measures
@@ -12,7 +16,14 @@
 # The systems take turns in each round, and each figure is that of the best round.
 set -eu
 
-rounds=${1-7}
+what=measure
+rounds=7
+if [ "${1-}" = reads ]; then
+    what=reads
+    rounds=50
+    shift
+fi
+rounds=${1-$rounds}
 here=$(cd -- "$(dirname -- "$0")" && pwd)
 cd "$here"
 config='--config ../../hosts/debian.toml'
@@ -77,10 +88,15 @@ serve_postgres() {
 }
 
 # shellcheck disable=SC2046
-set -- $("$measure" ports 5)
+set -- $("$measure" ports 6)
 mkdir "$folder/krl"
-serve krl "$measure" serve "127.0.0.1:$1" "$folder/krl"
+serve krl "$measure" serve "127.0.0.1:$1" "$folder/krl" 128
 systems=krl=127.0.0.1:$1
+if [ "$what" = reads ]; then
+    mkdir "$folder/krl-reach-8"
+    serve krl-reach-8 "$measure" serve "127.0.0.1:$6" "$folder/krl-reach-8" 8
+    systems="$systems krl-reach-8=127.0.0.1:$6"
+fi
 
 if command -v redis-server >/dev/null; then
     version "$(redis-server --version | cut -d ' ' -f 1-3)"
@@ -103,5 +119,5 @@ serve_postgres "$5"
 mkdir "$folder/clients"
 echo "rounds $rounds; data on $(stat -f -c %T "$folder"); load $(cut -d ' ' -f 1-3 /proc/loadavg)"
 # shellcheck disable=SC2086
-"$measure" measure "$folder/clients" "$rounds" $systems
+"$measure" "$what" "$folder/clients" "$rounds" $systems
 echo "load at the end $(cut -d ' ' -f 1-3 /proc/loadavg)"

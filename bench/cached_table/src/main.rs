@@ -20,7 +20,7 @@ use std::time::Duration;
 #[derive(Debug, Parser)]
 #[command(name = "krl-cached-table", version)]
 struct Arguments {
-    /// PostgreSQL, as 'host=127.0.0.1 port=5432 user=postgres'
+    /// PostgreSQL, as postgres://postgres@127.0.0.1:5432/postgres
     #[arg(long)]
     postgres: String,
     /// Redis, as 127.0.0.1:6379

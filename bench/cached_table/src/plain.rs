@@ -48,7 +48,7 @@ impl Method for Plain {
     }
 
     fn write(&mut self, key: u64) -> Found<u64> {
-        let (key, body) = (key.cast_signed(), vec![0xaa; self.bytes]);
+        let (key, body) = (key.cast_signed(), vec![0xaa_u8; self.bytes]);
         let changed = self.runtime.block_on(self.client.query_one(&self.update, &[&key, &body]))?;
         Ok(changed.get::<_, i64>(0).cast_unsigned())
     }

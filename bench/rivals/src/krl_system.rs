@@ -1,20 +1,18 @@
 //! krl: a server over SQLite, and clients of the library `krl`.
 use crate::system::{Caching, Connection, Done, Found, ROWS, System, until_ready};
 use krl::{
-    Address, Change, Client, Listener, Outcome, Row, Server, SqliteStore, Store, Value, Write,
+    Address, Change, Client, Listener, Outcome, Reach, Row, Server, SqliteStore, Store, Value,
+    Write,
 };
 use std::ops::Range;
 use std::path::{Path, PathBuf};
 
-/// How many rows are asked for at once when a cache is filled.
-const CHUNK: u64 = 100;
-
 /// Serves the rows until the process ends.
-pub fn serve(address: &str, folder: &Path) -> Done {
+pub fn serve(address: &str, folder: &Path, reach: Reach) -> Done {
     let mut store = SqliteStore::open(folder.join("krl.db"))?;
     store.commit(&(0..ROWS).map(row).collect::<Vec<_>>())?;
     let listener = Listener::bind(&address.parse()?)?;
-    Server::start(listener, store)?.wait()?;
+    Server::builder(listener, store).reach(reach).start()?.wait()?;
     Ok(())
 }
 
@@ -25,25 +23,26 @@ fn row(key: u64) -> Change {
 }
 
 pub struct Krl {
+    name: &'static str,
     address: Address,
     /// Where the clients' lock files are.
     folder: PathBuf,
 }
 
 impl Krl {
-    pub fn new(address: &str, folder: &Path) -> Found<Krl> {
-        Ok(Krl { address: address.parse()?, folder: folder.into() })
+    pub fn new(name: &'static str, address: &str, folder: &Path) -> Found<Krl> {
+        Ok(Krl { name, address: address.parse()?, folder: folder.into() })
     }
 
     fn join(&self, number: u8) -> Found<Client> {
-        let lock_file = self.folder.join(format!("client-{number}.lock"));
+        let lock_file = self.folder.join(format!("{}-client-{number}.lock", self.name));
         Ok(Client::join(self.address.clone(), number, lock_file)?)
     }
 }
 
 impl System for Krl {
     fn name(&self) -> &'static str {
-        "krl"
+        self.name
     }
 
     /// The server has made them.
@@ -67,8 +66,7 @@ struct Joined(Client);
 
 impl Connection for Joined {
     fn fill(&mut self, keys: Range<u64>) -> Done {
-        let mut starts = keys.clone().step_by(usize::try_from(CHUNK)?);
-        starts.try_for_each(|lo| self.0.read(lo..keys.end.min(lo + CHUNK)).map(drop))?;
+        self.0.read(keys)?;
         Ok(())
     }
 

@@ -1,10 +1,11 @@
 //! krl beside other servers of keys and values: the same work for each, over TCP on this machine.
 //!
 //!     krl-rivals ports COUNT                 so many ports of 127.0.0.1 that nobody listens at
-//!     krl-rivals serve ADDRESS FOLDER        a server of krl over SQLite, with the rows
+//!     krl-rivals serve ADDRESS FOLDER REACH  a server of krl over SQLite, with the rows
 //!     krl-rivals measure FOLDER ROUNDS SYSTEM=ADDRESS..
+//!     krl-rivals reads FOLDER ROUNDS SYSTEM=ADDRESS..    measures first reads only
 //!
-//! SYSTEM is krl, redis, etcd or postgres. `run.sh` starts the servers and calls all three.
+//! SYSTEM is krl, krl-reach-8, redis, etcd or postgres. `run.sh` starts the servers and calls them.
 mod clients;
 mod etcd;
 mod grpc;
@@ -18,7 +19,7 @@ mod redis;
 mod report;
 mod system;
 
-use crate::measures::Plan;
+use crate::measures::{Figures, Plan};
 use crate::system::{Done, Found, System};
 use std::io;
 use std::net::TcpListener;
@@ -26,8 +27,10 @@ use std::path::Path;
 use std::process::ExitCode;
 
 const USAGE: &str = "usage: krl-rivals ports COUNT
-       krl-rivals serve ADDRESS FOLDER
-       krl-rivals measure FOLDER ROUNDS SYSTEM=ADDRESS..   (krl, redis, etcd, postgres)";
+       krl-rivals serve ADDRESS FOLDER REACH
+       krl-rivals measure FOLDER ROUNDS SYSTEM=ADDRESS..
+       krl-rivals reads FOLDER ROUNDS SYSTEM=ADDRESS..
+       a SYSTEM is krl, krl-reach-8, redis, etcd or postgres";
 
 fn main() -> ExitCode {
     let words: Vec<String> = std::env::args().skip(1).collect();
@@ -46,16 +49,27 @@ fn run(words: &[String]) -> Done {
         ["ports", count] => print_ports(
             count.parse().map_err(|_| format!("'{count}' is no number of ports, 0 to 255"))?,
         ),
-        ["serve", address, folder] => krl_system::serve(address, Path::new(folder)),
+        ["serve", address, folder, reach] => {
+            krl_system::serve(address, Path::new(folder), reach.parse()?)
+        }
         ["measure", folder, rounds, ref systems @ ..] if !systems.is_empty() => {
-            let rounds =
-                rounds.parse().map_err(|_| format!("'{rounds}' is no number of rounds"))?;
-            let folder = Path::new(folder);
-            let systems: Found<Vec<_>> = systems.iter().map(|it| system(it, folder)).collect();
-            measure(&mut systems?, &Plan::of(rounds))
+            let plan = Plan::of(number(rounds)?);
+            let of = |system: &dyn System| measures::of(system, &plan);
+            measure(&mut all(systems, folder)?, plan.rounds, of)
+        }
+        ["reads", folder, rounds, ref systems @ ..] if !systems.is_empty() => {
+            measure(&mut all(systems, folder)?, number(rounds)?, measures::first_reads)
         }
         _ => Err(USAGE.into()),
     }
+}
+
+fn number(rounds: &str) -> Found<u32> {
+    Ok(rounds.parse().map_err(|_| format!("'{rounds}' is no number of rounds"))?)
+}
+
+fn all(systems: &[&str], folder: &str) -> Found<Vec<Box<dyn System>>> {
+    systems.iter().map(|it| system(it, Path::new(folder))).collect()
 }
 
 /// All are taken at once, so that none comes twice.
@@ -71,7 +85,8 @@ fn print_ports(count: u8) -> Done {
 fn system(word: &str, folder: &Path) -> Found<Box<dyn System>> {
     let (name, address) = word.split_once('=').ok_or(USAGE)?;
     Ok(match name {
-        "krl" => Box::new(krl_system::Krl::new(address, folder)?),
+        "krl" => Box::new(krl_system::Krl::new("krl", address, folder)?),
+        "krl-reach-8" => Box::new(krl_system::Krl::new("krl-reach-8", address, folder)?),
         "redis" => Box::new(redis::Redis::new(address)),
         "etcd" => Box::new(etcd::Etcd::new(address)),
         "postgres" => Box::new(postgres::Postgres::new(address)),
@@ -80,14 +95,18 @@ fn system(word: &str, folder: &Path) -> Found<Box<dyn System>> {
 }
 
 /// The systems take turns in each round, so that other work of the machine meets all of them.
-fn measure(systems: &mut [Box<dyn System>], plan: &Plan) -> Done {
+fn measure(
+    systems: &mut [Box<dyn System>],
+    rounds: u32,
+    of: impl Fn(&dyn System) -> Found<Figures>,
+) -> Done {
     for system in &mut *systems {
         system.make_rows()?;
     }
-    let mut best = vec![measures::Figures::default(); systems.len()];
-    for _ in 0..plan.rounds {
+    let mut best = vec![Figures::default(); systems.len()];
+    for _ in 0..rounds {
         for (system, best) in systems.iter().zip(&mut best) {
-            best.keep_better(&measures::of(system.as_ref(), plan)?);
+            best.keep_better(&of(system.as_ref())?);
         }
     }
     let names: Vec<&str> = systems.iter().map(|system| system.name()).collect();

@@ -48,6 +48,8 @@ pub struct Figures {
     pub cached_scan: Option<Duration>,
     /// The middle one of the first scans of 100 rows.
     pub first_scan: Option<Duration>,
+    /// What it takes to bring all rows into an empty cache, if the system's client has one.
+    pub warming: Option<Duration>,
     /// The middle one of the writes of one writer.
     pub write: Option<Duration>,
     /// Writes a second of four writers.
@@ -65,6 +67,7 @@ impl Figures {
     pub fn keep_better(&mut self, other: &Figures) {
         self.cached_scan = shorter(self.cached_scan, other.cached_scan);
         self.first_scan = shorter(self.first_scan, other.first_scan);
+        self.warming = shorter(self.warming, other.warming);
         self.write = shorter(self.write, other.write);
         self.writes = greater(self.writes, other.writes);
         self.calls = greater(self.calls, other.calls);
@@ -81,10 +84,19 @@ fn greater(one: Option<f64>, other: Option<f64>) -> Option<f64> {
     one.into_iter().chain(other).reduce(f64::max)
 }
 
-/// One round.
-pub fn of(system: &dyn System, plan: &Plan) -> Found<Figures> {
+/// One round of what a client reads first.
+pub fn first_reads(system: &dyn System) -> Found<Figures> {
     let mut connection = system.connect(0, Caching::On)?;
     let first_scan = Some(first_scan(connection.as_mut())?);
+    connection.close()?;
+    let warming = warming(system)?;
+    Ok(Figures { first_scan, warming, ..Figures::default() })
+}
+
+/// One round.
+pub fn of(system: &dyn System, plan: &Plan) -> Found<Figures> {
+    let Figures { first_scan, warming, .. } = first_reads(system)?;
+    let mut connection = system.connect(0, Caching::On)?;
     let cached_scan = cached_scan(connection.as_mut(), plan.cached_batches)?;
     connection.close()?;
     let mut times = writes(system, 1, plan.writing)?;
@@ -97,7 +109,7 @@ pub fn of(system: &dyn System, plan: &Plan) -> Found<Figures> {
     } else {
         calls
     };
-    Ok(Figures { cached_scan, first_scan, write, writes, calls, fresh_calls, mix })
+    Ok(Figures { cached_scan, first_scan, warming, write, writes, calls, fresh_calls, mix })
 }
 
 /// Calls a second.
@@ -120,6 +132,21 @@ fn first_scan(connection: &mut dyn Connection) -> Found<Duration> {
     let times: Found<Vec<Duration>> =
         starts.map(|lo| timed_read(connection, lo..lo + SCAN, &mut rows)).collect();
     Ok(middle(&mut times?))
+}
+
+/// The time until a new client has all rows in its cache; `None` if it has none.
+fn warming(system: &dyn System) -> Found<Option<Duration>> {
+    let mut connection = system.connect(0, Caching::On)?;
+    let begun = Instant::now();
+    connection.fill(0..ROWS)?;
+    let (took, mut rows) = (begun.elapsed(), Vec::new());
+    let is_cached = connection.cached(0..ROWS, &mut rows);
+    connection.close()?;
+    if !is_cached {
+        return Ok(None);
+    }
+    expect_rows(&(0..ROWS), &rows)?;
+    Ok(Some(took))
 }
 
 fn timed_read(

@@ -1,6 +1,7 @@
 //! The table.
 use crate::measures::{Figures, SCAN, WRITERS};
 use crate::mix::{CLIENTS, READS_PERCENT, ROWS_OF_A_READ};
+use crate::system::ROWS;
 
 /// A row of the table: what it says of a system, and how long that took in any unit, for the ratio.
 struct Line {
@@ -14,7 +15,8 @@ pub fn table(names: &[&str], figures: &[Figures]) -> String {
     let mut text = String::new();
     row(&mut text, "What", names.iter().map(ToString::to_string));
     row(&mut text, "---", names.iter().map(|_| "---".into()));
-    for line in lines() {
+    let is_measured = |line: &Line| figures.iter().any(|it| (line.show)(it).is_some());
+    for line in lines().into_iter().filter(is_measured) {
         let first = figures.first().and_then(line.time);
         let cells = figures.iter().enumerate().map(|(place, it)| cell(&line, place, it, first));
         row(&mut text, &line.name, cells);
@@ -45,7 +47,7 @@ fn ratio(ratio: f64) -> String {
     if ratio < 9.95 { format!("{ratio:.2}") } else { format!("{ratio:.0}") }
 }
 
-fn lines() -> [Line; 7] {
+fn lines() -> [Line; 8] {
     [
         Line {
             name: format!("cached scan of {SCAN} rows, µs"),
@@ -58,6 +60,11 @@ fn lines() -> [Line; 7] {
             time: |it| Some(it.first_scan?.as_secs_f64()),
         },
         Line {
+            name: format!("all {ROWS} rows into an empty cache, ms"),
+            show: |it| Some(format!("{:.1}", it.warming?.as_secs_f64() * 1e3)),
+            time: |it| Some(it.warming?.as_secs_f64()),
+        },
+        Line {
             name: format!(
                 "{CLIENTS} clients, {READS_PERCENT} % reads of {ROWS_OF_A_READ} rows: calls a second"
             ),
@@ -66,7 +73,7 @@ fn lines() -> [Line; 7] {
         },
         Line {
             name: "stale rows that those read, of so many".into(),
-            show: |it| Some(format!("{} of {}", it.mix.stale, it.mix.rows)),
+            show: |it| (it.mix.calls > 0).then(|| format!("{} of {}", it.mix.stale, it.mix.rows)),
             time: |_| None,
         },
         Line {
@@ -104,6 +111,7 @@ mod tests {
         let lines: Vec<&str> = table.lines().collect();
         assert_eq!(lines[..2], ["| What | krl | a | b |", "| --- | --- | --- | --- |"]);
         assert_eq!(lines[2], "| cached scan of 100 rows, µs | 2.00 | 3.00 (1.50) | no cache |");
-        assert!(lines[4].ends_with("| 1000 | 500 (2.00) | 10 (100) |"), "{}", lines[4]);
+        assert!(lines[3].ends_with("| 1000 | 500 (2.00) | 10 (100) |"), "{}", lines[3]);
+        assert_eq!(lines.len(), 4, "what was not measured has no line");
     }
 }

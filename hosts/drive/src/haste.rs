@@ -2,7 +2,7 @@
 //! over a network that loses nothing.
 use crate::Found;
 use crate::delayed;
-use krl::{Address, Client, Listener, MemoryStore, Outcome, Server, Value};
+use krl::{Address, Client, Listener, MemoryStore, Outcome, Server, Snapshot, Value};
 use std::error::Error;
 use std::ops::Range;
 use std::path::Path;
@@ -13,11 +13,14 @@ use std::time::{Duration, Instant};
 /// Each message takes so long.
 const DELAY: Duration = Duration::from_millis(1);
 
-/// What the hasty client reads, each range in a thread of its own. The patient one writes into the
-/// first of them.
-const WANTED: Range<u64> = 0..100;
-const OTHER: Range<u64> = 1000..1100;
+/// A range with one row or none, and the key of its row.
+const FEW_ROWS: Range<u64> = 0..100;
+const NO_ROWS: Range<u64> = 1000..1100;
 const KEY: u64 = 50;
+
+/// Ranges of as many rows as one grant takes.
+const MANY_ROWS: Range<u64> = 2000..2128;
+const OTHER_ROWS: Range<u64> = 3000..3128;
 
 /// A run ends when the hasty client has been granted so much, or behind this time.
 const GRANTS: u64 = 10_000;
@@ -46,6 +49,27 @@ enum Habit {
     GivesBack,
     /// It keeps that until it is called back, and asks for it again then.
     Keeps,
+    /// It gives that back too, and takes 128 slots by each grant.
+    TakesMany,
+}
+
+impl Habit {
+    /// What the hasty client reads, each range in a thread of its own. The patient one writes into
+    /// the first of them.
+    fn ranges(self) -> [Range<u64>; 2] {
+        match self {
+            Habit::GivesBack | Habit::Keeps => [FEW_ROWS, NO_ROWS],
+            Habit::TakesMany => [MANY_ROWS, OTHER_ROWS],
+        }
+    }
+
+    /// The row that the patient client writes.
+    fn key(self) -> u64 {
+        match self {
+            Habit::GivesBack | Habit::Keeps => KEY,
+            Habit::TakesMany => u64::midpoint(MANY_ROWS.start, MANY_ROWS.end),
+        }
+    }
 }
 
 /// What both clients share while they run.
@@ -97,12 +121,12 @@ impl Run {
     }
 
     /// The patient client writes now and then. It answers how long each write took.
-    fn write_at_times(&self, client: &Client) -> Result<Vec<Duration>, Box<dyn Error>> {
+    fn write_at_times(&self, client: &Client, key: u64) -> Result<Vec<Duration>, Box<dyn Error>> {
         let mut waits = Vec::new();
         while !self.is_over() {
             thread::sleep(REST);
             let asked = Instant::now();
-            let outcome = client.put(KEY, Value::from(waits.len() as u64))?;
+            let outcome = client.put(key, Value::from(waits.len() as u64))?;
             waits.push(asked.elapsed());
             if outcome != Outcome::Applied {
                 return Err("the row of the patient client is gone".into());
@@ -129,20 +153,22 @@ const ATTEMPTS: u32 = 3;
 pub fn run(folder: &Path) -> Found {
     std::fs::create_dir_all(folder)?;
     let listener = Listener::bind(&"127.0.0.1:0".parse()?)?;
-    let server = Server::start(listener, MemoryStore::default())?;
+    let keys = MANY_ROWS.chain(OTHER_ROWS).chain([KEY]);
+    let rows = keys.map(|key| (key, Value::from(key))).collect();
+    let store = MemoryStore { snapshot: Snapshot { rows, ..Snapshot::default() } };
+    let server = Server::start(listener, store)?;
     let Address::Tcp(at) = *server.address() else { return Err("it listens elsewhere".into()) };
     let at = delayed::start(at, DELAY)?;
     let join = |number: u8| Client::join(at, number, folder.join(format!("client-{number}.lock")));
     let (hasty, patient) = (join(0)?, join(1)?);
     let trip = smallest_trip(&hasty)?;
     patient.set_timeout(TIMEOUT);
-    patient.insert(KEY, Value::from(0))?;
     let is_bounded = |habit: Habit| -> Found {
         let taken = server.status().taken;
         let measured = measure(&hasty, &patient, habit)?;
         Ok(is_bounded(habit, &measured, server.status().taken - taken, trip))
     };
-    for habit in [Habit::GivesBack, Habit::Keeps] {
+    for habit in [Habit::GivesBack, Habit::Keeps, Habit::TakesMany] {
         let mut attempts = 1;
         while !is_bounded(habit)? {
             if attempts == ATTEMPTS {
@@ -179,17 +205,20 @@ fn is_bounded(habit: Habit, measured: &Measured, messages: u64, trip: Duration) 
 fn measure(hasty: &Client, patient: &Client, habit: Habit) -> Result<Measured, Box<dyn Error>> {
     let run =
         Run { begun: Instant::now(), granted: AtomicU64::new(0), is_over: AtomicBool::new(false) };
+    let [wanted, other] = habit.ranges();
     let (mut waits, stall) = thread::scope(|scope| {
         let stall = scope.spawn(|| run.longest_stall());
         let wanted = scope.spawn(|| match habit {
-            Habit::GivesBack => run.read_again(hasty, WANTED, |range| hasty.forget(range)),
-            Habit::Keeps => run.read_again(hasty, WANTED, |range| {
+            Habit::GivesBack | Habit::TakesMany => {
+                run.read_again(hasty, wanted, |range| hasty.forget(range))
+            }
+            Habit::Keeps => run.read_again(hasty, wanted, |range| {
                 run.keep(hasty, &range);
                 Ok(())
             }),
         });
-        let other = scope.spawn(|| run.read_again(hasty, OTHER, |range| hasty.forget(range)));
-        let waits = run.write_at_times(patient);
+        let other = scope.spawn(|| run.read_again(hasty, other, |range| hasty.forget(range)));
+        let waits = run.write_at_times(patient, habit.key());
         run.is_over.store(true, Ordering::Relaxed);
         for reader in [wanted, other] {
             reader.join().map_err(|_| "a reader panicked")??;
@@ -206,9 +235,9 @@ fn smallest_trip(client: &Client) -> Result<Duration, Box<dyn Error>> {
     let mut smallest = TIMEOUT;
     for _ in 0..TRIPS {
         let begun = Instant::now();
-        client.read(OTHER)?;
+        client.read(NO_ROWS)?;
         smallest = smallest.min(begun.elapsed());
-        client.forget(OTHER)?;
+        client.forget(NO_ROWS)?;
     }
     Ok(smallest)
 }

@@ -10,6 +10,7 @@
 //! krl_drive shards FOLDER SECONDS KILLS                           kills servers of two shards
 //! krl_drive cache FOLDER SECONDS                                  kills caches of a table in PostgreSQL
 //! krl_drive haste FOLDER                                          measures a hasty client's neighbour
+//! krl_drive reaches FOLDER                                        measures long and short grants
 //! krl_drive strangers                                             connects what is no client
 //! krl_drive reports                                               reports in the worst orders
 //! krl_drive large-stores FOLDER                                  fills stores of the greatest room
@@ -54,6 +55,7 @@ mod lossy;
 mod machines;
 mod nodes;
 mod ports;
+mod reaches;
 mod relay;
 mod sealed;
 mod shards;
@@ -130,6 +132,7 @@ fn run(words: &[&str]) -> Found {
         ["large-stores", folder] => large_stores::run(Path::new(folder)),
         ["strings", count, changed] => strings::run(count.parse()?, changed.parse()?),
         ["haste", folder] => haste::run(Path::new(folder)),
+        ["reaches", folder] => reaches::run(Path::new(folder)),
         ["conform", address, number, lock_file, seconds] => {
             conform::run(address, number, lock_file, seconds)
         }

@@ -18,9 +18,8 @@ use std::time::{Duration, Instant};
 const ROWS: u64 = 12_000;
 const STEP: u64 = 10;
 
-/// How many rows a scan has, and how many messages of the server its first read takes.
+/// How many rows a scan has. Its first read takes one message and its answer.
 const SCAN: u64 = 100;
-const MESSAGES: u32 = 13;
 
 /// How many turns each measurement has, and how much of it is done in one.
 const TURNS: u64 = 5;
@@ -124,8 +123,7 @@ fn one_client(server: &Server, folder: &Path, mut echo: Echo) -> Done<()> {
     let times = |time: Duration, base: Duration| time.as_secs_f64() / base.as_secs_f64();
     println!("echo of {ECHO} bytes: {echo:?}");
     println!("read of one row from the server: {trip:?}, {:.2} echoes", times(trip, echo));
-    let echoes = times(scan, MESSAGES * echo);
-    println!("first scan of {SCAN} rows: {scan:?}, {echoes:.2} times {MESSAGES} echoes");
+    println!("first scan of {SCAN} rows: {scan:?}, {:.2} echoes", times(scan, echo));
     Ok(())
 }
 

@@ -59,8 +59,10 @@ pub struct Judge {
     /// Which values must not be written: their clients were told so.
     never: BTreeSet<u64>,
     bonds: BTreeMap<u64, Bond>,
-    /// For how many rows the servers have room.
-    pub room: usize,
+    /// For how many rows the server has room.
+    room: usize,
+    /// For how many the servers before it had, until these versions.
+    rooms: Vec<(Version, usize)>,
     copy: Option<(Table, BTreeSet<u64>)>,
     /// What is wrong, as a sentence each.
     pub wrong: Vec<String>,
@@ -78,6 +80,7 @@ impl Judge {
             never: BTreeSet::new(),
             bonds: BTreeMap::new(),
             room: usize::MAX,
+            rooms: Vec::new(),
             copy: None,
             wrong: Vec::new(),
         }
@@ -87,6 +90,19 @@ impl Judge {
     #[must_use]
     pub fn version(&self) -> Version {
         self.steps.len()
+    }
+
+    /// From now on a server serves that has room for so many rows.
+    pub fn has_room(&mut self, rows: usize) {
+        self.rooms.push((self.version(), self.room));
+        self.room = rows;
+    }
+
+    /// The least room that a server of the window had: a write that was judged before a start is
+    /// answered after it.
+    fn least_room(&self, when: &Window) -> usize {
+        let before = self.rooms.iter().filter(|(until, _)| *until >= when.since);
+        before.map(|(_, room)| *room).fold(self.room, usize::min)
     }
 
     /// Something is wrong.
@@ -172,7 +188,10 @@ impl Judge {
             Outcome::Applied => self.is_made(write, when),
             Outcome::Exists => self.any(when, |table| table[key] != 0),
             Outcome::Absent => self.any(when, |table| table[key] == 0),
-            Outcome::Full => self.any(when, |table| rows(table) >= self.room),
+            Outcome::Full => {
+                let room = self.least_room(when);
+                self.any(when, |table| rows(table) >= room)
+            }
             Outcome::NotHeld => false,
         };
         if !is_so {

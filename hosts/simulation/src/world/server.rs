@@ -74,7 +74,7 @@ impl World {
             _ => None,
         };
         let kept = self.disk.snapshot().room.map_or(few, Room::rows);
-        self.judge.room = drawn.unwrap_or(kept);
+        self.judge.has_room(drawn.unwrap_or(kept));
         drawn.and_then(|rows| Room::of(rows).ok())
     }
 
