@@ -5,6 +5,7 @@ mod crossed;
 mod hold;
 mod leased;
 mod pinning;
+mod takings;
 mod watched;
 mod writing;
 mod yielding;
@@ -28,6 +29,7 @@ use crossed::Crossed;
 use hold::Taking;
 pub use hold::{Held, Purpose};
 use leased::Speech;
+use takings::Takings;
 use watched::Watched;
 use writing::Written;
 use yielding::Narrowed;
@@ -138,6 +140,7 @@ pub(crate) struct Jobs {
     /// Pins that their callers gave up, and that stay until a write is judged.
     unpinned: Vec<u64>,
     bound: Option<Bound>,
+    takings: Takings,
     /// What was called back while it was pinned, and is no more.
     owed: Vec<Range<u64>>,
     stage: Stage,
@@ -176,6 +179,7 @@ impl Jobs {
             pins: Pins::default(),
             unpinned: Vec::new(),
             bound: None,
+            takings: Takings::default(),
             owed: Vec::new(),
             stage: Stage::Here,
             void: None,
@@ -248,9 +252,9 @@ impl Jobs {
     pub fn abandon(&mut self, job: JobId) -> WasSent {
         let written = self.written.take_if(|written| written.id == job);
         self.watched.retain(|watched| watched.id != job);
-        let place = self.open.iter().position(|(id, _)| *id == job);
-        if let Some((_, Job::Hold(taking, _))) = place.map(|place| self.open.remove(place)) {
-            self.give_up(&taking);
+        if let Some(place) = self.open.iter().position(|(id, _)| *id == job) {
+            let (id, mut job) = self.open.remove(place);
+            self.free_pins_of(id, &mut job);
         }
         if written.is_some() { WasSent::Yes } else { WasSent::No }
     }
@@ -258,16 +262,16 @@ impl Jobs {
     /// Ends this job for this reason, if it is open.
     pub fn refuse(&mut self, job: JobId, why: Refused) {
         if let Some(place) = self.open.iter().position(|(id, _)| *id == job) {
-            let (_, job) = self.open.remove(place);
-            self.refuse_one(job, why);
+            let (id, job) = self.open.remove(place);
+            self.refuse_one(id, job, why);
         }
     }
 
     /// Ends each job for this reason; but a write that was sent for the other one, if there is one,
     /// and otherwise it goes on.
     pub fn refuse_all(&mut self, why: Refused, of_sent: Option<Refused>) {
-        for (_, job) in std::mem::take(&mut self.open) {
-            self.refuse_one(job, why);
+        for (id, job) in std::mem::take(&mut self.open) {
+            self.refuse_one(id, job, why);
         }
         for watched in std::mem::take(&mut self.watched) {
             watched.refuse(why);
@@ -279,11 +283,18 @@ impl Jobs {
         }
     }
 
-    fn refuse_one(&mut self, job: Job, why: Refused) {
-        if let Job::Hold(taking, _) = &job {
-            self.give_up(taking);
-        }
+    fn refuse_one(&mut self, id: JobId, mut job: Job, why: Refused) {
+        self.free_pins_of(id, &mut job);
         job.refuse(why);
+    }
+
+    /// The job ends without what it asked for, and what it has pinned on its way is free again.
+    fn free_pins_of(&mut self, id: JobId, job: &mut Job) {
+        match job {
+            Job::Hold(taking, _) => self.give_up(id, taking),
+            Job::Write(wanted, _) => self.let_go(id, wanted),
+            _ => {}
+        }
     }
 
     /// The client's thread has ended: no job goes on, and whoever waits for one hears that.
@@ -437,7 +448,7 @@ impl Jobs {
 
     /// Asks for a lock, if the client may ask just now. It answers whether it has.
     fn ask(&mut self, id: JobId, points: Range<u64>, mode: Mode) -> Result<bool, Code> {
-        if self.asking == Asking::Later {
+        if self.asking == Asking::Later || !self.takings.may_ask(id, points.start) {
             return Ok(false);
         }
         match self.client.lock(points.clone(), mode) {

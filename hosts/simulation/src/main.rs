@@ -1,6 +1,7 @@
 //! Runs worlds by their seeds, and tells what is wrong.
 use clap::{ArgGroup, Args, Parser};
-use krl_simulation::run::{self, Done, Plan};
+use krl_simulation::run::{self, Done, Plan, Shows};
+use krl_simulation::world::Settings;
 use std::io::{self, Write};
 use std::ops::Range;
 use std::path::PathBuf;
@@ -18,17 +19,29 @@ struct Words {
     #[command(flatten)]
     worlds: Worlds,
     /// For so many seconds of a world there are faults
-    #[arg(long, default_value_t = 20)]
-    seconds: u64,
+    #[arg(long, default_value_t = 20.0)]
+    seconds: f64,
+    /// Leave out the faults of these numbers
+    #[arg(long, value_name = "NUMBERS", value_delimiter = ',')]
+    without: Vec<u64>,
+    /// The callers of these clients ask for nothing
+    #[arg(long, value_name = "NUMBERS", value_delimiter = ',')]
+    quiet: Vec<usize>,
     /// Run no further world after so many events
     #[arg(long, default_value_t = u64::MAX, hide_default_value = true)]
     events: u64,
     /// Print what happens, a line each
-    #[arg(long)]
+    #[arg(long, conflicts_with = "picture")]
     log: bool,
-    /// Print a line for each seed
+    /// Print what happens as a picture
     #[arg(long)]
-    each: bool,
+    picture: bool,
+    /// Print so many lines of what happens at most, the last ones
+    #[arg(long, default_value_t = usize::MAX, hide_default_value = true)]
+    last: usize,
+    /// Search for a shorter run with the same failure, and print it
+    #[arg(long, requires = "seed")]
+    shorten: bool,
 }
 
 /// Which worlds are run.
@@ -80,27 +93,44 @@ fn main() -> ExitCode {
 
 /// Runs the worlds, and answers whether nothing is wrong.
 fn run(words: &Words) -> io::Result<bool> {
-    let Words { worlds, seconds, events, log, each } = words;
-    let plan = Plan {
-        time: Duration::from_secs(*seconds),
-        keeps_lines: *log,
-        tells_each: *each,
-        most_events: *events,
-    };
     let mut out = io::stdout().lock();
-    let done = match worlds {
-        Worlds { seed: Some(seed), .. } => run::run_all(*seed..=*seed, plan, &mut out)?,
-        Worlds { range: Some(SeedRange(seeds)), .. } => {
-            run::run_all(seeds.clone(), plan, &mut out)?
+    let plan = words.plan()?;
+    let done = match &words.worlds {
+        Worlds { seed: Some(seed), .. } if words.shorten => {
+            let settings = Settings { seed: *seed, ..plan.settings };
+            return run::run_shortened(settings, plan.shows, &mut out);
         }
-        Worlds { file: Some(path), .. } => run::run_all(run::seeds_of_file(path)?, plan, &mut out)?,
+        Worlds { seed: Some(seed), .. } => run::run_all(*seed..=*seed, &plan, &mut out)?,
+        Worlds { range: Some(SeedRange(seeds)), .. } => {
+            run::run_all(seeds.clone(), &plan, &mut out)?
+        }
+        Worlds { file: Some(path), .. } => {
+            run::run_all(run::seeds_of_file(path)?, &plan, &mut out)?
+        }
         Worlds { fresh, .. } => {
             let processor = Duration::from_secs(fresh.unwrap_or_default());
-            run::run_fresh(processor, plan, &mut out)?
+            run::run_fresh(processor, &plan, &mut out)?
         }
     };
     writeln!(out, "{done}")?;
     Ok(matches!(done, Done { wrong: None, .. }))
+}
+
+impl Words {
+    fn plan(&self) -> io::Result<Plan> {
+        let time = Duration::try_from_secs_f64(self.seconds).map_err(io::Error::other)?;
+        let settings = Settings {
+            without: self.without.iter().copied().collect(),
+            quiet: self.quiet.iter().copied().collect(),
+            ..Settings::of(0, time)
+        };
+        let shows = match self {
+            Words { log: true, .. } => Shows::Log(self.last),
+            Words { picture: true, .. } => Shows::Picture(self.last),
+            _ => Shows::Nothing,
+        };
+        Ok(Plan { settings, shows, most_events: self.events })
+    }
 }
 
 #[cfg(test)]

@@ -7,6 +7,9 @@ use std::time::Duration;
 /// The length of a frame stands before it.
 pub const PREFIX: usize = 8;
 
+/// For so long something is still heard on a connection of which the other direction is cut.
+const STALLS: Duration = Duration::from_secs(1);
+
 /// Which end of a connection.
 #[derive(Clone, Copy, Debug, PartialEq, Eq, PartialOrd, Ord)]
 pub enum Side {
@@ -47,12 +50,21 @@ pub struct Link {
     pub site: usize,
     /// The number that the server has given the connection.
     pub connection: u64,
-    /// What is sent to this side is swallowed, and neither side learns of it.
-    pub swallows: [bool; 2],
+    /// From when on what is sent to this side is swallowed, and neither side learns of it.
+    swallows_from: [Duration; 2],
     /// This side has ended it.
     pub has_ended: [bool; 2],
-    /// Until when what was sent to each side is on its way.
+    /// Until when what was sent to each side is on its way, and what its host was sent.
     busy_until: [Duration; 2],
+    host_until: [Duration; 2],
+}
+
+impl Link {
+    /// Whether what is sent to this side is swallowed by now.
+    #[must_use]
+    pub fn swallows(&self, to: Side, now: Duration) -> bool {
+        now >= self.swallows_from[to as usize]
+    }
 }
 
 /// A frame on its way.
@@ -101,9 +113,10 @@ impl Network {
             client,
             site,
             connection,
-            swallows: [false; 2],
+            swallows_from: [Duration::MAX; 2],
             has_ended: [false; 2],
             busy_until: [Duration::ZERO; 2],
+            host_until: [Duration::ZERO; 2],
         };
         self.links.insert(self.next, link);
         self.next
@@ -115,12 +128,14 @@ impl Network {
         self.links.get(&name)
     }
 
-    /// The connections between the client and this machine swallow what is sent to these sides.
-    pub fn swallow(&mut self, client: usize, site: usize, swallows: [bool; 2]) {
+    /// The connections between the client and this machine swallow what is sent to these sides. If
+    /// that is one of them, the other one is soon heard no more either: nobody acknowledges what it
+    /// sends.
+    pub fn swallow(&mut self, client: usize, site: usize, sides: [bool; 2], now: Duration) {
         let between = |link: &&mut Link| link.client == client && link.site == site;
         for link in self.links.values_mut().filter(between) {
-            for (swallowed, more) in link.swallows.iter_mut().zip(swallows) {
-                *swallowed |= more;
+            for (from, is_cut) in link.swallows_from.iter_mut().zip(sides) {
+                *from = (*from).min(if is_cut { now } else { now + STALLS });
             }
         }
     }
@@ -145,16 +160,16 @@ impl Network {
 
     /// Carries what is said on a connection to this side, frame by frame. Those of hosts come whole
     /// and in their order, as on any stream. Messages of the library may be lost, come twice, or
-    /// overtake one another.
+    /// overtake one another, but not what a host said before.
     pub fn carry(&mut self, name: u64, to: Side, bytes: &[u8], now: Duration) -> Vec<Carried> {
         let Some(link) = self.links.get_mut(&name) else { return Vec::new() };
         let (dice, faults) = (&mut self.dice, &self.faults);
-        let swallows = link.swallows[to as usize];
+        let swallows = link.swallows(to, now);
         let mut carried = Vec::new();
         for frame in frames(bytes) {
             self.sent += 1;
             let is_message = frame.get(PREFIX).is_some_and(|first| *first != 0);
-            let comes = now + dice.time(self.latency.clone());
+            let comes = link.host_until[to as usize].max(now + dice.time(self.latency.clone()));
             let mut put = |moment, is_lost| {
                 let bytes = frame.to_vec();
                 carried.push(Carried { number: self.sent, moment, is_lost, bytes });
@@ -173,6 +188,9 @@ impl Network {
             let busy_until = &mut link.busy_until[to as usize];
             *busy_until = comes.max(*busy_until);
             put(*busy_until, false);
+            if !is_message {
+                link.host_until[to as usize] = *busy_until;
+            }
         }
         carried
     }

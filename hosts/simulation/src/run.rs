@@ -1,5 +1,9 @@
 //! Runs of many seeds.
+use crate::picture;
+use crate::record::Line;
+use crate::shorten::{Shortened, shorten};
 use crate::world::{Counts, Report, Settings, World};
+use std::collections::BTreeSet;
 use std::fmt;
 use std::fs;
 use std::hash::{BuildHasher, RandomState};
@@ -9,16 +13,41 @@ use std::path::Path;
 use std::time::{Duration, Instant};
 
 /// How each world is run.
-#[derive(Clone, Copy, Debug)]
+#[derive(Clone, Debug)]
 pub struct Plan {
-    /// For so long there are faults in it.
-    pub time: Duration,
-    /// Whether the lines of what happens are printed.
-    pub keeps_lines: bool,
-    /// Whether a line is printed for each seed.
-    pub tells_each: bool,
+    /// What the worlds have in common. The seed is that of each world.
+    pub settings: Settings,
+    /// What is printed of each world.
+    pub shows: Shows,
     /// No further world is run after so many events.
     pub most_events: u64,
+}
+
+/// What is printed of a world.
+#[derive(Clone, Copy, Debug, PartialEq, Eq)]
+pub enum Shows {
+    /// Nothing but what is wrong.
+    Nothing,
+    /// The last lines of what happens, so many.
+    Log(usize),
+    /// The same as a picture.
+    Picture(usize),
+}
+
+impl Shows {
+    /// What is printed of these lines.
+    #[must_use]
+    pub fn of(self, lines: &[Line]) -> String {
+        let last = |most: usize| &lines[lines.len().saturating_sub(most)..];
+        match self {
+            Shows::Nothing => String::new(),
+            Shows::Log(most) => {
+                let lines: Vec<_> = last(most).iter().map(|line| line.to_string() + "\n").collect();
+                lines.concat()
+            }
+            Shows::Picture(most) => picture::draw(last(most)),
+        }
+    }
 }
 
 /// What was done.
@@ -74,7 +103,7 @@ impl Done {
 /// If nothing can be printed.
 pub fn run_all(
     seeds: impl IntoIterator<Item = u64>,
-    plan: Plan,
+    plan: &Plan,
     out: &mut impl Write,
 ) -> io::Result<Done> {
     let began = Processor::now();
@@ -95,7 +124,7 @@ pub fn run_all(
 /// # Errors
 ///
 /// If nothing can be printed.
-pub fn run_fresh(processor: Duration, plan: Plan, out: &mut impl Write) -> io::Result<Done> {
+pub fn run_fresh(processor: Duration, plan: &Plan, out: &mut impl Write) -> io::Result<Done> {
     let first = RandomState::new().hash_one(0) >> 16;
     writeln!(out, "fresh seeds from {first} on")?;
     let began = Processor::now();
@@ -107,22 +136,51 @@ pub fn run_fresh(processor: Duration, plan: Plan, out: &mut impl Write) -> io::R
     Ok(done)
 }
 
-fn run_one(seed: u64, plan: Plan, done: &mut Done, out: &mut impl Write) -> io::Result<()> {
-    let settings = Settings { keeps_lines: plan.keeps_lines, ..Settings::of(seed, plan.time) };
+fn run_one(seed: u64, plan: &Plan, done: &mut Done, out: &mut impl Write) -> io::Result<()> {
+    let keeps_lines = plan.shows != Shows::Nothing;
+    let settings = Settings { seed, keeps_lines, ..plan.settings.clone() };
     let run = || World::new(settings).run();
     let report = catch_unwind(AssertUnwindSafe(run)).unwrap_or_else(|_| Report::of_panic());
     done.add(seed, &report);
-    for line in &report.lines {
-        writeln!(out, "{line}")?;
-    }
-    let Report { events, counts, fingerprint, .. } = &report;
-    if plan.tells_each {
-        writeln!(out, "seed {seed}: {events} events, fingerprint {fingerprint:016x}, {counts}")?;
-    }
+    write!(out, "{}", plan.shows.of(&report.lines))?;
+    let events = report.events;
     for wrong in &report.wrong {
-        writeln!(out, "seed {seed}, {} s, after {events} events: {wrong}", plan.time.as_secs())?;
+        let seconds = plan.settings.time.as_secs_f64();
+        writeln!(out, "seed {seed}, {seconds} s, after {events} events: {wrong}")?;
     }
     Ok(())
+}
+
+/// Shortens the run of a seed, and prints by which words it is repeated. It answers whether nothing
+/// is wrong.
+///
+/// # Errors
+///
+/// If nothing can be printed.
+pub fn run_shortened(settings: Settings, shows: Shows, out: &mut impl Write) -> io::Result<bool> {
+    let settings = Settings { keeps_lines: shows != Shows::Nothing, ..settings };
+    let Some(Shortened { settings, report, runs }) = shorten(&settings) else {
+        writeln!(out, "nothing is wrong")?;
+        return Ok(true);
+    };
+    write!(out, "{}", shows.of(&report.lines))?;
+    let Report { events, wrong, .. } = report;
+    writeln!(out, "after {runs} runs: {events} events: {}", wrong.join("; "))?;
+    let Settings { seed, time, without, quiet, .. } = settings;
+    writeln!(
+        out,
+        "--seed {seed} --seconds {} --without {} --quiet {}",
+        time.as_secs_f64(),
+        list(&without),
+        list(&quiet)
+    )?;
+    Ok(false)
+}
+
+/// Numbers with commas between them.
+fn list<T: ToString>(numbers: &BTreeSet<T>) -> String {
+    let numbers: Vec<_> = numbers.iter().map(ToString::to_string).collect();
+    numbers.join(",")
 }
 
 /// The seeds of a file. A line begins with one; what stands after it, and lines that are empty or

@@ -39,6 +39,8 @@ pub struct Settings {
     pub time: Duration,
     /// The faults of these numbers are left out.
     pub without: BTreeSet<u64>,
+    /// The callers of these clients ask for nothing.
+    pub quiet: BTreeSet<usize>,
     /// Whether the lines of what happens are kept.
     pub keeps_lines: bool,
 }
@@ -47,7 +49,13 @@ impl Settings {
     /// A run by this seed.
     #[must_use]
     pub fn of(seed: u64, time: Duration) -> Settings {
-        Settings { seed, time, without: BTreeSet::new(), keeps_lines: false }
+        Settings {
+            seed,
+            time,
+            without: BTreeSet::new(),
+            quiet: BTreeSet::new(),
+            keeps_lines: false,
+        }
     }
 }
 
@@ -58,6 +66,8 @@ pub struct Report {
     pub events: u64,
     /// How long it took by the clock of the world.
     pub time: Duration,
+    /// How many clients have callers.
+    pub clients: usize,
     /// What there was.
     pub counts: Counts,
     /// The longest time that a call took when all was calm.
@@ -77,6 +87,7 @@ impl Report {
         Report {
             events: 0,
             time: Duration::ZERO,
+            clients: 0,
             counts: Counts::default(),
             longest: Duration::ZERO,
             wrong: vec!["something has panicked".into()],
@@ -357,6 +368,7 @@ impl World {
         Report {
             events: self.happened,
             time: self.now,
+            clients: self.weather.clients,
             counts: self.counts,
             longest: self.longest,
             wrong: self.judge.wrong,
@@ -383,21 +395,24 @@ impl World {
     }
 
     fn are_all_served(&self) -> bool {
-        self.workers().all(|machine| machine.is_served == [true; 2])
+        let mut clients = 0..self.weather.clients;
+        clients.all(|client| !self.is_to_be_served(client) || self.is_served(client))
     }
 
-    fn workers(&self) -> impl Iterator<Item = &Machine> {
-        self.machines[..self.weather.clients]
-            .iter()
-            .filter(|machine| machine.stays_down != Some(Down::Retired))
+    /// Whether the client runs, and its callers ask for something.
+    fn is_to_be_served(&self, client: usize) -> bool {
+        let is_retired = self.machines[client].stays_down == Some(Down::Retired);
+        !is_retired && !self.settings.quiet.contains(&client)
+    }
+
+    fn is_served(&self, client: usize) -> bool {
+        self.machines[client].is_served == [true; 2]
     }
 
     fn tell_unserved(&mut self) {
         for client in 0..self.weather.clients {
-            let machine = &self.machines[client];
-            if let [reads, writes] = machine.is_served
-                && !(machine.stays_down == Some(Down::Retired) || reads && writes)
-            {
+            if self.is_to_be_served(client) && !self.is_served(client) {
+                let [reads, writes] = self.machines[client].is_served;
                 self.judge.find(format!(
                     "client {client} was not served within {BOUND:?}: reads {reads}, writes {writes}"
                 ));

@@ -1,6 +1,7 @@
 //! A client whose server's store went back or is another one, or whose lease has ended: it drops
 //! what it knows, and begins anew.
 use super::crossed::Crossed;
+use super::takings::Takings;
 use super::yielding::Narrowed;
 use super::{Asking, Job, Jobs, Stage};
 use crate::client_handle::ClientHandle;
@@ -35,6 +36,9 @@ impl Job {
         match (self, why) {
             (Job::Hold(taking, reply), Dropped::LeaseEnded) => {
                 Some(Job::Hold(taking.begun_again(), reply))
+            }
+            (Job::Write(wanted, reply), Dropped::LeaseEnded) => {
+                Some(Job::Write(wanted.begun_again(), reply))
             }
             (job @ (Job::Join(_) | Job::Leave(_)), _) | (job, Dropped::LeaseEnded) => Some(job),
             (job, Dropped::StoreWentBack | Dropped::OtherStore) => {
@@ -71,6 +75,7 @@ impl Jobs {
         self.first_pin = self.next_pin;
         self.unpinned.clear();
         self.bound = None;
+        self.takings = Takings::default();
         self.owed.clear();
         self.crossed = Crossed::default();
         self.asker = None;

@@ -1,4 +1,5 @@
 //! Writes that are bound to a pin.
+use super::writing::Kept;
 use super::{Asked, Job, Jobs, Reply};
 use crate::change::{Outcome, Write};
 use crate::refused::Refused;
@@ -19,6 +20,8 @@ pub(super) enum Bond {
 pub(super) struct Wanted {
     pub write: Write,
     pub bond: Bond,
+    /// What a delete keeps until it is sent.
+    pub kept: Option<Kept>,
 }
 
 /// The last write that was sent and is bound to a pin.
@@ -30,7 +33,12 @@ pub(super) struct Bound {
 
 impl Wanted {
     pub fn free(write: Write) -> Wanted {
-        Wanted { write, bond: Bond::Free }
+        Wanted { write, bond: Bond::Free, kept: None }
+    }
+
+    /// The same write of a client that has dropped all, its pins too.
+    pub fn begun_again(self) -> Wanted {
+        Wanted { kept: None, ..self }
     }
 }
 
@@ -43,7 +51,7 @@ impl Jobs {
         self.end_lease_if_over();
         let bond = Bond::Pin(pin);
         if self.may_write(bond) {
-            return self.add(|reply| Job::Write(Wanted { write, bond }, reply));
+            return self.add(|reply| Job::Write(Wanted { write, bond, kept: None }, reply));
         }
         self.next += 1;
         let (reply, answer) = sync_channel(1);

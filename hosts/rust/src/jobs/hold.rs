@@ -62,15 +62,20 @@ impl Jobs {
         mut taking: Taking,
         reply: Reply<Held>,
     ) -> Option<Job> {
+        self.takings.begins(id, taking.keys.end);
         let held = self.try_hold(id, &mut taking);
-        if held.is_err() {
-            self.give_up(&taking);
+        match held {
+            Ok(None) => {}
+            // The pin is the caller's now.
+            Ok(Some(_)) => self.takings.ends(id),
+            Err(_) => self.give_up(id, &taking),
         }
         reply.give(held).map(|reply| Job::Hold(taking, reply))
     }
 
     /// Frees what is pinned of a range that nobody waits for.
-    pub(super) fn give_up(&mut self, taking: &Taking) {
+    pub(super) fn give_up(&mut self, id: JobId, taking: &Taking) {
+        self.takings.ends(id);
         if let Some(pin) = taking.pin {
             self.unpin(pin);
         }
@@ -91,10 +96,10 @@ impl Jobs {
             Purpose::Read => known,
             Purpose::Update | Purpose::Write => self.held_to_change(taking, known, granted)?,
         };
-        self.pin_to(taking, held)?;
+        self.pin_to(id, taking, held)?;
         if let Some(pin) = taking.pin
             && known == taking.keys.end
-            && held == taking.keys.end
+            && taking.next == taking.keys.end
         {
             return Ok(Some(Held { rows, pin }));
         }
@@ -150,11 +155,15 @@ impl Jobs {
     }
 
     /// Pins the range below this point.
-    fn pin_to(&mut self, taking: &mut Taking, end: u64) -> Result<(), Code> {
-        if end <= taking.next {
+    fn pin_to(&mut self, id: JobId, taking: &mut Taking, end: u64) -> Result<(), Code> {
+        // Who has the whole range waits for nothing more.
+        let is_whole = end == taking.keys.end;
+        if end <= taking.next || !is_whole && !self.may_keep(id, end) {
             return Ok(());
         }
-        let wider = self.add_pin(taking.keys.start..end)?;
+        let points = taking.keys.start..end;
+        self.takings.keeps(id, &points);
+        let wider = self.add_pin(points)?;
         taking.next = end;
         if let Some(narrower) = taking.pin.replace(wider) {
             // What was called back of it, the wider one remembers.

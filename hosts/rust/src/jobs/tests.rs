@@ -1,4 +1,4 @@
-use super::world::{World, row};
+use super::world::{World, pass, row};
 use super::*;
 use crate::boot_clock::Moment;
 
@@ -137,6 +137,91 @@ fn who_waits_for_a_change_learns_at_once_of_what_goes_with_a_pin() {
     assert!(watched.answer.try_recv().is_err(), "the pin keeps it");
     world.clients[0].unpin(pin);
     assert_eq!(watched.answer.try_recv(), Ok(Ok(())));
+}
+
+/// A world with the rows 5, 10 and 15, which client 1 has inserted.
+fn with_three_rows() -> World {
+    let mut world = World::new();
+    for key in [5, 10, 15] {
+        assert_eq!(world.write(1, Write::Insert(row(key, 1))), Outcome::Applied);
+    }
+    world
+}
+
+#[test]
+fn a_delete_has_both_of_its_slots_though_a_reader_wants_them_again_and_again() {
+    let mut world = with_three_rows();
+    world.read(1, 0..20);
+    let delete = world.clients[0].write(Write::Delete(5));
+    let mut read = world.clients[1].read(0..20);
+    for _ in 0..50 {
+        world.round();
+        if read.answer.try_recv().is_ok() {
+            read = world.clients[1].read(0..20);
+        }
+    }
+    assert_eq!(delete.answer.try_recv(), Ok(Ok(Outcome::Applied)));
+    assert_eq!(world.clients[0].takings.count(), 0);
+}
+
+#[test]
+fn a_delete_keeps_its_slot_from_others_for_a_while_only() {
+    let mut world = with_three_rows();
+    world.read(1, 0..20);
+    let pin = world.clients[1].pin(8..11).unwrap();
+    let delete = world.clients[0].write(Write::Delete(5));
+    world.settle();
+    let read = world.clients[1].read(5..6);
+    world.settle();
+    assert!(delete.answer.try_recv().is_err(), "the slot after it is pinned");
+    assert!(read.answer.try_recv().is_err(), "the slot of the row is kept");
+    pass(&mut world.clients[0], Duration::from_millis(500));
+    world.clients[0].advance(Asking::Allowed);
+    world.settle();
+    assert_eq!(read.answer.try_recv(), Ok(Ok(vec![row(5, 1)])));
+    world.clients[1].unpin(pin);
+    world.settle();
+    assert_eq!(delete.answer.try_recv(), Ok(Ok(Outcome::Applied)));
+}
+
+#[test]
+fn a_delete_that_nobody_waits_for_keeps_nothing() {
+    let mut world = with_three_rows();
+    world.read(1, 0..20);
+    let pin = world.clients[1].pin(8..11).unwrap();
+    let delete = world.clients[0].write(Write::Delete(5));
+    world.settle();
+    assert_eq!(world.clients[0].takings.count(), 1);
+    world.clients[0].abandon(delete.id);
+    assert_eq!(world.clients[0].takings.count(), 0);
+    world.settle();
+    assert_eq!(world.read(1, 0..6), [row(5, 1)]);
+    world.clients[1].unpin(pin);
+}
+
+#[test]
+fn who_waits_for_a_lower_point_keeps_nothing_from_who_has_that() {
+    let mut world = with_three_rows();
+    world.read(0, 8..12);
+    let held = world.clients[1].hold(5..16, Purpose::Write);
+    let said = world.said(1);
+    world.tell_server(&said);
+    let late = world.said_by_server();
+    // Before client 0 is called back, it asks for a point that the other one keeps, and pins.
+    let read = world.clients[0].read(5..6);
+    let other = world.clients[0].hold(8..20, Purpose::Read);
+    let said = world.said(0);
+    world.tell_server(&said);
+    for message in &late {
+        let client = usize::from(Message::read(message).client().unwrap());
+        world.clients[client].hear(message).unwrap();
+    }
+    world.settle();
+    let pin = held.answer.try_recv().unwrap().unwrap().pin;
+    world.clients[1].unpin(pin);
+    world.settle();
+    assert_eq!(read.answer.try_recv(), Ok(Ok(vec![row(5, 1)])));
+    assert_eq!(other.answer.try_recv().unwrap().unwrap().rows, [row(10, 1), row(15, 1)]);
 }
 
 #[test]

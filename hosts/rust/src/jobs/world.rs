@@ -73,17 +73,19 @@ impl World {
 
     /// Hands messages over until nobody says anything.
     pub fn settle(&mut self) {
-        loop {
-            let said: Vec<_> = [0, 1].into_iter().flat_map(|client| self.said(client)).collect();
-            self.tell_server(&said);
-            let heard = self.tell_clients();
-            for jobs in &mut self.clients {
-                jobs.advance(Asking::Allowed);
-            }
-            if said.is_empty() && heard == 0 {
-                return;
-            }
+        while self.round() {}
+    }
+
+    /// Hands over what each client says, and then what the server says. It answers whether anybody
+    /// has said anything.
+    pub fn round(&mut self) -> bool {
+        let said: Vec<_> = [0, 1].into_iter().flat_map(|client| self.said(client)).collect();
+        self.tell_server(&said);
+        let heard = self.tell_clients();
+        for jobs in &mut self.clients {
+            jobs.advance(Asking::Allowed);
         }
+        !said.is_empty() || heard > 0
     }
 
     pub fn write(&mut self, client: usize, write: Write) -> Outcome {

@@ -5,6 +5,11 @@ use crate::change::{Outcome, Write};
 use crate::client_handle::{Mode, Scan, Shown};
 use crate::code::Code;
 use crate::refused::Refused;
+use std::time::{Duration, Instant};
+
+/// A delete keeps the slot of its row for so long, while it waits for the slot after it. Whoever has
+/// that one gives it back within some round trips, unless it is pinned.
+const KEEPS: Duration = Duration::from_millis(500);
 
 /// The write that is on its way. A client has one at most.
 pub(super) struct Written {
@@ -18,6 +23,17 @@ impl Written {
     pub fn refuse(self, why: Refused) {
         self.reply.end(Err(why));
     }
+}
+
+/// The pin by which a delete keeps the slot of its row.
+///
+/// It needs that slot and the one after it. Without the pin, a client that reads both and a client
+/// that deletes may take them from one another in turn, and neither ever has both. As slots are taken
+/// in ascending order, no two clients that keep some wait for one another.
+#[derive(Clone, Copy, Debug)]
+pub(super) struct Kept {
+    pin: u64,
+    since: Instant,
 }
 
 /// How far a write has come.
@@ -46,15 +62,22 @@ impl Jobs {
     pub(super) fn advance_write(
         &mut self,
         id: JobId,
-        wanted: Wanted,
+        mut wanted: Wanted,
         reply: Reply<Outcome>,
     ) -> Option<Job> {
         if !self.may_write(wanted.bond) {
+            self.let_go(id, &mut wanted);
             reply.end(Err(Refused::PinIsVoid));
             return None;
         }
-        match self.try_write(id, &wanted.write) {
-            Ok(Step::Waits) => return Some(Job::Write(wanted, reply)),
+        let step = self.try_write(id, &mut wanted);
+        if matches!(step, Ok(Step::Waits)) {
+            self.let_go_if_late(id, &mut wanted);
+            return Some(Job::Write(wanted, reply));
+        }
+        self.let_go(id, &mut wanted);
+        match step {
+            Ok(Step::Waits) => {}
             Ok(Step::Sent(number)) => {
                 self.note_bond(wanted.bond, number);
                 self.written = Some(Written { id, wanted, number, reply });
@@ -65,7 +88,8 @@ impl Jobs {
         None
     }
 
-    fn try_write(&mut self, id: JobId, write: &Write) -> Result<Step, Code> {
+    fn try_write(&mut self, id: JobId, wanted: &mut Wanted) -> Result<Step, Code> {
+        let write = &wanted.write;
         if self.asker == Some(id) && self.is_told_absent(write) {
             self.asker = None;
             return Ok(Step::Known(Outcome::Absent));
@@ -73,7 +97,7 @@ impl Jobs {
         match self.client.write(write) {
             Ok(number) => Ok(Step::Sent(number)),
             Err(Code::Writing | Code::NotJoined) => Ok(Step::Waits),
-            Err(Code::NotHeld) => self.lock_for(id, write),
+            Err(Code::NotHeld) => self.lock_for(id, wanted),
             Err(code) => Err(code),
         }
     }
@@ -84,20 +108,51 @@ impl Jobs {
         is_absent && matches!(write, Write::Put(_))
     }
 
-    fn lock_for(&mut self, id: JobId, write: &Write) -> Result<Step, Code> {
-        let key = write.key();
-        let (points, mode) = match write {
+    fn lock_for(&mut self, id: JobId, wanted: &mut Wanted) -> Result<Step, Code> {
+        let key = wanted.write.key();
+        let (points, mode) = match wanted.write {
             Write::Insert(_) => (key..key + 1, Mode::RangeIN),
             Write::Put(_) => (key..key + 1, Mode::X),
             // The client reads this point, and there is no entry.
             Write::Delete(_) if self.is_empty_at(key) => return Ok(Step::Known(Outcome::Absent)),
             // It takes the entry and the gap behind it. The second slot is asked for by itself if
             // it was not free.
-            Write::Delete(_) if self.client.has_all(key) => (key + 1..key + 2, Mode::RangeXX),
+            Write::Delete(_) if self.client.has_all(key) => {
+                self.keep_slot(id, wanted);
+                (key + 1..key + 2, Mode::RangeXX)
+            }
             Write::Delete(_) => (key..key + 2, Mode::RangeXX),
         };
         self.ask_to_change(id, points, mode)?;
         Ok(Step::Waits)
+    }
+
+    /// Keeps the slot of the row that a delete is about, if nothing hinders that just now.
+    fn keep_slot(&mut self, id: JobId, wanted: &mut Wanted) {
+        let key = wanted.write.key();
+        if wanted.kept.is_none() && self.may_keep(id, key + 1) {
+            // A client that has all its pins asks for both slots until it has them.
+            let Ok(pin) = self.add_pin(key..key + 1) else { return };
+            wanted.kept = Some(Kept { pin, since: self.now.monotonic });
+            self.takings.keeps(id, &(key..key + 1));
+        }
+    }
+
+    /// Gives back what a delete has kept for too long: who has the other slot keeps it pinned.
+    fn let_go_if_late(&mut self, id: JobId, wanted: &mut Wanted) {
+        let now = self.now.monotonic;
+        let is_late = |kept: Kept| now.saturating_duration_since(kept.since) >= KEEPS;
+        if wanted.kept.is_some_and(is_late) {
+            self.let_go(id, wanted);
+        }
+    }
+
+    /// A delete keeps its slot no more.
+    pub(super) fn let_go(&mut self, id: JobId, wanted: &mut Wanted) {
+        if let Some(Kept { pin, .. }) = wanted.kept.take() {
+            self.takings.ends(id);
+            self.unpin(pin);
+        }
     }
 
     fn is_empty_at(&mut self, key: u64) -> bool {

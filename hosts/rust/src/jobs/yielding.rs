@@ -49,7 +49,9 @@ impl Jobs {
         points: Range<u64>,
         mode: Mode,
     ) -> Result<bool, Code> {
-        if self.asking == Asking::Later || self.shows(|shown| shown.is_waiting) {
+        let is_waiting = self.shows(|shown| shown.is_waiting);
+        let may_ask = self.takings.may_ask(id, points.start);
+        if self.asking == Asking::Later || is_waiting || !may_ask {
             return Ok(false);
         }
         let Some(read) = self.slot_only_read(points.start, mode) else {

@@ -21,16 +21,16 @@ const PATIENCE: Range<u64> = 50_000..20_000_000;
 /// The same when all is well.
 const LONG_PATIENCE: Duration = Duration::from_secs(60);
 
-/// The longest time that a call takes when all is calm. Clients that contend for a range may keep one
-/// another waiting until a deadline.
-pub const LONGEST: Duration = Duration::from_secs(20);
+/// The longest time that a call takes when all is calm.
+pub const LONGEST: Duration = Duration::from_secs(2);
 
 impl World {
     /// The client's callers look for something to do.
     pub(super) fn call(&mut self, client: usize) {
         let pause = self.call_dice.time(self.weather.pauses[client].clone());
         self.after(pause.max(self.least_pause(client)), Event::Call { client });
-        if self.machines[client].client.is_none() {
+        let is_quiet = self.settings.quiet.contains(&client);
+        if self.machines[client].client.is_none() || is_quiet {
             return;
         }
         self.happened += 1;
@@ -72,8 +72,6 @@ impl World {
         let (keys, made) = (self.draw_keys(), self.made());
         let machine = &mut self.machines[client];
         let time = machine.clock.at(self.now);
-        // A client that pins part after part and reads below may wait for one that does the same.
-        let waits_for_pins = self.healed.is_some() && machine.calls.holding.is_some();
         let Some(it) = &mut machine.client else { return };
         match it.cached(&keys, time) {
             Cached::Rows(rows) => {
@@ -82,7 +80,7 @@ impl World {
                 let now = self.window(client, self.judge.version());
                 self.judge.read(&format_cache(client), &keys, &rows, &now);
             }
-            _ if machine.calls.reading.is_none() && !waits_for_pins => {
+            _ if machine.calls.reading.is_none() => {
                 let deadline = self.draw_deadline(time);
                 let machine = &mut self.machines[client];
                 let Some(it) = &mut machine.client else { return };
@@ -113,8 +111,7 @@ impl World {
         let deadline = self.draw_deadline(time);
         let machine = &mut self.machines[client];
         let Some(it) = &mut machine.client else { return };
-        let waits_for_read = self.healed.is_some() && machine.calls.reading.is_some();
-        if !machine.calls.may_write() && !waits_for_read {
+        if !machine.calls.may_write() {
             let call = it.hold(keys.clone(), purpose, time);
             machine.calls.holding = Some(Waiting::new(keys, call, made, deadline));
         }
@@ -173,9 +170,7 @@ impl World {
 
     fn draw_write(&mut self) -> Write {
         let row = self.draw_row(0..self.weather.keys);
-        // Clients that delete and clients that read may keep one another waiting for long.
-        let kinds = if self.calm_since.is_some() { 4 } else { 5 };
-        match self.call_dice.among(0..kinds) {
+        match self.call_dice.among(0..5) {
             0 | 1 => Write::Insert(row),
             2 | 3 => Write::Put(row),
             _ => Write::Delete(row.key),
@@ -250,7 +245,7 @@ impl World {
         let Ended { asked, made, answer: Ok(rows) } = ended else { return };
         self.counts.reads += 1;
         self.judge.read(&format_client(client), &asked, &rows, &when);
-        self.is_served(client, made, 0);
+        self.note_served(client, made, 0);
         self.note(Node::Client(client), 20, || format!("reads {asked:?}: {}", spelled(&rows)));
     }
 
@@ -259,7 +254,7 @@ impl World {
         let Ended { asked, made, answer } = ended;
         self.take_written(client, asked, answer, &when);
         if answer.is_ok() {
-            self.is_served(client, made, 1);
+            self.note_served(client, made, 1);
         }
     }
 
@@ -283,7 +278,7 @@ impl World {
     }
 
     /// A call that was made after the last fault was answered.
-    fn is_served(&mut self, client: usize, made: Made, what: usize) {
+    fn note_served(&mut self, client: usize, made: Made, what: usize) {
         if self.healed.is_some_and(|healed| made.moment >= healed) {
             self.machines[client].is_served[what] = true;
         }

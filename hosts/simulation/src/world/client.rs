@@ -228,7 +228,7 @@ impl World {
     pub(super) fn comes(&mut self, link: u64, to: Side, number: u64, bytes: &[u8]) {
         let Some(found) = self.network.link(link) else { return };
         let (client, site, connection) = (found.client, found.site, found.connection);
-        let is_taken = !found.has_ended[to as usize] && !found.swallows[to as usize];
+        let is_taken = !found.has_ended[to as usize] && !found.swallows(to, self.now);
         let fate = if is_taken { Fate::Taken } else { Fate::Lost };
         self.note_frame(link, to, number, bytes, fate);
         match (is_taken, to) {
@@ -264,7 +264,7 @@ impl World {
 
     /// One side learns that a connection has ended.
     pub(super) fn ends(&mut self, link: u64, to: Side) {
-        let Some(found) = self.network.link(link).filter(|it| !it.swallows[to as usize]) else {
+        let Some(found) = self.network.link(link).filter(|it| !it.swallows(to, self.now)) else {
             return;
         };
         let (client, site, connection) = (found.client, found.site, found.connection);

@@ -8,6 +8,9 @@ use std::time::Duration;
 /// By then a server has found that another one has its store.
 const FINDS_BY: Duration = Duration::from_secs(8);
 
+/// After this time an operator sees that a client is not served, where nobody changes leases.
+const SEES: Duration = Duration::from_secs(12);
+
 impl World {
     pub(super) fn fault(&mut self) {
         if self.healed.is_some() {
@@ -29,14 +32,16 @@ impl World {
         self.goes_wrong(fault, client, site);
     }
 
-    /// After a change of leases an older incarnation may be registered whose lease does not end. An
-    /// operator sees that, and evicts it.
+    /// An older incarnation may be registered whose lease does not end: leases were changed, or a
+    /// server died before it stored that the client has one. An operator sees that, and evicts it.
     fn evict_who_hinders(&mut self) {
         self.after(Duration::from_millis(500), Event::Fault);
-        let waits = |machine: &Machine| machine.is_served != [true; 2];
+        let waits = |machine: &Machine| machine.client.is_some() && machine.is_served != [true; 2];
         let waiting: Vec<_> =
             (0..self.weather.clients).filter(|it| waits(&self.machines[*it])).collect();
-        if self.weather.terms == Terms::Each && !waiting.is_empty() {
+        let healed = self.healed.unwrap_or(self.now);
+        let is_seen = self.now >= healed + SEES;
+        if !waiting.is_empty() && (is_seen || self.weather.terms == Terms::Each) {
             let victim = self.fault_dice.pick(&waiting);
             self.evict(victim);
         }
@@ -61,7 +66,9 @@ impl World {
                     self.now + self.fault_dice.time(0..2_000_000);
                 self.break_link(client);
             }
-            Fault::Evict => self.evict(client),
+            Fault::Evict if self.machines[client].client.is_none() => self.evict(client),
+            // An operator evicts no client whose process runs.
+            Fault::Evict => {}
             Fault::CopyStore => {
                 if self.disk.copy() {
                     self.judge.copy();
@@ -114,7 +121,7 @@ impl World {
     fn cut(&mut self, client: usize, site: usize) {
         let sides =
             self.fault_dice.pick(&[[true, true], [true, true], [true, false], [false, true]]);
-        self.network.swallow(client, site, sides);
+        self.network.swallow(client, site, sides, self.now);
         self.machines[client].is_cut[site] = self.fault_dice.happens(700);
     }
 
