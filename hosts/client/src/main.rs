@@ -2,6 +2,7 @@
 mod arguments;
 mod bench;
 mod commands;
+mod completing;
 mod completion;
 mod deleting;
 mod exporting;
@@ -14,6 +15,7 @@ mod place;
 mod prompt;
 mod session;
 mod signals;
+mod suggestion;
 mod table;
 mod waiting;
 mod watching;
@@ -25,17 +27,31 @@ use crate::failure::Failure;
 use crate::output::Printer;
 use crate::session::Session;
 use crate::signals::Signals;
-use clap::Parser;
+use clap::{CommandFactory, Parser};
 use std::ops::Range;
 use std::process::ExitCode;
 
+/// The exit status if a word can't be understood.
+const USAGE: i32 = 2;
+
 fn main() -> ExitCode {
-    let arguments = Arguments::parse();
+    let arguments = Arguments::try_parse().unwrap_or_else(|error| misunderstood(&error));
     let ended = run(&arguments).unwrap_or_else(|failure| {
         failure.tell();
         failure.status()
     });
     ExitCode::from(ended)
+}
+
+/// Tells what was wrong with the words, or prints the help that they ask for, and ends.
+fn misunderstood(error: &clap::Error) -> ! {
+    let suggestion = suggestion::of(error, &Arguments::command());
+    // If nobody takes it, the exit status tells enough.
+    let _ = error.print();
+    if let Some(suggestion) = suggestion {
+        output::tell(&suggestion);
+    }
+    std::process::exit(if error.use_stderr() { USAGE } else { 0 })
 }
 
 fn run(arguments: &Arguments) -> Result<u8, Failure> {

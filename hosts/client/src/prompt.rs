@@ -1,9 +1,11 @@
 //! Commands that are read line by line: from a terminal with a history, or from a pipe or a file.
 use crate::arguments::{Command, Line, LineCommand};
+use crate::completing::Words;
 use crate::failure::Failure;
 use crate::output;
 use crate::session;
-use clap::Parser;
+use crate::suggestion;
+use clap::{CommandFactory, Parser};
 use rustyline::Editor;
 use rustyline::error::ReadlineError;
 use std::fmt::Display;
@@ -83,7 +85,8 @@ fn refuse_long(length: usize) -> Result<(), Failure> {
 
 /// Runs what is typed, until it is `quit` or Ctrl-D.
 fn run_prompt(run: &mut Run<'_>) -> Result<u8, Failure> {
-    let mut editor = Editor::<()>::new();
+    let mut editor = Editor::new();
+    editor.set_helper(Some(Words::new()));
     let history = history();
     if let Some(history) = &history {
         // There is none at the first time.
@@ -141,7 +144,10 @@ fn parse(line: &str) -> Result<Told, Failure> {
         }
         Err(error) => {
             let text = error.to_string();
-            Err(Failure::Usage(text.strip_prefix("error: ").unwrap_or(&text).trim_end().into()))
+            let text = text.strip_prefix("error: ").unwrap_or(&text).trim_end();
+            let suggestion = suggestion::of(&error, &Line::command());
+            let suggestion = suggestion.map_or(String::new(), |words| format!("\n{words}"));
+            Err(Failure::Usage(format!("{text}{suggestion}")))
         }
     }
 }

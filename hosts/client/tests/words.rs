@@ -48,7 +48,7 @@ fn the_rows_of_a_range_are_deleted() {
     assert_eq!(world.prints(&["scan", ".."]), "16=a\n17=a\n18=a\n");
     let client = world.client(1);
     let (_, pin) = client.pin_for_read(18..19).unwrap();
-    let told = world.run(&["--timeout", "300ms", "del", "16..19"]);
+    let told = world.run(&["--timeout", "5s", "del", "16..19"]);
     assert_eq!((told.status, told.out.as_str()), (3, ""), "{told:?}");
     assert!(told.errors.ends_with("; rows deleted before: 1\n"), "{told:?}");
     drop(pin);
@@ -76,6 +76,18 @@ fn what_is_exported_is_imported() {
     }
     assert_eq!(world.prints(&["export", "1..3"]), "key,value\n1,one\n2,u64:5\n");
     assert_eq!(world.prints(&["export", "9", "20"]), "key,value\n");
+}
+
+#[test]
+fn an_export_that_nobody_reads_ends_quietly() {
+    let world = World::new("unread");
+    world.prints(&["set", "15", "one"]);
+    for words in [&["export"][..], &["export", "--json"]] {
+        let (reader, writer) = std::io::pipe().unwrap();
+        drop(reader);
+        let ended = Ended::from(world.command(words).stdout(writer).output().unwrap());
+        assert_eq!((ended.status, ended.errors.as_str()), (141, ""), "{words:?}");
+    }
 }
 
 #[test]
@@ -169,6 +181,11 @@ fn a_wrong_word_gets_a_suggestion() {
         assert_eq!(told.status, 2, "{told:?}");
         assert!(told.errors.contains(&format!("'{meant}'")), "{told:?}");
     }
+    let told = world.run(&["gte", "15"]);
+    assert_eq!((told.status, told.out.as_str()), (2, ""));
+    assert!(told.errors.ends_with("krl-client: did you mean 'get'?\n"), "{told:?}");
+    let told = world.run_lines(&[], "gte 15\n");
+    assert!(told.errors.contains("did you mean 'get'?"), "{told:?}");
     let told = world.run(&["get", "15", "--jsn"]);
     assert!(told.errors.contains("--json"), "{told:?}");
     let told = world.run_lines(&[], "isnert 15\n");

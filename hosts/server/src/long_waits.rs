@@ -108,11 +108,10 @@ mod tests {
     fn another_request_of_the_same_client_is_another_wait() {
         let mut waits = LongWaits::default();
         waits.look(&[wait(7, 20)]);
-        let ended = News::HasEnded { client: 7, waited: Duration::from_secs(20) };
-        assert_eq!(waits.look(&[wait(7, 1)]), [ended]);
+        let ended = |seconds| News::HasEnded { client: 7, waited: Duration::from_secs(seconds) };
+        assert_eq!(waits.look(&[wait(7, 1)]), [ended(20)]);
         waits.look(&[wait(7, 30)]);
-        let again = [News::HasEnded { client: 7, waited: Duration::from_secs(30) }];
-        assert_eq!(waits.look(&[wait(7, 15)])[..1], again);
+        assert_eq!(waits.look(&[wait(7, 15)])[..1], [ended(30)]);
         assert_eq!(waits.look(&[wait(7, 16)]), []);
     }
 }

@@ -9,6 +9,8 @@ use std::net::TcpStream;
 use std::path::Path;
 use std::process::{Child, Command, Output, Stdio};
 use std::sync::atomic::{AtomicU16, Ordering};
+use std::thread;
+use std::time::Duration;
 
 static NEXT_PORT: AtomicU16 = AtomicU16::new(7401);
 
@@ -29,6 +31,8 @@ impl Deaf {
         let mut command = program();
         command.arg("serve").arg("--store").arg(folder.path().join("krl.db"));
         command.args(["--status", &status, "--listen", &unix(folder.path())]);
+        // A pin lives through a machine that stands still for a while.
+        command.args(["--lease", "600s"]);
         let process = command.stderr(log).spawn().unwrap();
         Deaf { folder, process, status }
     }
@@ -151,4 +155,33 @@ fn commands_whose_output_cannot_be_written_fail_in_order() {
     }
     let failed = program().args(["status", "nowhere"]).stderr(full()).status().unwrap();
     assert_eq!(failed.code(), Some(2));
+}
+
+#[test]
+fn a_wait_of_ten_seconds_is_logged_once_and_its_end_too() {
+    let folder = tempfile::tempdir().unwrap();
+    let log = folder.path().join("log");
+    let mut server = Deaf::start(File::create(&log).unwrap());
+    server.serves_a_client();
+    let path = server.folder.path();
+    let address: Address = unix(path).parse().unwrap();
+    let (holder, waiter) = (join(&address, path, 4), join(&address, path, 7));
+    assert_eq!(holder.insert(15, Value::from(1)), Ok(Outcome::Applied));
+    let (_, pin) = holder.pin_for_read(15..16).unwrap();
+    let lines = |words: &str| {
+        let text = std::fs::read_to_string(&log).unwrap();
+        text.lines().filter(|line| line.contains(words)).map(String::from).collect::<Vec<_>>()
+    };
+    thread::scope(|scope| {
+        let writes = scope.spawn(|| waiter.within(Duration::MAX).put(15, Value::from(2)));
+        until("a wait is logged", || !lines("a client has waited for long").is_empty());
+        drop(pin);
+        assert_eq!(writes.join().unwrap(), Ok(Outcome::Applied));
+    });
+    until("its end is logged", || !lines("a long wait has ended").is_empty());
+    let begun = lines("a client has waited for long");
+    assert_eq!(begun.len(), 1, "{begun:?}");
+    for part in ["WARN", "client=7", "waits_for=4", "lo=15", "mode=\"X\"", "seconds=1"] {
+        assert!(begun[0].contains(part), "{part}: {begun:?}");
+    }
 }
