@@ -29,9 +29,9 @@ impl Layout {
         let mut clients = Vec::new(alloc);
         for row in rows {
             match row {
-                Row::Arrow { from, to, .. } => {
-                    note(&mut clients, *from)?;
-                    note(&mut clients, *to)?;
+                Row::Arrow(arrow) => {
+                    note(&mut clients, arrow.from)?;
+                    note(&mut clients, arrow.to)?;
                 }
                 Row::Mark { node, .. } => note(&mut clients, *node)?,
                 Row::Line(_) | Row::Printed(_) | Row::More => {}

@@ -5,11 +5,16 @@
 //! Nothing is promised of a picture but that making it is safe and ends.
 #![tactic(auto)]
 
+mod bars;
 mod canvas;
+mod history;
 mod label;
 mod layout;
+mod markup;
 mod recorder;
 mod row;
+mod sheet;
+mod style;
 mod svg;
 mod text;
 

@@ -1,6 +1,7 @@
 //! A script is run, and what happens is noted.
-use crate::label::{to_client, to_server};
-use crate::row::{Fate, Node, Row};
+use crate::history::History;
+use crate::label::{Label, of_message};
+use crate::row::{Arrow, Fate, Node, Row};
 use crate::{svg, text};
 use krl_script::{Interpreter, LineFault, Request, ScriptFault, Sink, Source};
 use krl_text::{MAX_DELIVERIES, MAX_TEXT, SyntaxFault, first_line, read_text, write_line};
@@ -17,6 +18,7 @@ struct Recorder {
     rows: Vec<Row>,
     // For each message: whether it was delivered or dropped.
     is_past: Vec<bool>,
+    history: History,
 }
 
 impl Drop for Recorder {
@@ -26,6 +28,7 @@ impl Drop for Recorder {
             interpreter: _interpreter,
             rows: _rows,
             is_past: _is_past,
+            history: _history,
         } = self;
     }
 }
@@ -50,6 +53,7 @@ impl Recorder {
             interpreter: Interpreter::new(alloc)?,
             rows: Vec::new(alloc),
             is_past: Vec::new(alloc),
+            history: History::new(alloc)?,
         })
     }
 
@@ -77,8 +81,20 @@ impl Recorder {
     // Messages that were sent since the last time wait.
     fn count(&mut self) -> Result<(), AllocError> {
         let sent = self.interpreter.world().sent();
-        for _ in self.is_past.len() as u64..sent {
+        for before in self.is_past.len() as u64..sent {
             self.is_past.push(false)?;
+            if let Some(message) = self.interpreter.world().message(before.wrapping_add(1)) {
+                self.history.note(message)?;
+            }
+        }
+        Ok(())
+    }
+
+    // Notes what the nodes hold since the last line, if the picture has room for that line.
+    fn look(&mut self) -> Result<(), AllocError> {
+        if self.rows.len() <= MAX_ROWS {
+            let line = self.rows.len();
+            self.history.look(self.interpreter.world(), line)?;
         }
         Ok(())
     }
@@ -102,38 +118,34 @@ impl Recorder {
         }
     }
 
-    // The ends of the message of this number, and its words.
-    fn message(&self, number: u64) -> Result<Option<(Node, Node, String)>, AllocError> {
-        match self.interpreter.world().message(number) {
-            Some(Message::ToServer(message)) => {
-                let label = to_server(self.alloc, message)?;
-                Ok(Some((Node::Client(message.client), Node::Server, label)))
-            }
-            Some(Message::ToClient(message)) => {
-                let label = to_client(self.alloc, message)?;
-                Ok(Some((Node::Server, Node::Client(message.client), label)))
-            }
-            None => Ok(None),
-        }
-    }
-
     // Notes what becomes of the message of this number.
     fn arrow(&mut self, number: u64, fate: Fate) -> Result<(), AllocError> {
-        if let Some((from, to, label)) = self.message(number)? {
-            let fate = if fate != Fate::Lost && !self.is_up(to) {
-                Fate::Unread
-            } else {
-                fate
-            };
-            self.note(Row::Arrow {
-                number,
-                from,
-                to,
-                fate,
-                label,
-            })?;
-        }
-        Ok(())
+        let Some(message) = self.interpreter.world().message(number) else {
+            return Ok(());
+        };
+        let (from, to) = match message {
+            Message::ToServer(message) => (Node::Client(message.client), Node::Server),
+            Message::ToClient(message) => (Node::Server, Node::Client(message.client)),
+        };
+        let Label {
+            short: label,
+            whole,
+            is_quiet,
+        } = of_message(self.alloc, message)?;
+        let fate = if fate != Fate::Lost && !self.is_up(to) {
+            Fate::Unread
+        } else {
+            fate
+        };
+        self.note(Row::Arrow(Arrow {
+            number,
+            from,
+            to,
+            fate,
+            is_quiet,
+            label,
+            whole,
+        }))
     }
 
     // Does what is asked for, and notes what it printed; answers whether it printed nothing.
@@ -153,6 +165,7 @@ impl Recorder {
         self.arrow(number, Fate::Delivered)?;
         if self.obey(Request::Next(1))? {
             self.pass(number);
+            self.look()?;
             return Ok(true);
         }
         // It was refused, and the message waits on.
@@ -231,7 +244,8 @@ impl Recorder {
                 self.obey(other)?;
                 Ok(())
             }
-        }
+        }?;
+        self.look()
     }
 
     fn line(&mut self, number: u64, line: &[u8]) -> Result<(), LineFault> {
@@ -309,7 +323,7 @@ pub fn write_drawing<R: Source, W: Sink>(
     writer: &mut W,
 ) -> Result<(), ScriptFault> {
     let (recorder, ended) = record(alloc, reader)?;
-    let drawing = svg::draw(alloc, &recorder.rows)?;
+    let drawing = svg::draw(alloc, &recorder.rows, &recorder.history)?;
     write_line(writer, &drawing)?;
     ended
 }

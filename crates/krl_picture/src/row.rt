@@ -22,6 +22,20 @@ pub enum Fate {
     Lost,
 }
 
+/// A message.
+#[derive(Drop)]
+pub struct Arrow {
+    pub number: u64,
+    pub from: Node,
+    pub to: Node,
+    pub fate: Fate,
+    /// It is one of those that only keep a connection going.
+    pub is_quiet: bool,
+    /// It in a few words, and as a whole.
+    pub label: String,
+    pub whole: String,
+}
+
 /// A line of a picture.
 #[derive(Drop)]
 pub enum Row {
@@ -30,18 +44,9 @@ pub enum Row {
     /// What that line printed.
     Printed(Vec<u8>),
     /// A message.
-    Arrow {
-        number: u64,
-        from: Node,
-        to: Node,
-        fate: Fate,
-        label: String,
-    },
+    Arrow(Arrow),
     /// A node starts, crashes or leaves.
-    Mark {
-        node: Node,
-        text: &'static str,
-    },
+    Mark { node: Node, text: &'static str },
     /// There was more than a picture has room for.
     More,
 }

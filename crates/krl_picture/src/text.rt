@@ -1,7 +1,7 @@
 //! A picture in plain text.
 use crate::canvas::{Canvas, WIDTH};
 use crate::layout::Layout;
-use crate::row::{Fate, Node, Row};
+use crate::row::{Arrow, Fate, Node, Row};
 use std::alloc::{AllocError, Global};
 
 // The columns before the first node.
@@ -86,25 +86,19 @@ fn put_arrow(canvas: &mut Canvas, from: usize, to: usize, fate: Fate, label: &st
     canvas.set(end, tip(fate, is_right));
 }
 
-fn arrow(
-    alloc: Global,
-    layout: &Layout,
-    number: u64,
-    ends: (Node, Node),
-    fate: Fate,
-    label: &str,
-) -> Result<Canvas, AllocError> {
+fn arrow(alloc: Global, layout: &Layout, arrow: &Arrow) -> Result<Canvas, AllocError> {
     let mut canvas = strokes(layout);
-    let word = fate_word(fate);
+    let Arrow { number, fate, .. } = arrow;
+    let word = fate_word(*fate);
     let note = format!(in alloc; "  {number}{word}")?;
     canvas.put(0, MARGIN, note.as_bytes());
-    if let (Some(from), Some(to)) = (layout.place(ends.0), layout.place(ends.1)) {
+    if let (Some(from), Some(to)) = (layout.place(arrow.from), layout.place(arrow.to)) {
         put_arrow(
             &mut canvas,
             column(layout, from),
             column(layout, to),
-            fate,
-            label,
+            *fate,
+            &arrow.label,
         );
     }
     Ok(canvas)
@@ -133,13 +127,7 @@ fn drawn(alloc: Global, layout: &Layout, row: &Row) -> Result<Canvas, AllocError
             canvas.put(6, WIDTH, text);
             Ok(canvas)
         }
-        Row::Arrow {
-            number,
-            from,
-            to,
-            fate,
-            label,
-        } => arrow(alloc, layout, *number, (*from, *to), *fate, label),
+        Row::Arrow(sent) => arrow(alloc, layout, sent),
         Row::Mark { node, text } => Ok(mark(layout, *node, text)),
         Row::More => {
             let mut canvas = Canvas::blank();
