@@ -391,6 +391,10 @@ pub struct ServeOptions {
     /// Where the status is served by HTTP: 127.0.0.1:7401, tls:10.0.0.5:7401 for operators, or off
     #[arg(long, env = "KRL_STATUS", value_name = "ADDRESS")]
     pub status: Option<String>,
+    /// The status ports of the other servers, of those that stand by and of other shards, with a
+    /// space between any two: the page of this server shows them too
+    #[arg(long, env = "KRL_OTHERS", value_name = "ADDRESSES")]
+    pub others: Option<String>,
     /// The least severe events that are logged: error, warn, info, debug or trace
     #[arg(long, env = "KRL_LOG_LEVEL", value_name = "LEVEL")]
     pub log_level: Option<String>,

@@ -3,6 +3,7 @@ use crate::command_line::TlsOptions;
 use crate::sealed::{self, Opened};
 use crate::settings::{BadSetting, STATUS};
 use crate::tls_files::TlsFiles;
+use hyper::body::HttpBody;
 use hyper::client::conn;
 use hyper::header::{ACCEPT, CONTENT_TYPE, HOST};
 use hyper::{Body, Method, Request, StatusCode};
@@ -21,6 +22,9 @@ const PLAIN: &str = "plain:";
 /// The host that a request names: one that each status port answers, whatever its name is.
 const NAMED_HOST: &str = "localhost";
 
+/// The most bytes of an answer. No page of a status port has as many.
+const MAX_ANSWER: usize = 1 << 24;
+
 /// Any error of a request, which another thread may have.
 type Failure = Box<dyn Error + Send + Sync>;
 
@@ -35,17 +39,24 @@ pub struct StatusPort {
 impl StatusPort {
     /// The status port at this address, to which these files are shown if it is one of TLS.
     pub fn new(address: &str, options: &TlsOptions) -> Result<StatusPort, BadSetting> {
+        StatusPort::with(address, || TlsFiles::of(options)?.read())
+    }
+
+    /// The status port at this address, to which this is shown if it is one of TLS.
+    pub fn with(
+        address: &str,
+        tls: impl FnOnce() -> Result<Option<TlsConfig>, BadSetting>,
+    ) -> Result<StatusPort, BadSetting> {
         let (place, is_tls) = match address.strip_prefix(TLS) {
             Some(place) => (place, true),
             None => (address.strip_prefix(PLAIN).unwrap_or(address), false),
         };
-        let port = place.rsplit_once(':').and_then(|(_, port)| port.parse::<u16>().ok());
-        if port.is_none() {
+        if !is_place(place) {
             return Err(BadSetting::new(format!(
                 "'{address}' is no address of a status port, such as {STATUS} or tls:db1:7401"
             )));
         }
-        let tls = if is_tls { TlsFiles::of(options)?.read()? } else { None };
+        let tls = if is_tls { tls()? } else { None };
         match (is_tls, &tls) {
             (true, None) => Err(BadSetting::new(format!(
                 "{address} is an address of TLS, and needs --tls-authority, --tls-certificate and \
@@ -54,6 +65,20 @@ impl StatusPort {
             _ => Ok(StatusPort { place: place.into(), tls }),
         }
     }
+
+    /// The page of the server, as a browser is told of it.
+    pub fn url(&self) -> String {
+        let scheme = if self.tls.is_some() { "https" } else { "http" };
+        format!("{scheme}://{}/", self.place)
+    }
+}
+
+/// Whether this is a host and a port.
+fn is_place(text: &str) -> bool {
+    let is_host_byte = |byte: u8| byte.is_ascii_alphanumeric() || b"-._:[]%".contains(&byte);
+    text.rsplit_once(':').is_some_and(|(host, port)| {
+        !host.is_empty() && host.bytes().all(is_host_byte) && port.parse::<u16>().is_ok()
+    })
 }
 
 impl fmt::Display for StatusPort {
@@ -94,13 +119,31 @@ pub fn post(
 
 fn ask(port: &StatusPort, request: Request<Body>, wait: Duration) -> Result<Reply, Box<dyn Error>> {
     let runtime = tokio::runtime::Builder::new_current_thread().enable_all().build()?;
-    let answered = runtime.block_on(async { timeout(wait, exchange(port, request)).await });
-    let reply = answered
+    Ok(runtime.block_on(answered(port, request, wait))?)
+}
+
+/// Asks for a page, in a runtime that goes on.
+pub async fn fetch(
+    port: &StatusPort,
+    path: &str,
+    accept: &str,
+    wait: Duration,
+) -> Result<Reply, String> {
+    let request = Request::builder().uri(path).header(ACCEPT, accept);
+    let request = request.header(HOST, NAMED_HOST).body(Body::empty());
+    answered(port, request.map_err(|error| error.to_string())?, wait).await
+}
+
+/// The answer, or a sentence that says why there is none.
+async fn answered(
+    port: &StatusPort,
+    request: Request<Body>,
+    wait: Duration,
+) -> Result<Reply, String> {
+    let answered = timeout(wait, exchange(port, request)).await;
+    answered
         .map_err(|_| format!("the status port {port} gave no answer within {wait:?}"))?
-        .map_err(|error| {
-            format!("the status port {port} gave no answer: {error}{}", hint(&error))
-        })?;
-    Ok(reply)
+        .map_err(|error| format!("the status port {port} gave no answer: {error}{}", hint(&error)))
 }
 
 /// What may be wrong if a connection is closed without an answer.
@@ -135,6 +178,18 @@ async fn talk(
     });
     let reply = sender.send_request(request).await?;
     let status = reply.status();
-    let bytes = hyper::body::to_bytes(reply.into_body()).await?;
-    Ok(Reply { status, text: String::from_utf8_lossy(&bytes).into_owned() })
+    let text = text(reply.into_body()).await?;
+    Ok(Reply { status, text })
+}
+
+/// The text of an answer, if it is not too long.
+async fn text(mut body: Body) -> Result<String, Failure> {
+    let mut bytes = Vec::new();
+    while let Some(piece) = body.data().await {
+        bytes.extend_from_slice(&piece?);
+        if bytes.len() > MAX_ANSWER {
+            return Err(format!("it has more than {MAX_ANSWER} bytes").into());
+        }
+    }
+    Ok(String::from_utf8_lossy(&bytes).into_owned())
 }

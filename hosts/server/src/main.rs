@@ -15,6 +15,7 @@ mod log;
 mod long_waits;
 mod next_map;
 mod origin;
+mod others;
 mod output;
 mod owner;
 mod page;

@@ -6,13 +6,14 @@ mod histogram;
 pub mod looks;
 mod markup;
 mod overview;
+mod servers;
 mod waits_picture;
 
-pub use overview::without_a_server;
-
-use crate::pages::{self, Shown};
+use crate::others::Report;
+use crate::pages::{self, Shown, Table};
+use crate::role::State;
 use held_picture::HeldPicture;
-use krl::{LocksError, Monitor};
+use krl::{LocksError, Monitor, Status};
 use openssl::base64::encode_block;
 use openssl::sha::sha256;
 use overview::Overview;
@@ -58,8 +59,21 @@ pub async fn html(shown: &Shown, monitor: &Monitor, points: Range<u64>) -> Strin
         rates: shown.recent.rates(&status, now),
         histograms: shown.recent.histograms(&monitor.measured(), epoch, now),
         certificate: tls.map(|tls| pages::seconds_left(&tls.certificate(), SystemTime::now())),
+        servers: servers(shown, &shown.role.state(), &status).await,
     };
     overview.html()
+}
+
+/// The page of a process that does not serve.
+pub async fn without_a_server(shown: &Shown, state: &State) -> String {
+    let servers = servers(shown, state, &Status::default()).await;
+    overview::without_a_server(&state.to_string(), servers)
+}
+
+/// The servers of the table, if this one knows others.
+async fn servers(shown: &Shown, state: &State, status: &Status) -> String {
+    let Table { others, shard } = &shown.table;
+    servers::part(&Report::own(state, status, *shard), &others.look().await)
 }
 
 /// The picture of who holds which of these points, as a file of SVG.

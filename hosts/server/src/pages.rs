@@ -6,6 +6,7 @@ use crate::http::{self, StatusPort};
 use crate::locks::{self, Question};
 use crate::log;
 use crate::origin;
+use crate::others::{Others, Report};
 use crate::page;
 use crate::page::looks::Looks;
 use crate::recent::{Rates, Recent};
@@ -14,7 +15,9 @@ use crate::role::{Role, State};
 use crate::visitors::Visit;
 use hyper::header::{ACCEPT, ALLOW, CONTENT_TYPE};
 use hyper::{Body, Method, Request, Response, StatusCode};
-use krl::{Certificate, HeldSlots, Identity, Liveness, Monitor, Status, TlsConfig, Wait};
+use krl::{
+    Certificate, HeldSlots, Identity, Liveness, Monitor, ShardBounds, Status, TlsConfig, Wait,
+};
 use serde_json::json;
 use std::collections::BTreeMap;
 use std::error::Error;
@@ -68,10 +71,20 @@ pub fn fetch(port: &StatusPort, format: FormatOptions) -> Result<String, Box<dyn
     }
 }
 
+/// The place of a server among those of its table.
+#[derive(Clone, Debug, Default)]
+pub struct Table {
+    /// The other servers.
+    pub others: Others,
+    /// The shard that this server serves, if the table has shards.
+    pub shard: Option<ShardBounds>,
+}
+
 /// What is shown at the status port.
 #[derive(Clone, Debug)]
 pub struct Shown {
     pub role: Role,
+    pub table: Table,
     /// What the server shows by TLS, if it shows anything.
     pub certificate: Option<TlsConfig>,
     /// The name at which the port listens, if it is not an address.
@@ -107,7 +120,12 @@ pub async fn answer(
         return response(Page::new(StatusCode::OK, METRICS, metrics(&shown, &state)));
     }
     let State::Serves { monitor, .. } = state.clone() else {
-        return response(without_a_server(path, accepts(&request), &state));
+        return response(match path {
+            page::PATH => {
+                Page::new(StatusCode::OK, HTML, page::without_a_server(&shown, &state).await)
+            }
+            _ => without_a_server(path, accepts(&request), &state),
+        });
     };
     let page = match (request.method(), path) {
         (&Method::POST, backup::PATH) if !may_order(asker) => Page::text(
@@ -179,7 +197,6 @@ fn refused_method(allowed: &'static str) -> Response<Body> {
 fn without_a_server(path: &str, accepts: &str, state: &State) -> Page {
     let text = format!("role: {state}\n");
     match path {
-        page::PATH => Page::new(StatusCode::OK, HTML, page::without_a_server(&state.to_string())),
         "/healthz" => Page::text(StatusCode::OK, "ok\n"),
         "/status" if accepts.contains(JSON) => role_as_json(state),
         "/status" => Page::text(StatusCode::OK, text),
@@ -345,20 +362,26 @@ pub fn wait_as_json(wait: &Wait) -> serde_json::Value {
 fn status_as_json(shown: &Shown, monitor: &Monitor) -> Page {
     let status = monitor.status();
     let rates = shown.recent.rates(&status, Instant::now());
-    as_json(&status, &shown.role.state(), rates)
+    as_json(&status, &shown.role.state(), shown.table.shard, rates)
 }
 
-fn as_json(status: &Status, state: &State, rates: Option<Rates>) -> Page {
+fn as_json(
+    status: &Status,
+    state: &State,
+    shard: Option<ShardBounds>,
+    rates: Option<Rates>,
+) -> Page {
     let holds = |held: &HeldSlots| json!({ "client": held.client, "slots": held.slots });
     let text = json!({
         "version": env!("CARGO_PKG_VERSION"),
         "role": state.word(),
         "serves_since": state.since(),
+        "shard": shard.map(|shard| shard.to_string()),
         "epoch": status.epoch,
         "rows": status.rows,
         "room": status.room.rows(),
         "reach": status.reach.slots(),
-        "phase": if status.is_serving { "serving" } else { "recovering" },
+        "phase": phase(status),
         "failure": status.failure,
         "missing": status.missing,
         "connected": status.connected,
@@ -384,6 +407,34 @@ fn as_json(status: &Status, state: &State, rates: Option<Rates>) -> Page {
         "longest_lease_seconds": status.longest_lease.as_secs_f64(),
     });
     Page::new(StatusCode::OK, JSON, format!("{text:#}\n"))
+}
+
+fn phase(status: &Status) -> &'static str {
+    if status.is_serving { "serving" } else { "recovering" }
+}
+
+impl Report {
+    /// What this process would report of itself.
+    pub fn own(state: &State, status: &Status, shard: Option<ShardBounds>) -> Report {
+        let leader = match state {
+            State::StandsBy { leader } => Some(leader.clone()),
+            _ => None,
+        };
+        Report {
+            role: state.word().to_string(),
+            leader,
+            phase: phase(status).to_string(),
+            failure: status.failure.clone(),
+            shard: shard.map(|shard| shard.to_string()),
+            epoch: status.epoch,
+            rows: status.rows,
+            room: status.room.rows(),
+            clients: status.clients.len(),
+            waits: status.waits.len(),
+            alarms_total: status.alarms_raised,
+            store_alarms_total: status.store_alarms,
+        }
+    }
 }
 
 /// Takes the order to make a backup. Its kind has to be JSON, which no page of another site can
@@ -506,11 +557,11 @@ mod tests {
             unleased: vec![6],
             ..Status::default()
         };
-        let page =
-            as_json(&status, &State::Starts, Some(Rates { commits: 2.5, ..Rates::default() }));
+        let rates = Some(Rates { commits: 2.5, ..Rates::default() });
+        let page = as_json(&status, &State::Starts, "0..500@3".parse().ok(), rates);
         let value: serde_json::Value = serde_json::from_str(&page.text).unwrap();
         assert_eq!((&value["epoch"], &value["room"]), (&json!(4), &json!(65_536)));
-        assert_eq!(value["reach"], 128);
+        assert_eq!((&value["reach"], &value["shard"]), (&json!(128), &json!("0..500@3")));
         assert_eq!((&value["rows"], &value["phase"]), (&json!(5), &json!("recovering")));
         assert_eq!((&value["commits_total"], &value["rates"]["commits"]), (&json!(9), &json!(2.5)));
         assert_eq!(value["clients"], json!([]));

@@ -1,8 +1,10 @@
 //! A server, from its start until it is told to stop.
 use crate::cause;
 use crate::log;
+use crate::others::Others;
 use crate::output;
 use crate::owner::Owner;
+use crate::pages::Table;
 use crate::role::Role;
 use crate::settings::{BadSetting, Settings, StatusAddress, StorePlace};
 use crate::{long_waits, reload, stand_by, status_port, watchdog};
@@ -74,7 +76,9 @@ fn run(settings: &Settings) -> Result<(), Box<dyn Error>> {
     watchdog::start(role.clone())?;
     long_waits::start(role.clone())?;
     if let StatusAddress::At(address) = &settings.status.value {
-        let at = status_port::start(address, tls, role.clone())
+        let table =
+            Table { others: Others::new(settings.others()?), shard: settings.shard.value.0 };
+        let at = status_port::start(address, tls, role.clone(), table)
             .map_err(|error| format!("can't serve the status at {address}: {error}"))?;
         tracing::info!(address = %at, "status port");
     }

@@ -5,9 +5,12 @@ mod value;
 
 pub use access::AccessSettings;
 pub use key::Key;
-pub use value::{Drift, LeaseLength, LogFormat, Optional, Seconds, StatusAddress, StorePlace};
+pub use value::{
+    Drift, LeaseLength, LogFormat, Optional, Seconds, StatusAddress, StatusPorts, StorePlace,
+};
 
 use crate::command_line::ServeOptions;
+use crate::http::StatusPort;
 use clap::ArgMatches;
 use clap::parser::ValueSource;
 use krl::{Address, Reach, Room, ShardBounds};
@@ -53,6 +56,7 @@ pub struct Settings {
     pub advertise: Setting<Optional<Address>>,
     pub election_lease: Setting<Seconds>,
     pub status: Setting<StatusAddress>,
+    pub others: Setting<Optional<StatusPorts>>,
     pub log_level: Setting<LevelFilter>,
     pub log_format: Setting<LogFormat>,
     pub lease: Setting<LeaseLength>,
@@ -80,6 +84,7 @@ struct ConfigFile {
     advertise: Option<String>,
     election_lease: Option<u64>,
     status: Option<String>,
+    others: Option<String>,
     log_level: Option<String>,
     log_format: Option<String>,
     lease: Option<String>,
@@ -103,91 +108,77 @@ impl Settings {
             access: AccessSettings::of(&given, options, &mut file)?,
             listen: given.setting(
                 &key::LISTEN,
-                options.listen.as_ref(),
+                &options.listen,
                 file.listen,
                 value::parse_address,
             )?,
-            store: given.setting(
-                &key::STORE,
-                options.store.as_ref(),
-                file.store,
-                value::parse_store,
-            )?,
+            store: given.setting(&key::STORE, &options.store, file.store, value::parse_store)?,
             store_authority: given.setting(
                 &key::STORE_AUTHORITY,
-                options.store_authority.as_ref(),
+                &options.store_authority,
                 file.store_authority,
                 path,
             )?,
             store_certificate: given.setting(
                 &key::STORE_CERTIFICATE,
-                options.store_certificate.as_ref(),
+                &options.store_certificate,
                 file.store_certificate,
                 path,
             )?,
-            store_key: given.setting(
-                &key::STORE_KEY,
-                options.store_key.as_ref(),
-                file.store_key,
-                path,
-            )?,
+            store_key: given.setting(&key::STORE_KEY, &options.store_key, file.store_key, path)?,
             room: given.setting(
                 &key::ROOM,
-                options.room.as_ref(),
+                &options.room,
                 file.room.map(|rows| rows.to_string()),
                 value::parse_room,
             )?,
             reach: given.setting(
                 &key::REACH,
-                options.reach.as_ref(),
+                &options.reach,
                 file.reach.map(|slots| slots.to_string()),
                 value::parse_reach,
             )?,
-            shard: given.setting(
-                &key::SHARD,
-                options.shard.as_ref(),
-                file.shard,
-                value::parse_shard,
-            )?,
+            shard: given.setting(&key::SHARD, &options.shard, file.shard, value::parse_shard)?,
             advertise: given.setting(
                 &key::ADVERTISE,
-                options.advertise.as_ref(),
+                &options.advertise,
                 file.advertise,
                 value::parse_optional_address,
             )?,
             election_lease: given.setting(
                 &key::ELECTION_LEASE,
-                options.election_lease.as_ref(),
+                &options.election_lease,
                 seconds,
                 value::parse_seconds,
             )?,
             status: given.setting(
                 &key::STATUS,
-                options.status.as_ref(),
+                &options.status,
                 file.status,
                 value::parse_status,
             )?,
+            others: given.setting(
+                &key::OTHERS,
+                &options.others,
+                file.others,
+                value::parse_others,
+            )?,
             log_level: given.setting(
                 &key::LOG_LEVEL,
-                options.log_level.as_ref(),
+                &options.log_level,
                 file.log_level,
                 value::parse_level,
             )?,
             log_format: given.setting(
                 &key::LOG_FORMAT,
-                options.log_format.as_ref(),
+                &options.log_format,
                 file.log_format,
                 value::parse_format,
             )?,
-            lease: given.setting(
-                &key::LEASE,
-                options.lease.as_ref(),
-                file.lease,
-                value::parse_lease,
-            )?,
+            lease: given.setting(&key::LEASE, &options.lease, file.lease, value::parse_lease)?,
             drift: given.setting(
                 &key::DRIFT,
-                options.drift.as_ref(),
+                &options.drift,
                 file.drift.map(|drift| drift.to_string()),
                 value::parse_drift,
             )?,
@@ -200,10 +191,18 @@ impl Settings {
     fn check(&self) -> Result<(), BadSetting> {
         self.access.check(key::LISTEN.name, &self.listen.value)?;
         self.access.check_users(&self.listen.value)?;
-        match &self.status.value {
-            StatusAddress::At(address) => self.access.check(key::STATUS.name, address),
-            StatusAddress::Off => Ok(()),
+        if let StatusAddress::At(address) = &self.status.value {
+            self.access.check(key::STATUS.name, address)?;
         }
+        self.others().map(drop)
+    }
+
+    /// The status ports of the other servers. One of TLS is shown what this server's clients are.
+    pub fn others(&self) -> Result<Vec<StatusPort>, BadSetting> {
+        let addresses = self.others.value.0.iter().flat_map(|ports| &ports.0);
+        let named = |error| BadSetting::new(format!("{}: {error}", key::OTHERS.name));
+        let port = |address| StatusPort::with(address, || self.access.tls()).map_err(named);
+        addresses.map(String::as_str).map(port).collect()
     }
 }
 
@@ -214,14 +213,14 @@ struct Given<'a> {
 }
 
 impl Given<'_> {
-    fn setting<T>(
+    fn setting<'o, T>(
         &self,
         key: &Key,
-        option: Option<&String>,
+        option: impl Into<Option<&'o String>>,
         in_file: Option<String>,
         parse: fn(&str) -> Option<T>,
     ) -> Result<Setting<T>, BadSetting> {
-        let (text, source) = match (option, in_file) {
+        let (text, source) = match (option.into(), in_file) {
             (Some(text), _) => (text.clone(), self.option_source(key)),
             (None, Some(text)) => (text, Source::File(self.path.unwrap_or(Path::new("")).into())),
             (None, None) => (key.default.to_string(), Source::Default),
@@ -294,6 +293,7 @@ impl fmt::Display for Settings {
             line(f, &key::ELECTION_LEASE, &self.election_lease)?;
         }
         line(f, &key::STATUS, &self.status)?;
+        optional_line(f, &key::OTHERS, &self.others)?;
         line(f, &key::LOG_LEVEL, &self.log_level)?;
         line(f, &key::LOG_FORMAT, &self.log_format)?;
         line(f, &key::LEASE, &self.lease)?;

@@ -1,7 +1,7 @@
 //! The status port: HTTP in a thread of its own.
 use crate::backup;
 use crate::page::looks::Looks;
-use crate::pages::{self, Asker, Shown};
+use crate::pages::{self, Asker, Shown, Table};
 use crate::recent::{self, Recent};
 use crate::role::Role;
 use crate::sealed::{self, Opened, Sealed};
@@ -42,7 +42,12 @@ const PAUSE: Duration = Duration::from_millis(50);
 
 /// Serves the pages at the address, and says where it listens. At an address of TLS it shows this,
 /// and serves operators alone.
-pub fn start(address: &Address, tls: Option<TlsConfig>, role: Role) -> io::Result<Address> {
+pub fn start(
+    address: &Address,
+    tls: Option<TlsConfig>,
+    role: Role,
+    table: Table,
+) -> io::Result<Address> {
     let listener = Listener::bind(address)?;
     let at = listener.address()?;
     let certificate = tls.clone();
@@ -63,7 +68,7 @@ pub fn start(address: &Address, tls: Option<TlsConfig>, role: Role) -> io::Resul
         _ => None,
     };
     let (recent, looks) = (Recent::default(), Looks::default());
-    let shown = Shown { role, certificate, name, recent, looks };
+    let shown = Shown { role, table, certificate, name, recent, looks };
     let serves = move || {
         if let Err(error) = runtime.block_on(serve(listener, tls, shown)) {
             tracing::error!(%error, "the status port ended");

@@ -1,8 +1,9 @@
 //! The page of a server and its picture, as they are sent.
 mod common;
 
-use common::{Serving, until};
+use common::{Serving, program, until};
 use krl::{Outcome, Value};
+use std::net::TcpListener;
 
 /// The head and the body of a page.
 fn whole(serving: &Serving, path: &str) -> String {
@@ -82,4 +83,47 @@ fn a_recovery_is_shown_with_its_end() {
         page.contains("waits for the reports of the clients 9, at most ")
             && page.contains("<p class=\"phase recovering\">")
     });
+}
+
+#[test]
+fn the_other_servers_of_a_table_stand_on_the_page_of_each() {
+    let folder = tempfile::tempdir().unwrap();
+    let serve = |name: &str, shard: &str, others: &str| {
+        let mut command = program();
+        command.arg("serve").arg("--store").arg(folder.path().join(name));
+        Serving::start_by(command.args(["--shard", shard, "--others", others]))
+    };
+    // Nobody listens here any more, and here somebody accepts no connection.
+    let gone = TcpListener::bind("127.0.0.1:0").unwrap().local_addr().unwrap();
+    let silent = TcpListener::bind("127.0.0.1:0").unwrap();
+    let second = serve("second.db", "500..@3", "");
+    let others = format!("{} {gone} plain:{}", second.status, silent.local_addr().unwrap());
+    let first = serve("first.db", "0..500@3", &others);
+    assert!(!second.get("/").1.contains("All servers"));
+    let row = format!(
+        "<a href=\"http://{0}/\">http://{0}/</a></td><td class=\"serving\">serving</td>\
+         <td>500..@3</td><td>1</td><td>0 of 65536</td>",
+        second.status
+    );
+    until("all rows are there", || {
+        let page = first.get("/").1;
+        let own = "<td>this one</td><td class=\"serving\">serving</td><td>0..500@3</td>";
+        let refused = format!("the status port {gone} gave no answer: ");
+        [own, &row, &refused, "gave no answer within 3s"].iter().all(|it| page.contains(it))
+    });
+    drop(second);
+    until("the second one is gone", || !first.get("/").1.contains(&row));
+}
+
+#[test]
+fn the_address_of_another_server_is_judged_at_the_start() {
+    for (others, said) in [
+        ("here", "others: 'here' is no address of a status port"),
+        ("tls:db3:7401", "others: tls:db3:7401 is an address of TLS, and needs --tls-authority"),
+        ("a\"b:1", "is no address of a status port"),
+    ] {
+        let refused = common::run(&["config", "--others", others]);
+        assert_eq!(refused.status.code(), Some(2), "{others}");
+        assert!(common::errors(&refused).contains(said), "{}", common::errors(&refused));
+    }
 }

@@ -60,6 +60,7 @@ fn a_flag_comes_before_the_environment_and_that_before_the_file() {
          room = 100\n\
          reach = 64\n\
          status = \"127.0.0.1:1\"\n\
+         others = \"127.0.0.1:4 127.0.0.1:5\"\n\
          log-level = \"warn\"\n\
          lease = \"500ms\"\n\
          drift = 7\n",
@@ -79,6 +80,7 @@ fn a_flag_comes_before_the_environment_and_that_before_the_file() {
          room = 100 # from the file {path}\n\
          reach = 8 # from the environment, KRL_REACH\n\
          status = \"[::1]:3\" # from the flag --status\n\
+         others = \"127.0.0.1:4 127.0.0.1:5\" # from the file {path}\n\
          log-level = \"warn\" # from the file {path}\n\
          log-format = \"text\" # by default\n\
          lease = \"500ms\" # from the file {path}\n\
@@ -109,6 +111,7 @@ fn a_bad_value_is_told_with_its_key_and_what_is_expected() {
         ("listen", "here", "an address such as 127.0.0.1:7400"),
         ("store", "", "the path of a file"),
         ("status", "127.0.0.1", "127.0.0.1:7401, or off"),
+        ("others", &"127.0.0.1:1 ".repeat(64), "at most 63"),
         ("log-level", "loud", "error, warn, info, debug or trace"),
         ("log-format", "xml", "text or json"),
         ("lease", "10", "such as 10s or 500ms"),

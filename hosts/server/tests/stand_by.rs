@@ -34,13 +34,20 @@ fn another_server_takes_the_place_of_one_that_is_killed() {
     let Some(cluster) = Cluster::start() else { return };
     let folder = tempfile::tempdir().unwrap();
     let first = Serving::start_by(&mut over(&cluster, "killed"));
-    let second = Serving::start_until(&mut over(&cluster, "killed"), "stands by");
+    let mut command = over(&cluster, "killed");
+    let second = Serving::start_until(command.args(["--others", &first.status]), "stands by");
     // It advertises where it was told to listen.
     let stands_by = "role: stands by: the server at 127.0.0.1:0 serves\n".to_string();
     assert_eq!(second.get("/status"), (200, stands_by.clone()));
     assert_eq!(second.get("/readyz"), (503, stands_by));
     assert_eq!(second.get("/healthz").0, 200);
     assert!(second.get("/").1.contains("<p>This process stands by: the server at "));
+    until("the page has the server that serves", || {
+        let link = format!("<a href=\"http://{}/\">", first.status);
+        [&link, "<td class=\"serving\">serving</td><td>all</td><td>1</td>"]
+            .iter()
+            .all(|it| second.get("/").1.contains(*it))
+    });
     for path in ["/clients", "/locks", "/locks.svg"] {
         assert_eq!(second.get(path).0, 503, "{path}");
     }

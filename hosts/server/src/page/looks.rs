@@ -3,7 +3,7 @@
 //! The server goes through its whole table for each client, and a page is read again each second by
 //! anybody who watches. So all who watch share one look at each range, which a thread makes anew
 //! for as long as somebody asks. After each part of it, that thread leaves the loop alone for so
-//! long that all looks take a hundredth of its time.
+//! long that all looks take less than a hundredth of its time.
 use krl::{HeldPage, HeldRun, HeldSearch, LocksError, Monitor};
 use std::collections::BTreeMap;
 use std::ops::Range;
@@ -20,7 +20,7 @@ const PACE: Duration = Duration::from_millis(500);
 const CLIENTS: usize = 64;
 
 /// Looks take one part in so many of the loop's time.
-const SHARE: u32 = 100;
+const SHARE: u32 = 125;
 
 /// The most bars of a picture.
 const MOST: usize = 1000;

@@ -22,6 +22,8 @@ pub struct Overview<'a> {
     pub histograms: Option<Histograms>,
     /// How many seconds the server's certificate is still valid, if it shows one.
     pub certificate: Option<i64>,
+    /// The servers of the table, as a part of the page.
+    pub servers: String,
 }
 
 /// Older looks than this are said to be old.
@@ -37,6 +39,7 @@ impl Overview<'_> {
         let parts = [
             ("head", self.head() + &self.recovery()),
             ("alarms", self.alarms()),
+            ("servers", self.servers.clone()),
             ("keys", self.keys()),
             ("waiting", self.waiting()),
             ("times", self.times()),
@@ -200,9 +203,9 @@ impl Overview<'_> {
 }
 
 /// The page of a process that does not serve.
-pub fn without_a_server(role: &str) -> String {
+pub fn without_a_server(role: &str, servers: String) -> String {
     let text = format!("<h1>krl</h1><p>This process {}.</p>", escape(role));
-    document("krl", &[("head", text)])
+    document("krl", &[("head", text), ("servers", servers)])
 }
 
 fn document(title: &str, parts: &[(&str, String)]) -> String {

@@ -86,6 +86,14 @@ pub const STATUS: Key = Key {
     expected: "an address such as 127.0.0.1:7401, or off; one of another machine begins with tls: or \
                plain:",
 };
+pub const OTHERS: Key = Key {
+    name: "others",
+    flag: "--others",
+    variable: "KRL_OTHERS",
+    id: "others",
+    default: "",
+    expected: "addresses of status ports, at most 63, as 10.0.0.2:7401 tls:db3:7401",
+};
 pub const LOG_LEVEL: Key = Key {
     name: "log-level",
     flag: "--log-level",

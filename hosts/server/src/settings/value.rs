@@ -15,6 +15,9 @@ const SECONDS: RangeInclusive<u64> = 2..=3600;
 /// The greatest drift that leases may have.
 const MAX_DRIFT: u32 = 100;
 
+/// The most other servers that a page shows.
+const MAX_OTHERS: usize = 63;
+
 /// Where a store is.
 #[derive(Clone, Debug, PartialEq, Eq)]
 pub enum StorePlace {
@@ -75,6 +78,10 @@ pub enum StatusAddress {
     Off,
     At(Address),
 }
+
+/// The status ports of other servers of the table, as they are written.
+#[derive(Clone, Debug, PartialEq, Eq)]
+pub struct StatusPorts(pub Vec<String>);
 
 /// Users of the machine, by number, and what each may say over a Unix socket.
 #[derive(Clone, Debug, PartialEq, Eq)]
@@ -149,6 +156,13 @@ pub fn parse_status(text: &str) -> Option<StatusAddress> {
             .filter(|address| !matches!(address, Address::Unix(_)))
             .map(StatusAddress::At),
     }
+}
+
+/// The addresses are judged when they are opened, since that takes the files of TLS.
+pub fn parse_others(text: &str) -> Option<Optional<StatusPorts>> {
+    let ports: Vec<_> = text.split_whitespace().map(str::to_string).collect();
+    let is_empty = ports.is_empty();
+    (ports.len() <= MAX_OTHERS).then(|| Optional((!is_empty).then_some(StatusPorts(ports))))
 }
 
 pub fn parse_table(text: &str) -> Option<Optional<TableName>> {
@@ -246,6 +260,12 @@ impl fmt::Display for Optional<ShardBounds> {
 impl fmt::Display for Optional<TableName> {
     fn fmt(&self, f: &mut fmt::Formatter<'_>) -> fmt::Result {
         self.0.iter().try_for_each(|table| table.fmt(f))
+    }
+}
+
+impl fmt::Display for Optional<StatusPorts> {
+    fn fmt(&self, f: &mut fmt::Formatter<'_>) -> fmt::Result {
+        self.0.iter().try_for_each(|ports| f.write_str(&ports.0.join(" ")))
     }
 }
 

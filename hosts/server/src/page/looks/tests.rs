@@ -30,9 +30,9 @@ fn looks_at(work: Option<Work>) -> u64 {
 }
 
 #[test]
-fn looks_take_a_hundredth_of_the_loops_time() {
-    for took in [0, 3, 20_000, 7_000_000].map(Duration::from_micros) {
-        assert_eq!(took * 100, took + rest_after(took));
+fn looks_take_less_than_a_hundredth_of_the_loops_time() {
+    for took in [3, 20_000, 7_000_000].map(Duration::from_micros) {
+        assert!(took * 100 < took + rest_after(took), "{took:?}");
     }
 }
 

@@ -35,6 +35,7 @@ fn overview<'a>(status: &'a Status, held: &'a Held) -> Overview<'a> {
         rates: Some(Rates { taken: 1.0, sent: 2.5, changes: 40.4, ..Rates::default() }),
         histograms: None,
         certificate: Some(2_000_000),
+        servers: String::new(),
     }
 }
 
