@@ -1,29 +1,65 @@
 #!/bin/sh
-# krl beside Redis, etcd and PostgreSQL: the same work for each, over TCP on this machine and on the same disk. It
+# krl next to Redis, etcd and PostgreSQL: the same work for each, over TCP on this machine and on the same disk. It
 # prints the first table of docs/BENCH_HOSTS.md, which says what each figure is.
 #
-#     bench/rivals/run.sh [ROUNDS]         7 rounds by default: two to three minutes, besides the build
-#     bench/rivals/run.sh reads [ROUNDS]   50 rounds by default: a minute, besides the build
+#     bench/rivals/run.sh [OPTIONS] [ROUNDS]         7 rounds by default: three to four minutes, besides the build
+#     bench/rivals/run.sh [OPTIONS] reads [ROUNDS]   50 rounds by default: a minute, besides the build
+#     bench/rivals/run.sh [OPTIONS] load PLOT [SECONDS]  2 seconds by default for each system and number of clients
 #
-# `reads` measures only what a client reads first: scans of 100 rows, and all rows into an empty cache. It has a second
-# server of krl, whose grants take 8 slots at most.
+# OPTIONS: --rows N, 10000 to 1000000 rows (10000 by default), and --value N, values of 8 to 32 bytes (8 by default).
+#
+# `reads` measures only what a client reads first: scans of 100 rows, and 10,000 rows into an empty cache. It has a
+# second server of krl, whose grants take 8 slots at most. `load` measures how long reads and writes take as 1 to 16
+# clients make them, prints that as CSV, and draws it into the file PLOT as SVG.
 #
 # For KRL_LIBRARY, KRL_KIT_C and CARGO_TARGET_DIR see tests/hosts. The rivals are taken where they are installed, from
-# Debian 12's packages redis-server, etcd-server and postgresql, and the others are named as NOT RUN. What measures
-# them is one program in Rust, `krl-rivals`, which speaks to each in its own protocol. All data lie in a folder under
-# TMPDIR, or /tmp, which is gone when this ends, and which has to be on the disk that is to be measured.
+# Debian 12's packages redis-server, etcd-server and postgresql, and libhiredis-dev for Redis' own client; the others
+# are named as NOT RUN. What measures them is one program in Rust, `krl-rivals`, which speaks to each in its own
+# protocol. The caches of Redis and etcd are this project's own, since Debian has no client of them that keeps rows.
+# All data lie in a folder under TMPDIR, or /tmp, which is gone when this ends, and which has to be on the disk that is
+# to be measured.
 #
-# The systems take turns in each round, and each figure is that of the best round.
+# The systems take turns in each round. A figure is that of the best round, with the middle one in brackets.
 set -eu
 
+usage() {
+    sed -n '5,9p' "$0" >&2
+    exit 2
+}
+
+rows=10000
+value=8
+while [ $# -gt 0 ]; do
+    case $1 in
+    --rows | --value) [ $# -gt 1 ] || usage ;;
+    esac
+    case $1 in
+    --rows) rows=$2 ;;
+    --value) value=$2 ;;
+    *) break ;;
+    esac
+    shift 2
+done
 what=measure
-rounds=7
-if [ "${1-}" = reads ]; then
+count=7
+plot=''
+case ${1-} in
+reads)
     what=reads
-    rounds=50
+    count=50
     shift
-fi
-rounds=${1-$rounds}
+    ;;
+load)
+    [ $# -gt 1 ] || usage
+    what=load
+    count=2
+    plot=$2
+    shift 2
+    ;;
+esac
+count=${1-$count}
+[ $# -le 1 ] || usage
+table=${rows}x${value}
 here=$(cd -- "$(dirname -- "$0")" && pwd)
 cd "$here"
 config='--config ../../hosts/debian.toml'
@@ -90,11 +126,11 @@ serve_postgres() {
 # shellcheck disable=SC2046
 set -- $("$measure" ports 6)
 mkdir "$folder/krl"
-serve krl "$measure" serve "127.0.0.1:$1" "$folder/krl" 128
+serve krl "$measure" serve "127.0.0.1:$1" "$folder/krl" 128 "$table"
 systems=krl=127.0.0.1:$1
 if [ "$what" = reads ]; then
     mkdir "$folder/krl-reach-8"
-    serve krl-reach-8 "$measure" serve "127.0.0.1:$6" "$folder/krl-reach-8" 8
+    serve krl-reach-8 "$measure" serve "127.0.0.1:$6" "$folder/krl-reach-8" 8 "$table"
     systems="$systems krl-reach-8=127.0.0.1:$6"
 fi
 
@@ -102,6 +138,12 @@ if command -v redis-server >/dev/null; then
     version "$(redis-server --version | cut -d ' ' -f 1-3)"
     serve redis redis-server --port "$2" --bind 127.0.0.1 --save '' --appendonly yes --appendfsync always
     systems="$systems redis=127.0.0.1:$2"
+    if "$measure" has hiredis 2>/dev/null; then
+        version "hiredis $(pkg-config --modversion hiredis)"
+        systems="$systems hiredis=127.0.0.1:$2"
+    else
+        missing hiredis 'krl-rivals was built without it' libhiredis-dev
+    fi
 else
     missing Redis 'there is no redis-server' redis-server
 fi
@@ -117,7 +159,15 @@ fi
 serve_postgres "$5"
 
 mkdir "$folder/clients"
-echo "rounds $rounds; data on $(stat -f -c %T "$folder"); load $(cut -d ' ' -f 1-3 /proc/loadavg)"
-# shellcheck disable=SC2086
-"$measure" "$what" "$folder/clients" "$rounds" $systems
+echo "$rows rows of $value bytes; data on $(stat -f -c %T "$folder"); load $(cut -d ' ' -f 1-3 /proc/loadavg)"
+if [ "$what" = load ]; then
+    # shellcheck disable=SC2086
+    "$measure" load "$folder/clients" "$count" "$table" $systems >"$folder/load.csv"
+    cat "$folder/load.csv"
+    python3 "$here/plot.py" "$folder/load.csv" "$plot"
+else
+    echo "rounds $count"
+    # shellcheck disable=SC2086
+    "$measure" "$what" "$folder/clients" "$count" "$table" $systems
+fi
 echo "load at the end $(cut -d ' ' -f 1-3 /proc/loadavg)"

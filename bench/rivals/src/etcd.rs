@@ -2,8 +2,8 @@
 use crate::grpc::Grpc;
 use crate::local::Local;
 use crate::protobuf::{Field, Message, bytes_of, fields, number_of};
-use crate::system::{Caching, Connection, Done, Found, ROWS, System, number, until_ready};
-use krl::{Row, Value};
+use crate::system::{self, Caching, Connection, Done, Found, System, Table, number, until_ready};
+use krl::Row;
 use std::net::{Shutdown, TcpStream};
 use std::ops::Range;
 use std::sync::Arc;
@@ -19,11 +19,12 @@ const CHUNK: u64 = 100;
 
 pub struct Etcd {
     address: String,
+    table: Table,
 }
 
 impl Etcd {
-    pub fn new(address: &str) -> Etcd {
-        Etcd { address: address.into() }
+    pub fn new(address: &str, table: Table) -> Etcd {
+        Etcd { address: address.into(), table }
     }
 }
 
@@ -35,12 +36,13 @@ impl System for Etcd {
     fn make_rows(&mut self) -> Done {
         let mut asked = until_ready(|| {
             let mut asked = Grpc::open(&self.address)?;
-            asked.call(PUT, &put(0, 0))?;
+            asked.call(PUT, &put(0, &self.table.value(0)))?;
             Ok(asked)
         })?;
-        for lo in (0..ROWS).step_by(usize::try_from(CHUNK)?) {
+        let zero = self.table.value(0);
+        for lo in (0..self.table.rows).step_by(usize::try_from(CHUNK)?) {
             let operation = |all: Message, key| {
-                let request = Message::default().bytes(2, &put(key, 0).0);
+                let request = Message::default().bytes(2, &put(key, &zero).0);
                 all.bytes(2, &request.0)
             };
             asked.call(TRANSACTION, &(lo..lo + CHUNK).fold(Message::default(), operation))?;
@@ -55,12 +57,12 @@ impl System for Etcd {
     fn connect(&self, _: u8, caching: Caching) -> Found<Box<dyn Connection>> {
         let asked = Grpc::open(&self.address)?;
         let address = self.address.clone();
-        Ok(Box::new(Watching { address, caching, asked, copy: None }))
+        Ok(Box::new(Watching { address, table: self.table, caching, asked, copy: None }))
     }
 }
 
-fn put(key: u64, value: u64) -> Message {
-    Message::default().bytes(1, &key.to_be_bytes()).bytes(2, &value.to_be_bytes())
+fn put(key: u64, value: &[u8]) -> Message {
+    Message::default().bytes(1, &key.to_be_bytes()).bytes(2, value)
 }
 
 fn range(keys: &Range<u64>) -> Message {
@@ -70,12 +72,12 @@ fn range(keys: &Range<u64>) -> Message {
 /// The row of a `KeyValue`.
 fn row(pair: &[u8]) -> Found<Row> {
     let pair = fields(pair)?;
-    let value = number(bytes_of(&pair, 5))?;
-    Ok(Row { key: number(bytes_of(&pair, 1))?, value: Value::from(value) })
+    system::row(number(bytes_of(&pair, 1))?, bytes_of(&pair, 5))
 }
 
 struct Watching {
     address: String,
+    table: Table,
     caching: Caching,
     asked: Grpc,
     copy: Option<Copy>,
@@ -140,8 +142,8 @@ impl Connection for Watching {
         self.ask(&keys, rows).map(drop)
     }
 
-    fn write(&mut self, key: u64, value: u64) -> Done {
-        self.asked.call(PUT, &put(key, value)).map(drop)
+    fn write(&mut self, key: u64, number: u64) -> Done {
+        self.asked.call(PUT, &put(key, &self.table.value(number))).map(drop)
     }
 }
 

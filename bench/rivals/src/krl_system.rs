@@ -1,37 +1,40 @@
 //! krl: a server over SQLite, and clients of the library `krl`.
-use crate::system::{Caching, Connection, Done, Found, ROWS, System, until_ready};
+use crate::system::{self, Caching, Connection, Done, Found, System, Table, until_ready};
 use krl::{
-    Address, Change, Client, Listener, Outcome, Reach, Row, Server, SqliteStore, Store, Value,
-    Write,
+    Address, Change, Client, Listener, Outcome, Reach, Room, Row, Server, SqliteStore, Store,
+    Value, Write,
 };
 use std::ops::Range;
 use std::path::{Path, PathBuf};
 
 /// Serves the rows until the process ends.
-pub fn serve(address: &str, folder: &Path, reach: Reach) -> Done {
+pub fn serve(address: &str, folder: &Path, reach: Reach, table: Table) -> Done {
     let mut store = SqliteStore::open(folder.join("krl.db"))?;
-    store.commit(&(0..ROWS).map(row).collect::<Vec<_>>())?;
+    let rows: Found<Vec<Change>> = (0..table.rows).map(|key| row(key, table)).collect();
+    store.commit(&rows?)?;
     let listener = Listener::bind(&address.parse()?)?;
-    Server::builder(listener, store).reach(reach).start()?.wait()?;
+    let room = Room::of(usize::try_from(table.rows)?.max(Room::default().rows()))?;
+    Server::builder(listener, store).reach(reach).room(room).start()?.wait()?;
     Ok(())
 }
 
 /// A row that is there at the start. Nobody has written it.
-fn row(key: u64) -> Change {
-    let write = Write::Insert(Row { key, value: Value::from(0) });
-    Change::Judged { client: 0, number: 0, write, outcome: Outcome::Applied }
+fn row(key: u64, table: Table) -> Found<Change> {
+    let write = Write::Insert(system::row(key, &table.value(0))?);
+    Ok(Change::Judged { client: 0, number: 0, write, outcome: Outcome::Applied })
 }
 
 pub struct Krl {
     name: &'static str,
     address: Address,
+    table: Table,
     /// Where the clients' lock files are.
     folder: PathBuf,
 }
 
 impl Krl {
-    pub fn new(name: &'static str, address: &str, folder: &Path) -> Found<Krl> {
-        Ok(Krl { name, address: address.parse()?, folder: folder.into() })
+    pub fn new(name: &'static str, address: &str, folder: &Path, table: Table) -> Found<Krl> {
+        Ok(Krl { name, address: address.parse()?, table, folder: folder.into() })
     }
 
     fn join(&self, number: u8) -> Found<Client> {
@@ -48,9 +51,9 @@ impl System for Krl {
     /// The server has made them.
     fn make_rows(&mut self) -> Done {
         let client = until_ready(|| self.join(0))?;
-        let count = client.read(0..ROWS)?.len() as u64;
+        let last = client.read(self.table.rows - 1..self.table.rows)?;
         client.leave()?;
-        if count == ROWS { Ok(()) } else { Err(format!("krl has {count} rows").into()) }
+        if last.len() == 1 { Ok(()) } else { Err("krl lacks the last row".into()) }
     }
 
     fn may_be_stale(&self) -> bool {
@@ -58,35 +61,39 @@ impl System for Krl {
     }
 
     fn connect(&self, number: u8, _: Caching) -> Found<Box<dyn Connection>> {
-        Ok(Box::new(Joined(self.join(number)?)))
+        Ok(Box::new(Joined { client: self.join(number)?, table: self.table }))
     }
 }
 
-struct Joined(Client);
+struct Joined {
+    client: Client,
+    table: Table,
+}
 
 impl Connection for Joined {
     fn fill(&mut self, keys: Range<u64>) -> Done {
-        self.0.read(keys)?;
+        self.client.read(keys)?;
         Ok(())
     }
 
     fn cached(&mut self, keys: Range<u64>, rows: &mut Vec<Row>) -> bool {
-        self.0.cached_into(keys, rows)
+        self.client.cached_into(keys, rows)
     }
 
     fn read(&mut self, keys: Range<u64>, rows: &mut Vec<Row>) -> Done {
-        *rows = self.0.read(keys)?;
+        *rows = self.client.read(keys)?;
         Ok(())
     }
 
-    fn write(&mut self, key: u64, value: u64) -> Done {
-        match self.0.put(key, Value::from(value))? {
+    fn write(&mut self, key: u64, number: u64) -> Done {
+        let value = Value::try_from(&self.table.value(number)[..])?;
+        match self.client.put(key, value)? {
             Outcome::Applied => Ok(()),
             outcome => Err(format!("krl judged a put of key {key}: {outcome}").into()),
         }
     }
 
     fn close(self: Box<Self>) -> Done {
-        Ok(self.0.leave()?)
+        Ok(self.client.leave()?)
     }
 }

@@ -1,15 +1,14 @@
-//! krl beside other servers of keys and values: the same work for each, over TCP on this machine.
+//! krl next to other servers of keys and values: the same work for each, over TCP on this machine.
 //!
-//!     krl-rivals ports COUNT                 so many ports of 127.0.0.1 that nobody listens at
-//!     krl-rivals serve ADDRESS FOLDER REACH  a server of krl over SQLite, with the rows
-//!     krl-rivals measure FOLDER ROUNDS SYSTEM=ADDRESS..
-//!     krl-rivals reads FOLDER ROUNDS SYSTEM=ADDRESS..    measures first reads only
-//!
-//! SYSTEM is krl, krl-reach-8, redis, etcd or postgres. `run.sh` starts the servers and calls them.
+//! `run.sh` starts the servers and calls this program, whose words `USAGE` has.
 mod clients;
 mod etcd;
+mod figures;
 mod grpc;
+#[cfg(hiredis)]
+mod hiredis;
 mod krl_system;
+mod load;
 mod local;
 mod measures;
 mod mix;
@@ -19,18 +18,23 @@ mod redis;
 mod report;
 mod system;
 
-use crate::measures::{Figures, Plan};
-use crate::system::{Done, Found, System};
+use crate::figures::Figures;
+use crate::measures::Plan;
+use crate::system::{Done, Found, System, Table};
 use std::io;
 use std::net::TcpListener;
 use std::path::Path;
 use std::process::ExitCode;
 
-const USAGE: &str = "usage: krl-rivals ports COUNT
-       krl-rivals serve ADDRESS FOLDER REACH
-       krl-rivals measure FOLDER ROUNDS SYSTEM=ADDRESS..
-       krl-rivals reads FOLDER ROUNDS SYSTEM=ADDRESS..
-       a SYSTEM is krl, krl-reach-8, redis, etcd or postgres";
+const USAGE: &str =
+    "usage: krl-rivals ports COUNT       so many ports of 127.0.0.1 that nobody listens at
+       krl-rivals has hiredis       whether it was built with hiredis
+       krl-rivals serve ADDRESS FOLDER REACH TABLE    a server of krl over SQLite, with the rows
+       krl-rivals measure FOLDER ROUNDS TABLE SYSTEM=ADDRESS..
+       krl-rivals reads FOLDER ROUNDS TABLE SYSTEM=ADDRESS..    measures first reads only
+       krl-rivals load FOLDER SECONDS TABLE SYSTEM=ADDRESS..    prints times over load as CSV
+       a TABLE is ROWSxBYTES, 10000 to 1000000 rows and 8 to 32 bytes, as 10000x8;
+       a SYSTEM is krl, krl-reach-8, redis, hiredis, etcd or postgres";
 
 fn main() -> ExitCode {
     let words: Vec<String> = std::env::args().skip(1).collect();
@@ -49,27 +53,50 @@ fn run(words: &[String]) -> Done {
         ["ports", count] => print_ports(
             count.parse().map_err(|_| format!("'{count}' is no number of ports, 0 to 255"))?,
         ),
-        ["serve", address, folder, reach] => {
-            krl_system::serve(address, Path::new(folder), reach.parse()?)
+        ["has", "hiredis"] if cfg!(hiredis) => Ok(()),
+        ["has", "hiredis"] => Err("it was built without hiredis".into()),
+        ["serve", address, folder, reach, rows] => {
+            krl_system::serve(address, Path::new(folder), reach.parse()?, table(rows)?)
         }
-        ["measure", folder, rounds, ref systems @ ..] if !systems.is_empty() => {
-            let plan = Plan::of(number(rounds)?);
-            let of = |system: &dyn System| measures::of(system, &plan);
-            measure(&mut all(systems, folder)?, plan.rounds, of)
+        ["measure", folder, rounds, rows, ref systems @ ..] if !systems.is_empty() => {
+            let (rounds, table) = (number(rounds)?, table(rows)?);
+            let of = |system: &dyn System, figures: &mut Figures| {
+                measures::of(system, table, &Plan::STANDARD, figures)
+            };
+            measure(&mut all(systems, folder, table)?, rounds, of)
         }
-        ["reads", folder, rounds, ref systems @ ..] if !systems.is_empty() => {
-            measure(&mut all(systems, folder)?, number(rounds)?, measures::first_reads)
+        ["reads", folder, rounds, rows, ref systems @ ..] if !systems.is_empty() => {
+            let (rounds, table) = (number(rounds)?, table(rows)?);
+            let of = |system: &dyn System, figures: &mut Figures| {
+                measures::first_reads(system, table, figures)
+            };
+            measure(&mut all(systems, folder, table)?, rounds, of)
+        }
+        ["load", folder, seconds, rows, ref systems @ ..] if !systems.is_empty() => {
+            let mut systems = all(systems, folder, table(rows)?)?;
+            systems.iter_mut().try_for_each(|system| system.make_rows())?;
+            load::print(&systems, &Plan::STANDARD.mixing_for(number(seconds)?))
         }
         _ => Err(USAGE.into()),
     }
 }
 
-fn number(rounds: &str) -> Found<u32> {
-    Ok(rounds.parse().map_err(|_| format!("'{rounds}' is no number of rounds"))?)
+fn number(count: &str) -> Found<u32> {
+    Ok(count.parse().map_err(|_| format!("'{count}' is no number of rounds or seconds"))?)
 }
 
-fn all(systems: &[&str], folder: &str) -> Found<Vec<Box<dyn System>>> {
-    systems.iter().map(|it| system(it, Path::new(folder))).collect()
+/// The table that a word names: its rows, and the bytes of a value.
+fn table(word: &str) -> Found<Table> {
+    let parts = word.split_once('x');
+    let parts = parts.and_then(|(rows, bytes)| Some((rows.parse().ok()?, bytes.parse().ok()?)));
+    match parts {
+        Some((rows @ 10_000..=1_000_000, value_bytes @ 8..=32)) => Ok(Table { rows, value_bytes }),
+        _ => Err(format!("'{word}' is no table\n{USAGE}").into()),
+    }
+}
+
+fn all(systems: &[&str], folder: &str, table: Table) -> Found<Vec<Box<dyn System>>> {
+    systems.iter().map(|it| system(it, Path::new(folder), table)).collect()
 }
 
 /// All are taken at once, so that none comes twice.
@@ -82,14 +109,16 @@ fn print_ports(count: u8) -> Done {
     Ok(())
 }
 
-fn system(word: &str, folder: &Path) -> Found<Box<dyn System>> {
+fn system(word: &str, folder: &Path, table: Table) -> Found<Box<dyn System>> {
     let (name, address) = word.split_once('=').ok_or(USAGE)?;
     Ok(match name {
-        "krl" => Box::new(krl_system::Krl::new("krl", address, folder)?),
-        "krl-reach-8" => Box::new(krl_system::Krl::new("krl-reach-8", address, folder)?),
-        "redis" => Box::new(redis::Redis::new(address)),
-        "etcd" => Box::new(etcd::Etcd::new(address)),
-        "postgres" => Box::new(postgres::Postgres::new(address)),
+        "krl" => Box::new(krl_system::Krl::new("krl", address, folder, table)?),
+        "krl-reach-8" => Box::new(krl_system::Krl::new("krl-reach-8", address, folder, table)?),
+        "redis" => Box::new(redis::Redis::new(address, table)),
+        #[cfg(hiredis)]
+        "hiredis" => Box::new(hiredis::Hiredis::new(address, table)),
+        "etcd" => Box::new(etcd::Etcd::new(address, table)),
+        "postgres" => Box::new(postgres::Postgres::new(address, table)),
         _ => return Err(format!("'{name}' is no system\n{USAGE}").into()),
     })
 }
@@ -98,18 +127,16 @@ fn system(word: &str, folder: &Path) -> Found<Box<dyn System>> {
 fn measure(
     systems: &mut [Box<dyn System>],
     rounds: u32,
-    of: impl Fn(&dyn System) -> Found<Figures>,
+    of: impl Fn(&dyn System, &mut Figures) -> Done,
 ) -> Done {
-    for system in &mut *systems {
-        system.make_rows()?;
-    }
-    let mut best = vec![Figures::default(); systems.len()];
+    systems.iter_mut().try_for_each(|system| system.make_rows())?;
+    let mut figures = vec![Figures::default(); systems.len()];
     for _ in 0..rounds {
-        for (system, best) in systems.iter().zip(&mut best) {
-            best.keep_better(&of(system.as_ref())?);
+        for (system, figures) in systems.iter().zip(&mut figures) {
+            of(system.as_ref(), figures)?;
         }
     }
     let names: Vec<&str> = systems.iter().map(|system| system.name()).collect();
-    print!("{}", report::table(&names, &best));
+    print!("{}", report::table(&names, &figures));
     Ok(())
 }

@@ -4,30 +4,80 @@
 //! last one that was acknowledged before the read began.
 use crate::clients;
 use crate::measures::Plan;
-use crate::system::{Caching, Connection, Done, Found, System};
+use crate::system::{Caching, Connection, Done, Found, System, number_of};
 use krl::Row;
 use std::ops::Range;
 use std::sync::atomic::{AtomicU64, Ordering};
-use std::time::Instant;
+use std::time::{Duration, Instant};
 
 pub const CLIENTS: u8 = 4;
 pub const READS_PERCENT: u64 = 95;
 pub const KEYS: u64 = 1000;
 pub const ROWS_OF_A_READ: u64 = 10;
 
-/// What was counted behind the warm-up.
-#[derive(Clone, Copy, Debug, Default)]
+/// What was counted after the warm-up.
+#[derive(Clone, Debug, Default)]
 pub struct Mix {
-    pub calls: u64,
+    pub reads: Calls,
+    pub writes: Calls,
     /// Rows that were read.
     pub rows: u64,
     /// Those of them that were stale.
     pub stale: u64,
 }
 
+/// Calls of one kind, by how long they took.
+#[derive(Clone, Debug)]
+pub struct Calls {
+    pub count: u64,
+    /// How many took less than 2^(n / 8) nanoseconds and not less than the one before.
+    by_time: [u64; Calls::STEPS],
+}
+
+impl Default for Calls {
+    fn default() -> Calls {
+        Calls { count: 0, by_time: [0; Calls::STEPS] }
+    }
+}
+
+impl Calls {
+    const STEPS_PER_DOUBLING: f64 = 8.0;
+    const STEPS: usize = 8 * 36;
+
+    fn take(&mut self, took: Duration) {
+        let step = (took.as_secs_f64() * 1e9).max(1.0).log2() * Calls::STEPS_PER_DOUBLING;
+        // The logarithm of a time is small, and not below 0.
+        #[expect(clippy::cast_possible_truncation, clippy::cast_sign_loss)]
+        let step = (step.ceil() as usize).min(Calls::STEPS - 1);
+        self.by_time[step] += 1;
+        self.count += 1;
+    }
+
+    fn add(&mut self, other: &Calls) {
+        self.count += other.count;
+        self.by_time.iter_mut().zip(&other.by_time).for_each(|(sum, more)| *sum += more);
+    }
+
+    /// So many of a hundred calls took at most this long, to a tenth of it.
+    pub fn percentile(&self, percent: u64) -> Duration {
+        let (mut seen, enough) = (0, self.count * percent / 100);
+        let step = self.by_time.iter().position(|count| {
+            seen += count;
+            seen > enough
+        });
+        let step = step.and_then(|step| u32::try_from(step).ok()).map_or(0.0, f64::from);
+        Duration::from_secs_f64((step / Calls::STEPS_PER_DOUBLING).exp2() / 1e9)
+    }
+}
+
 impl Mix {
+    pub fn calls(&self) -> u64 {
+        self.reads.count + self.writes.count
+    }
+
     pub fn add(&mut self, other: &Mix) {
-        self.calls += other.calls;
+        self.reads.add(&other.reads);
+        self.writes.add(&other.writes);
         self.rows += other.rows;
         self.stale += other.stale;
     }
@@ -42,7 +92,7 @@ impl Acknowledged {
         let (mut all, mut rows) = (Vec::new(), Vec::new());
         for lo in (0..KEYS).step_by(100) {
             connection.read(lo..lo + 100, &mut rows)?;
-            all.extend(rows.iter().map(|row| AtomicU64::new(value(row))));
+            all.extend(rows.iter().map(|row| AtomicU64::new(number_of(row))));
         }
         if all.len() as u64 == KEYS {
             Ok(Acknowledged(all))
@@ -64,19 +114,15 @@ impl Acknowledged {
     }
 }
 
-fn value(row: &Row) -> u64 {
-    row.value.to_u64().unwrap_or(0)
-}
-
-/// A round of all clients.
-pub fn of(system: &dyn System, caching: Caching, plan: &Plan) -> Found<Mix> {
-    let mut connections = clients::connect(system, CLIENTS, caching)?;
+/// A round of so many clients.
+pub fn of(system: &dyn System, clients: u8, caching: Caching, plan: &Plan) -> Found<Mix> {
+    let mut connections = clients::connect(system, clients, caching)?;
     let first = connections.first_mut().ok_or("there is no client")?;
     let acknowledged = Acknowledged::read_by(first.as_mut())?;
     connections.iter_mut().try_for_each(|connection| connection.fill(0..KEYS))?;
     let measured_from = Instant::now() + plan.warm_up;
     let all = clients::at_once(&mut connections, |number, connection| {
-        let mut client = Client::new(number, connection, &acknowledged);
+        let mut client = Client::new(number, clients, connection, &acknowledged);
         client.run(measured_from, measured_from + plan.mixing)
     })?;
     clients::close(connections)?;
@@ -89,6 +135,7 @@ pub fn of(system: &dyn System, caching: Caching, plan: &Plan) -> Found<Mix> {
 
 struct Client<'a> {
     number: u64,
+    clients: u64,
     connection: &'a mut dyn Connection,
     acknowledged: &'a Acknowledged,
     random: Random,
@@ -100,45 +147,49 @@ struct Client<'a> {
 impl<'a> Client<'a> {
     fn new(
         number: u64,
+        clients: u8,
         connection: &'a mut dyn Connection,
         acknowledged: &'a Acknowledged,
     ) -> Client<'a> {
-        let (rows, least) = (Vec::new(), Vec::new());
-        Client { number, connection, acknowledged, random: Random::of(number), rows, least }
+        let (rows, least, random) = (Vec::new(), Vec::new(), Random::of(number));
+        Client { number, clients: clients.into(), connection, acknowledged, random, rows, least }
     }
 
     fn run(&mut self, measured_from: Instant, end: Instant) -> Found<Mix> {
         let mut mix = Mix::default();
-        loop {
-            let now = Instant::now();
-            if now >= end {
-                return Ok(mix);
+        let mut now = Instant::now();
+        while now < end {
+            let is_measured = now >= measured_from;
+            let is_read = self.random.below(100) < READS_PERCENT;
+            let stale = if is_read { self.read()? } else { self.write_any().map(|()| 0)? };
+            let ended = Instant::now();
+            if is_measured {
+                let calls = if is_read { &mut mix.reads } else { &mut mix.writes };
+                calls.take(ended - now);
+                mix.rows += if is_read { self.rows.len() as u64 } else { 0 };
+                mix.stale += stale;
             }
-            let call = self.call()?;
-            if now >= measured_from {
-                mix.add(&call);
-            }
+            now = ended;
         }
+        Ok(mix)
     }
 
-    fn call(&mut self) -> Found<Mix> {
-        if self.random.below(100) < READS_PERCENT {
-            return self.read();
-        }
-        let place = self.random.below(KEYS / u64::from(CLIENTS));
-        self.write(place * u64::from(CLIENTS) + self.number)?;
-        Ok(Mix { calls: 1, ..Mix::default() })
+    /// Writes one of its own keys.
+    fn write_any(&mut self) -> Done {
+        let place = self.random.below(KEYS / self.clients);
+        self.write(place * self.clients + self.number)
     }
 
-    fn read(&mut self) -> Found<Mix> {
+    /// Reads rows, and answers how many of them are stale.
+    fn read(&mut self) -> Found<u64> {
         let lo = self.random.below(KEYS - ROWS_OF_A_READ);
         let keys = lo..lo + ROWS_OF_A_READ;
         self.acknowledged.note_all(keys.clone(), &mut self.least)?;
         if !self.connection.cached(keys.clone(), &mut self.rows) {
             self.connection.read(keys, &mut self.rows)?;
         }
-        let stale = self.rows.iter().zip(&self.least).filter(|(row, least)| value(row) < **least);
-        Ok(Mix { calls: 1, rows: self.rows.len() as u64, stale: stale.count() as u64 })
+        let rows = self.rows.iter().zip(&self.least);
+        Ok(rows.filter(|(row, least)| number_of(row) < **least).count() as u64)
     }
 
     /// Nobody else writes this key.
@@ -201,15 +252,26 @@ mod tests {
     fn a_stale_row_is_noticed_and_each_key_has_one_writer() {
         let acknowledged = Acknowledged((0..KEYS).map(|_| AtomicU64::new(0)).collect());
         let mut stuck = Stuck(Vec::new());
-        let mut client = Client::new(3, &mut stuck, &acknowledged);
-        assert_eq!(client.read().unwrap().stale, 0);
+        let mut client = Client::new(3, CLIENTS, &mut stuck, &acknowledged);
+        assert_eq!(client.read().unwrap(), 0);
         acknowledged.0.iter().for_each(|it| it.store(1, Ordering::Release));
-        assert_eq!(client.read().unwrap().stale, ROWS_OF_A_READ);
+        assert_eq!(client.read().unwrap(), ROWS_OF_A_READ);
         for _ in 0..1000 {
-            client.call().unwrap();
+            client.write_any().unwrap();
         }
         let is_own = |key: &u64| key % u64::from(CLIENTS) == 3;
         assert!(!stuck.0.is_empty() && stuck.0.iter().all(is_own));
+    }
+
+    #[test]
+    fn a_percentile_is_right_to_a_tenth() {
+        let mut calls = Calls::default();
+        assert_eq!(calls.percentile(50), Duration::from_nanos(1));
+        (1..=1000).for_each(|micros| calls.take(Duration::from_micros(micros)));
+        for (percent, micros) in [(50, 500.0), (99, 990.0)] {
+            let ratio = calls.percentile(percent).as_secs_f64() * 1e6 / micros;
+            assert!((1.0..1.1).contains(&ratio), "{percent}: {ratio}");
+        }
     }
 
     #[test]

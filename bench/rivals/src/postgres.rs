@@ -1,6 +1,8 @@
 //! PostgreSQL: prepared statements by its own protocol, version 3, values in their binary form.
-use crate::system::{Caching, Connection, Done, Found, ROWS, System, number, tcp, until_ready};
-use krl::{Row, Value};
+use crate::system::{
+    Caching, Connection, Done, Found, System, Table, number, row, tcp, until_ready,
+};
+use krl::Row;
 use std::io::{BufReader, Read, Write};
 use std::net::TcpStream;
 use std::ops::Range;
@@ -13,11 +15,12 @@ const UPDATE: &str = "update rows set value = $2 where key = $1";
 
 pub struct Postgres {
     address: String,
+    table: Table,
 }
 
 impl Postgres {
-    pub fn new(address: &str) -> Postgres {
-        Postgres { address: address.into() }
+    pub fn new(address: &str, table: Table) -> Postgres {
+        Postgres { address: address.into(), table }
     }
 }
 
@@ -31,8 +34,10 @@ impl System for Postgres {
         wire.query("drop table if exists rows")?;
         wire.query("create table rows (key bigint primary key, value bytea not null)")?;
         wire.query(&format!(
-            "insert into rows select key, int8send(0) from generate_series(0, {}) key",
-            ROWS - 1
+            "insert into rows select key, decode(repeat('00', {}), 'hex') \
+             from generate_series(0, {}) key",
+            self.table.value_bytes,
+            self.table.rows - 1
         ))?;
         wire.query("vacuum analyze rows")
     }
@@ -46,12 +51,13 @@ impl System for Postgres {
         wire.query(SETTINGS)?;
         wire.prepare("scan", SCAN)?;
         wire.prepare("update", UPDATE)?;
-        Ok(Box::new(Asking { wire }))
+        Ok(Box::new(Asking { wire, table: self.table }))
     }
 }
 
 struct Asking {
     wire: Wire,
+    table: Table,
 }
 
 impl Connection for Asking {
@@ -65,17 +71,16 @@ impl Connection for Asking {
 
     fn read(&mut self, keys: Range<u64>, rows: &mut Vec<Row>) -> Done {
         rows.clear();
-        let numbers = [keys.start.to_be_bytes(), keys.end.to_be_bytes()];
-        self.wire.execute("scan", &numbers, |columns| {
-            let [key, value] = columns;
-            rows.push(Row { key: number(key)?, value: Value::from(number(value)?) });
+        let [lo, hi] = [keys.start, keys.end].map(u64::to_be_bytes);
+        self.wire.execute("scan", [&lo, &hi], |[key, value]| {
+            rows.push(row(number(key)?, value)?);
             Ok(())
         })
     }
 
-    fn write(&mut self, key: u64, value: u64) -> Done {
-        let numbers = [key.to_be_bytes(), value.to_be_bytes()];
-        self.wire.execute("update", &numbers, |_| Ok(()))
+    fn write(&mut self, key: u64, number: u64) -> Done {
+        let value = self.table.value(number);
+        self.wire.execute("update", [&key.to_be_bytes(), &value], |_| Ok(()))
     }
 }
 
@@ -111,20 +116,19 @@ impl Wire {
         self.finish(|_| Ok(()))
     }
 
-    /// Runs a prepared statement of two parameters of eight bytes.
+    /// Runs a prepared statement of two parameters.
     fn execute(
         &mut self,
         name: &str,
-        numbers: &[[u8; 8]; 2],
+        [first, second]: [&[u8]; 2],
         each: impl FnMut([&[u8]; 2]) -> Done,
     ) -> Done {
-        const EIGHT: &[u8] = &[0, 0, 0, 8];
         // All parameters and results in binary form: format codes of one entry, 1.
         const BINARY: &[u8] = &[0, 1, 0, 1];
-        let [first, second] = numbers;
         let name = name.as_bytes();
+        let lengths = [first, second].map(|it| u32::try_from(it.len()).unwrap_or(0).to_be_bytes());
         let parts: [&[u8]; 10] =
-            [b"\0", name, b"\0", BINARY, &[0, 2], EIGHT, first, EIGHT, second, BINARY];
+            [b"\0", name, b"\0", BINARY, &[0, 2], &lengths[0], first, &lengths[1], second, BINARY];
         self.push(b'B', &parts);
         self.push(b'E', &[b"\0", &[0; 4]]);
         self.push(b'S', &[]);

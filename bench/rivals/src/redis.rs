@@ -4,8 +4,10 @@
 //! come to a connection of their own, which a thread reads: so a scan of the cache makes no system call, and an answer
 //! is read by the thread that waits for it.
 use crate::local::Local;
-use crate::system::{Caching, Connection, Done, Found, ROWS, System, number, tcp, until_ready};
-use krl::{Row, Value};
+use crate::system::{
+    Caching, Connection, Done, Found, System, Table, number, row, tcp, until_ready,
+};
+use krl::Row;
 use std::io::{BufRead, BufReader, Read, Write};
 use std::net::{Shutdown, TcpStream};
 use std::ops::Range;
@@ -16,11 +18,12 @@ const CHUNK: u64 = 100;
 
 pub struct Redis {
     address: String,
+    table: Table,
 }
 
 impl Redis {
-    pub fn new(address: &str) -> Redis {
-        Redis { address: address.into() }
+    pub fn new(address: &str, table: Table) -> Redis {
+        Redis { address: address.into(), table }
     }
 }
 
@@ -30,10 +33,9 @@ impl System for Redis {
     }
 
     fn make_rows(&mut self) -> Done {
-        let mut asked = until_ready(|| Wire::open(&self.address))?;
-        let zero = 0_u64.to_be_bytes();
-        for key in 0..ROWS {
-            asked.call(&[b"SET", &key.to_be_bytes(), &zero])?;
+        let mut asked = until_ready(|| Wire::open(&self.address, self.table))?;
+        for lo in (0..self.table.rows).step_by(usize::try_from(CHUNK)?) {
+            asked.make_rows(lo..self.table.rows.min(lo + CHUNK))?;
         }
         Ok(())
     }
@@ -44,8 +46,8 @@ impl System for Redis {
 
     fn connect(&self, _: u8, caching: Caching) -> Found<Box<dyn Connection>> {
         match caching {
-            Caching::On => Ok(Box::new(Tracking::open(&self.address)?)),
-            Caching::Off => Ok(Box::new(Wire::open(&self.address)?)),
+            Caching::On => Ok(Box::new(Tracking::open(&self.address, self.table)?)),
+            Caching::Off => Ok(Box::new(Wire::open(&self.address, self.table)?)),
         }
     }
 }
@@ -79,12 +81,12 @@ impl Drop for Tracking {
 }
 
 impl Tracking {
-    fn open(address: &str) -> Found<Tracking> {
-        let mut notices = Wire::open(address)?;
+    fn open(address: &str, table: Table) -> Found<Tracking> {
+        let mut notices = Wire::open(address, table)?;
         let Reply::Number(id) = notices.call(&[b"CLIENT", b"ID"])? else {
             return Err("Redis tells no CLIENT ID".into());
         };
-        let mut asked = Wire::open(address)?;
+        let mut asked = Wire::open(address, table)?;
         asked.call(&[b"CLIENT", b"TRACKING", b"ON", b"REDIRECT", id.to_string().as_bytes()])?;
         let local = Arc::new(Local::default());
         let (kept, of_notices) = (Arc::clone(&local), notices.stream.get_ref().try_clone()?);
@@ -151,8 +153,9 @@ impl Connection for Wire {
         Ok(())
     }
 
-    fn write(&mut self, key: u64, value: u64) -> Done {
-        self.call(&[b"SET", &key.to_be_bytes(), &value.to_be_bytes()]).map(drop)
+    fn write(&mut self, key: u64, number: u64) -> Done {
+        let value = self.table.value(number);
+        self.call(&[b"SET", &key.to_be_bytes(), &value]).map(drop)
     }
 }
 
@@ -177,17 +180,26 @@ impl Reply {
 
 /// A connection that speaks RESP 3.
 struct Wire {
+    table: Table,
     stream: BufReader<TcpStream>,
     request: Vec<u8>,
     line: Vec<u8>,
 }
 
 impl Wire {
-    fn open(address: &str) -> Found<Wire> {
+    fn open(address: &str, table: Table) -> Found<Wire> {
         let stream = BufReader::with_capacity(1 << 16, tcp(address)?);
-        let mut wire = Wire { stream, request: Vec::new(), line: Vec::new() };
+        let mut wire = Wire { table, stream, request: Vec::new(), line: Vec::new() };
         wire.call(&[b"HELLO", b"3"])?;
         Ok(wire)
+    }
+
+    /// Makes the rows of these keys by one command.
+    fn make_rows(&mut self, keys: Range<u64>) -> Done {
+        let (keys, zero): (Vec<_>, _) = (keys.map(u64::to_be_bytes).collect(), self.table.value(0));
+        let mut words: Vec<&[u8]> = vec![b"MSET"];
+        words.extend(keys.iter().flat_map(|key| [&key[..], &zero]));
+        self.call(&words).map(drop)
     }
 
     /// The rows of these keys, each of which has one.
@@ -198,10 +210,7 @@ impl Wire {
         let Reply::List(values) = self.call(&words)? else {
             return Err("Redis answers MGET by no list".into());
         };
-        let row = |(key, value): (&u64, &Reply)| {
-            Ok(Row { key: *key, value: Value::from(number(value.bytes()?)?) })
-        };
-        keys.iter().zip(&values).map(row).collect()
+        keys.iter().zip(&values).map(|(key, value)| row(*key, value.bytes()?)).collect()
     }
 
     fn call(&mut self, words: &[&[u8]]) -> Found<Reply> {

@@ -1,5 +1,5 @@
 //! What each system is asked.
-use krl::Row;
+use krl::{Row, Value};
 use std::error::Error;
 use std::io;
 use std::net::TcpStream;
@@ -10,8 +10,32 @@ use std::time::{Duration, Instant};
 pub type Found<T> = Result<T, Box<dyn Error + Send + Sync>>;
 pub type Done = Found<()>;
 
-/// The rows of each system: keys from 0 on, values of eight bytes.
-pub const ROWS: u64 = 10_000;
+/// The rows of each system: so many keys from 0 on, and values of so many bytes.
+#[derive(Clone, Copy, Debug)]
+pub struct Table {
+    pub rows: u64,
+    pub value_bytes: usize,
+}
+
+impl Table {
+    /// The value for a number: its eight bytes, and zeros after them.
+    pub fn value(self, number: u64) -> Vec<u8> {
+        let mut bytes = number.to_be_bytes().to_vec();
+        bytes.resize(self.value_bytes, 0);
+        bytes
+    }
+}
+
+/// The row of a key and its value as bytes.
+pub fn row(key: u64, value: &[u8]) -> Found<Row> {
+    Ok(Row { key, value: Value::try_from(value)? })
+}
+
+/// The number that a row's value is for.
+pub fn number_of(row: &Row) -> u64 {
+    let bytes = row.value.as_bytes().first_chunk::<8>();
+    bytes.map_or(0, |bytes| u64::from_be_bytes(*bytes))
+}
 
 /// How long a server may take until it listens.
 const PATIENCE: Duration = Duration::from_secs(30);
@@ -86,7 +110,7 @@ pub fn until_ready<T>(mut attempt: impl FnMut() -> Found<T>) -> Found<T> {
     }
 }
 
-/// The bytes of a key or of a value.
+/// The bytes of a key.
 pub fn number(bytes: &[u8]) -> Found<u64> {
     Ok(u64::from_be_bytes(bytes.try_into().map_err(|_| "a number of eight bytes is expected")?))
 }
