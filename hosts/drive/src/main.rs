@@ -68,8 +68,10 @@ mod trips;
 mod unsynced;
 
 // What `krl`'s declarations take from it.
-mod row {
-    pub use krl::Row;
+mod model {
+    pub mod row {
+        pub use krl::Row;
+    }
 }
 
 use cluster::NODES;

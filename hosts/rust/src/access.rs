@@ -1,9 +1,12 @@
 //! Whom a server lets in.
-use crate::address::Address;
-use crate::identity::Identity;
-use crate::stream::{Accepted, Stream};
-use crate::tls::{Side, TlsConfig, TlsSession};
-use crate::unix_peer::{own_user, user_at};
+#[cfg_attr(not(any(feature = "tls", test)), expect(dead_code, reason = "TLS alone reads names"))]
+pub(crate) mod identity;
+
+use crate::access::identity::Identity;
+use crate::net::address::Address;
+use crate::net::stream::{Accepted, Stream};
+use crate::net::tls::{Side, TlsConfig, TlsSession};
+use crate::net::unix_peer::{own_user, user_at};
 use std::io::{self, ErrorKind};
 use std::os::unix::net::UnixStream;
 

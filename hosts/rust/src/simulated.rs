@@ -6,14 +6,14 @@ mod server;
 pub use client::{Before, Begin, Cached, Call, Client};
 pub use server::{Said, Server, Start};
 
-pub use crate::jobs::{Held, Purpose};
+pub use crate::client::jobs::{Held, Purpose};
 
-use crate::connect_fault::NotTaken;
-use crate::host_frame::{self, FromClient, FromServer};
-use crate::lease::Sign;
-use crate::leases::Answer;
-use crate::message::Message;
-use crate::refusal::Refusal;
+use crate::lease::of_client::Sign;
+use crate::lease::of_server::Answer;
+use crate::model::refusal::Refusal;
+use crate::net::connect_fault::NotTaken;
+use crate::wire::host_frame::{self, FromClient, FromServer};
+use crate::wire::message::Message;
 use std::io;
 
 /// What a frame is to somebody who only looks on.

@@ -1,6 +1,9 @@
 //! What survives a server, and the store that commits it.
-use crate::change::{Change, Snapshot};
-use crate::history::History;
+#[cfg(feature = "sqlite")]
+pub(crate) mod sqlite;
+
+use crate::model::change::{Change, Snapshot};
+use crate::model::history::History;
 use std::fmt;
 use std::time::Duration;
 

@@ -1,15 +1,15 @@
 //! A client of a simulation.
-use crate::address::Address;
-use crate::change::{Outcome, Write};
-use crate::client_handle::{Cache, ClientHandle, Scan};
-use crate::clocks::Now;
-use crate::frames::{self, Frames};
-use crate::jobs::{Asked, Held, Jobs, Purpose};
-use crate::lease::{Older, Sign};
-use crate::refused::Refused;
-use crate::row::Row;
-use crate::servers::Servers;
-use crate::session::Session;
+use crate::client::jobs::{Asked, Held, Jobs, Purpose};
+use crate::client::session::Session;
+use crate::lease::clocks::Now;
+use crate::lease::of_client::{Older, Sign};
+use crate::model::change::{Outcome, Write};
+use crate::model::refused::Refused;
+use crate::model::row::Row;
+use crate::net::address::Address;
+use crate::net::servers::Servers;
+use crate::proved::client_handle::{Cache, ClientHandle, Scan};
+use crate::wire::frames::{self, Frames};
 use std::fmt;
 use std::io;
 use std::ops::Range;

@@ -1,0 +1,323 @@
+//! Who is at the other end of a connection, and what it may say.
+use crate::model::refusal::ClientSet;
+use crate::wire::incoming::Incoming;
+use crate::wire::message::Message;
+use std::fmt;
+use std::str::FromStr;
+
+/// What the names of a certificate begin with.
+const CLIENT: &str = "krl:client:";
+const OPERATOR: &str = "krl:operator";
+const SERVER: &str = "krl:server";
+
+/// How many connections an identity may have at once, for each client of it.
+const CONNECTIONS_PER_CLIENT: usize = 4;
+
+/// Who is at the other end of a connection: the clients for which it may speak, and whether it may
+/// evict clients and see the status.
+///
+/// As text: the clients' numbers and `operator`, with commas between them, such as `3,4,operator`.
+#[derive(Clone, Copy, Debug, Default, PartialEq, Eq)]
+pub struct Identity {
+    clients: ClientSet,
+    is_operator: bool,
+}
+
+/// A text that is no identity.
+#[derive(Clone, Copy, Debug, PartialEq, Eq)]
+pub struct BadIdentity;
+
+/// The name of a table: 1 to 64 ASCII letters, digits, `-`, `_` and `.`. Certificates name it, so
+/// that one authority serves several tables.
+#[derive(Clone, Debug, PartialEq, Eq)]
+pub struct TableName(String);
+
+/// A text that is no name of a table.
+#[derive(Clone, Copy, Debug, PartialEq, Eq)]
+pub struct BadTableName;
+
+/// What the names of a certificate say.
+#[derive(Clone, Copy, Debug, PartialEq, Eq)]
+pub(crate) enum Role {
+    Client(u8),
+    Operator,
+    Server,
+}
+
+impl Identity {
+    /// It may say all.
+    #[must_use]
+    pub fn everybody() -> Identity {
+        Identity { clients: ClientSet::of_bits(u64::MAX), is_operator: true }
+    }
+
+    /// It may say nothing.
+    pub(crate) fn nobody() -> Identity {
+        Identity::default()
+    }
+
+    /// What these names of a certificate grant at the table, if they grant anything. A name that is
+    /// of another kind, of another table, or not spelled in its one way, grants nothing.
+    pub(crate) fn of_names<'n>(
+        names: impl IntoIterator<Item = &'n str>,
+        table: Option<&TableName>,
+    ) -> Option<Identity> {
+        let mut found = Identity::default();
+        for role in names.into_iter().filter_map(|name| Role::of_name(name, table)) {
+            match role {
+                Role::Client(number) => found.clients = found.clients.with(number),
+                Role::Operator => found.is_operator = true,
+                Role::Server => {}
+            }
+        }
+        (found != Identity::nobody()).then_some(found)
+    }
+
+    /// Whether it may speak for the client of this number.
+    #[must_use]
+    pub fn is_client(&self, number: u8) -> bool {
+        self.clients.has(number)
+    }
+
+    /// Whether it may speak for any client.
+    pub(crate) fn is_of_clients(&self) -> bool {
+        self.clients != ClientSet::default()
+    }
+
+    /// Whether it may evict clients, and see the status.
+    #[must_use]
+    pub fn is_operator(&self) -> bool {
+        self.is_operator
+    }
+
+    /// Whether it may say this frame: one that names a client of its own, or, if it is an operator,
+    /// one that ends a client. Whoever may say anything may say a host's Hello, which names no
+    /// client. Only who may say all may say a string that names no client: such a string is judged.
+    ///
+    /// A frame of a host that says nothing known may be said: it is passed over.
+    pub(crate) fn may_say(&self, frame: &Incoming<'_>) -> bool {
+        match frame {
+            Incoming::Message(message) => self.may_say_message(message),
+            Incoming::Sign(sign) => self.is_operator || self.is_client(sign.client),
+            Incoming::Host(_) => *self != Identity::nobody(),
+        }
+    }
+
+    /// The same of a message, or of the head of one.
+    pub(crate) fn may_say_message(&self, message: &Message<'_>) -> bool {
+        let Some(client) = message.client() else { return *self == Identity::everybody() };
+        let is_of_an_end = message.kind().is_of_an_end();
+        self.is_client(client) || self.is_operator && is_of_an_end
+    }
+
+    /// How many connections it may have at once.
+    pub(crate) fn most_connections(&self) -> usize {
+        let operator = usize::from(self.is_operator);
+        CONNECTIONS_PER_CLIENT * (self.clients.iter().count() + operator)
+    }
+}
+
+impl Role {
+    /// What the name says at the table. It has to be spelled in its one way, so that what an
+    /// authority reads is what the name grants.
+    fn of_name(name: &str, table: Option<&TableName>) -> Option<Role> {
+        let (role, of) = match name.split_once('@') {
+            Some((role, of)) => (role, Some(of)),
+            None => (name, None),
+        };
+        if of != table.map(TableName::as_str) {
+            return None;
+        }
+        match role {
+            OPERATOR => Some(Role::Operator),
+            SERVER => Some(Role::Server),
+            _ => number_of(role.strip_prefix(CLIENT)?).map(Role::Client),
+        }
+    }
+
+    /// Whether one of these names is that of the table's server.
+    pub(crate) fn is_server<'n>(
+        names: impl IntoIterator<Item = &'n str>,
+        table: Option<&TableName>,
+    ) -> bool {
+        names.into_iter().any(|name| Role::of_name(name, table) == Some(Role::Server))
+    }
+}
+
+/// A client's number, without a sign and without zeros before it.
+fn number_of(text: &str) -> Option<u8> {
+    let number: u8 = text.parse().ok()?;
+    (number < 64 && number.to_string() == text).then_some(number)
+}
+
+impl TableName {
+    /// The name as text.
+    #[must_use]
+    pub fn as_str(&self) -> &str {
+        &self.0
+    }
+}
+
+impl FromStr for TableName {
+    type Err = BadTableName;
+
+    fn from_str(text: &str) -> Result<TableName, BadTableName> {
+        let is_plain = |byte: u8| byte.is_ascii_alphanumeric() || b"-_.".contains(&byte);
+        let is_name = (1..=64).contains(&text.len()) && text.bytes().all(is_plain);
+        if is_name { Ok(TableName(text.into())) } else { Err(BadTableName) }
+    }
+}
+
+impl FromStr for Identity {
+    type Err = BadIdentity;
+
+    fn from_str(text: &str) -> Result<Identity, BadIdentity> {
+        let mut found = Identity::default();
+        for word in text.split(',') {
+            match word {
+                "operator" => found.is_operator = true,
+                number => {
+                    found.clients = found.clients.with(number_of(number).ok_or(BadIdentity)?);
+                }
+            }
+        }
+        Ok(found)
+    }
+}
+
+impl fmt::Display for Identity {
+    fn fmt(&self, f: &mut fmt::Formatter<'_>) -> fmt::Result {
+        let numbers = self.clients.iter().map(|client| client.to_string());
+        let operator = self.is_operator.then(|| "operator".to_string());
+        f.write_str(&numbers.chain(operator).collect::<Vec<_>>().join(","))
+    }
+}
+
+impl fmt::Display for TableName {
+    fn fmt(&self, f: &mut fmt::Formatter<'_>) -> fmt::Result {
+        f.write_str(&self.0)
+    }
+}
+
+impl fmt::Display for BadIdentity {
+    fn fmt(&self, f: &mut fmt::Formatter<'_>) -> fmt::Result {
+        f.write_str("an identity is client numbers from 0 to 63 and `operator`, as 3,4,operator")
+    }
+}
+
+impl fmt::Display for BadTableName {
+    fn fmt(&self, f: &mut fmt::Formatter<'_>) -> fmt::Result {
+        f.write_str("the name of a table has 1 to 64 letters, digits, '-', '_' and '.'")
+    }
+}
+
+impl std::error::Error for BadIdentity {}
+
+impl std::error::Error for BadTableName {}
+
+#[cfg(test)]
+mod tests {
+    use super::*;
+    use crate::lease::boot_clock::Moment;
+    use crate::lease::of_client::{Older, Sign};
+    use crate::wire::host_frame::FromClient;
+
+    fn message(kind: u8, client: u8) -> Vec<u8> {
+        [&[1, kind, client][..], &[0; 15]].concat()
+    }
+
+    fn may_say(identity: &Identity, frame: &[u8]) -> bool {
+        identity.may_say(&Incoming::read(frame))
+    }
+
+    fn of(names: &[&str], table: Option<&str>) -> Option<Identity> {
+        let table = table.map(|table| table.parse().unwrap());
+        Identity::of_names(names.iter().copied(), table.as_ref())
+    }
+
+    #[test]
+    fn a_client_speaks_for_its_numbers() {
+        let found = of(&["krl:client:3", "https://x", "krl:client:63"], None).unwrap();
+        assert_eq!("3,63".parse(), Ok(found));
+        assert_eq!(found.to_string(), "3,63");
+        assert!(may_say(&found, &message(4, 3)) && may_say(&found, &message(0, 63)));
+        assert!(!may_say(&found, &message(0, 4)) && !may_say(&found, &message(0, 64)));
+        assert!(!may_say(&found, &[]) && !may_say(&found, &[1, 0, 3]));
+        assert_eq!(found.most_connections(), 8);
+    }
+
+    #[test]
+    fn an_operator_ends_clients_and_does_no_more() {
+        let found = of(&["krl:operator"], None).unwrap();
+        for kind in 0..=8 {
+            assert_eq!(may_say(&found, &message(kind, 9)), matches!(kind, 0 | 1 | 2 | 8), "{kind}");
+        }
+        assert_eq!(found.to_string(), "operator");
+    }
+
+    #[test]
+    fn a_host_speaks_for_its_clients() {
+        let hello = FromClient::Hello(None).frame();
+        let sign = |client| {
+            let (stamp, older) = (Moment::of_nanoseconds(5), Older::Unknown);
+            Sign { client, incarnation: 1, stamp, length: 0, older }.frame()
+        };
+        let three = of(&["krl:client:3"], None).unwrap();
+        let operator = of(&["krl:operator"], None).unwrap();
+        assert!(may_say(&three, &hello[8..]) && may_say(&operator, &hello[8..]));
+        assert!(may_say(&three, &sign(3)[8..]) && !may_say(&three, &sign(4)[8..]));
+        assert!(may_say(&operator, &sign(4)[8..]));
+        for said in [&hello[8..], &sign(3)[8..], &message(0, 3)[..]] {
+            assert!(!may_say(&Identity::nobody(), said), "{said:?}");
+        }
+    }
+
+    #[test]
+    fn only_who_may_say_all_says_what_names_no_client() {
+        let three = of(&["krl:client:3"], None).unwrap();
+        for said in [&[][..], &[1], &[1, 0, 3], &[9; 40], &message(0, 64)] {
+            assert!(!may_say(&three, said) && may_say(&Identity::everybody(), said), "{said:?}");
+        }
+    }
+
+    #[test]
+    fn other_names_grant_nothing() {
+        for names in [
+            &[][..],
+            &["krl:client:64"],
+            &["krl:client:"],
+            &["krl:client:+3"],
+            &["krl:client:03"],
+            &["krl:client:3 "],
+            &["KRL:client:3"],
+            &["krl:server"],
+            &["krl:operators"],
+            &["krl:client:3@"],
+            &["krl:client:3@orders"],
+        ] {
+            assert_eq!(of(names, None), None, "{names:?}");
+        }
+        for text in ["", "3,", "64", "03", "krl", "operator,x"] {
+            assert_eq!(text.parse::<Identity>(), Err(BadIdentity), "{text}");
+        }
+        assert!("0".parse::<Identity>().is_ok_and(|identity| identity.is_client(0)));
+    }
+
+    #[test]
+    fn a_name_counts_at_its_own_table_alone() {
+        let names = ["krl:client:3@orders", "krl:operator@stock", "krl:client:4"];
+        assert_eq!(of(&names, Some("orders")), "3".parse().ok());
+        assert_eq!(of(&names, Some("stock")), "operator".parse().ok());
+        assert_eq!(of(&names, None), "4".parse().ok());
+        assert_eq!(of(&names, Some("other")), None);
+        let orders = "orders".parse().ok();
+        assert!(Role::is_server(["krl:server@orders"], orders.as_ref()));
+        assert!(Role::is_server(["krl:server"], None));
+        assert!(!Role::is_server(["krl:server"], orders.as_ref()));
+        assert!(!Role::is_server(["krl:client:3@orders"], orders.as_ref()));
+        for text in ["", "a b", "a@b", "é"] {
+            assert_eq!(text.parse::<TableName>(), Err(BadTableName), "{text}");
+        }
+        assert_eq!("x".repeat(65).parse::<TableName>(), Err(BadTableName));
+    }
+}

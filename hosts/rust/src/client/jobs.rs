@@ -1,0 +1,481 @@
+//! What a client has been asked to do, as far as it has come.
+mod anew;
+mod bound;
+mod crossed;
+mod hold;
+mod leased;
+mod pinning;
+mod takings;
+mod watched;
+mod writing;
+mod yielding;
+
+use crate::client::cached::{copied, kept};
+use crate::client::pins::Pins;
+use crate::lease::clocks::Now;
+use crate::model::change::{Outcome, Write};
+use crate::model::refused::Refused;
+use crate::model::row::Row;
+use crate::proved::client_handle::{Cache, ClientHandle, Mode, Scan};
+use crate::proved::code::Code;
+use crate::wire::message::Message;
+use std::ops::Range;
+use std::sync::mpsc::{Receiver, SyncSender, sync_channel};
+use std::time::{Duration, Instant};
+
+pub(crate) use anew::Dropped;
+use bound::{Bound, Wanted};
+use crossed::Crossed;
+use hold::Taking;
+pub use hold::{Held, Purpose};
+use leased::Speech;
+use takings::Takings;
+use watched::Watched;
+use writing::Written;
+use yielding::Narrowed;
+
+/// How often a client says again what is not answered, and how often it says that it is there.
+pub(crate) const BUSY_TICK: Duration = Duration::from_millis(20);
+pub(crate) const IDLE_TICK: Duration = Duration::from_millis(250);
+
+/// The name of a job.
+pub(crate) type JobId = u64;
+
+/// A job that was asked for: its name, and where its answer comes.
+pub(crate) struct Asked<T> {
+    pub id: JobId,
+    /// The client says it again until it is answered.
+    pub is_urgent: bool,
+    pub answer: Receiver<Result<T, Refused>>,
+}
+
+/// Where the answer to a job goes, once.
+struct Reply<T>(SyncSender<Result<T, Refused>>);
+
+impl<T> Reply<T> {
+    fn end(self, answer: Result<T, Refused>) {
+        // One who waits no longer hears nothing.
+        let _ = self.0.send(answer);
+    }
+
+    /// Gives the answer, if there is one. Else the job goes on.
+    fn give(self, found: Result<Option<T>, Code>) -> Option<Reply<T>> {
+        match found.transpose() {
+            Some(answer) => {
+                self.end(answer.map_err(Refused::from));
+                None
+            }
+            None => Some(self),
+        }
+    }
+}
+
+/// Something that takes answers of the server, with where its own answer goes.
+enum Job {
+    Join(Reply<()>),
+    Read(Range<u64>, Reply<Vec<Row>>),
+    Write(Wanted, Reply<Outcome>),
+    Forget(Range<u64>, Reply<()>),
+    Hold(Taking, Reply<Held>),
+    Leave(Reply<()>),
+}
+
+/// Whether a write was sent for a job, which the server may have applied.
+#[derive(Clone, Copy, Debug, PartialEq, Eq)]
+pub(crate) enum WasSent {
+    Yes,
+    No,
+}
+
+/// Whether a job may ask for a lock just now.
+///
+/// While messages that came are still unread it may not: a callback among them would be obeyed too
+/// late. The release would say that the client has not seen the grant that it has just asked for,
+/// and the server passes over such a release.
+#[derive(Clone, Copy, Debug, PartialEq, Eq)]
+pub(crate) enum Asking {
+    Allowed,
+    Later,
+}
+
+/// Whether the client is still there.
+#[derive(Clone, Copy, Debug, PartialEq, Eq)]
+enum Stage {
+    Here,
+    /// It joins anew to say Bye: the server may know it by an older incarnation.
+    Returning,
+    /// It says Bye.
+    Leaving,
+    /// The server has said that the Bye is kept.
+    Gone,
+    /// Its thread has ended, and no job goes on.
+    Ended,
+}
+
+/// The client and its jobs. Each call of it takes microseconds, and none waits or reads a clock: what
+/// is decided by a clock is decided by the moment that [`Jobs::at`] was given last.
+pub(crate) struct Jobs {
+    client: ClientHandle,
+    now: Now,
+    /// In the order in which they came.
+    open: Vec<(JobId, Job)>,
+    written: Option<Written>,
+    watched: Vec<Watched>,
+    /// What the client knows may have changed since the watched ranges were looked at.
+    is_changed: bool,
+    next: JobId,
+    /// The job for which the last lock was asked.
+    asker: Option<JobId>,
+    /// The points of that lock.
+    asked: Range<u64>,
+    /// What was given back just before that lock was asked for.
+    yielded: Option<Range<u64>>,
+    narrowed: Narrowed,
+    crossed: Crossed,
+    asking: Asking,
+    room: Vec<Row>,
+    /// None if a tick is due.
+    ticked: Option<Instant>,
+    pins: Pins,
+    /// Pins that their callers gave up, and that stay until a write is judged.
+    unpinned: Vec<u64>,
+    bound: Option<Bound>,
+    takings: Takings,
+    /// What was called back while it was pinned, and is no more.
+    owed: Vec<Range<u64>>,
+    stage: Stage,
+    /// Why the client has dropped all, if it has not begun anew.
+    void: Option<Dropped>,
+    has_begun_anew: bool,
+    /// The last incarnation that it has begun.
+    incarnation: u64,
+    speech: Speech,
+    /// The name of the first pin that the library's client of now may have, and of the next one.
+    /// Those before were another one's.
+    first_pin: u64,
+    next_pin: u64,
+}
+
+impl Jobs {
+    pub fn new(client: ClientHandle, now: Now) -> Jobs {
+        Jobs {
+            now,
+            incarnation: client.lease().incarnation(),
+            speech: Speech::Free,
+            client,
+            open: Vec::new(),
+            written: None,
+            watched: Vec::new(),
+            is_changed: false,
+            next: 0,
+            asker: None,
+            asked: 0..0,
+            yielded: None,
+            narrowed: Narrowed::default(),
+            crossed: Crossed::default(),
+            asking: Asking::Allowed,
+            room: Vec::with_capacity(64),
+            ticked: None,
+            pins: Pins::default(),
+            unpinned: Vec::new(),
+            bound: None,
+            takings: Takings::default(),
+            owed: Vec::new(),
+            stage: Stage::Here,
+            void: None,
+            has_begun_anew: false,
+            first_pin: 0,
+            next_pin: 0,
+        }
+    }
+
+    /// The client at this moment, which is not before the last one. Whoever makes a call of the
+    /// client gives it the moment first, read after all that the call takes has come.
+    pub fn at(&mut self, now: Now) -> &mut Jobs {
+        self.now = now;
+        self
+    }
+
+    /// The moment of the call that is made.
+    pub fn now(&self) -> Now {
+        self.now
+    }
+
+    /// Waits until the server has said its epoch.
+    pub fn join(&mut self) -> Asked<()> {
+        self.add(Job::Join)
+    }
+
+    /// The rows of a range that is not empty.
+    pub fn read(&mut self, keys: Range<u64>) -> Asked<Vec<Row>> {
+        self.add(|reply| Job::Read(keys, reply))
+    }
+
+    pub fn write(&mut self, write: Write) -> Asked<Outcome> {
+        self.add(|reply| Job::Write(Wanted::free(write), reply))
+    }
+
+    /// Gives back a range that is not empty.
+    pub fn forget(&mut self, keys: Range<u64>) -> Asked<()> {
+        self.add(|reply| Job::Forget(keys, reply))
+    }
+
+    /// Says Bye, and says it again with each tick until the server has kept it.
+    pub fn leave(&mut self) -> Asked<()> {
+        match self.stage {
+            Stage::Here if self.has_to_return() => self.stage = Stage::Returning,
+            Stage::Here => self.say_bye(),
+            _ => {}
+        }
+        self.add(Job::Leave)
+    }
+
+    fn say_bye(&mut self) {
+        self.stage = Stage::Leaving;
+        // If there is no memory for it just now, the next tick says it.
+        let _ = self.client.leave();
+        self.is_changed = true;
+    }
+
+    fn add<T>(&mut self, job: impl FnOnce(Reply<T>) -> Job) -> Asked<T> {
+        self.next += 1;
+        self.end_lease_if_over();
+        let (reply, answer) = sync_channel(1);
+        if self.stage != Stage::Ended {
+            self.open.push((self.next, job(Reply(reply))));
+            self.advance(Asking::Allowed);
+        }
+        Asked { id: self.next, is_urgent: true, answer }
+    }
+
+    /// Nobody waits for the job any more. It answers whether a write was sent for it.
+    pub fn abandon(&mut self, job: JobId) -> WasSent {
+        let written = self.written.take_if(|written| written.id == job);
+        self.watched.retain(|watched| watched.id != job);
+        if let Some(place) = self.open.iter().position(|(id, _)| *id == job) {
+            let (id, mut job) = self.open.remove(place);
+            self.free_pins_of(id, &mut job);
+        }
+        if written.is_some() { WasSent::Yes } else { WasSent::No }
+    }
+
+    /// Ends this job for this reason, if it is open.
+    pub fn refuse(&mut self, job: JobId, why: Refused) {
+        if let Some(place) = self.open.iter().position(|(id, _)| *id == job) {
+            let (id, job) = self.open.remove(place);
+            self.refuse_one(id, job, why);
+        }
+    }
+
+    /// Ends each job for this reason; but a write that was sent for the other one, if there is one,
+    /// and otherwise it goes on.
+    pub fn refuse_all(&mut self, why: Refused, of_sent: Option<Refused>) {
+        for (id, job) in std::mem::take(&mut self.open) {
+            self.refuse_one(id, job, why);
+        }
+        for watched in std::mem::take(&mut self.watched) {
+            watched.refuse(why);
+        }
+        if let Some(why) = of_sent
+            && let Some(written) = self.written.take()
+        {
+            written.refuse(why);
+        }
+    }
+
+    fn refuse_one(&mut self, id: JobId, mut job: Job, why: Refused) {
+        self.free_pins_of(id, &mut job);
+        job.refuse(why);
+    }
+
+    /// The job ends without what it asked for, and what it has pinned on its way is free again.
+    fn free_pins_of(&mut self, id: JobId, job: &mut Job) {
+        match job {
+            Job::Hold(taking, _) => self.give_up(id, taking),
+            Job::Write(wanted, _) => self.let_go(id, wanted),
+            _ => {}
+        }
+    }
+
+    /// The client's thread has ended: no job goes on, and whoever waits for one hears that.
+    pub fn end(&mut self) {
+        self.stage = Stage::Ended;
+        self.open.clear();
+        self.written = None;
+        self.watched.clear();
+    }
+
+    /// Whether something is asked that the server has not answered.
+    pub fn are_open(&self) -> bool {
+        let is_asked = !self.open.is_empty()
+            || self.written.is_some()
+            || !self.owed.is_empty()
+            || !self.unpinned.is_empty();
+        is_asked || matches!(self.stage, Stage::Returning | Stage::Leaving)
+    }
+
+    /// What the client knows, for threads that read it beside these calls.
+    pub fn cache(&self) -> Cache {
+        self.client.cache()
+    }
+
+    /// Gives the client a message of the server, and goes on with its jobs at once: a callback
+    /// behind it may take away what it gave.
+    ///
+    /// A client that is void hears nothing: what is said now was meant for the one before. Nor does
+    /// one whose lease has ended.
+    pub fn hear(&mut self, message: &[u8]) -> Result<(), Code> {
+        self.end_lease_if_over();
+        if self.is_void() {
+            return Ok(());
+        }
+        if message.is_empty() {
+            if self.stage == Stage::Leaving {
+                self.stage = Stage::Gone;
+            }
+        } else {
+            let message = Message::read(message);
+            if let Some(span) = message.called_back() {
+                self.pins.note(&span);
+            }
+            self.step(message)?;
+        }
+        self.is_changed = true;
+        self.advance(Asking::Later);
+        Ok(())
+    }
+
+    /// The next tick is due at once: there is a new connection.
+    pub fn tick_soon(&mut self) {
+        self.ticked = None;
+    }
+
+    /// How long a tick comes after the one before.
+    pub fn pace(&self) -> Duration {
+        if self.are_open() { BUSY_TICK } else { IDLE_TICK }
+    }
+
+    /// How soon the next tick is due.
+    pub fn next_tick(&self) -> Duration {
+        let since = |ticked| self.now.monotonic.saturating_duration_since(ticked);
+        self.ticked.map_or(Duration::ZERO, |ticked| self.pace().saturating_sub(since(ticked)))
+    }
+
+    /// Ticks, if the last tick is long enough ago.
+    pub fn tick_if_due(&mut self) {
+        let now = self.now.monotonic;
+        let is_due = |ticked| now.saturating_duration_since(ticked) >= self.pace();
+        if self.ticked.is_none_or(is_due) {
+            self.ticked = Some(now);
+            self.tick();
+        }
+    }
+
+    /// Says again what is not answered. A tick for which there is no memory is a message that is
+    /// lost. Before the incarnation is kept nothing can leave, and nothing more has to wait.
+    pub fn tick(&mut self) {
+        if !self.client.is_kept() {
+            return;
+        }
+        let _ = match self.stage {
+            Stage::Here | Stage::Returning => {
+                self.yield_again();
+                self.client.tick()
+            }
+            Stage::Leaving => self.client.leave(),
+            Stage::Gone | Stage::Ended => Ok(()),
+        };
+    }
+
+    /// Goes on with every job as far as it comes without another message.
+    pub fn advance(&mut self, asking: Asking) {
+        if self.is_void() {
+            return;
+        }
+        self.asking = asking;
+        if let Ok(shown) = self.client.status() {
+            if self.stage == Stage::Returning && shown.epoch > 0 {
+                self.say_bye();
+            }
+            self.end_written(&shown);
+        }
+        self.free_unpinned();
+        for (id, job) in std::mem::take(&mut self.open) {
+            if let Some(job) = self.advance_one(id, job) {
+                self.open.push((id, job));
+            }
+        }
+        self.give_back();
+        self.tell_changes();
+    }
+
+    /// The job as far as it has come, unless it has ended or its write is on its way.
+    fn advance_one(&mut self, id: JobId, job: Job) -> Option<Job> {
+        match job {
+            Job::Join(reply) => {
+                let shown = self.client.status();
+                reply.give(shown.map(|shown| (shown.epoch > 0).then_some(()))).map(Job::Join)
+            }
+            Job::Read(keys, reply) => {
+                let rows = self.try_read(id, &keys);
+                reply.give(rows).map(|reply| Job::Read(keys, reply))
+            }
+            Job::Write(wanted, reply) => self.advance_write(id, wanted, reply),
+            Job::Forget(keys, reply) => {
+                let is_done = self.try_forget(&keys);
+                let done = is_done.map(|is_done| is_done.then_some(()));
+                reply.give(done).map(|reply| Job::Forget(keys, reply))
+            }
+            Job::Hold(taking, reply) => self.advance_hold(id, taking, reply),
+            Job::Leave(reply) => {
+                let is_gone = self.stage == Stage::Gone;
+                reply.give(Ok(is_gone.then_some(()))).map(Job::Leave)
+            }
+        }
+    }
+
+    fn try_read(&mut self, id: JobId, keys: &Range<u64>) -> Result<Option<Vec<Row>>, Code> {
+        let mut room = std::mem::take(&mut self.room);
+        let rows = match self.client.scan(keys, &mut room, self.now) {
+            Ok(Scan::Rows) => copied(&mut room).map(Some),
+            Ok(Scan::Miss(point)) => self.ask(id, point..keys.end, Mode::RangeSS).map(|_| None),
+            Ok(Scan::Pending | Scan::Ended) => Ok(None),
+            Err(code) => Err(code),
+        };
+        self.room = kept(room);
+        rows
+    }
+
+    /// Asks for a lock, if the client may ask just now. It answers whether it has.
+    fn ask(&mut self, id: JobId, points: Range<u64>, mode: Mode) -> Result<bool, Code> {
+        if self.asking == Asking::Later || !self.takings.may_ask(id, points.start) {
+            return Ok(false);
+        }
+        match self.client.lock(points.clone(), mode) {
+            Ok(()) => {
+                (self.asker, self.asked) = (Some(id), points);
+                self.yielded = None;
+                Ok(true)
+            }
+            Err(Code::Busy | Code::NotJoined) => Ok(false),
+            Err(code) => Err(code),
+        }
+    }
+
+    /// Gives back what the client holds of the keys, if nothing hinders it just now.
+    fn try_forget(&mut self, keys: &Range<u64>) -> Result<bool, Code> {
+        match self.client.forget(keys) {
+            Ok(()) => {
+                self.is_changed = true;
+                Ok(true)
+            }
+            Err(Code::Writing | Code::NotJoined) => Ok(false),
+            Err(code) => Err(code),
+        }
+    }
+}
+
+#[cfg(test)]
+mod tests;
+#[cfg(test)]
+pub(crate) mod world;

@@ -1,0 +1,119 @@
+//! A client whose server's store went back or is another one, or whose lease has ended: it drops
+//! what it knows, and begins anew.
+use super::crossed::Crossed;
+use super::takings::Takings;
+use super::yielding::Narrowed;
+use super::{Asking, Job, Jobs, Stage};
+use crate::client::pins::Pins;
+use crate::model::refusal::Refusal;
+use crate::model::refused::Refused;
+use crate::proved::client_handle::ClientHandle;
+
+/// Why a client has dropped all.
+#[derive(Clone, Copy, Debug, PartialEq, Eq)]
+pub(crate) enum Dropped {
+    StoreWentBack,
+    OtherStore,
+    LeaseEnded,
+}
+
+impl Dropped {
+    /// What is told to who waits and can't go on.
+    pub fn refused(self) -> Refused {
+        match self {
+            Dropped::StoreWentBack => Refused::StoreWentBack,
+            Dropped::OtherStore => Refused::Unserved(Refusal::OtherStore),
+            Dropped::LeaseEnded => Refused::LeaseEnded,
+        }
+    }
+}
+
+impl Job {
+    /// What becomes of a job that is open as the client drops all. Behind the end of a lease it goes
+    /// on from its start. If the store went back or is another one, only those go on that join and
+    /// leave.
+    fn behind(self, why: Dropped) -> Option<Job> {
+        match (self, why) {
+            (Job::Hold(taking, reply), Dropped::LeaseEnded) => {
+                Some(Job::Hold(taking.begun_again(), reply))
+            }
+            (Job::Write(wanted, reply), Dropped::LeaseEnded) => {
+                Some(Job::Write(wanted.begun_again(), reply))
+            }
+            (job @ (Job::Join(_) | Job::Leave(_)), _) | (job, Dropped::LeaseEnded) => Some(job),
+            (job, Dropped::StoreWentBack | Dropped::OtherStore) => {
+                job.refuse(why.refused());
+                None
+            }
+        }
+    }
+
+    pub(super) fn refuse(self, why: Refused) {
+        match self {
+            Job::Join(reply) | Job::Forget(_, reply) | Job::Leave(reply) => reply.end(Err(why)),
+            Job::Read(_, reply) => reply.end(Err(why)),
+            Job::Write(_, reply) => reply.end(Err(why)),
+            Job::Hold(_, reply) => reply.end(Err(why)),
+        }
+    }
+}
+
+impl Jobs {
+    /// The client drops all that it holds and knows, as if it had crashed, and is void until it
+    /// begins anew: it answers nothing, says nothing and takes nothing. A write that is on its way
+    /// ends: whether it is done is not known. One that has left has nothing to drop.
+    pub fn drop_all(&mut self, why: Dropped) {
+        if matches!(self.stage, Stage::Gone | Stage::Ended) {
+            return;
+        }
+        self.void = Some(why);
+        self.client.replace(ClientHandle::closed());
+        if self.stage == Stage::Leaving {
+            self.stage = Stage::Returning;
+        }
+        self.pins = Pins::default();
+        self.first_pin = self.next_pin;
+        self.unpinned.clear();
+        self.bound = None;
+        self.takings = Takings::default();
+        self.owed.clear();
+        self.crossed = Crossed::default();
+        self.asker = None;
+        self.yielded = None;
+        self.narrowed = Narrowed::default();
+        if let Some(written) = self.written.take() {
+            written.refuse(why.refused());
+        }
+        self.end_unbound_writes();
+        for (id, job) in std::mem::take(&mut self.open) {
+            self.open.extend(job.behind(why).map(|job| (id, job)));
+        }
+        self.is_changed = true;
+        self.tell_changes();
+    }
+
+    /// Whether the client has to begin anew.
+    pub fn is_void(&self) -> bool {
+        self.void.is_some()
+    }
+
+    /// Whether a client that leaves has to join first, since the server may know it by an older
+    /// incarnation alone.
+    pub(super) fn has_to_return(&self) -> bool {
+        self.is_void() || self.has_begun_anew && !self.has_joined()
+    }
+
+    /// Whether the client has joined since it began, or began anew: otherwise it knows nothing.
+    pub fn has_joined(&self) -> bool {
+        self.client.status().is_ok_and(|shown| shown.epoch > 0)
+    }
+
+    /// Goes on as a client of a greater incarnation, which has not joined yet.
+    pub fn begin_anew(&mut self, client: ClientHandle) {
+        self.incarnation = client.lease().incarnation();
+        self.client.replace(client);
+        self.void = None;
+        self.has_begun_anew = true;
+        self.advance(Asking::Later);
+    }
+}

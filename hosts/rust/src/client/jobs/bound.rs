@@ -1,0 +1,95 @@
+//! Writes that are bound to a pin.
+use super::writing::Kept;
+use super::{Asked, Job, Jobs, Reply};
+use crate::model::change::{Outcome, Write};
+use crate::model::refused::Refused;
+use std::sync::mpsc::sync_channel;
+
+/// What has to hold for a write to be made.
+#[derive(Clone, Copy, Debug, PartialEq, Eq)]
+pub(super) enum Bond {
+    /// Nothing: any incarnation of the client makes it.
+    Free,
+    /// This pin. Another client may have written since the pin became void, and the caller decided
+    /// by what the pin kept.
+    Pin(u64),
+}
+
+/// A write that was asked for.
+#[derive(Debug)]
+pub(super) struct Wanted {
+    pub write: Write,
+    pub bond: Bond,
+    /// What a delete keeps until it is sent.
+    pub kept: Option<Kept>,
+}
+
+/// The last write that was sent and is bound to a pin.
+#[derive(Clone, Copy, Debug)]
+pub(super) struct Bound {
+    pin: u64,
+    number: u64,
+}
+
+impl Wanted {
+    pub fn free(write: Write) -> Wanted {
+        Wanted { write, bond: Bond::Free, kept: None }
+    }
+
+    /// The same write of a client that has dropped all, its pins too.
+    pub fn begun_again(self) -> Wanted {
+        Wanted { kept: None, ..self }
+    }
+}
+
+impl Jobs {
+    /// A write that is made while the pin holds, or never.
+    ///
+    /// Only the incarnation that has the pin sends it. A server takes a write from the registered
+    /// incarnation only, and as long as that is this one, no other client has anything of the pin.
+    pub fn write_under(&mut self, pin: u64, write: Write) -> Asked<Outcome> {
+        self.end_lease_if_over();
+        let bond = Bond::Pin(pin);
+        if self.may_write(bond) {
+            return self.add(|reply| Job::Write(Wanted { write, bond, kept: None }, reply));
+        }
+        self.next += 1;
+        let (reply, answer) = sync_channel(1);
+        Reply(reply).end(Err(Refused::PinIsVoid));
+        Asked { id: self.next, is_urgent: true, answer }
+    }
+
+    /// Whether the client may send the write just now. It is asked each time before one is sent.
+    pub(super) fn may_write(&self, bond: Bond) -> bool {
+        match bond {
+            Bond::Free => true,
+            Bond::Pin(pin) => self.holds_pin(pin),
+        }
+    }
+
+    /// A write was sent.
+    pub(super) fn note_bond(&mut self, bond: Bond, number: u64) {
+        if let Bond::Pin(pin) = bond {
+            self.bound = Some(Bound { pin, number });
+        }
+    }
+
+    /// Whether a write that is bound to the pin was sent and is not judged, also if nobody waits
+    /// for it any more. A client has one write on its way at most.
+    pub(super) fn awaits_a_write_of(&self, pin: u64) -> bool {
+        let Some(bound) = self.bound.filter(|bound| bound.pin == pin) else { return false };
+        self.shows(|shown| shown.number == bound.number && shown.outcome.is_none())
+    }
+
+    /// Ends the writes that wait, and are bound to a pin that no longer holds.
+    pub(super) fn end_unbound_writes(&mut self) {
+        for (id, job) in std::mem::take(&mut self.open) {
+            match job {
+                Job::Write(Wanted { bond, .. }, reply) if !self.may_write(bond) => {
+                    reply.end(Err(Refused::PinIsVoid));
+                }
+                job => self.open.push((id, job)),
+            }
+        }
+    }
+}

@@ -1,0 +1,162 @@
+//! Writes: the locks that each needs, and how it was judged.
+use super::bound::Wanted;
+use super::{Job, JobId, Jobs, Reply};
+use crate::model::change::{Outcome, Write};
+use crate::model::refused::Refused;
+use crate::proved::client_handle::{Mode, Scan, Shown};
+use crate::proved::code::Code;
+use std::time::{Duration, Instant};
+
+/// A delete keeps the slot of its row for so long, while it waits for the slot after it. Whoever has
+/// that one gives it back within some round trips, unless it is pinned.
+const KEEPS: Duration = Duration::from_millis(500);
+
+/// The write that is on its way. A client has one at most.
+pub(super) struct Written {
+    pub id: JobId,
+    wanted: Wanted,
+    number: u64,
+    reply: Reply<Outcome>,
+}
+
+impl Written {
+    pub fn refuse(self, why: Refused) {
+        self.reply.end(Err(why));
+    }
+}
+
+/// The pin by which a delete keeps the slot of its row.
+///
+/// It needs that slot and the one after it. Without the pin, a client that reads both and a client
+/// that deletes may take them from one another in turn, and neither ever has both. As slots are taken
+/// in ascending order, no two clients that keep some wait for one another.
+#[derive(Clone, Copy, Debug)]
+pub(super) struct Kept {
+    pin: u64,
+    since: Instant,
+}
+
+/// How far a write has come.
+enum Step {
+    Sent(u64),
+    Waits,
+    Known(Outcome),
+}
+
+impl Jobs {
+    /// Ends the job whose write was judged, before another write takes its place.
+    pub(super) fn end_written(&mut self, shown: &Shown) {
+        let Some(outcome) = shown.outcome else { return };
+        let judged = self.written.take_if(|written| written.number == shown.number);
+        let Some(Written { id, wanted, reply, .. }) = judged else { return };
+        if outcome == Outcome::NotHeld {
+            // The table was the server's to judge by: the client asks for what it lacks, and writes
+            // again.
+            let place = self.open.partition_point(|(other, _)| *other < id);
+            self.open.insert(place, (id, Job::Write(wanted, reply)));
+        } else {
+            reply.end(Ok(outcome));
+        }
+    }
+
+    pub(super) fn advance_write(
+        &mut self,
+        id: JobId,
+        mut wanted: Wanted,
+        reply: Reply<Outcome>,
+    ) -> Option<Job> {
+        if !self.may_write(wanted.bond) {
+            self.let_go(id, &mut wanted);
+            reply.end(Err(Refused::PinIsVoid));
+            return None;
+        }
+        let step = self.try_write(id, &mut wanted);
+        if matches!(step, Ok(Step::Waits)) {
+            self.let_go_if_late(id, &mut wanted);
+            return Some(Job::Write(wanted, reply));
+        }
+        self.let_go(id, &mut wanted);
+        match step {
+            Ok(Step::Waits) => {}
+            Ok(Step::Sent(number)) => {
+                self.note_bond(wanted.bond, number);
+                self.written = Some(Written { id, wanted, number, reply });
+            }
+            Ok(Step::Known(outcome)) => reply.end(Ok(outcome)),
+            Err(code) => reply.end(Err(code.into())),
+        }
+        None
+    }
+
+    fn try_write(&mut self, id: JobId, wanted: &mut Wanted) -> Result<Step, Code> {
+        let write = &wanted.write;
+        if self.asker == Some(id) && self.is_told_absent(write) {
+            self.asker = None;
+            return Ok(Step::Known(Outcome::Absent));
+        }
+        match self.client.write(write) {
+            Ok(number) => Ok(Step::Sent(number)),
+            Err(Code::Writing | Code::NotJoined) => Ok(Step::Waits),
+            Err(Code::NotHeld) => self.lock_for(id, wanted),
+            Err(code) => Err(code),
+        }
+    }
+
+    /// The server said that there is no entry to put another value to.
+    fn is_told_absent(&mut self, write: &Write) -> bool {
+        let is_absent = self.client.status().is_ok_and(|shown| shown.is_absent);
+        is_absent && matches!(write, Write::Put(_))
+    }
+
+    fn lock_for(&mut self, id: JobId, wanted: &mut Wanted) -> Result<Step, Code> {
+        let key = wanted.write.key();
+        let (points, mode) = match wanted.write {
+            Write::Insert(_) => (key..key + 1, Mode::RangeIN),
+            Write::Put(_) => (key..key + 1, Mode::X),
+            // The client reads this point, and there is no entry.
+            Write::Delete(_) if self.is_empty_at(key) => return Ok(Step::Known(Outcome::Absent)),
+            // It takes the entry and the gap behind it. The second slot is asked for by itself if
+            // it was not free.
+            Write::Delete(_) if self.client.has_all(key) => {
+                self.keep_slot(id, wanted);
+                (key + 1..key + 2, Mode::RangeXX)
+            }
+            Write::Delete(_) => (key..key + 2, Mode::RangeXX),
+        };
+        self.ask_to_change(id, points, mode)?;
+        Ok(Step::Waits)
+    }
+
+    /// Keeps the slot of the row that a delete is about, if nothing hinders that just now.
+    fn keep_slot(&mut self, id: JobId, wanted: &mut Wanted) {
+        let key = wanted.write.key();
+        if wanted.kept.is_none() && self.may_keep(id, key + 1) {
+            // A client that has all its pins asks for both slots until it has them.
+            let Ok(pin) = self.add_pin(key..key + 1) else { return };
+            wanted.kept = Some(Kept { pin, since: self.now.monotonic });
+            self.takings.keeps(id, &(key..key + 1));
+        }
+    }
+
+    /// Gives back what a delete has kept for too long: who has the other slot keeps it pinned.
+    fn let_go_if_late(&mut self, id: JobId, wanted: &mut Wanted) {
+        let now = self.now.monotonic;
+        let is_late = |kept: Kept| now.saturating_duration_since(kept.since) >= KEEPS;
+        if wanted.kept.is_some_and(is_late) {
+            self.let_go(id, wanted);
+        }
+    }
+
+    /// A delete keeps its slot no more.
+    pub(super) fn let_go(&mut self, id: JobId, wanted: &mut Wanted) {
+        if let Some(Kept { pin, .. }) = wanted.kept.take() {
+            self.takings.ends(id);
+            self.unpin(pin);
+        }
+    }
+
+    fn is_empty_at(&mut self, key: u64) -> bool {
+        let mut rows = Vec::new();
+        self.client.scan(&(key..key + 1), &mut rows, self.now) == Ok(Scan::Rows) && rows.is_empty()
+    }
+}

@@ -1,0 +1,150 @@
+//! What a client gives back before it asks for a slot that it only reads.
+//!
+//! A server puts a request in front of the others if its client already holds something of the
+//! slot. A client that reads a slot and then asks to change it would pass the client that has the
+//! slot pinned for an update and asks for X. It would wait for that pin, and the other client would
+//! wait after it, until one of the two calls times out. The request of a client that holds nothing
+//! goes to the end of the queue: the client that has the update mode writes first.
+mod narrowed;
+mod reach;
+
+use super::{Asking, JobId, Jobs};
+use crate::model::row::{END, Row};
+use crate::proved::client_handle::{Mode, Scan, Shown};
+use crate::proved::code::Code;
+pub(super) use narrowed::Narrowed;
+use reach::{TooFar, farthest};
+use std::ops::Range;
+
+/// So many rows are looked at to find where a gap ends.
+const FEW: usize = 64;
+
+/// A slot that the client reads, and that another client may have for an update.
+#[derive(Clone, Debug, PartialEq, Eq)]
+struct OnlyRead {
+    span: Range<u64>,
+    has_gap: bool,
+}
+
+impl OnlyRead {
+    /// The mode that the client would have after the grant if it kept what it reads: it goes on to
+    /// read it.
+    fn joined_with(&self, mode: Mode) -> Mode {
+        match mode {
+            Mode::X if self.has_gap => Mode::RangeXX,
+            Mode::RangeIN if self.has_gap => Mode::RangeXS,
+            Mode::RangeIN => Mode::RangeIS,
+            mode => mode,
+        }
+    }
+}
+
+impl Jobs {
+    /// Asks for a lock with which the client may change something, now or later, if it may ask just
+    /// now. It answers whether it has. What the client only reads of the first slot it gives back
+    /// before, unless it is pinned: the release and the request leave together.
+    pub(super) fn ask_to_change(
+        &mut self,
+        id: JobId,
+        points: Range<u64>,
+        mode: Mode,
+    ) -> Result<bool, Code> {
+        let is_waiting = self.shows(|shown| shown.is_waiting);
+        let may_ask = self.takings.may_ask(id, points.start);
+        if self.asking == Asking::Later || is_waiting || !may_ask {
+            return Ok(false);
+        }
+        let Some(read) = self.slot_only_read(points.start, mode) else {
+            return self.ask(id, points, mode);
+        };
+        // The server passes over a release that leaves while a push is on its way.
+        if self.shows(Shown::awaits_a_push) {
+            return Ok(false);
+        }
+        match self.try_forget(&read.span) {
+            Ok(true) => {
+                let has_asked = self.ask(id, points, read.joined_with(mode))?;
+                self.yielded = has_asked.then_some(read.span);
+                Ok(has_asked)
+            }
+            Ok(false) => Ok(false),
+            Err(Code::Pinned) => self.ask(id, points, mode),
+            Err(code) => Err(code),
+        }
+    }
+
+    /// Gives back again what the client gave back before the request that waits. A connection that
+    /// has ended may have lost the release, and the request is said again on the next one.
+    pub(super) fn yield_again(&mut self) {
+        if let Some(span) = self.yielded.clone()
+            && self.shows(|shown| shown.is_waiting)
+        {
+            // Who has pinned there meanwhile waits where the request stands.
+            let _ = self.client.forget(&span);
+        }
+    }
+
+    /// The client was called back on this slot.
+    pub(super) fn note_narrowed(&mut self, slot: &Range<u64>) {
+        if self.reads_entry_without_gap(slot) {
+            self.narrowed.note(slot.clone());
+        }
+    }
+
+    /// The slot of this point, if the client reads there and has no greater mode.
+    fn slot_only_read(&self, point: u64, mode: Mode) -> Option<OnlyRead> {
+        let is_entry_read = self.client.reads_entry(point);
+        // There is no entry to lock: the server answers so at once, wherever the request stands.
+        if mode == Mode::X && !is_entry_read {
+            return None;
+        }
+        if self.client.reads_gap(point) {
+            return self.slot_with_gap(point);
+        }
+        let narrowed = self.narrowed.slot_of(point);
+        if let Some(slot) = narrowed.filter(|slot| self.reads_entry_without_gap(slot)) {
+            return Some(OnlyRead { span: slot.clone(), has_gap: false });
+        }
+        is_entry_read.then(|| OnlyRead { span: point..point + 1, has_gap: false })
+    }
+
+    /// What the client knows of the slot of this point in a gap that it reads.
+    fn slot_with_gap(&self, point: u64) -> Option<OnlyRead> {
+        let mut rows = Vec::with_capacity(FEW);
+        let below = farthest(point, |length| {
+            let nearest = self.known_rows(&(point - length..point), &mut rows)?;
+            Ok(nearest.last().map(|row| point - row.key - 1))
+        });
+        let above = farthest(END - point, |length| {
+            let nearest = self.known_rows(&(point..point + length), &mut rows)?;
+            Ok(nearest.first().map(|row| row.key - point))
+        });
+        let entry = point + above;
+        if self.client.may_update(entry) {
+            return None;
+        }
+        let is_entry_read = self.client.reads_gap(entry) || self.client.reads_entry(entry);
+        Some(OnlyRead { span: point - below..entry + u64::from(is_entry_read), has_gap: true })
+    }
+
+    /// The rows of these keys, if the client knows all of them and they are few.
+    fn known_rows<'r>(
+        &self,
+        keys: &Range<u64>,
+        rows: &'r mut Vec<Row>,
+    ) -> Result<&'r [Row], TooFar> {
+        match self.client.known(keys, rows) {
+            Ok(Scan::Rows) => Ok(rows),
+            _ => Err(TooFar),
+        }
+    }
+
+    fn reads_entry_without_gap(&self, slot: &Range<u64>) -> bool {
+        // No slot is empty, and a message may still say so.
+        let entry = slot.end.saturating_sub(1);
+        self.client.reads_entry(entry) && !self.client.reads_gap(entry)
+    }
+}
+
+#[cfg(test)]
+mod tests;

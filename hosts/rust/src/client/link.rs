@@ -1,0 +1,384 @@
+//! The thread of a client that keeps its connection, and what it shares with the callers: sockets,
+//! locks and the lock file, around what [`crate::client::session`] decides.
+use crate::client::backoff;
+use crate::client::jobs::Jobs;
+use crate::client::lock_file::LockFile;
+use crate::client::session::Session;
+use crate::client::writer::{Writer, Written};
+use crate::lease::clocks::Now;
+use crate::log::event_log;
+use crate::net::address::Address;
+use crate::net::carrier::Carrier;
+use crate::net::connect_fault::Rejection;
+use crate::net::poller::{Poller, Readiness, Ready, SecondPoller, Watched};
+use crate::net::servers::Servers;
+use crate::proved::client_handle::{Cache, ClientHandle};
+use crate::wire::frames::{Frames, GULP};
+use mio::Waker;
+use std::convert::Infallible;
+use std::io::{self, ErrorKind};
+use std::sync::{Arc, Condvar, Mutex, MutexGuard, PoisonError, TryLockError};
+use std::time::{Duration, Instant};
+
+/// How long a connection may take to be made.
+const CONNECT: Duration = Duration::from_secs(1);
+
+/// The one connection, as the poller names it.
+const CONNECTION: u64 = 0;
+
+/// What the thread of the connection and the callers share.
+///
+/// What waits to be written is locked after `session` and never before it, and no stream is touched
+/// while `session` is held. A scan of the cache takes none of these locks.
+pub(crate) struct Link {
+    servers: Servers,
+    session: Mutex<Session>,
+    cache: Cache,
+    writer: Writer,
+    waker: Arc<Waker>,
+    /// The connection, as it is read.
+    reading: Mutex<Option<Reading>>,
+    /// A caller has its turn to wait for what comes, while it waits for an answer.
+    turn: Mutex<()>,
+    poller: SecondPoller,
+    thread: Mutex<Thread>,
+    changed: Condvar,
+    /// None once the client is gone.
+    lock_file: Mutex<Option<LockFile>>,
+}
+
+/// The state of the thread of the connection.
+#[derive(Clone, Copy, Debug, PartialEq, Eq)]
+enum Thread {
+    Runs,
+    IsToEnd,
+    HasEnded,
+}
+
+/// A connection, as it is read: by the thread, or by a caller that waits for an answer.
+struct Reading {
+    carrier: Carrier,
+    frames: Frames,
+    unread: Unread,
+    watched: Watched,
+    /// Until when the thread sleeps if nothing comes.
+    sleeps_until: Instant,
+    /// When the session has something to do if nothing comes.
+    is_due: Instant,
+    /// Why it has to end, as a caller has found.
+    failed: Option<io::Error>,
+}
+
+/// What may be read from the connection.
+#[derive(Clone, Copy, Debug, PartialEq, Eq)]
+enum Unread {
+    Nothing,
+    Something,
+    /// The last that there is, and then the end.
+    Last,
+}
+
+impl Link {
+    /// A client that is not connected, and what its thread waits by.
+    pub fn new(
+        servers: Servers,
+        jobs: Jobs,
+        lock_file: Option<LockFile>,
+    ) -> io::Result<(Link, Poller)> {
+        let (poller, waker) = Poller::new()?;
+        let link = Link {
+            cache: jobs.cache(),
+            session: Mutex::new(Session::new(servers.clone(), jobs, backoff::seed())),
+            servers,
+            writer: Writer::default(),
+            waker,
+            reading: Mutex::new(None),
+            turn: Mutex::new(()),
+            poller: SecondPoller::of(&poller)?,
+            thread: Mutex::new(Thread::Runs),
+            changed: Condvar::new(),
+            lock_file: Mutex::new(lock_file),
+        };
+        Ok((link, poller))
+    }
+
+    /// Where the server is, or where it may be.
+    pub fn servers(&self) -> &Servers {
+        &self.servers
+    }
+
+    /// What the client knows. No lock is taken for it.
+    pub fn cache(&self) -> &Cache {
+        &self.cache
+    }
+
+    /// The session as it is now. The clocks are read when nobody else has it.
+    pub fn session(&self) -> MutexGuard<'_, Session> {
+        let mut session = lock(&self.session);
+        session.at(Now::read());
+        session
+    }
+
+    /// Makes a call of the client now. What it says leaves later.
+    pub fn with_jobs<T>(&self, call: impl FnOnce(&mut Jobs) -> T) -> T {
+        call(self.session().jobs())
+    }
+
+    /// Why there is no connection just now, if there is none. It is said once.
+    pub fn take_fault(&self) -> Option<io::Error> {
+        self.session().take_fault()
+    }
+
+    /// Whether there is a connection just now.
+    pub fn is_connected(&self) -> bool {
+        self.session().is_connected()
+    }
+
+    /// Why the last connection was rejected, if it was and the server does not take this side now.
+    pub fn rejection(&self) -> Option<Rejection> {
+        self.session().rejection()
+    }
+
+    /// Gives the client's number free: another process may take it.
+    pub fn free_number(&self) {
+        lock(&self.lock_file).take();
+    }
+
+    /// Tells the thread to end.
+    pub fn end(&self) {
+        let mut thread = lock(&self.thread);
+        if *thread == Thread::Runs {
+            *thread = Thread::IsToEnd;
+        }
+        drop(thread);
+        self.changed.notify_all();
+        self.writer.close();
+        self.wake();
+    }
+
+    /// Has the thread look at the session at once, if it waits for its connection.
+    fn wake(&self) {
+        // One that is not woken looks by itself a little later.
+        let _ = self.waker.wake();
+    }
+
+    /// Waits until the thread has ended, or until the deadline. It answers whether it has.
+    pub fn has_ended(&self, end: Instant) -> bool {
+        let left = end.saturating_duration_since(Instant::now());
+        let waited = self
+            .changed
+            .wait_timeout_while(lock(&self.thread), left, |thread| *thread != Thread::HasEnded);
+        !waited.unwrap_or_else(PoisonError::into_inner).1.timed_out()
+    }
+
+    /// Keeps the connection until the client ends.
+    pub fn run(&self, mut poller: Poller) {
+        let _ended = Ended(self);
+        while self.runs() {
+            let address = self.session().address().clone();
+            let Err(end) = self.connect_and_serve(&address, &mut poller);
+            self.writer.close();
+            let pause = self.session().disconnected(end);
+            self.rest(pause);
+        }
+    }
+
+    fn runs(&self) -> bool {
+        *lock(&self.thread) == Thread::Runs
+    }
+
+    /// Waits so long, or until the client ends.
+    fn rest(&self, pause: Duration) {
+        let thread = lock(&self.thread);
+        let waited =
+            self.changed.wait_timeout_while(thread, pause, |thread| *thread == Thread::Runs);
+        drop(waited.unwrap_or_else(PoisonError::into_inner));
+    }
+
+    /// Connects, and serves the connection until it ends.
+    fn connect_and_serve(&self, address: &Address, poller: &mut Poller) -> io::Result<Infallible> {
+        self.begin_anew_if_due()?;
+        let carrier = Carrier::connect(address, self.servers.tls(), CONNECT)?;
+        self.keep_incarnation()?;
+        let first = self.session().connected()?;
+        self.writer.open(carrier.try_clone()?, first);
+        event_log::connected(address);
+        let ended = self.serve(carrier, poller);
+        if let Some(reading) = lock(&self.reading).take() {
+            poller.remove(reading.carrier.stream());
+            reading.carrier.shut();
+        }
+        ended
+    }
+
+    /// Hears what the server says, until the connection ends.
+    fn serve(&self, carrier: Carrier, poller: &mut Poller) -> io::Result<Infallible> {
+        self.open_reading(carrier, poller)?;
+        let mut due_in = self.go_on(std::iter::empty())?;
+        while self.runs() {
+            poller.wait(due_in)?;
+            due_in = self.go_on(poller.ready())?;
+            self.let_caller_read();
+        }
+        Err(ErrorKind::Interrupted.into())
+    }
+
+    /// From now on the connection is read, by whoever learns first that something has come.
+    fn open_reading(&self, carrier: Carrier, poller: &Poller) -> io::Result<()> {
+        let watches = poller.add(CONNECTION, carrier.stream());
+        let now = Instant::now();
+        *lock(&self.reading) = Some(Reading {
+            carrier,
+            frames: Frames::to_client(),
+            unread: Unread::Something,
+            watched: Watched::Reads,
+            sleeps_until: now,
+            is_due: now,
+            failed: None,
+        });
+        watches
+    }
+
+    /// Takes what has come on the connection, and goes on with what the client was asked. It answers
+    /// when that is due again if nothing comes: the thread sleeps until then.
+    fn go_on(&self, ready: impl Iterator<Item = Ready>) -> io::Result<Duration> {
+        let mut reading = lock(&self.reading);
+        let reading = reading.as_mut().ok_or(ErrorKind::NotConnected)?;
+        if let Some(error) = reading.failed.take() {
+            return Err(error);
+        }
+        let due_in = self.read_on(reading, ready)?;
+        reading.is_due = Instant::now() + due_in;
+        reading.sleeps_until = reading.is_due;
+        Ok(due_in)
+    }
+
+    /// Reads what there is, and goes on with what the client was asked after each part.
+    fn read_on(
+        &self,
+        reading: &mut Reading,
+        ready: impl Iterator<Item = Ready>,
+    ) -> io::Result<Duration> {
+        reading.unread = ready.fold(reading.unread, Unread::after);
+        loop {
+            let Reading { carrier, frames, unread, .. } = reading;
+            let has_come = *unread != Unread::Nothing && unread.read(carrier, frames)?;
+            let (written, due_in) = self.proceed(has_come.then_some(frames))?;
+            if reading.unread == Unread::Nothing {
+                self.watch(reading, written)?;
+                return Ok(due_in);
+            }
+        }
+    }
+
+    /// If a caller waits for what comes, it is told that something has, since it has no other way to
+    /// learn of its answer; and it reads the connection until it leaves.
+    fn let_caller_read(&self) {
+        if matches!(self.turn.try_lock(), Err(TryLockError::WouldBlock)) {
+            self.wake();
+            drop(lock(&self.turn));
+        }
+    }
+
+    /// Watches the connection for writes too, while a part waits to be written.
+    fn watch(&self, reading: &mut Reading, written: Written) -> io::Result<()> {
+        let next = match written {
+            Written::Part => Watched::Both,
+            Written::AllOrNothing => Watched::Reads,
+        };
+        if std::mem::replace(&mut reading.watched, next) != next {
+            self.poller.watch(CONNECTION, reading.carrier.stream(), next)?;
+        }
+        Ok(())
+    }
+
+    /// Takes what has come, if something has; goes on with what the client was asked, and writes what
+    /// it says. It answers when that is due again if nothing comes.
+    fn proceed(&self, came: Option<&mut Frames>) -> io::Result<(Written, Duration)> {
+        let mut session = self.session();
+        if let Some(frames) = came {
+            session.receive(frames)?;
+        }
+        session.proceed()?;
+        let due_in = session.due_in();
+        Ok((self.send(session), due_in))
+    }
+
+    /// Has the incarnation on the disk before anything of it leaves. A client whose number is free
+    /// again says nothing more.
+    fn keep_incarnation(&self) -> io::Result<()> {
+        let mut lock_file = lock(&self.lock_file);
+        let file = lock_file.as_mut().ok_or(ErrorKind::Interrupted)?;
+        file.keep().map_err(|error| {
+            io::Error::new(error.kind(), format!("the lock file can't be written: {error}"))
+        })?;
+        self.session().confirm_incarnation()
+    }
+
+    /// Gives a client that has dropped all, or whose lease has ended, a greater incarnation, under
+    /// which it joins anew.
+    fn begin_anew_if_due(&self) -> io::Result<()> {
+        if !self.session().has_to_begin_anew() {
+            return Ok(());
+        }
+        let mut lock_file = lock(&self.lock_file);
+        let Some(file) = &mut *lock_file else { return Err(ErrorKind::Interrupted.into()) };
+        let incarnation = file.renew();
+        let client = ClientHandle::open_behind(file.number(), incarnation, file.older());
+        self.session().begin_anew(client.map_err(io::Error::other)?);
+        event_log::began_anew(file.number(), incarnation);
+        Ok(())
+    }
+}
+
+impl Unread {
+    /// What is to be read after this has become ready.
+    fn after(self, ready: Ready) -> Unread {
+        match (ready, self) {
+            (Ready::Connection(_, Readiness { is_last: true, .. }), _) => Unread::Last,
+            (Ready::Connection(_, Readiness { reads: true, .. }), Unread::Nothing) => {
+                Unread::Something
+            }
+            _ => self,
+        }
+    }
+
+    /// Reads once. It answers whether something came, and is then what is left to be read.
+    fn read(&mut self, carrier: &mut Carrier, frames: &mut Frames) -> io::Result<bool> {
+        match carrier.fill(frames) {
+            Ok(0) => return Err(ErrorKind::UnexpectedEof.into()),
+            Ok(count) => {
+                // A socket that gives less than it could has no more. The end is no byte: who was
+                // told of it reads until it comes.
+                if count < GULP && *self == Unread::Something {
+                    *self = Unread::Nothing;
+                }
+                return Ok(true);
+            }
+            Err(error) if error.kind() == ErrorKind::Interrupted => {}
+            Err(error) if error.kind() == ErrorKind::WouldBlock => *self = Unread::Nothing,
+            Err(error) => return Err(error),
+        }
+        Ok(false)
+    }
+}
+
+/// Says that the thread has ended, even if it panics: nobody waits for it then.
+struct Ended<'l>(&'l Link);
+
+impl Drop for Ended<'_> {
+    fn drop(&mut self) {
+        self.0.writer.close();
+        self.0.session().jobs().end();
+        *lock(&self.0.thread) = Thread::HasEnded;
+        self.0.changed.notify_all();
+    }
+}
+
+fn lock<T>(mutex: &Mutex<T>) -> MutexGuard<'_, T> {
+    mutex.lock().unwrap_or_else(PoisonError::into_inner)
+}
+
+mod asking;
+#[cfg(test)]
+mod tests;

@@ -1,0 +1,231 @@
+//! The lock file of a client number: one process at a time, and greater incarnations.
+//!
+//! The file has the last incarnation that may have been said to a server. One that reached no server
+//! leaves the file as it was: the next one then knows the incarnation that a server may still know,
+//! and that no process of it is left.
+use crate::lease::of_client::Older;
+use std::fmt;
+use std::fs::{File, OpenOptions, TryLockError};
+use std::io::{self, Read, Seek, SeekFrom, Write};
+use std::path::Path;
+use std::time::{SystemTime, UNIX_EPOCH};
+
+/// A lock file that this process holds. Another process may take it when this value is gone, or the
+/// process is.
+#[derive(Debug)]
+pub(crate) struct LockFile {
+    file: File,
+    number: u8,
+    /// The incarnation of now.
+    incarnation: u64,
+    /// The last one that may have been said to a server, or 0. It is in the file.
+    kept: u64,
+    /// The last one before that of now which may have been said to a server, or 0.
+    before: u64,
+}
+
+/// Why a lock file was not taken.
+#[derive(Debug)]
+#[non_exhaustive]
+pub enum LockFileError {
+    /// Another process has it: it is a client of this number.
+    Taken,
+    /// It says something else than a lock file of this number does.
+    Strange,
+    /// The file can't be read or written.
+    File(io::Error),
+}
+
+// One line, always of the same length, so that it is written over in place: a crash leaves the old
+// line or the new one.
+const FORM: &str = "krl client 00 incarnation 00000000000000000000\n";
+
+impl LockFile {
+    /// Takes the file for the client of this number, makes it if there is none, and gives the
+    /// client's incarnation: greater than every one that was said before. [`LockFile::keep`] has to
+    /// come before this one is said.
+    ///
+    /// The incarnation is the time in nanoseconds, or one more than the last one if the clock
+    /// went back. So it rises even if the file was lost.
+    pub fn take(path: &Path, number: u8) -> Result<(LockFile, u64), LockFileError> {
+        let mut options = OpenOptions::new();
+        let file = options.read(true).write(true).create(true).truncate(false).open(path)?;
+        match file.try_lock() {
+            Ok(()) => {}
+            Err(TryLockError::WouldBlock) => return Err(LockFileError::Taken),
+            Err(TryLockError::Error(error)) => return Err(error.into()),
+        }
+        let mut lock = LockFile { file, number, incarnation: 0, kept: 0, before: 0 };
+        lock.kept = lock.last()?;
+        lock.incarnation = lock.kept;
+        sync_folder_of(path)?;
+        let incarnation = lock.renew();
+        Ok((lock, incarnation))
+    }
+
+    /// Gives the client another incarnation, greater than every one before.
+    pub fn renew(&mut self) -> u64 {
+        self.before = self.kept;
+        self.incarnation = now().max(self.incarnation + 1);
+        self.incarnation
+    }
+
+    /// Has the client's incarnation be greater than this one too, and gives it.
+    pub fn rise_above(&mut self, other: u64) -> u64 {
+        self.incarnation = self.incarnation.max(other.saturating_add(1));
+        self.incarnation
+    }
+
+    /// Has the incarnation of now on the disk when it returns: from then on it may be said.
+    pub fn keep(&mut self) -> io::Result<()> {
+        if self.kept == self.incarnation {
+            return Ok(());
+        }
+        self.file.seek(SeekFrom::Start(0))?;
+        self.file.write_all(line(self.number, self.incarnation).as_bytes())?;
+        self.file.sync_all()?;
+        self.kept = self.incarnation;
+        Ok(())
+    }
+
+    /// What is known of older incarnations: no process of the last one before is left, since whoever
+    /// has the file alone runs as this client. It is the one that a server knows, unless that was
+    /// not reached from this machine.
+    pub fn older(&self) -> Older {
+        if self.before == 0 { Older::Unknown } else { Older::IsOver(self.before) }
+    }
+
+    /// The client's number.
+    pub fn number(&self) -> u8 {
+        self.number
+    }
+
+    /// The incarnation in the file, or 0 if it is new.
+    fn last(&mut self) -> Result<u64, LockFileError> {
+        let mut text = String::new();
+        let mut start = (&self.file).take(FORM.len() as u64 + 1);
+        start.read_to_string(&mut text).map_err(|_| LockFileError::Strange)?;
+        if text.is_empty() {
+            return Ok(0);
+        }
+        let head = format!("krl client {:02} incarnation ", self.number);
+        let last = text.strip_prefix(&head).and_then(|rest| rest.strip_suffix('\n'));
+        let last = last.and_then(|digits| digits.parse::<u64>().ok());
+        last.filter(|last| *last < u64::MAX).ok_or(LockFileError::Strange)
+    }
+}
+
+fn line(number: u8, incarnation: u64) -> String {
+    format!("krl client {number:02} incarnation {incarnation:020}\n")
+}
+
+fn now() -> u64 {
+    let since = SystemTime::now().duration_since(UNIX_EPOCH).unwrap_or_default();
+    u64::try_from(since.as_nanos()).unwrap_or(0)
+}
+
+/// A file that is new has a name on the disk only when its folder is synced.
+fn sync_folder_of(path: &Path) -> io::Result<()> {
+    match path.parent() {
+        Some(folder) if !folder.as_os_str().is_empty() => File::open(folder)?.sync_all(),
+        _ => File::open(".")?.sync_all(),
+    }
+}
+
+impl Drop for LockFile {
+    /// Frees the file even if a process that was forked a moment ago has it open too, until it runs
+    /// its own program.
+    fn drop(&mut self) {
+        let _ = self.file.unlock();
+    }
+}
+
+impl fmt::Display for LockFileError {
+    fn fmt(&self, f: &mut fmt::Formatter<'_>) -> fmt::Result {
+        match self {
+            LockFileError::Taken => f.write_str("another process is the client of this number"),
+            LockFileError::Strange => f.write_str("the file is no lock file of this client number"),
+            LockFileError::File(error) => write!(f, "the lock file can't be used: {error}"),
+        }
+    }
+}
+
+impl std::error::Error for LockFileError {
+    fn source(&self) -> Option<&(dyn std::error::Error + 'static)> {
+        match self {
+            LockFileError::File(error) => Some(error),
+            LockFileError::Taken | LockFileError::Strange => None,
+        }
+    }
+}
+
+impl From<io::Error> for LockFileError {
+    fn from(error: io::Error) -> LockFileError {
+        LockFileError::File(error)
+    }
+}
+
+#[cfg(test)]
+mod tests {
+    use super::*;
+
+    fn path(name: &str) -> std::path::PathBuf {
+        std::env::temp_dir().join(format!("krl-{}-{name}.lock", std::process::id()))
+    }
+
+    #[test]
+    fn one_holder_and_rising_incarnations() {
+        let path = path("rising");
+        let (mut held, first) = LockFile::take(&path, 3).unwrap();
+        held.keep().unwrap();
+        assert_eq!(held.older(), Older::Unknown);
+        assert!(matches!(LockFile::take(&path, 3), Err(LockFileError::Taken)));
+        drop(held);
+        let (held, second) = LockFile::take(&path, 3).unwrap();
+        assert!(second > first);
+        assert_eq!(held.older(), Older::IsOver(first));
+        drop(held);
+        let far = i64::MAX as u64 - 5;
+        std::fs::write(&path, line(3, far)).unwrap();
+        let (mut held, first) = LockFile::take(&path, 3).unwrap();
+        assert_eq!((first, held.older()), (far + 1, Older::IsOver(far)));
+        held.keep().unwrap();
+        assert_eq!(std::fs::read_to_string(&path).unwrap(), line(3, far + 1));
+        assert_eq!([held.renew(), held.renew()], [far + 2, far + 3]);
+        assert_eq!(held.older(), Older::IsOver(far + 1));
+        held.keep().unwrap();
+        assert_eq!(std::fs::read_to_string(&path).unwrap(), line(3, far + 3));
+        assert_eq!((held.renew(), held.older()), (far + 4, Older::IsOver(far + 3)));
+        std::fs::remove_file(&path).unwrap();
+    }
+
+    #[test]
+    fn an_incarnation_that_was_never_said_leaves_no_trace() {
+        let path = path("vain");
+        let (mut said, first) = LockFile::take(&path, 3).unwrap();
+        said.keep().unwrap();
+        drop(said);
+        // Two starts that reach no server.
+        drop(LockFile::take(&path, 3).unwrap());
+        drop(LockFile::take(&path, 3).unwrap());
+        let (mut held, last) = LockFile::take(&path, 3).unwrap();
+        assert_eq!(held.older(), Older::IsOver(first));
+        assert_eq!(std::fs::read_to_string(&path).unwrap(), line(3, first));
+        held.keep().unwrap();
+        assert_eq!(std::fs::read_to_string(&path).unwrap(), line(3, last));
+        std::fs::remove_file(&path).unwrap();
+    }
+
+    #[test]
+    fn another_file_is_left_alone() {
+        let path = path("other");
+        for text in
+            ["hello\n", "krl client 04 incarnation 00000000000000000001\n", "krl client 03 "]
+        {
+            std::fs::write(&path, text).unwrap();
+            assert!(matches!(LockFile::take(&path, 3), Err(LockFileError::Strange)));
+            assert_eq!(std::fs::read_to_string(&path).unwrap(), text);
+        }
+        std::fs::remove_file(&path).unwrap();
+    }
+}

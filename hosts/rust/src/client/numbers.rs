@@ -1,0 +1,87 @@
+//! The first number of several that is free.
+use crate::client::builder::Waits;
+use crate::client::lock_file::LockFileError;
+use crate::model::refusal::Refusal;
+use crate::model::refused::JoinError;
+use std::time::Duration;
+
+/// How long a number is tried of which the server tells that another process has it.
+const IN_USE: Duration = Duration::from_secs(1);
+
+/// Joins by the first of these numbers that is free. A number whose lock file another process has is
+/// left for the next one at once, and one of which the server tells that it is in use after a moment.
+/// If no other one is free, the first of the latter is waited for. The answer is `None` if other
+/// processes have the lock files of all.
+pub(crate) fn join_first<C, E>(
+    numbers: &[u8],
+    waits: Waits,
+    join: impl Fn(u8, Waits) -> Result<C, E>,
+    why: impl Fn(&E) -> &JoinError,
+) -> Option<Result<C, E>> {
+    let short = Waits { if_in_use: waits.if_in_use.min(IN_USE), ..waits };
+    let mut in_use = None;
+    for &number in numbers {
+        let error = match join(number, short) {
+            Ok(client) => return Some(Ok(client)),
+            Err(error) => error,
+        };
+        match why(&error) {
+            JoinError::LockFile(LockFileError::Taken) => {}
+            JoinError::Unserved(Refusal::LeaseRuns { .. } | Refusal::Incarnation { .. }) => {
+                in_use.get_or_insert(number);
+            }
+            _ => return Some(Err(error)),
+        }
+    }
+    in_use.map(|number| join(number, waits))
+}
+
+#[cfg(test)]
+mod tests {
+    use super::*;
+    use std::cell::RefCell;
+
+    const WAITS: Waits = Waits { timeout: Duration::from_secs(9), if_in_use: Duration::MAX };
+
+    /// What came of a search, and which numbers were tried, with whether for long.
+    type Searched = (Option<Result<u8, JoinError>>, Vec<(u8, bool)>);
+
+    /// What becomes of these numbers, of which each is free, taken (`l`), in use (`u`) or fails (`f`).
+    fn run(numbers: &[(u8, char)]) -> Searched {
+        let tried = RefCell::new(Vec::new());
+        let join = |number: u8, waits: Waits| {
+            tried.borrow_mut().push((number, waits.if_in_use == WAITS.if_in_use));
+            match numbers.iter().find(|(other, _)| *other == number).unwrap().1 {
+                'l' => Err(JoinError::LockFile(LockFileError::Taken)),
+                'u' => Err(JoinError::Unserved(Refusal::Incarnation { client: 1, registered: 2 })),
+                'f' => Err(JoinError::BadNumber),
+                _ => Ok(number),
+            }
+        };
+        let all: Vec<u8> = numbers.iter().map(|(number, _)| *number).collect();
+        let joined = join_first(&all, WAITS, join, |error| error);
+        (joined, tried.into_inner())
+    }
+
+    #[test]
+    fn the_first_free_number_is_taken() {
+        let (joined, tried) = run(&[(3, 'l'), (4, 'u'), (5, ' '), (6, ' ')]);
+        assert!(matches!(joined, Some(Ok(5))));
+        assert_eq!(tried, [(3, false), (4, false), (5, false)]);
+    }
+
+    #[test]
+    fn one_that_is_in_use_is_waited_for_if_no_other_one_is_free() {
+        let (joined, tried) = run(&[(3, 'u'), (4, 'l'), (5, 'u')]);
+        assert!(matches!(joined, Some(Err(JoinError::Unserved(_)))));
+        assert_eq!(tried, [(3, false), (4, false), (5, false), (3, true)]);
+        assert!(run(&[(3, 'l'), (4, 'l')]).0.is_none());
+    }
+
+    #[test]
+    fn another_failure_ends_the_search() {
+        let (joined, tried) = run(&[(3, 'f'), (4, ' ')]);
+        assert!(matches!(joined, Some(Err(JoinError::BadNumber))));
+        assert_eq!(tried, [(3, false)]);
+    }
+}

@@ -1,0 +1,105 @@
+//! A pinned range, and the writes that are bound to it.
+use crate::client::Client;
+use crate::client::set;
+use crate::model::change::{Outcome, Write};
+use crate::model::refused::Refused;
+use crate::model::row::{Row, Value};
+use std::fmt;
+use std::time::Instant;
+
+/// A pinned range: no other client takes away what the client holds of it, as long as this lives.
+/// If the server's store goes back, or the client's lease ends, the pin is void: [`Client`] says
+/// more.
+///
+/// **Whoever decides what to write by what is pinned writes by the pin's own calls.** They make the
+/// write while the pin holds, or never: no other client has changed what was pinned before that
+/// write. The calls of [`Client`] are not bound to the pin: after the end of a lease they go on,
+/// and another client may have written in between.
+///
+/// If such a write was sent and is not answered when the pin is dropped, other clients wait for the
+/// range until it is judged.
+#[must_use = "the range is free again as soon as this is dropped"]
+pub struct Pin<'c> {
+    client: &'c Client,
+    id: u64,
+}
+
+impl<'c> Pin<'c> {
+    pub(crate) fn new(client: &'c Client, id: u64) -> Pin<'c> {
+        Pin { client, id }
+    }
+
+    /// Whether no other client has taken what was held of the range. Who has to know asks **after**
+    /// the work: the answer is that of one moment of this call.
+    #[must_use]
+    pub fn holds(&self) -> bool {
+        self.client.link.with_jobs(|jobs| jobs.holds_pin(self.id))
+    }
+
+    /// Inserts a row while the pin holds, or never. The outcome is that of [`Client::insert`]. The
+    /// key may lie outside the pinned range.
+    ///
+    /// # Errors
+    ///
+    /// `PinIsVoid` if the pin no longer held when the write could be sent: the write changes
+    /// nothing. Otherwise those of [`Client::insert`]. After an error for which
+    /// [`Refused::is_unknown_outcome`] is true, the table may have changed; if it has, then before
+    /// any other client changed what was pinned.
+    pub fn insert(&self, key: u64, value: Value) -> Result<Outcome, Refused> {
+        self.write(Write::Insert(Row { key, value }))
+    }
+
+    /// Gives a row another value while the pin holds, or never. The outcome is that of
+    /// [`Client::put`]. The key may lie outside the pinned range.
+    ///
+    /// # Errors
+    ///
+    /// Those of [`Pin::insert`].
+    pub fn put(&self, key: u64, value: Value) -> Result<Outcome, Refused> {
+        self.write(Write::Put(Row { key, value }))
+    }
+
+    /// Gives a key this value, whether or not it has a row, while the pin holds, or never. The
+    /// outcome is that of [`Client::set`]. The key may lie outside the pinned range.
+    ///
+    /// # Errors
+    ///
+    /// Those of [`Pin::insert`].
+    pub fn set(&self, key: u64, value: Value) -> Result<Outcome, Refused> {
+        let within = self.client.within(self.client.timeout());
+        let (first, end) = (within.likely(Row { key, value }), within.end());
+        set::set(first, end, |write| self.write_by(end, write))
+    }
+
+    /// Deletes a row while the pin holds, or never. The outcome is that of [`Client::delete`]. The
+    /// key may lie outside the pinned range.
+    ///
+    /// # Errors
+    ///
+    /// Those of [`Pin::insert`].
+    pub fn delete(&self, key: u64) -> Result<Outcome, Refused> {
+        self.write(Write::Delete(key))
+    }
+
+    fn write(&self, write: Write) -> Result<Outcome, Refused> {
+        self.write_by(self.client.within(self.client.timeout()).end(), write)
+    }
+
+    fn write_by(&self, end: Instant, write: Write) -> Result<Outcome, Refused> {
+        let within = self.client.within(self.client.timeout());
+        within.write_by(end, write, |jobs, write| jobs.write_under(self.id, write))
+    }
+}
+
+impl fmt::Debug for Pin<'_> {
+    fn fmt(&self, f: &mut fmt::Formatter<'_>) -> fmt::Result {
+        f.debug_struct("Pin").field("id", &self.id).finish_non_exhaustive()
+    }
+}
+
+impl Drop for Pin<'_> {
+    fn drop(&mut self) {
+        self.client.link.with_jobs(|jobs| jobs.unpin(self.id));
+        self.client.link.flush();
+    }
+}

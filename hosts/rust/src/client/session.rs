@@ -1,0 +1,359 @@
+//! A client and its connection, without a socket, a thread and a clock: what comes goes in, and what
+//! is to be said comes out. [`crate::client::link`] is the shell around it.
+use crate::client::backoff::Backoff;
+use crate::client::jobs::{Asked, Asking, IDLE_TICK, JobId, Jobs, WasSent};
+use crate::client::silence::{Silence, Silent};
+use crate::lease::clocks::Now;
+use crate::log::event_log;
+use crate::model::history::Seen;
+use crate::model::refusal::Refusal;
+use crate::model::refused::Refused;
+use crate::net::address::Address;
+use crate::net::connect_fault::{ConnectFault, Rejection, Rejections};
+use crate::net::servers::Servers;
+use crate::proved::client_handle::ClientHandle;
+use crate::proved::code::Code;
+use crate::shards::fence::Fence;
+use crate::wire::frames::Frames;
+use crate::wire::host_frame;
+use crate::wire::message::Message;
+use std::fmt;
+use std::io::{self, ErrorKind};
+use std::time::{Duration, Instant};
+
+/// A server that does not serve a client tells why once a second, and when the client connects
+/// again. What it has told before that is so no more.
+const HINT: Duration = Duration::from_secs(2);
+
+/// Whether a client that joins gives up at this moment, since the server tells this reason.
+type GivesUp = Box<dyn Fn(Refusal, Instant) -> bool + Send>;
+
+/// A client, its connection to one of its servers, and what it has heard of them.
+///
+/// Each call of it is made at the moment that [`Session::at`] was given last. A connection is made by
+/// [`Session::connected`], and ends by [`Session::disconnected`]. In between, [`Session::receive`]
+/// takes what has come, [`Session::proceed`] what time brings, and [`Session::take`] gives what is to
+/// be said after each of them. The next [`Session::proceed`] is due [`Session::due_in`] later.
+pub(crate) struct Session {
+    jobs: Jobs,
+    servers: Servers,
+    /// The place of the server that it is connected to, or tries next.
+    place: usize,
+    backoff: Backoff,
+    connection: Option<Connection>,
+    /// Why there is no connection, if there is none.
+    fault: Option<io::Error>,
+    /// Why the server does not serve the client, as it told last, and when.
+    refusal: Option<(Refusal, Instant)>,
+    /// How the last connections ended, as far as one side rejected the other.
+    rejections: Rejections,
+    /// How much the client has seen of the server's store.
+    seen: Option<Seen>,
+    /// The greatest epoch that a server has said.
+    epoch: u64,
+    joining: Option<Joining>,
+}
+
+/// One connection, while it lasts.
+struct Connection {
+    heard: Heard,
+    silence: Silence,
+    fence: Fence,
+    /// What the host says next.
+    said: Vec<u8>,
+}
+
+/// What came on a connection.
+#[derive(Clone, Copy, Debug, Default, PartialEq, Eq)]
+struct Heard {
+    /// A message that the library has accepted.
+    message: bool,
+    /// That the server's store went back.
+    went_back: bool,
+}
+
+/// A caller waits until the client has joined.
+struct Joining {
+    job: JobId,
+    gives_up: GivesUp,
+}
+
+impl Session {
+    /// A client that is not connected, and draws its pauses between connections by this seed.
+    pub fn new(servers: Servers, jobs: Jobs, seed: u64) -> Session {
+        Session {
+            jobs,
+            place: 0,
+            backoff: Backoff::among(servers.count(), seed),
+            servers,
+            connection: None,
+            fault: None,
+            refusal: None,
+            rejections: Rejections::default(),
+            seen: None,
+            epoch: 0,
+            joining: None,
+        }
+    }
+
+    /// The session at this moment, read after all that the next call takes has come.
+    pub fn at(&mut self, now: Now) -> &mut Session {
+        self.jobs.at(now);
+        self
+    }
+
+    /// What the client was asked.
+    pub fn jobs(&mut self) -> &mut Jobs {
+        &mut self.jobs
+    }
+
+    /// The server that it is connected to, or tries next.
+    pub fn address(&self) -> &Address {
+        self.servers.at(self.place)
+    }
+
+    /// Whether the client needs a greater incarnation before it connects: it has dropped all, or its
+    /// lease has ended.
+    pub fn has_to_begin_anew(&mut self) -> bool {
+        self.jobs.end_lease_if_over();
+        self.jobs.is_void()
+    }
+
+    /// The client goes on under the incarnation of this handle.
+    pub fn begin_anew(&mut self, client: ClientHandle) {
+        self.jobs.begin_anew(client);
+    }
+
+    /// The incarnation is on the disk, so it may be said.
+    pub fn confirm_incarnation(&mut self) -> io::Result<()> {
+        self.jobs.confirm_incarnation().map_err(io::Error::other)
+    }
+
+    /// A connection is made, and the client's incarnation is on the disk. It answers what the
+    /// connection begins with. One that ends before anything has come tells nothing of its server:
+    /// one without the greeting would be one without a lease.
+    ///
+    /// # Errors
+    ///
+    /// If the clock of leases can't be read, or has not gone on since the last sign.
+    pub fn connected(&mut self) -> io::Result<Vec<u8>> {
+        let sign = self.jobs.greet()?;
+        self.connection = Some(Connection {
+            heard: Heard::default(),
+            silence: Silence::new(self.now(), self.servers.count()),
+            fence: Fence::new(self.servers.shard()),
+            said: Vec::new(),
+        });
+        self.fault = None;
+        self.jobs.tick_soon();
+        Ok([self.hello(), sign.frame()].concat())
+    }
+
+    /// The connection has ended, or was not made, for this reason. It answers how long to wait
+    /// before the next attempt.
+    pub fn disconnected(&mut self, end: io::Error) -> Duration {
+        let heard = self.connection.take().map_or(Heard::default(), |it| it.heard);
+        self.jobs.disconnect();
+        let fault = ConnectFault::from(end);
+        // A client that has to begin anew does so at once.
+        if heard.went_back || heard.message && fault.rejection().is_none() {
+            self.backoff.reset();
+        }
+        event_log::disconnected(self.address(), &fault);
+        self.rejections.note(&fault);
+        self.fault = Some(fault.into());
+        self.place = (self.place + 1) % self.servers.count();
+        self.end_hopeless();
+        self.backoff.pause()
+    }
+
+    /// Takes what has come whole.
+    ///
+    /// # Errors
+    ///
+    /// The connection has to end, for this reason.
+    pub fn receive(&mut self, frames: &mut Frames) -> io::Result<()> {
+        let now = self.now();
+        self.connection()?.silence.heard(now);
+        while let Ok(Some(frame)) = frames.next() {
+            if host_frame::is_of_host(frame) {
+                self.hear_host(frame)?;
+            } else {
+                self.hear_message(Message::read(frame))?;
+            }
+        }
+        if frames.is_broken() { Err(bad_message(Code::BadMessage)) } else { Ok(()) }
+    }
+
+    fn hear_message(&mut self, message: Message<'_>) -> io::Result<()> {
+        self.jobs.hear(message.bytes()).map_err(bad_message)?;
+        self.connection()?.heard.message = true;
+        self.rejections.accept();
+        self.compare_epochs(message)
+    }
+
+    /// Leaves a server that is of an older epoch than one that the client has heard, if there are
+    /// others: it may go on for ever, and the one that serves waits for the client's report.
+    fn compare_epochs(&mut self, message: Message<'_>) -> io::Result<()> {
+        let Some(epoch) = message.epoch() else { return Ok(()) };
+        let known = self.epoch;
+        self.epoch = known.max(epoch);
+        if epoch >= known || !self.servers.are_several() {
+            return Ok(());
+        }
+        let why = format!("the server is of epoch {epoch}, and another one of epoch {known}");
+        Err(io::Error::other(why))
+    }
+
+    /// Goes on with the jobs, when all that came is heard; says again what is not answered; and asks
+    /// a silent server whether it is there.
+    ///
+    /// # Errors
+    ///
+    /// The connection has to end, for this reason: the lease has ended, or the server is silent.
+    pub fn proceed(&mut self) -> io::Result<()> {
+        self.greet_again_if_due()?;
+        self.look_at_silence()?;
+        self.jobs.end_lease_if_over();
+        if self.jobs.is_void() {
+            return Err(io::Error::other(Refused::LeaseEnded));
+        }
+        self.jobs.advance(Asking::Allowed);
+        self.jobs.tick_if_due();
+        self.end_join_if_hopeless();
+        Ok(())
+    }
+
+    /// Asks a server that is silent whether it is there, and leaves the connection if no answer
+    /// comes.
+    fn look_at_silence(&mut self) -> io::Result<()> {
+        let now = self.now();
+        match self.connection()?.silence.look(now) {
+            Silent::No => {}
+            Silent::Ask => {
+                let hello = self.hello();
+                self.connection()?.said.extend(hello);
+            }
+            Silent::Leave => {
+                let why = "the server was asked, and is silent";
+                return Err(io::Error::new(ErrorKind::TimedOut, why));
+            }
+        }
+        Ok(())
+    }
+
+    /// Appends what is to be said. Without a connection it is lost: a tick says it again.
+    pub fn take(&mut self, frames: &mut Vec<u8>) {
+        let before = frames.len();
+        if let Some(connection) = &mut self.connection {
+            frames.append(&mut connection.said);
+        }
+        self.jobs.take(frames);
+        if self.connection.is_none() {
+            frames.truncate(before);
+        }
+    }
+
+    /// How long it may sleep if nothing comes: until the next tick or sign.
+    pub fn due_in(&self) -> Duration {
+        self.jobs.longest_sleep().unwrap_or(IDLE_TICK).min(self.jobs.next_tick())
+    }
+
+    /// Waits until the client has joined, and no longer once the server tells a reason for which the
+    /// caller gives up.
+    pub fn join(&mut self, gives_up: GivesUp) -> Asked<()> {
+        let asked = self.jobs.join();
+        self.joining = Some(Joining { job: asked.id, gives_up });
+        asked
+    }
+
+    /// Nobody waits for the job any more. It answers why it has no answer.
+    pub fn give_up(&mut self, job: JobId) -> Refused {
+        let was_sent = self.jobs.abandon(job);
+        self.unanswered(was_sent)
+    }
+
+    /// Ends the jobs that can't be done, since the only server there is rejects this side again and
+    /// again. A write that was sent may be done already: its answer is awaited until the deadline,
+    /// unless the server has told that it serves another shard.
+    pub fn end_hopeless(&mut self) {
+        if self.servers.are_several() || !self.rejections.are_final() {
+            return;
+        }
+        let is_of_shard = matches!(self.rejections.last(), Some(Rejection::OtherShard(_)));
+        let of_sent = is_of_shard.then(|| self.unanswered(WasSent::Yes));
+        self.jobs.refuse_all(self.unanswered(WasSent::No), of_sent);
+    }
+
+    fn end_join_if_hopeless(&mut self) {
+        let (Some(hint), Some(Joining { job, gives_up })) = (self.hint(), &self.joining) else {
+            return;
+        };
+        if gives_up(hint, self.now()) {
+            self.jobs.refuse(*job, self.unanswered(WasSent::No));
+            self.joining = None;
+        }
+    }
+
+    /// Why a job has no answer by now, as far as the server has told. Of a write that was sent nothing
+    /// more is known.
+    fn unanswered(&self, was_sent: WasSent) -> Refused {
+        match (self.rejections.last(), was_sent) {
+            (Some(Rejection::NotTaken(_)), WasSent::No) => return Refused::TurnedAway,
+            (Some(Rejection::OtherShard(other)), WasSent::No) => {
+                return Refused::OtherShard(*other);
+            }
+            (Some(Rejection::OtherVersion(other)), _) => {
+                return Refused::Unserved(other.refusal());
+            }
+            (Some(Rejection::OtherShard(other)), WasSent::Yes) => {
+                return Refused::Unserved(Refusal::OtherShard(other.served));
+            }
+            _ => {}
+        }
+        self.hint().map_or(Refused::TimedOut, Refused::Unserved)
+    }
+
+    /// Why the server does not serve the client, if it has told so just before.
+    fn hint(&self) -> Option<Refusal> {
+        let is_so = |told: Instant| self.now().saturating_duration_since(told) < HINT;
+        self.refusal.filter(|(_, told)| is_so(*told)).map(|(refusal, _)| refusal)
+    }
+
+    /// Why the last connection was rejected, if it was and the server does not take this side now.
+    pub fn rejection(&self) -> Option<Rejection> {
+        self.rejections.last().cloned()
+    }
+
+    /// Why there is no connection just now, if there is none. It is told once.
+    pub fn take_fault(&mut self) -> Option<io::Error> {
+        self.fault.take()
+    }
+
+    /// Whether there is a connection just now.
+    pub fn is_connected(&self) -> bool {
+        self.fault.is_none()
+    }
+
+    fn connection(&mut self) -> io::Result<&mut Connection> {
+        self.connection.as_mut().ok_or_else(|| ErrorKind::NotConnected.into())
+    }
+
+    fn now(&self) -> Instant {
+        self.jobs.now().monotonic
+    }
+}
+
+impl fmt::Debug for Session {
+    fn fmt(&self, f: &mut fmt::Formatter<'_>) -> fmt::Result {
+        f.debug_struct("Session").field("servers", &self.servers).finish_non_exhaustive()
+    }
+}
+
+fn bad_message(code: Code) -> io::Error {
+    io::Error::new(ErrorKind::InvalidData, format!("the server says what no server says: {code}"))
+}
+
+mod host;
+#[cfg(test)]
+mod tests;

@@ -1,0 +1,101 @@
+//! What a client's host and that of its server say to one another beneath the messages.
+use super::Session;
+use crate::client::jobs::Dropped;
+use crate::lease::of_server::Answer;
+use crate::log::event_log;
+use crate::model::refusal::Refusal;
+use crate::model::refused::Refused;
+use crate::net::connect_fault::{NotTaken, OtherVersion};
+use crate::wire::host_frame::{FromClient, FromServer};
+use std::io;
+
+impl Session {
+    /// The Hello of this host, and the shard that it takes the server for.
+    pub(super) fn hello(&self) -> Vec<u8> {
+        let mut frames = FromClient::Hello(self.seen).frame();
+        let shard = self.servers.shard().map(FromClient::Shard);
+        frames.extend(shard.map(FromClient::frame).unwrap_or_default());
+        frames
+    }
+
+    /// Says the greeting again, if it has not been answered for long.
+    pub(super) fn greet_again_if_due(&mut self) -> io::Result<()> {
+        if let Some(sign) = self.jobs.greet_again_if_due() {
+            let greeting = [self.hello(), sign.frame()].concat();
+            self.connection()?.said.extend(greeting);
+        }
+        Ok(())
+    }
+
+    /// Takes what the server's host says beneath the messages. If the client has to begin anew
+    /// after it, the connection ends with that.
+    pub(super) fn hear_host(&mut self, frame: &[u8]) -> io::Result<()> {
+        match FromServer::read(frame) {
+            Some(FromServer::Refused(Refusal::OtherShard(served))) => {
+                return Err(self.connection()?.fence.is_refused(served).into());
+            }
+            Some(FromServer::Refused(Refusal::OtherStore)) => return Err(self.leave_other_store()),
+            Some(FromServer::Refused(Refusal::Version { read })) => {
+                return Err(OtherVersion(read).into());
+            }
+            Some(FromServer::Refused(refusal)) => {
+                self.refusal = Some((refusal, self.now()));
+                self.end_join_if_hopeless();
+                if refusal == Refusal::Denied {
+                    return Err(NotTaken(refusal.to_string()).into());
+                }
+            }
+            Some(FromServer::Mark(seen)) => self.seen = Some(seen),
+            Some(FromServer::WentBack) => {
+                self.connection()?.heard.went_back = true;
+                return Err(self.drop_all());
+            }
+            Some(FromServer::Shard(served)) => self.connection()?.fence.hear(served)?,
+            Some(FromServer::Hello { answers_signs: false }) => {
+                self.connection()?.fence.passes()?;
+                self.jobs.go_without_terms()?;
+            }
+            Some(FromServer::Hello { answers_signs: true }) => {}
+            None => {
+                if let Some(answer) = Answer::read(frame) {
+                    self.connection()?.fence.passes()?;
+                    // Who may not sign for the client is denied in place of that.
+                    self.rejections.accept();
+                    self.jobs.hear_answer(answer)?;
+                }
+            }
+        }
+        Ok(())
+    }
+
+    /// The server's store lacks what the client has seen. From here on nothing of that is answered,
+    /// and no message that rests on it is said or taken: another connection has another
+    /// incarnation. It answers by what the connection ends with.
+    fn drop_all(&mut self) -> io::Error {
+        self.jobs.drop_all(Dropped::StoreWentBack);
+        self.seen = None;
+        // The epochs of an older store may be older too.
+        self.epoch = 0;
+        event_log::store_went_back(self.address());
+        io::Error::other(Refused::StoreWentBack)
+    }
+
+    /// The server serves another store than the one that the client has seen. From here on nothing
+    /// that the client knows of that one is answered: it may be gone. It answers by what the
+    /// connection ends with.
+    ///
+    /// The client keeps the mark, and so stays refused: without one it would join the other table,
+    /// and its callers would not notice. One that has not joined since it dropped all has nothing
+    /// to drop, and its calls wait for the right store: no attempt to connect uses up an
+    /// incarnation.
+    fn leave_other_store(&mut self) -> io::Error {
+        if self.jobs.has_joined() {
+            self.jobs.drop_all(Dropped::OtherStore);
+            event_log::store_is_another_one(self.address());
+        }
+        // Callers hear of it once nothing is answered from the old cache.
+        self.refusal = Some((Refusal::OtherStore, self.now()));
+        self.end_join_if_hopeless();
+        io::Error::other(Refusal::OtherStore.to_string())
+    }
+}

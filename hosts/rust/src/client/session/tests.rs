@@ -1,0 +1,255 @@
+//! A session whose server is a few frames, and whose time is passed by hand.
+use super::*;
+use crate::lease::of_client::{Grant, Older, Sign};
+use crate::lease::of_server::Answer;
+use crate::model::history::Mark;
+use crate::net::connect_fault::{NotTaken, OtherVersion};
+use crate::proved::client_handle::ClientHandle;
+use crate::shards::fence::OtherShard;
+use crate::wire::frames::split;
+use crate::wire::host_frame::{FromClient, FromServer};
+
+const LEASE: Duration = Duration::from_secs(3);
+const MILLISECOND: Duration = Duration::from_millis(1);
+
+/// A client of incarnation 1, of these servers.
+fn session(servers: &str) -> Session {
+    let client = ClientHandle::open_behind(1, 1, Older::Unknown).unwrap();
+    Session::new(servers.parse().unwrap(), Jobs::new(client, Now::read()), 1)
+}
+
+fn pass(session: &mut Session, time: Duration) {
+    let later = session.jobs.now().after(time);
+    session.at(later);
+}
+
+fn connect(session: &mut Session) -> Vec<u8> {
+    session.confirm_incarnation().unwrap();
+    pass(session, MILLISECOND);
+    session.connected().unwrap()
+}
+
+fn hear(session: &mut Session, sent: &[u8]) -> io::Result<()> {
+    let mut frames = Frames::to_client();
+    frames.fill(&mut &*sent).unwrap();
+    session.receive(&mut frames)
+}
+
+fn said(session: &mut Session) -> Vec<Vec<u8>> {
+    let mut frames = Vec::new();
+    session.take(&mut frames);
+    split(&frames).map(|(frame, _)| frame.to_vec()).collect()
+}
+
+/// What the server answers to the sign of this greeting.
+fn terms(greeting: &[u8]) -> Vec<u8> {
+    let sign = split(greeting).find_map(|(frame, _)| Sign::read(frame)).unwrap();
+    let length = u64::try_from(LEASE.as_nanos()).unwrap();
+    Answer::Granted(Grant { incarnation: 1, stamp: sign.stamp, length }).frame()
+}
+
+fn seen(start: u128, commits: u64) -> Seen {
+    Seen { mark: Mark { start, commits }, first_start: Some(start) }
+}
+
+fn refused(refusal: Refusal) -> Vec<u8> {
+    FromServer::Refused(refusal).frame()
+}
+
+#[test]
+fn nothing_is_taken_after_the_word_that_the_store_went_back() {
+    let mut session = session("unix:nowhere");
+    session.seen = Some(seen(1, 9));
+    connect(&mut session);
+    let after = FromServer::Mark(seen(2, 1));
+    let end = hear(&mut session, &[FromServer::WentBack.frame(), after.frame()].concat());
+    assert!(end.unwrap_err().to_string().contains("went back"));
+    assert!(session.has_to_begin_anew() && session.connection.as_ref().unwrap().heard.went_back);
+    assert_eq!(session.seen, None);
+}
+
+#[test]
+fn a_client_that_is_refused_for_another_store_keeps_its_mark_and_its_incarnation() {
+    let mut session = session("unix:nowhere");
+    session.seen = Some(seen(1, 9));
+    connect(&mut session);
+    let after = FromServer::Mark(seen(2, 1));
+    let end = hear(&mut session, &[refused(Refusal::OtherStore), after.frame()].concat());
+    assert!(end.unwrap_err().to_string().contains("another store"));
+    assert_eq!(session.seen, Some(seen(1, 9)), "what comes after the refusal is not taken");
+    assert!(!session.has_to_begin_anew(), "it has not joined, and has nothing to drop");
+    assert_eq!(session.hint(), Some(Refusal::OtherStore));
+}
+
+#[test]
+fn a_connection_begins_with_the_greeting_and_goes_on_by_its_terms() {
+    let mut session = session("unix:nowhere");
+    let greeting = connect(&mut session);
+    let first = split(&greeting).next().unwrap().0;
+    assert_eq!(FromClient::read(first), Some(FromClient::Hello(None)));
+    session.proceed().unwrap();
+    assert_eq!(said(&mut session).len(), 0, "nothing before the terms");
+    hear(&mut session, &terms(&greeting)).unwrap();
+    session.proceed().unwrap();
+    assert_eq!(said(&mut session).len(), 1, "the library's Hello");
+    // A connection that has ended takes nothing with it.
+    session.disconnected(ErrorKind::UnexpectedEof.into());
+    session.jobs().tick();
+    assert_eq!(said(&mut session).len(), 0);
+}
+
+#[test]
+fn a_client_that_is_asked_nothing_sleeps_until_a_sign_or_a_tick_is_due() {
+    let mut session = session("unix:nowhere");
+    let greeting = connect(&mut session);
+    assert_eq!(session.due_in(), Duration::ZERO);
+    hear(&mut session, &terms(&greeting)).unwrap();
+    session.proceed().unwrap();
+    assert_eq!(session.due_in(), IDLE_TICK);
+    pass(&mut session, Duration::from_millis(249));
+    session.proceed().unwrap();
+    assert_eq!(session.due_in(), MILLISECOND);
+    let read = session.jobs().read(0..9);
+    session.proceed().unwrap();
+    assert_eq!(session.due_in(), crate::client::jobs::BUSY_TICK);
+    assert_eq!(session.give_up(read.id), Refused::TimedOut);
+    assert_eq!(session.due_in(), IDLE_TICK);
+}
+
+#[test]
+fn a_silent_server_is_asked_and_left_for_the_next_one() {
+    let mut session = session("unix:one,unix:two");
+    let greeting = connect(&mut session);
+    hear(&mut session, &terms(&greeting)).unwrap();
+    session.proceed().unwrap();
+    said(&mut session);
+    pass(&mut session, Duration::from_millis(250));
+    session.proceed().unwrap();
+    let asks = said(&mut session);
+    assert!(asks.iter().any(|frame| FromClient::read(frame) == Some(FromClient::Hello(None))));
+    pass(&mut session, Duration::from_millis(750));
+    let end = session.proceed().unwrap_err();
+    assert_eq!(end.kind(), ErrorKind::TimedOut);
+    assert_eq!(session.address().to_string(), "unix:one");
+    session.disconnected(end);
+    assert_eq!(session.address().to_string(), "unix:two");
+}
+
+#[test]
+fn the_connection_ends_with_the_lease() {
+    let mut session = session("unix:nowhere");
+    let greeting = connect(&mut session);
+    hear(&mut session, &terms(&greeting)).unwrap();
+    session.proceed().unwrap();
+    pass(&mut session, LEASE);
+    hear(&mut session, &[]).unwrap();
+    assert!(session.proceed().unwrap_err().to_string().contains("lease"));
+    assert!(session.has_to_begin_anew());
+    session.disconnected(ErrorKind::Other.into());
+    session.begin_anew(ClientHandle::open_behind(1, 2, Older::IsOver(1)).unwrap());
+    assert!(!session.has_to_begin_anew());
+}
+
+#[test]
+fn the_hello_of_another_version_ends_the_connection() {
+    let mut session = session("unix:one");
+    connect(&mut session);
+    let ended = hear(&mut session, &refused(Refusal::Version { read: 3 })).unwrap_err();
+    assert!(ended.to_string().contains("speaks version 3 of the protocol"), "{ended}");
+    let read = session.jobs().read(0..9);
+    for _ in 0..2 {
+        session.disconnected(OtherVersion(3).into());
+    }
+    let expected = Refused::Unserved(Refusal::Version { read: 3 });
+    assert_eq!(read.answer.try_recv(), Ok(Err(expected)));
+}
+
+#[test]
+fn all_jobs_end_when_the_only_server_has_rejected_this_side_twice() {
+    let reject = |session: &mut Session| session.disconnected(NotTaken("no".into()).into());
+    let mut alone = session("unix:one");
+    let read = alone.jobs().read(0..9);
+    let watched = alone.jobs().watch(0..9, Vec::new());
+    assert_eq!(watched.answer.try_recv(), Ok(Ok(())), "it knows nothing of the range");
+    reject(&mut alone);
+    assert!(read.answer.try_recv().is_err(), "one may be a proxy's mistake");
+    reject(&mut alone);
+    assert_eq!(read.answer.try_recv(), Ok(Err(Refused::TurnedAway)));
+    let later = alone.jobs().read(0..9);
+    alone.end_hopeless();
+    assert_eq!(later.answer.try_recv(), Ok(Err(Refused::TurnedAway)));
+    let mut among_two = session("unix:one,unix:two");
+    let read = among_two.jobs().read(0..9);
+    for _ in 0..5 {
+        reject(&mut among_two);
+    }
+    assert!(read.answer.try_recv().is_err());
+}
+
+/// Why a job ends that was sent or not, if the last connection ended with this.
+fn ended(fault: io::Error, was_sent: WasSent) -> Refused {
+    let mut session = session("unix:nowhere");
+    session.disconnected(fault);
+    session.unanswered(was_sent)
+}
+
+#[test]
+fn a_write_that_was_sent_may_be_applied_whatever_rejects_the_client() {
+    let not_taken = || NotTaken("the certificate has expired".into()).into();
+    let other = OtherShard { expected: None, served: None };
+    assert_eq!(ended(not_taken(), WasSent::No), Refused::TurnedAway);
+    assert_eq!(ended(other.into(), WasSent::No), Refused::OtherShard(other));
+    let version = Refused::Unserved(Refusal::Version { read: 1 });
+    assert_eq!(ended(OtherVersion(1).into(), WasSent::No), version);
+    for fault in [not_taken(), other.into(), OtherVersion(1).into()] {
+        let refused = ended(fault, WasSent::Yes);
+        assert!(refused.is_unknown_outcome(), "{refused:?}");
+    }
+}
+
+#[test]
+fn who_joins_gives_up_for_a_reason_as_soon_as_it_may() {
+    let runs = Refusal::LeaseRuns { client: 1, registered: 7 };
+    let mut session = session("unix:nowhere");
+    let patience = session.now() + Duration::from_secs(1);
+    let asked = session.join(Box::new(move |refusal, now| refusal == runs && now >= patience));
+    connect(&mut session);
+    hear(&mut session, &refused(Refusal::Full { connections: 9 })).unwrap();
+    hear(&mut session, &refused(runs)).unwrap();
+    session.proceed().unwrap();
+    assert!(asked.answer.try_recv().is_err(), "too early");
+    pass(&mut session, Duration::from_millis(999));
+    session.proceed().unwrap();
+    assert_eq!(asked.answer.try_recv(), Ok(Err(Refused::Unserved(runs))));
+}
+
+#[test]
+fn what_a_server_told_long_ago_is_no_reason() {
+    let mut session = session("unix:nowhere");
+    let read = session.jobs().read(0..9);
+    connect(&mut session);
+    let full = Refusal::Full { connections: 9 };
+    hear(&mut session, &refused(full)).unwrap();
+    let next = session.jobs().read(0..9);
+    assert_eq!(session.give_up(read.id), Refused::Unserved(full));
+    pass(&mut session, HINT);
+    assert_eq!(session.give_up(next.id), Refused::TimedOut);
+}
+
+#[test]
+fn a_server_of_an_older_epoch_is_left_if_there_are_others() {
+    let of_epoch = |epoch: u64| {
+        let numbers = [1, 1, epoch, 0, 11].map(u64::to_le_bytes);
+        let message =
+            [&[1, crate::wire::message::kind::CALLBACK][..], numbers.as_flattened()].concat();
+        Message::read(&message).epoch().map(|_| message).unwrap()
+    };
+    for (servers, leaves) in [("unix:one,unix:two", true), ("unix:one", false)] {
+        let mut session = session(servers);
+        let compare =
+            |session: &mut Session, epoch| session.compare_epochs(Message::read(&of_epoch(epoch)));
+        assert!(compare(&mut session, 2).is_ok() && compare(&mut session, 2).is_ok());
+        assert_eq!(compare(&mut session, 1).is_err(), leaves, "{servers}");
+        assert!(compare(&mut session, 3).is_ok());
+    }
+}

@@ -1,0 +1,241 @@
+//! Drawn runs of one client number and the servers over one store, by clocks that agree as they
+//! only just have to. Nobody who was evicted may answer.
+use super::*;
+use crate::lease::of_client::{Company, End, Lease};
+use std::sync::Arc;
+
+const CLIENT: u8 = 3;
+const RUNS: u64 = 300;
+const EVENTS: u64 = 1000;
+const SECOND: u64 = 1_000_000_000;
+
+/// Numbers drawn by a seed.
+struct Dice(u64);
+
+impl Dice {
+    /// A number below the bound.
+    fn below(&mut self, bound: u64) -> u64 {
+        self.0 ^= self.0 << 13;
+        self.0 ^= self.0 >> 7;
+        self.0 ^= self.0 << 17;
+        self.0 % bound
+    }
+}
+
+/// A server that runs, and what was said on the client's connection to it.
+struct Serving {
+    table: LeaseTable,
+    signs: Vec<Sign>,
+    answers: Vec<Answer>,
+    is_connected: bool,
+    is_greeted: bool,
+    says_hello: bool,
+}
+
+/// What a run has come to.
+#[derive(Default)]
+struct Counts {
+    evicted: u64,
+    /// Rows handed over by a lease that ends.
+    answered: u64,
+}
+
+struct World {
+    dice: Dice,
+    /// Real time, in nanoseconds.
+    time: u64,
+    lease: Lease,
+    serving: Option<Serving>,
+    stored: LeaseRecord,
+    record: Option<Record>,
+    evicted: Vec<Arc<End>>,
+    /// The server hears nothing. What it said before still comes.
+    is_cut: bool,
+    counts: Counts,
+}
+
+impl World {
+    fn new(seed: u64) -> World {
+        World {
+            dice: Dice(seed.wrapping_mul(0x9E37_79B9_7F4A_7C15)),
+            time: 0,
+            lease: Lease::new(CLIENT, 1, Older::Unknown),
+            serving: None,
+            stored: LeaseRecord::UNKNOWN,
+            record: None,
+            evicted: Vec::new(),
+            is_cut: false,
+            counts: Counts::default(),
+        }
+    }
+
+    /// The clock of the client's machine.
+    fn client_clock(&self) -> Moment {
+        Moment::of_nanoseconds(self.time + 5 * SECOND)
+    }
+
+    /// That of the server's machine: it goes as fast as the drift allows.
+    fn server_clock(&self) -> Moment {
+        Moment::of_nanoseconds(self.time * (100 + u64::from(DRIFT)) / 100)
+    }
+
+    fn step(&mut self) {
+        match self.dice.below(20) {
+            0..=3 => self.time += self.dice.below(SECOND),
+            4 => self.connect(),
+            5 | 6 => self.say(),
+            7 | 8 => self.hear(),
+            9 | 10 => self.take(),
+            11 => self.hello(),
+            12 => self.register(),
+            13 => self.restart(),
+            14 => self.revise(),
+            15 => self.is_cut = !self.is_cut,
+            _ => self.evict(),
+        }
+        self.look();
+    }
+
+    fn connect(&mut self) {
+        let now = self.client_clock();
+        if !self.lease.holds(now) {
+            self.begin_anew();
+        }
+        let Some(serving) = &mut self.serving else { return };
+        self.lease.disconnect();
+        serving.answers.clear();
+        (serving.is_connected, serving.is_greeted) = (true, false);
+        serving.signs.extend(self.lease.greet(now));
+    }
+
+    /// A client whose lease has ended, or that hears so, takes a greater incarnation.
+    fn begin_anew(&mut self) {
+        let next = self.record.map_or(0, |record| record.incarnation) + 1;
+        self.lease = Lease::new(CLIENT, next, Older::Unknown);
+        if let Some(serving) = &mut self.serving {
+            (serving.is_connected, serving.says_hello) = (false, false);
+        }
+    }
+
+    fn say(&mut self) {
+        let now = self.client_clock();
+        let Some(serving) = self.serving.as_mut().filter(|it| it.is_connected) else { return };
+        serving.signs.extend(self.lease.sign_due(now, Company::Messages));
+    }
+
+    /// A sign comes, in any order and any number of times.
+    fn hear(&mut self) {
+        let (now, is_cut) = (self.server_clock(), self.is_cut);
+        let hears = |it: &&mut Serving| !is_cut && !it.signs.is_empty();
+        let Some(serving) = self.serving.as_mut().filter(hears) else { return };
+        let place = self.dice.below(serving.signs.len() as u64);
+        let sign = serving.signs[usize::try_from(place).unwrap()];
+        serving.answers.extend(serving.table.sign(sign, now));
+    }
+
+    fn take(&mut self) {
+        let now = self.client_clock();
+        let Some(serving) = self.serving.as_mut().filter(|it| !it.answers.is_empty()) else {
+            return;
+        };
+        let place = self.dice.below(serving.answers.len() as u64);
+        match serving.answers[usize::try_from(place).unwrap()] {
+            Answer::Granted(grant) => serving.is_greeted |= self.lease.take(grant, now),
+            Answer::Ended { incarnation } if incarnation == self.lease.incarnation() => {
+                self.begin_anew();
+            }
+            Answer::Ended { .. } => {}
+        }
+    }
+
+    fn hello(&mut self) {
+        if let Some(serving) = self.serving.as_mut().filter(|it| it.is_connected && it.is_greeted) {
+            serving.says_hello = true;
+        }
+    }
+
+    fn register(&mut self) {
+        let (now, incarnation) = (self.server_clock(), self.lease.incarnation());
+        let is_new = self.record.is_none_or(|record| record.incarnation < incarnation);
+        let Some(serving) = self.serving.as_mut().filter(|it| it.says_hello && is_new) else {
+            return;
+        };
+        if serving.table.hears(CLIENT, incarnation, now) {
+            self.stored = serving.table.register(CLIENT, incarnation, now);
+            self.record = Some(Record { client: CLIENT, incarnation, last: None, left: false });
+        }
+    }
+
+    /// Leases of one to five seconds, or now and then none.
+    fn draw_leases(&mut self) -> Option<Leases> {
+        let length = Duration::from_secs(self.dice.below(6));
+        (!length.is_zero()).then(|| Leases::of(length).unwrap())
+    }
+
+    /// The server ends, or another one starts.
+    fn restart(&mut self) {
+        if self.serving.is_some() {
+            self.serving.take_if(|_| self.dice.below(4) == 0);
+            return;
+        }
+        let leases = self.draw_leases();
+        self.stored = self.stored.at_start(leases);
+        let records: Vec<_> = self.record.into_iter().collect();
+        self.serving = Some(Serving {
+            table: LeaseTable::start(self.stored, &records, leases, self.server_clock()),
+            signs: Vec::new(),
+            answers: Vec::new(),
+            is_connected: false,
+            is_greeted: false,
+            says_hello: false,
+        });
+    }
+
+    fn revise(&mut self) {
+        let now = self.server_clock();
+        let revised = self.serving.as_mut().and_then(|serving| serving.table.revise(now));
+        self.stored = revised.unwrap_or(self.stored);
+    }
+
+    fn evict(&mut self) {
+        let now = self.server_clock();
+        let Some(serving) = &mut self.serving else { return };
+        for (client, incarnation) in serving.table.to_evict(now) {
+            let successor = incarnation + 1;
+            serving.table.evict(client, successor);
+            self.stored = serving.table.register(client, successor, now);
+            serving.table.leave(client);
+            let left = Record { client, incarnation: successor, last: None, left: true };
+            self.record = Some(left);
+            self.counts.evicted += 1;
+            // Its process may run on. If it has begun anew, its older lease has ended.
+            if self.lease.incarnation() == incarnation {
+                self.evicted.push(self.lease.end());
+            }
+        }
+    }
+
+    /// Whoever can answers now.
+    fn look(&mut self) {
+        let now = self.client_clock();
+        assert!(!self.evicted.iter().any(|end| end.allows(|| Ok(now))), "at {}", self.time);
+        let is_registered = self
+            .record
+            .is_some_and(|record| record.incarnation == self.lease.incarnation() && !record.left);
+        let ends = !self.lease.end().allows(|| Err(std::io::ErrorKind::Other.into()));
+        self.counts.answered += u64::from(is_registered && ends && self.lease.holds(now));
+    }
+}
+
+#[test]
+fn nobody_answers_who_was_evicted() {
+    let mut counts = Counts::default();
+    for seed in 1..=RUNS {
+        let mut world = World::new(seed);
+        (0..EVENTS).for_each(|_| world.step());
+        counts.evicted += world.counts.evicted;
+        counts.answered += world.counts.answered;
+    }
+    let Counts { evicted, answered } = counts;
+    assert!(evicted > RUNS / 2 && answered > RUNS, "{evicted} evicted, {answered} answered");
+}

@@ -1,0 +1,3 @@
+//! What is logged.
+pub(crate) mod event_log;
+pub(crate) mod seldom;

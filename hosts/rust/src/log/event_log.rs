@@ -1,0 +1,364 @@
+//! What a server and a client tell a log: by `tracing`, if the feature of this name is on.
+#![cfg_attr(
+    not(feature = "tracing"),
+    allow(
+        unused_variables,
+        clippy::if_same_then_else,
+        clippy::single_match,
+        reason = "without the feature nothing is told"
+    )
+)]
+use crate::access::identity::Identity;
+use crate::log::seldom::Seldom;
+use crate::model::change::{Change, Record};
+use crate::model::history::Mark;
+use crate::net::address::Address;
+use crate::net::stream::PeerAddress;
+use crate::server::connections::closing::At;
+use crate::server::room_at_start::RoomAtStart;
+use crate::shards::fence::OtherShard;
+use std::collections::BTreeMap;
+use std::fmt::Display;
+use std::time::Instant;
+
+macro_rules! tell {
+    ($level:ident, $($event:tt)*) => {{
+        #[cfg(feature = "tracing")]
+        tracing::$level!($($event)*);
+    }};
+}
+
+/// What a server has told, so that nothing is told twice.
+#[derive(Debug)]
+pub(crate) struct EventLog {
+    /// The clients that ever registered: the incarnation, and whether it has left.
+    clients: BTreeMap<u8, (u64, bool)>,
+    /// The clients that are being evicted, each with the incarnation that takes its place.
+    evicting: BTreeMap<u8, u64>,
+    is_serving: Option<bool>,
+    missing: Vec<u8>,
+    bad_messages: Seldom,
+    other_shards: Seldom,
+    other_stores: Seldom,
+    other_versions: Seldom,
+    strangers: Seldom,
+    denials: Seldom,
+    far_ahead: Seldom,
+    alarms: Seldom,
+    store_alarms: Seldom,
+}
+
+impl EventLog {
+    /// A server has started on these records.
+    pub fn started(epoch: u64, address: &Address, rows: usize, records: &[Record]) -> EventLog {
+        tell!(info, epoch, %address, rows, clients = records.len(), "the server has started");
+        let clients = records.iter().map(|it| (it.client, (it.incarnation, it.left))).collect();
+        EventLog {
+            clients,
+            evicting: BTreeMap::new(),
+            is_serving: None,
+            missing: Vec::new(),
+            bad_messages: Seldom::default(),
+            other_shards: Seldom::default(),
+            other_stores: Seldom::default(),
+            other_versions: Seldom::default(),
+            strangers: Seldom::default(),
+            denials: Seldom::default(),
+            far_ahead: Seldom::default(),
+            alarms: Seldom::default(),
+            store_alarms: Seldom::default(),
+        }
+    }
+
+    /// A server with this room has started. Less than one had before may be meant, or be a slip.
+    pub fn has_room(start: &RoomAtStart) {
+        let RoomAtStart { room, greatest } = start;
+        if room < greatest {
+            tell!(warn, %room, %greatest, "the server has less room than one had before it");
+        }
+    }
+
+    /// The phase of the server, and the clients whose reports are missing. It tells when they
+    /// change.
+    pub fn phase(&mut self, is_serving: bool, missing: &[u8]) {
+        if self.is_serving == Some(is_serving) && self.missing == missing {
+            return;
+        }
+        if is_serving {
+            tell!(info, "the server serves");
+        } else {
+            tell!(info, ?missing, "the server recovers: reports are missing");
+        }
+        self.is_serving = Some(is_serving);
+        missing.clone_into(&mut self.missing);
+    }
+
+    /// These changes are committed.
+    pub fn committed(&mut self, changes: &[Change], at_of: impl Fn(u8) -> Option<At>) {
+        for change in changes {
+            match *change {
+                Change::Registered { client, incarnation } => {
+                    self.joined(client, incarnation, at_of(client));
+                }
+                Change::Left { client } => self.left(client),
+                Change::Started { .. }
+                | Change::Judged { .. }
+                | Change::Leased(_)
+                | Change::Room(_) => {}
+            }
+        }
+    }
+
+    /// The server evicts a client by a successor. It tells so once, when that is committed.
+    pub fn evicts(&mut self, client: u8, successor: u64) {
+        self.evicting.insert(client, successor);
+    }
+
+    fn joined(&mut self, client: u8, incarnation: u64, at: Option<At>) {
+        let peer = at.map_or(PeerAddress::Gone, |at| at.peer);
+        if self.evicting.get(&client) == Some(&incarnation) {
+            let before = self.clients.insert(client, (incarnation, false));
+            let evicted = before.map(|(incarnation, _)| incarnation);
+            tell!(
+                warn,
+                client,
+                incarnation = evicted,
+                "a client is evicted: its lease has ended, and no sign of it came"
+            );
+            return;
+        }
+        match self.clients.insert(client, (incarnation, false)) {
+            Some((before, false)) => {
+                tell!(
+                    warn,
+                    client,
+                    incarnation,
+                    before,
+                    %peer,
+                    "a client is replaced that had not left: it was started again, or is evicted"
+                );
+            }
+            Some((_, true)) | None => {
+                tell!(info, client, incarnation, %peer, "a client has joined");
+            }
+        }
+    }
+
+    fn left(&mut self, client: u8) {
+        if let Some((incarnation, has_left)) = self.clients.get_mut(&client) {
+            *has_left = true;
+            if self.evicting.remove(&client) == Some(*incarnation) {
+                return;
+            }
+            tell!(info, client, incarnation = *incarnation, "a client has left");
+        }
+    }
+
+    /// The client of a connection takes the server for another shard's, and is closed.
+    pub fn other_shard(&mut self, at: &At, other: &OtherShard) {
+        if let Some(passed_over) = self.other_shards.lets(Instant::now()) {
+            tell!(
+                warn,
+                connection = at.connection,
+                peer = %at.peer,
+                passed_over,
+                "a connection is closed: {other}"
+            );
+        }
+    }
+
+    /// A connection said what is no message, and is closed.
+    pub fn bad_message(&mut self, at: &At, length: usize) {
+        if let Some(passed_over) = self.bad_messages.lets(Instant::now()) {
+            tell!(
+                warn,
+                connection = at.connection,
+                peer = %at.peer,
+                length,
+                passed_over,
+                "a connection is closed: it said what is no message"
+            );
+        }
+    }
+
+    /// A message names an incarnation that is not the client's.
+    pub fn stranger(&mut self, at: &At, client: u8, incarnation: u64) {
+        if let Some(passed_over) = self.strangers.lets(Instant::now()) {
+            let registered = self.clients.get(&client).map(|(incarnation, _)| *incarnation);
+            tell!(
+                warn,
+                connection = at.connection,
+                peer = %at.peer,
+                client,
+                incarnation,
+                registered,
+                passed_over,
+                "a message is passed over: it is of another incarnation than the client's"
+            );
+        }
+    }
+
+    /// A client is not registered: its incarnation is too far ahead of this machine's clock.
+    pub fn far_ahead(&mut self, at: &At, client: u8, incarnation: u64) {
+        if let Some(passed_over) = self.far_ahead.lets(Instant::now()) {
+            tell!(
+                warn,
+                connection = at.connection,
+                peer = %at.peer,
+                client,
+                incarnation,
+                passed_over,
+                "a client is not registered: its clock is more than a day ahead of this one"
+            );
+        }
+    }
+
+    /// A client has seen another store, and is refused.
+    pub fn other_store(&mut self, at: &At) {
+        if let Some(passed_over) = self.other_stores.lets(Instant::now()) {
+            tell!(
+                warn,
+                connection = at.connection,
+                peer = %at.peer,
+                passed_over,
+                "a client is refused: it has seen another store than this one"
+            );
+        }
+    }
+
+    /// A client's host is of another version of the stream, and is refused.
+    pub fn other_version(&mut self, at: &At) {
+        if let Some(passed_over) = self.other_versions.lets(Instant::now()) {
+            tell!(
+                warn,
+                connection = at.connection,
+                peer = %at.peer,
+                passed_over,
+                "a client is refused: its release is of another version of the protocol"
+            );
+        }
+    }
+
+    /// A connection said what its identity may not say, and is closed.
+    pub fn denied(&mut self, at: &At, identity: &Identity, client: Option<u8>) {
+        if let Some(passed_over) = self.denials.lets(Instant::now()) {
+            tell!(
+                warn,
+                connection = at.connection,
+                peer = %at.peer,
+                %identity,
+                client,
+                passed_over,
+                "a connection is closed: it said what its certificate or its user may not say"
+            );
+        }
+    }
+
+    /// The store lacks what a client's host has seen of it.
+    pub fn store_alarm(&mut self, at: &At, seen: Mark) {
+        if let Some(passed_over) = self.store_alarms.lets(Instant::now()) {
+            tell!(
+                error,
+                connection = at.connection,
+                peer = %at.peer,
+                ?seen,
+                passed_over,
+                "ALARM: the store lacks what a client has seen: it is an older copy, or another one"
+            );
+        }
+    }
+
+    /// A report contradicts what the server knows.
+    pub fn alarm(&mut self, client: Option<u8>) {
+        if let Some(passed_over) = self.alarms.lets(Instant::now()) {
+            tell!(
+                error,
+                client,
+                passed_over,
+                "ALARM: a report contradicts what the server knows: two processes are one client, \
+                 or the store is an older one"
+            );
+        }
+    }
+}
+
+/// A client has heard that its server's store went back.
+pub(crate) fn store_went_back(server: &Address) {
+    tell!(
+        error,
+        %server,
+        "ALARM: the server's store lacks what this client has seen of it: the client drops its \
+         cache and joins anew"
+    );
+}
+
+/// A client has heard that its server serves another store.
+pub(crate) fn store_is_another_one(server: &Address) {
+    tell!(
+        error,
+        %server,
+        "the server serves another store than the one that this client has seen: the client drops \
+         its cache, and is not served"
+    );
+}
+
+/// A client goes on under a greater incarnation.
+pub(crate) fn began_anew(client: u8, incarnation: u64) {
+    tell!(
+        info,
+        client,
+        incarnation,
+        "a client begins anew: its lease has ended, or the server's store went back"
+    );
+}
+
+/// The server has ended by an error.
+pub(crate) fn failed(error: &dyn Display) {
+    tell!(error, %error, "the server has failed");
+}
+
+/// A connection is closed as it comes, since so many are open.
+pub(crate) fn full(seldom: &mut Seldom, open: usize) {
+    if let Some(passed_over) = seldom.lets(Instant::now()) {
+        tell!(warn, open, passed_over, "a connection is closed: no more may be open");
+    }
+}
+
+/// A connection is taken.
+pub(crate) fn opened(at: &At) {
+    tell!(debug, connection = at.connection, peer = %at.peer, "a connection is open");
+}
+
+/// A connection is closed.
+pub(crate) fn closed(at: &At, reason: &str) {
+    tell!(debug, connection = at.connection, peer = %at.peer, reason, "a connection is closed");
+}
+
+/// A connection is closed by the server for a reason that people may have to do something about.
+pub(crate) fn closed_by_server(at: &At, reason: &str, why: &dyn Display, passed_over: u64) {
+    tell!(
+        warn,
+        connection = at.connection,
+        peer = %at.peer,
+        %why,
+        passed_over,
+        "a connection is closed: {reason}"
+    );
+}
+
+/// The system gives no connection just now.
+pub(crate) fn not_accepted(seldom: &mut Seldom, error: &dyn Display) {
+    if let Some(passed_over) = seldom.lets(Instant::now()) {
+        tell!(warn, %error, passed_over, "the system gives no connection");
+    }
+}
+
+/// A client has a connection.
+pub(crate) fn connected(server: &Address) {
+    tell!(debug, %server, "a client is connected");
+}
+
+/// A client has no connection, or has lost it.
+pub(crate) fn disconnected(server: &Address, error: &dyn Display) {
+    tell!(debug, %server, %error, "a client is not connected");
+}

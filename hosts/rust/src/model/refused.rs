@@ -1,0 +1,219 @@
+//! Why a client's call was refused.
+use crate::client::lock_file::LockFileError;
+use crate::model::refusal::Refusal;
+use crate::proved::code::Code;
+use crate::shards::fence::OtherShard;
+use std::fmt;
+use std::io;
+
+/// Why a call of a client did not do what it should.
+#[derive(Clone, Copy, Debug, PartialEq, Eq)]
+#[non_exhaustive]
+pub enum Refused {
+    /// No answer came within the client's timeout. A read or a forget has changed nothing that is
+    /// seen. A write may have changed the table or may still change it: the client goes on to ask
+    /// for it, until it is answered or the client is gone.
+    TimedOut,
+    /// The same, and the server has just reported why it does not serve the client. If it serves
+    /// another store than the one that the client has seen, a call that waits ends so at once: the
+    /// client has dropped its cache and its pins, and joins again when it finds its own store.
+    Unserved(Refusal),
+    /// This side of the connection has no right to the client: the two sides don't take each
+    /// other's certificates, or the certificate or the user is not that of the client's number. If
+    /// the client has one server, this comes as soon as two connections in a row have ended for it,
+    /// and otherwise at the timeout. A write was not sent, and changes nothing: one that was sent
+    /// waits for its answer until the timeout, and ends with `TimedOut` then.
+    TurnedAway,
+    /// The server serves another shard than the client takes it for, or by another map. It comes
+    /// when `TurnedAway` does. A write was not sent, and changes nothing: one that was sent ends
+    /// with `Unserved`, and this reason, at the same moment.
+    OtherShard(OtherShard),
+    /// The server's store lacks what this client has seen of it: it is an older copy, or another
+    /// store. The client has dropped its cache and its pins, and joins anew. A write may have
+    /// changed that store or not.
+    StoreWentBack,
+    /// The client's lease has ended while the write was on its way: the server was not heard in
+    /// time. The client has dropped its cache and its pins, and joins anew. The table has changed or
+    /// not, and this write changes it no more: a read of the key knows.
+    LeaseEnded,
+    /// The write was bound to a pin, and the pin is void: since it was taken, the client's lease has
+    /// ended or the server's store went back. The write was not made, and changes nothing.
+    PinIsVoid,
+    /// The client's own thread has ended by a panic: it answers nothing more but from its cache. A
+    /// write that was not answered may have changed the table.
+    Stopped,
+    /// The range begins above its end, ends above 2^63, or is empty and may not be.
+    BadRange,
+    /// A key of 2^63 - 1 or more.
+    BadKey,
+    /// The range meets a pin.
+    Pinned,
+    /// The client has eight pins.
+    TooManyPins,
+    /// Memory was refused.
+    OutOfMemory,
+    /// The library refused it, by a code that this call can't bring about.
+    Other(Code),
+}
+
+/// Why a client did not join.
+#[derive(Debug)]
+#[non_exhaustive]
+pub enum JoinError {
+    /// The lock file was not taken.
+    LockFile(LockFileError),
+    /// A number above 63.
+    BadNumber,
+    /// A builder was not told this.
+    Incomplete(&'static str),
+    /// The server did not answer within the client's timeout. There is none, which the error of the
+    /// connection shows; or it recovers, or knows a greater incarnation of this number, and does
+    /// not tell so.
+    NoAnswer(Option<io::Error>),
+    /// The server has told why it does not serve the client, and within the client's timeout it did
+    /// not answer.
+    Unserved(Refusal),
+    /// This side of the connection has no right to the client, for this reason: the two sides don't
+    /// take each other's certificates, or the certificate or the user is not that of the client's
+    /// number. If the client has one server, it comes as soon as two connections in a row have ended
+    /// for it.
+    TurnedAway(String),
+    /// The server serves another shard than the client takes it for, or by another map. If the
+    /// client has one server, it comes as soon as two connections in a row have ended for it.
+    OtherShard(OtherShard),
+    /// The system has no thread for the client's connection, or no file for it to wait by.
+    NoThread(io::Error),
+    /// The client refused to start.
+    Refused(Refused),
+}
+
+impl Refused {
+    /// Whether a write that ended so may have been applied, or may still be: a read of the key tells.
+    /// After any other error the write changes nothing.
+    #[must_use]
+    pub fn is_unknown_outcome(&self) -> bool {
+        match self {
+            Refused::TimedOut
+            | Refused::Unserved(_)
+            | Refused::StoreWentBack
+            | Refused::LeaseEnded
+            | Refused::Stopped => true,
+            Refused::TurnedAway
+            | Refused::OtherShard(_)
+            | Refused::BadRange
+            | Refused::BadKey
+            | Refused::Pinned
+            | Refused::PinIsVoid
+            | Refused::TooManyPins
+            | Refused::OutOfMemory
+            | Refused::Other(_) => false,
+        }
+    }
+}
+
+impl From<Code> for Refused {
+    fn from(code: Code) -> Refused {
+        match code {
+            Code::BadSpan => Refused::BadRange,
+            Code::BadPoint => Refused::BadKey,
+            Code::Pinned => Refused::Pinned,
+            Code::TooManyPins => Refused::TooManyPins,
+            Code::OutOfMemory => Refused::OutOfMemory,
+            // The client is about to join anew.
+            Code::Closed => Refused::StoreWentBack,
+            code => Refused::Other(code),
+        }
+    }
+}
+
+impl fmt::Display for Refused {
+    fn fmt(&self, f: &mut fmt::Formatter<'_>) -> fmt::Result {
+        match self {
+            Refused::TimedOut => f.write_str("no answer came in time"),
+            Refused::Unserved(refusal) => write!(f, "no answer came in time: {refusal}"),
+            Refused::TurnedAway => f.write_str(
+                "the connection was turned away: the certificate or the user gives no right to the \
+                 client",
+            ),
+            Refused::OtherShard(other) => other.fmt(f),
+            Refused::StoreWentBack => f.write_str(
+                "the server's store went back, and lacks what this client has seen of it: the \
+                 client has dropped its cache and its pins, and joins anew",
+            ),
+            Refused::LeaseEnded => f.write_str(
+                "the client's lease has ended, since no terms of the server came in time: the client \
+                 has dropped its cache and its pins, and joins anew",
+            ),
+            Refused::PinIsVoid => f.write_str(
+                "the pin that the write is bound to is void: the write was not made",
+            ),
+            Refused::Stopped => f.write_str("the client's thread has panicked"),
+            Refused::BadRange => f.write_str(
+                "a range of keys begins at its end or below, and ends at 2^63 or below; \
+                 a pin's is not empty",
+            ),
+            Refused::BadKey => f.write_str("the key is 2^63 - 1 or more"),
+            Refused::Pinned => f.write_str("the range meets a pin"),
+            Refused::TooManyPins => f.write_str("the client has eight pins"),
+            Refused::OutOfMemory => f.write_str("memory was refused"),
+            Refused::Other(code) => code.fmt(f),
+        }
+    }
+}
+
+impl fmt::Display for JoinError {
+    fn fmt(&self, f: &mut fmt::Formatter<'_>) -> fmt::Result {
+        match self {
+            JoinError::LockFile(error) => error.fmt(f),
+            JoinError::BadNumber => f.write_str("a client's number is 0 to 63"),
+            JoinError::Incomplete(what) => write!(f, "a client can't join without {what}"),
+            JoinError::NoAnswer(None) => f.write_str("the server did not answer in time"),
+            JoinError::NoAnswer(Some(error)) => {
+                write!(f, "the server did not answer in time: {error}")
+            }
+            JoinError::Unserved(refusal) => refusal.fmt(f),
+            JoinError::TurnedAway(why) => write!(f, "the connection was turned away: {why}"),
+            JoinError::OtherShard(other) => other.fmt(f),
+            JoinError::NoThread(error) => write!(f, "the client gets no thread: {error}"),
+            JoinError::Refused(refused) => refused.fmt(f),
+        }
+    }
+}
+
+impl std::error::Error for Refused {
+    fn source(&self) -> Option<&(dyn std::error::Error + 'static)> {
+        match self {
+            Refused::Other(code) => Some(code),
+            Refused::OtherShard(other) => Some(other),
+            _ => None,
+        }
+    }
+}
+
+impl std::error::Error for JoinError {
+    fn source(&self) -> Option<&(dyn std::error::Error + 'static)> {
+        match self {
+            JoinError::LockFile(error) => Some(error),
+            JoinError::NoAnswer(error) => error.as_ref().map(|error| error as _),
+            JoinError::NoThread(error) => Some(error),
+            JoinError::Refused(refused) => Some(refused),
+            JoinError::OtherShard(other) => Some(other),
+            JoinError::BadNumber
+            | JoinError::Incomplete(_)
+            | JoinError::Unserved(_)
+            | JoinError::TurnedAway(_) => None,
+        }
+    }
+}
+
+impl From<Refused> for JoinError {
+    fn from(refused: Refused) -> JoinError {
+        JoinError::Refused(refused)
+    }
+}
+
+impl From<LockFileError> for JoinError {
+    fn from(error: LockFileError) -> JoinError {
+        JoinError::LockFile(error)
+    }
+}

@@ -1,0 +1,437 @@
+//! A safe owner of a client's handle, and those who scan its cache at the same time.
+use crate::lease::boot_clock::Moment;
+use crate::lease::clocks::Now;
+use crate::lease::of_client::{End, Lease, Older};
+use crate::model::change::{Outcome, Write};
+use crate::model::row::Row;
+use crate::proved::code::Code;
+use crate::proved::ffi;
+use crate::proved::gate::{Owner, Reader, Reading};
+use crate::proved::server_handle::{Handle, code, done};
+use std::io;
+use std::mem;
+use std::ops::Range;
+use std::sync::Arc;
+
+/// What a client asks for.
+#[derive(Clone, Copy, Debug, PartialEq, Eq)]
+pub(crate) enum Mode {
+    /// To change an entry.
+    X = 3,
+    /// To read entries and the gaps below them.
+    RangeSS = 4,
+    /// To read the same, and to be the only one who may change the entries next.
+    RangeSU = 5,
+    /// To insert into a gap.
+    RangeIN = 6,
+    /// To insert into a gap, and to read the entry at its end.
+    RangeIS = 7,
+    /// To read a gap and insert into it, and to read the entry at its end.
+    RangeXS = 10,
+    /// To read and change all.
+    RangeXX = 12,
+}
+
+/// What a scan of the cache found.
+#[derive(Clone, Copy, Debug, PartialEq, Eq)]
+pub(crate) enum Scan {
+    /// The rows.
+    Rows,
+    /// The least point that the client does not know.
+    Miss(u64),
+    /// A write of the client to a key of the range is not answered yet.
+    Pending,
+    /// The client's lease has ended: what is there counts no more.
+    Ended,
+}
+
+/// What a client shows of itself.
+#[derive(Clone, Copy, Debug)]
+pub(crate) struct Shown {
+    /// The epoch that it has joined, or 0.
+    pub epoch: u64,
+    /// The last lock that it asked for is not answered.
+    pub is_waiting: bool,
+    /// The last lock that it asked for was granted.
+    pub is_granted: bool,
+    /// There was no entry to lock.
+    pub is_absent: bool,
+    /// The number of its last write.
+    pub number: u64,
+    /// How that write was judged, if it was.
+    pub outcome: Option<Outcome>,
+}
+
+/// A client of the library. Each call that takes its handle runs when no [`Cache`] scans it: so a
+/// message that gives something up comes out by `take` when every scan has ended that could still
+/// see it.
+pub(crate) struct ClientHandle {
+    handle: Owner<Incarnation>,
+    lease: Lease,
+    /// A call was made since the last `take`, and may have said something.
+    has_spoken: bool,
+    /// Its incarnation is on the disk. Until then nothing of it may be said.
+    is_kept: bool,
+}
+
+/// What an incarnation knows, and the end of its lease.
+struct Incarnation {
+    handle: Handle,
+    end: Arc<End>,
+}
+
+/// What a client knows, for threads that only read it.
+pub(crate) struct Cache(Reader<Incarnation>);
+
+/// A cache that stays what it is.
+pub(crate) struct HeldCache<'c>(Reading<'c, Incarnation>);
+
+impl Cache {
+    /// Scans the cache into `rows`, in place of what they are. Nothing is sent. It waits for one
+    /// call of the client at most, which takes microseconds. The clock of leases is read after the
+    /// rows.
+    pub fn scan(
+        &self,
+        keys: &Range<u64>,
+        rows: &mut Vec<Row>,
+        clock: impl FnOnce() -> io::Result<Moment>,
+    ) -> Result<Scan, Code> {
+        self.0.read(|incarnation| incarnation.scan(keys, rows, clock))
+    }
+
+    /// Keeps the cache as it is, as long as the answer lives: the client takes no message and no
+    /// call meanwhile. Who holds several has to take them in the order of their shards.
+    pub fn hold(&self) -> HeldCache<'_> {
+        HeldCache(self.0.enter())
+    }
+}
+
+#[cfg(test)]
+impl Cache {
+    /// Whether a call of the client waits until somebody holds the cache no more.
+    pub fn keeps_a_call_waiting(&self) -> bool {
+        self.0.keeps_a_change_waiting()
+    }
+}
+
+impl HeldCache<'_> {
+    /// Scans the cache, and puts the rows behind those that are there. The clock of leases is read
+    /// after them.
+    pub fn scan_behind(
+        &self,
+        keys: &Range<u64>,
+        rows: &mut Vec<Row>,
+        clock: impl FnOnce() -> io::Result<Moment>,
+    ) -> Result<Scan, Code> {
+        self.0.scan_behind(keys, rows, clock)
+    }
+}
+
+impl Shown {
+    /// A lock or a write is not answered: a push may be on its way.
+    pub fn awaits_a_push(&self) -> bool {
+        self.is_waiting || (self.number > 0 && self.outcome.is_none())
+    }
+}
+
+impl ClientHandle {
+    /// One that does nothing: its calls answer `Closed`.
+    pub fn closed() -> ClientHandle {
+        ClientHandle::of(Handle::closed(), Lease::new(0, 0, Older::Unknown))
+    }
+
+    /// One whose host knows nothing of older incarnations, and has kept this one.
+    #[cfg(test)]
+    pub fn open(number: u8, incarnation: u64) -> Result<ClientHandle, Code> {
+        let mut client = ClientHandle::open_behind(number, incarnation, Older::Unknown)?;
+        client.confirm()?;
+        Ok(client)
+    }
+
+    /// One whose host knows so much of older incarnations. It says nothing before
+    /// [`ClientHandle::confirm`].
+    pub fn open_behind(number: u8, incarnation: u64, older: Older) -> Result<ClientHandle, Code> {
+        let mut handle = Handle::closed();
+        // SAFETY: the handle stays in its place, and `&mut` gives it to this call alone.
+        done(unsafe { ffi::krl_client_open(handle.raw(), number.into(), incarnation) })?;
+        Ok(ClientHandle::of(handle, Lease::new(number, incarnation, older)))
+    }
+
+    /// Whether the incarnation is on the disk.
+    pub fn is_kept(&self) -> bool {
+        self.is_kept
+    }
+
+    /// Confirms that the incarnation is on the disk: from now on it may be said.
+    pub fn confirm(&mut self) -> Result<(), Code> {
+        if !self.is_kept {
+            self.handle.change(|it| it.handle.confirm(1))?;
+            self.is_kept = true;
+        }
+        Ok(())
+    }
+
+    fn of(handle: Handle, lease: Lease) -> ClientHandle {
+        let incarnation = Incarnation { handle, end: lease.end() };
+        ClientHandle { handle: Owner::new(incarnation), lease, has_spoken: true, is_kept: false }
+    }
+
+    /// Becomes another client. What was cached from this one is cached from the other one.
+    pub fn replace(&mut self, mut other: ClientHandle) {
+        other.handle.change(|other| self.handle.change(|handle| mem::swap(handle, other)));
+        self.lease = other.lease;
+        self.is_kept = other.is_kept;
+        self.has_spoken = true;
+    }
+
+    pub fn lease(&self) -> &Lease {
+        &self.lease
+    }
+
+    pub fn lease_mut(&mut self) -> &mut Lease {
+        &mut self.lease
+    }
+
+    pub fn cache(&self) -> Cache {
+        Cache(self.handle.reader())
+    }
+
+    /// Makes a call that takes the handle, when nobody scans the cache.
+    fn call(&mut self, call: impl FnOnce(*mut ffi::Handle) -> ffi::Reply) -> Result<u64, Code> {
+        self.has_spoken = true;
+        done(self.handle.change(|it| call(it.handle.raw())))
+    }
+
+    pub fn step(&mut self, message: &[u8]) -> Result<(), Code> {
+        let (at, length) = (message.as_ptr(), message.len());
+        // SAFETY: as for any handle, and so many bytes of the message are there to be read.
+        self.call(|handle| unsafe { ffi::krl_client_step(handle, at, length) }).map(drop)
+    }
+
+    pub fn tick(&mut self) -> Result<(), Code> {
+        // SAFETY: `call` gives the handle to this call alone.
+        self.call(|handle| unsafe { ffi::krl_client_tick(handle) }).map(drop)
+    }
+
+    pub fn lock(&mut self, points: Range<u64>, mode: Mode) -> Result<(), Code> {
+        let Range { start, end } = points;
+        // SAFETY: `call` gives the handle to this call alone.
+        self.call(|handle| unsafe { ffi::krl_client_lock(handle, start, end, mode as u32) })
+            .map(drop)
+    }
+
+    /// Sends the write, and says its number.
+    pub fn write(&mut self, write: &Write) -> Result<u64, Code> {
+        self.call(|handle| match write {
+            Write::Insert(Row { key, value }) => {
+                let bytes = value.as_bytes();
+                // SAFETY: as for any handle, and so many bytes of the value are there to be read.
+                unsafe { ffi::krl_client_insert(handle, *key, bytes.as_ptr(), bytes.len()) }
+            }
+            Write::Put(Row { key, value }) => {
+                let bytes = value.as_bytes();
+                // SAFETY: as for any handle, and so many bytes of the value are there to be read.
+                unsafe { ffi::krl_client_put(handle, *key, bytes.as_ptr(), bytes.len()) }
+            }
+            // SAFETY: `call` gives the handle to this call alone.
+            Write::Delete(key) => unsafe { ffi::krl_client_delete(handle, *key) },
+        })?;
+        Ok(self.status()?.number)
+    }
+
+    /// Scans the cache as it is at this moment into `rows`, in place of what they are. Nothing is
+    /// sent, and nothing waits. No call of the client was made since that moment.
+    pub fn scan(&self, keys: &Range<u64>, rows: &mut Vec<Row>, now: Now) -> Result<Scan, Code> {
+        self.handle.get().scan(keys, rows, || now.boot())
+    }
+
+    /// What the client knows of these keys, by now and for its own use: the end of its lease is not
+    /// looked at. The rows take the place of those that are there, and are `TooShort` if they are
+    /// more than the room that there is.
+    pub fn known(&self, keys: &Range<u64>, rows: &mut Vec<Row>) -> Result<Scan, Code> {
+        rows.clear();
+        let reply = self.handle.get().handle.scan_once(keys, rows)?;
+        found(reply)
+    }
+
+    pub fn forget(&mut self, keys: &Range<u64>) -> Result<(), Code> {
+        // SAFETY: `call` gives the handle to this call alone.
+        self.call(|handle| unsafe { ffi::krl_client_forget(handle, keys.start, keys.end) })
+            .map(drop)
+    }
+
+    pub fn pin(&mut self, keys: &Range<u64>) -> Result<u64, Code> {
+        // SAFETY: `call` gives the handle to this call alone.
+        self.call(|handle| unsafe { ffi::krl_client_pin(handle, keys.start, keys.end) })
+    }
+
+    pub fn unpin(&mut self, pin: u64) -> Result<(), Code> {
+        // SAFETY: `call` gives the handle to this call alone.
+        self.call(|handle| unsafe { ffi::krl_client_unpin(handle, pin) }).map(drop)
+    }
+
+    /// Whether the client holds anything at this point.
+    pub fn holds(&self, point: u64) -> bool {
+        let held = self.handle.get().handle.held(point);
+        held.range > 0 || held.key > 0
+    }
+
+    /// Whether no other client may read or change the gap at this point, nor the entry there.
+    pub fn has_all(&self, point: u64) -> bool {
+        const X: u32 = 3;
+        let held = self.handle.get().handle.held(point);
+        held.range == X && held.key == X
+    }
+
+    /// Whether the client holds the entry of this key so that it alone may change it next.
+    pub fn may_update(&self, key: u64) -> bool {
+        const U: u32 = 2;
+        let held = self.handle.get().handle.held(key);
+        code(held.reply) == Code::Done && held.key >= U
+    }
+
+    /// Whether the client reads the gap at this point.
+    pub fn reads_gap(&self, point: u64) -> bool {
+        const S: u32 = 1;
+        const X: u32 = 3;
+        matches!(self.handle.get().handle.held(point).range, S | X)
+    }
+
+    /// Whether the client reads the entry of this key, and another client may have it for an update.
+    pub fn reads_entry(&self, key: u64) -> bool {
+        const S: u32 = 1;
+        self.handle.get().handle.held(key).key == S
+    }
+
+    pub fn status(&self) -> Result<Shown, Code> {
+        const LOCK_WAITING: u32 = 1;
+        const LOCK_GRANTED: u32 = 2;
+        const LOCK_ABSENT: u32 = 3;
+        let state = self.handle.get().handle.client_state();
+        done(state.reply)?;
+        Ok(Shown {
+            epoch: state.epoch,
+            is_waiting: state.lock == LOCK_WAITING,
+            is_granted: state.lock == LOCK_GRANTED,
+            is_absent: state.lock == LOCK_ABSENT,
+            number: state.number,
+            outcome: Outcome::of_tag(state.outcome),
+        })
+    }
+
+    /// Says Bye. After that only this call, which says it again, and `take` do anything.
+    pub fn leave(&mut self) -> Result<(), Code> {
+        // SAFETY: `call` gives the handle to this call alone.
+        self.call(|handle| unsafe { ffi::krl_client_leave(handle) }).map(drop)
+    }
+
+    /// Appends what waits to be sent, as frames. If nothing can wait, nobody's scan is held up.
+    /// Nothing leaves before the incarnation is kept.
+    pub fn take(&mut self, frames: &mut Vec<u8>) -> Result<(), Code> {
+        if self.has_spoken && self.is_kept {
+            self.handle.change(|it| it.handle.take(frames))?;
+            self.has_spoken = false;
+        }
+        Ok(())
+    }
+}
+
+impl Incarnation {
+    fn scan(
+        &self,
+        keys: &Range<u64>,
+        rows: &mut Vec<Row>,
+        clock: impl FnOnce() -> io::Result<Moment>,
+    ) -> Result<Scan, Code> {
+        rows.clear();
+        self.scan_behind(keys, rows, clock)
+    }
+
+    /// The rows come behind those that are there. The clock is read behind them all: rows are handed
+    /// over only if the lease holds then.
+    fn scan_behind(
+        &self,
+        keys: &Range<u64>,
+        rows: &mut Vec<Row>,
+        clock: impl FnOnce() -> io::Result<Moment>,
+    ) -> Result<Scan, Code> {
+        found_by_lease(|| self.handle.scan_behind(keys, rows), &self.end, clock)
+    }
+}
+
+/// What the library found by a scan.
+fn found(reply: ffi::Reply) -> Result<Scan, Code> {
+    match code(reply) {
+        Code::Done => Ok(Scan::Rows),
+        Code::Miss => Ok(Scan::Miss(reply.detail)),
+        Code::Pending => Ok(Scan::Pending),
+        refused => Err(refused),
+    }
+}
+
+/// What the scan found, if the lease holds behind it.
+fn found_by_lease(
+    scan: impl FnOnce() -> Result<Scan, Code>,
+    end: &End,
+    clock: impl FnOnce() -> io::Result<Moment>,
+) -> Result<Scan, Code> {
+    let found = scan()?;
+    if found == Scan::Rows && !end.allows(clock) {
+        return Ok(Scan::Ended);
+    }
+    Ok(found)
+}
+
+/// What a client's handle answers by a reader.
+impl Handle {
+    /// The rows come behind those that are there.
+    fn scan_behind(&self, keys: &Range<u64>, rows: &mut Vec<Row>) -> Result<Scan, Code> {
+        let mut reply = self.scan_once(keys, rows)?;
+        if code(reply) == Code::TooShort {
+            rows.try_reserve_exact(count(reply)?).map_err(|_| Code::OutOfMemory)?;
+            reply = self.scan_once(keys, rows)?;
+        }
+        found(reply)
+    }
+
+    /// Scans into the room that there is behind the rows.
+    fn scan_once(&self, keys: &Range<u64>, rows: &mut Vec<Row>) -> Result<ffi::Reply, Code> {
+        let room = rows.spare_capacity_mut();
+        let (at, length) = (room.as_mut_ptr().cast(), room.len());
+        let mut reader = self.reader();
+        // SAFETY: the reader is this call's own, `&` keeps away each call that takes the handle, and
+        // there is so much room to be written to. The library reads nothing of the room.
+        let reply =
+            unsafe { ffi::krl_reader_scan(&raw mut reader, keys.start, keys.end, at, length) };
+        if code(reply) == Code::Done {
+            let length = rows.len() + count(reply)?;
+            // SAFETY: the library has written so many rows behind the others, for which there was
+            // room.
+            unsafe { rows.set_len(length) };
+        }
+        Ok(reply)
+    }
+
+    fn held(&self, point: u64) -> ffi::Held {
+        let mut reader = self.reader();
+        // SAFETY: the reader is this call's own, and `&` keeps away each call that takes the handle.
+        unsafe { ffi::krl_reader_held(&raw mut reader, point) }
+    }
+
+    fn client_state(&self) -> ffi::ClientState {
+        let mut reader = self.reader();
+        // SAFETY: the reader is this call's own, and `&` keeps away each call that takes the handle.
+        unsafe { ffi::krl_reader_status(&raw mut reader) }
+    }
+}
+
+fn count(reply: ffi::Reply) -> Result<usize, Code> {
+    usize::try_from(reply.detail).map_err(|_| Code::OutOfMemory)
+}
+
+#[cfg(test)]
+mod figures;
+#[cfg(test)]
+mod tests;
+#[cfg(test)]
+mod world;

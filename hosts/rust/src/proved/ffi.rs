@@ -1,0 +1,296 @@
+//! The declarations of `krl.h`. Only tests compare the two: the layouts here and in
+//! `hosts/c/layout.c`, and the calls by running them.
+use crate::model::row::Row;
+use std::ffi::c_void;
+
+/// For how many rows a server has room if nothing asks for another number.
+pub const DEFAULT_ROOM: usize = 65_536;
+
+/// The most slots that one grant of a server may take.
+pub const MAX_REACH: usize = 128;
+
+/// The most rows that a server may have room for.
+pub const MAX_ROOM: usize = 1_048_576;
+
+#[repr(C)]
+pub struct Handle {
+    pub is_open: bool,
+    pub at: *mut c_void,
+}
+
+#[repr(C)]
+pub struct Reader {
+    pub is_open: bool,
+    pub at: *const c_void,
+}
+
+#[repr(C)]
+#[derive(Clone, Copy, Debug)]
+pub struct Reply {
+    pub code: u32,
+    pub detail: u64,
+}
+
+#[repr(C)]
+#[derive(Clone, Copy, Debug)]
+pub struct RawRecord {
+    pub client: u64,
+    pub incarnation: u64,
+    pub last: u64,
+    pub outcome: u32,
+    pub left: u32,
+}
+
+#[repr(C)]
+#[derive(Clone, Copy, Debug)]
+pub struct RawRecorded {
+    pub reply: Reply,
+    pub record: RawRecord,
+}
+
+#[repr(C)]
+#[derive(Clone, Copy, Debug)]
+pub struct RawChange {
+    pub kind: u32,
+    pub outcome: u32,
+    pub client: u64,
+    pub number: u64,
+    pub write: u64,
+    pub row: Row,
+}
+
+#[repr(C)]
+#[derive(Clone, Copy, Debug)]
+pub struct Stepped {
+    pub reply: Reply,
+    pub change: RawChange,
+}
+
+#[repr(C)]
+#[derive(Clone, Copy, Debug)]
+pub struct ClientState {
+    pub reply: Reply,
+    pub epoch: u64,
+    pub seen: u64,
+    pub lock: u32,
+    pub write: u32,
+    pub number: u64,
+    pub outcome: u64,
+}
+
+#[repr(C)]
+#[derive(Clone, Copy, Debug)]
+pub struct Held {
+    pub reply: Reply,
+    pub range: u32,
+    pub key: u32,
+}
+
+#[repr(C)]
+#[derive(Clone, Copy, Debug)]
+pub struct ServerState {
+    pub reply: Reply,
+    pub epoch: u64,
+    pub phase: u64,
+}
+
+#[repr(C)]
+#[derive(Clone, Copy, Debug)]
+pub struct RawWaiting {
+    pub reply: Reply,
+    pub request: u64,
+    pub point: u64,
+    pub hi: u64,
+    pub mode: u32,
+    pub waits: u32,
+}
+
+#[repr(C)]
+#[derive(Clone, Copy, Debug)]
+pub struct RawHeldSlot {
+    pub reply: Reply,
+    pub lo: u64,
+    pub hi: u64,
+    pub mode: u32,
+    pub holds: u32,
+}
+
+#[repr(C)]
+#[derive(Clone, Copy, Debug, PartialEq, Eq)]
+pub struct Lease {
+    pub end: u64,
+    pub length: u64,
+    pub stamp: u64,
+}
+
+#[repr(C)]
+#[derive(Clone, Copy, Debug, PartialEq, Eq)]
+pub struct Terms {
+    pub length: u64,
+    pub drift: u32,
+}
+
+#[repr(C)]
+#[derive(Clone, Copy, Debug, PartialEq, Eq)]
+pub struct KeptLease {
+    pub longest: u64,
+    pub is_unleased: u32,
+}
+
+#[repr(C)]
+#[derive(Clone, Copy, Debug)]
+pub struct TakeOver {
+    pub registered: u64,
+    pub incarnation: u64,
+    pub over: u64,
+    pub is_vouched: u32,
+}
+
+#[repr(C)]
+#[derive(Clone, Copy, Debug)]
+pub struct RawPart {
+    pub shard: u64,
+    pub lo: u64,
+    pub hi: u64,
+}
+
+unsafe extern "C" {
+    pub fn krl_client_open(handle: *mut Handle, number: u64, incarnation: u64) -> Reply;
+    pub fn krl_client_step(handle: *mut Handle, bytes: *const u8, length: usize) -> Reply;
+    pub fn krl_client_tick(handle: *mut Handle) -> Reply;
+    pub fn krl_client_lock(handle: *mut Handle, point: u64, hi: u64, mode: u32) -> Reply;
+    pub fn krl_client_insert(
+        handle: *mut Handle,
+        key: u64,
+        bytes: *const u8,
+        length: usize,
+    ) -> Reply;
+    pub fn krl_client_put(handle: *mut Handle, key: u64, bytes: *const u8, length: usize) -> Reply;
+    pub fn krl_client_delete(handle: *mut Handle, key: u64) -> Reply;
+    pub fn krl_client_forget(handle: *mut Handle, lo: u64, hi: u64) -> Reply;
+    pub fn krl_client_pin(handle: *mut Handle, lo: u64, hi: u64) -> Reply;
+    pub fn krl_client_unpin(handle: *mut Handle, pin: u64) -> Reply;
+    pub fn krl_client_leave(handle: *mut Handle) -> Reply;
+
+    pub fn krl_reader_scan(
+        reader: *mut Reader,
+        lo: u64,
+        hi: u64,
+        rows: *mut Row,
+        room: usize,
+    ) -> Reply;
+    pub fn krl_reader_held(reader: *mut Reader, point: u64) -> Held;
+    pub fn krl_reader_status(reader: *mut Reader) -> ClientState;
+
+    pub fn krl_server_open(
+        handle: *mut Handle,
+        room: usize,
+        reach: usize,
+        epoch: u64,
+        entries: *const Row,
+        entries_length: usize,
+        records: *const RawRecord,
+        records_length: usize,
+    ) -> Reply;
+    pub fn krl_server_step(handle: *mut Handle, bytes: *const u8, length: usize) -> Stepped;
+    pub fn krl_server_nudge(handle: *mut Handle, client: u64) -> Reply;
+    pub fn krl_server_status(handle: *mut Handle) -> ServerState;
+    pub fn krl_server_missing(handle: *mut Handle, clients: *mut u64, room: usize) -> Reply;
+    pub fn krl_server_record(handle: *mut Handle, client: u64) -> RawRecorded;
+    pub fn krl_server_waiter(handle: *mut Handle, client: u64) -> RawWaiting;
+    pub fn krl_server_waited_for(
+        handle: *mut Handle,
+        client: u64,
+        clients: *mut u64,
+        room: usize,
+    ) -> Reply;
+    pub fn krl_server_held(handle: *mut Handle, client: u64) -> Reply;
+    pub fn krl_server_next_held(handle: *mut Handle, client: u64, from: u64) -> RawHeldSlot;
+
+    pub safe fn krl_lease_new() -> Lease;
+    pub safe fn krl_lease_take_terms(lease: &mut Lease, stamp: u64, length: u64, now: u64);
+    pub safe fn krl_lease_holds(lease: &Lease, now: u64) -> bool;
+    pub safe fn krl_until_register(terms: &Terms, now: u64) -> u64;
+    pub safe fn krl_until_sign(until: u64, terms: &Terms, said: u64, now: u64) -> u64;
+    pub safe fn krl_until_has_come(until: u64, now: u64) -> bool;
+    pub safe fn krl_until_hears(until: u64, asks: &TakeOver, now: u64) -> bool;
+    pub safe fn krl_kept_start(kept: &KeptLease, terms: &Terms) -> KeptLease;
+    pub safe fn krl_kept_register(kept: &KeptLease, terms: &Terms) -> KeptLease;
+    pub safe fn krl_kept_old_end(kept: &KeptLease, terms: &Terms, now: u64) -> u64;
+    pub safe fn krl_kept_until(kept: &KeptLease, terms: &Terms, now: u64) -> u64;
+    pub safe fn krl_kept_revise(
+        kept: &KeptLease,
+        terms: &Terms,
+        old_end: u64,
+        until: u64,
+        now: u64,
+    ) -> KeptLease;
+
+    pub fn krl_shard_of(bounds: *const u64, bounds_length: usize, point: u64) -> Reply;
+    pub fn krl_parts(
+        bounds: *const u64,
+        bounds_length: usize,
+        lo: u64,
+        hi: u64,
+        parts: *mut RawPart,
+        room: usize,
+    ) -> Reply;
+
+    #[cfg(test)]
+    pub safe fn krl_version() -> u32;
+
+    pub fn krl_confirm(handle: *mut Handle, count: u64) -> Reply;
+    pub fn krl_take(handle: *mut Handle, bytes: *mut u8, room: usize) -> Reply;
+    pub fn krl_close(handle: *mut Handle);
+}
+
+#[cfg(test)]
+mod tests {
+    use super::*;
+    use std::mem::{offset_of, size_of};
+
+    #[test]
+    fn the_library_has_the_version_of_this_crate() {
+        let parts = env!("CARGO_PKG_VERSION").split('.').map(|part| part.parse::<u32>().unwrap());
+        assert_eq!(krl_version(), parts.fold(0, |version, part| version * 1000 + part));
+    }
+
+    /// `hosts/c/layout.c` has the same numbers, and a C compiler compares them with `krl.h`.
+    #[test]
+    fn layouts() {
+        assert_eq!([size_of::<Handle>(), offset_of!(Handle, at)], [16, 8]);
+        assert_eq!([size_of::<Reader>(), offset_of!(Reader, at)], [16, 8]);
+        assert_eq!([size_of::<Reply>(), offset_of!(Reply, detail)], [16, 8]);
+        assert_eq!(size_of::<Row>(), 48);
+        assert_eq!([offset_of!(Row, key), offset_of!(Row, value)], [0, 8]);
+        assert_eq!([size_of::<RawRecord>(), offset_of!(RawRecord, last)], [32, 16]);
+        assert_eq!([offset_of!(RawRecord, outcome), offset_of!(RawRecord, left)], [24, 28]);
+        assert_eq!([size_of::<RawRecorded>(), offset_of!(RawRecorded, record)], [48, 16]);
+        assert_eq!([size_of::<RawChange>(), offset_of!(RawChange, client)], [80, 8]);
+        assert_eq!([offset_of!(RawChange, number), offset_of!(RawChange, write)], [16, 24]);
+        assert_eq!([offset_of!(RawChange, outcome), offset_of!(RawChange, row)], [4, 32]);
+        assert_eq!([size_of::<Stepped>(), offset_of!(Stepped, change)], [96, 16]);
+        assert_eq!([size_of::<ClientState>(), offset_of!(ClientState, epoch)], [56, 16]);
+        assert_eq!([offset_of!(ClientState, seen), offset_of!(ClientState, lock)], [24, 32]);
+        assert_eq!([offset_of!(ClientState, write), offset_of!(ClientState, number)], [36, 40]);
+        assert_eq!(offset_of!(ClientState, outcome), 48);
+        assert_eq!([size_of::<Held>(), offset_of!(Held, range)], [24, 16]);
+        assert_eq!(offset_of!(Held, key), 20);
+        assert_eq!([size_of::<ServerState>(), offset_of!(ServerState, epoch)], [32, 16]);
+        assert_eq!(offset_of!(ServerState, phase), 24);
+        assert_eq!([size_of::<RawWaiting>(), offset_of!(RawWaiting, request)], [48, 16]);
+        assert_eq!([offset_of!(RawWaiting, point), offset_of!(RawWaiting, hi)], [24, 32]);
+        assert_eq!([offset_of!(RawWaiting, mode), offset_of!(RawWaiting, waits)], [40, 44]);
+        assert_eq!([size_of::<RawHeldSlot>(), offset_of!(RawHeldSlot, lo)], [40, 16]);
+        assert_eq!([offset_of!(RawHeldSlot, hi), offset_of!(RawHeldSlot, mode)], [24, 32]);
+        assert_eq!(offset_of!(RawHeldSlot, holds), 36);
+        assert_eq!([size_of::<Lease>(), offset_of!(Lease, end)], [24, 0]);
+        assert_eq!([offset_of!(Lease, length), offset_of!(Lease, stamp)], [8, 16]);
+        assert_eq!([size_of::<Terms>(), offset_of!(Terms, drift)], [16, 8]);
+        assert_eq!([size_of::<KeptLease>(), offset_of!(KeptLease, is_unleased)], [16, 8]);
+        assert_eq!([size_of::<TakeOver>(), offset_of!(TakeOver, over)], [32, 16]);
+        assert_eq!([offset_of!(TakeOver, incarnation), offset_of!(TakeOver, is_vouched)], [8, 24]);
+        assert_eq!([size_of::<RawPart>(), offset_of!(RawPart, lo)], [24, 8]);
+        assert_eq!(offset_of!(RawPart, hi), 16);
+    }
+}

@@ -1,0 +1,273 @@
+//! A safe owner of the library's handles, and a server's. `client_handle.rs` has a client's.
+use crate::model::change::{Change, Outcome, Record, Snapshot, Write};
+use crate::model::reach::Reach;
+use crate::model::room::Room;
+use crate::model::row::Row;
+use crate::proved::code::Code;
+use crate::proved::ffi;
+use crate::server::shown::locks::HeldSlot;
+use crate::server::shown::watch::{CLIENTS, Waiting, mode_name};
+use std::ptr;
+
+/// A handle. It stays in its place: the library's caller may not copy it.
+pub(crate) struct Handle(Box<ffi::Handle>);
+
+// SAFETY: what a handle keeps may go to another thread, as the library's proof says. A handle
+// serves one call at a time, since each call takes it by `&mut`; a lock makes each thread see what
+// the one before it did.
+unsafe impl Send for Handle {}
+
+// SAFETY: a `&` gives readers alone. The library's proof says that several threads may call it at
+// once, each by a reader of its own, while no call runs that takes the handle; and a `&mut` is
+// needed for such a call.
+unsafe impl Sync for Handle {}
+
+impl Handle {
+    pub fn closed() -> Handle {
+        Handle(Box::new(ffi::Handle { is_open: false, at: ptr::null_mut() }))
+    }
+
+    pub fn raw(&mut self) -> *mut ffi::Handle {
+        &raw mut *self.0
+    }
+
+    /// A reader of what the handle keeps, as `krl_reader_of` makes it. It may be used as long as
+    /// the `&` lives.
+    pub fn reader(&self) -> ffi::Reader {
+        ffi::Reader { is_open: self.0.is_open, at: self.0.at }
+    }
+
+    /// Confirms that the first `count` notes are on the host's disk, and returns how many the library
+    /// has reported.
+    pub fn confirm(&mut self, count: u64) -> Result<u64, Code> {
+        // SAFETY: the handle stays in its place, and `&mut` gives it to this call alone.
+        done(unsafe { ffi::krl_confirm(self.raw(), count) })
+    }
+
+    /// Appends what waits to be sent, as frames: of each message its length in eight bytes, and the
+    /// message.
+    pub fn take(&mut self, frames: &mut Vec<u8>) -> Result<(), Code> {
+        let old = frames.len();
+        let taken = self.take_behind(old, frames);
+        frames.truncate(old + taken.unwrap_or(0));
+        taken.map(drop)
+    }
+
+    /// Takes the same into the room behind the old bytes, and says how long it is. The room grows
+    /// as it has to.
+    fn take_behind(&mut self, old: usize, frames: &mut Vec<u8>) -> Result<usize, Code> {
+        loop {
+            let room = &mut frames[old..];
+            // SAFETY: as for any handle, and there is so much room to be written to.
+            let reply = unsafe { ffi::krl_take(self.raw(), room.as_mut_ptr(), room.len()) };
+            let length = usize::try_from(reply.detail).map_err(|_| Code::OutOfMemory)?;
+            match code(reply) {
+                Code::Done => return Ok(length),
+                Code::TooShort => frames.resize(old + length, 0),
+                refused => return Err(refused),
+            }
+        }
+    }
+}
+
+impl Drop for Handle {
+    fn drop(&mut self) {
+        // SAFETY: the handle stays in its place, and `&mut` gives it to this call alone.
+        unsafe { ffi::krl_close(self.raw()) }
+    }
+}
+
+pub(crate) fn code(reply: ffi::Reply) -> Code {
+    Code::of(reply.code)
+}
+
+/// What was done, or why not. A call that could not say something has done what it should.
+pub(crate) fn done(reply: ffi::Reply) -> Result<u64, Code> {
+    match code(reply) {
+        Code::Done | Code::ReplyLost => Ok(reply.detail),
+        refused => Err(refused),
+    }
+}
+
+/// A server of the library.
+pub(crate) struct ServerHandle {
+    handle: Handle,
+    /// So many of the notes that it has reported are on the disk.
+    confirmed: u64,
+}
+
+impl ServerHandle {
+    /// Starts a server of this room and this reach on what was kept, and says its epoch: it has to
+    /// be kept before anything is sent.
+    pub fn open(
+        snapshot: &Snapshot,
+        room: Room,
+        reach: Reach,
+    ) -> Result<(ServerHandle, u64), Code> {
+        let rows: Vec<Row> =
+            snapshot.rows.iter().map(|(key, value)| Row { key: *key, value: *value }).collect();
+        let records: Vec<_> = snapshot.records.iter().map(raw_record).collect();
+        let mut handle = Handle::closed();
+        // SAFETY: as for any handle, and so many rows and records are there to be read.
+        let reply = unsafe {
+            ffi::krl_server_open(
+                handle.raw(),
+                room.rows(),
+                reach.slots(),
+                snapshot.epoch,
+                rows.as_ptr(),
+                rows.len(),
+                records.as_ptr(),
+                records.len(),
+            )
+        };
+        let epoch = done(reply)?;
+        Ok((ServerHandle { handle, confirmed: 0 }, epoch))
+    }
+
+    /// Gives the server a message, and says what has to be kept before anything more is sent.
+    pub fn step(&mut self, message: &[u8]) -> Result<Option<Change>, Code> {
+        // SAFETY: as for any handle, and so many bytes of the message are there to be read.
+        let stepped =
+            unsafe { ffi::krl_server_step(self.handle.raw(), message.as_ptr(), message.len()) };
+        done(stepped.reply)?;
+        change_of(&stepped.change)
+    }
+
+    /// Confirms that these changes are on the disk, after all earlier ones: what rests on them may
+    /// be sent. They have to be all that the server has reported since.
+    ///
+    /// # Errors
+    ///
+    /// [`Code::Unkept`] if one is missing, and [`Code::NotTold`] if there are more.
+    pub fn confirm(&mut self, kept: &[Change]) -> Result<(), Code> {
+        self.confirmed += kept.iter().filter(|change| change.is_note()).count() as u64;
+        let reported = self.handle.confirm(self.confirmed)?;
+        if reported == self.confirmed { Ok(()) } else { Err(Code::Unkept) }
+    }
+
+    pub fn nudge(&mut self, client: u8) -> Result<(), Code> {
+        // SAFETY: the handle stays in its place, and `&mut` gives it to this call alone.
+        done(unsafe { ffi::krl_server_nudge(self.handle.raw(), client.into()) }).map(drop)
+    }
+
+    pub fn is_serving(&mut self) -> bool {
+        const SERVING: u64 = 1;
+        // SAFETY: the handle stays in its place, and `&mut` gives it to this call alone.
+        unsafe { ffi::krl_server_status(self.handle.raw()) }.phase == SERVING
+    }
+
+    /// The clients whose reports are missing.
+    pub fn missing(&mut self) -> Result<Vec<u8>, Code> {
+        let mut clients = [0; CLIENTS as usize];
+        let room = clients.len();
+        // SAFETY: as for any handle, and there is so much room to be written to.
+        let reply =
+            unsafe { ffi::krl_server_missing(self.handle.raw(), clients.as_mut_ptr(), room) };
+        listed(reply, &clients)
+    }
+
+    /// What is kept of the client, if it ever registered.
+    pub fn record(&mut self, client: u8) -> Result<Option<Record>, Code> {
+        // SAFETY: the handle stays in its place, and `&mut` gives it to this call alone.
+        let raw = unsafe { ffi::krl_server_record(self.handle.raw(), client.into()) };
+        match code(raw.reply) {
+            Code::BadClient => Ok(None),
+            _ => done(raw.reply).map(|_| record_of(&raw.record)),
+        }
+    }
+
+    /// The clients that wait for a lock, by number, each with those that it waits for.
+    pub fn waiting(&mut self) -> Result<Vec<Waiting>, Code> {
+        (0..CLIENTS).filter_map(|client| self.waiting_of(client).transpose()).collect()
+    }
+
+    fn waiting_of(&mut self, client: u8) -> Result<Option<Waiting>, Code> {
+        // SAFETY: the handle stays in its place, and `&mut` gives it to this call alone.
+        let raw = unsafe { ffi::krl_server_waiter(self.handle.raw(), client.into()) };
+        done(raw.reply)?;
+        if raw.waits == 0 {
+            return Ok(None);
+        }
+        let ffi::RawWaiting { request, point, hi, mode, .. } = raw;
+        let waits_for = self.waited_for(client)?;
+        Ok(Some(Waiting { client, request, point, hi, mode, waits_for }))
+    }
+
+    fn waited_for(&mut self, client: u8) -> Result<Vec<u8>, Code> {
+        let mut clients = [0; CLIENTS as usize];
+        let (at, room) = (clients.as_mut_ptr(), clients.len());
+        // SAFETY: as for any handle, and there is so much room to be written to.
+        let reply =
+            unsafe { ffi::krl_server_waited_for(self.handle.raw(), client.into(), at, room) };
+        listed(reply, &clients)
+    }
+
+    /// At how many slots the client holds something.
+    pub fn held(&mut self, client: u8) -> Result<u64, Code> {
+        // SAFETY: the handle stays in its place, and `&mut` gives it to this call alone.
+        done(unsafe { ffi::krl_server_held(self.handle.raw(), client.into()) })
+    }
+
+    /// The first slot that ends behind this point and of which the client holds something.
+    pub fn next_held(&mut self, client: u8, from: u64) -> Option<HeldSlot> {
+        // SAFETY: the handle stays in its place, and `&mut` gives it to this call alone.
+        let raw = unsafe { ffi::krl_server_next_held(self.handle.raw(), client.into(), from) };
+        let ffi::RawHeldSlot { lo, hi, mode, holds, .. } = raw;
+        (holds != 0).then(|| HeldSlot { lo, hi, client, mode: mode_name(mode) })
+    }
+
+    /// Takes what waits to be sent, as frames, into the front of `room`, and says how many bytes
+    /// they have. The room grows as it has to, and is used again.
+    pub fn take(&mut self, room: &mut Vec<u8>) -> Result<usize, Code> {
+        self.handle.take_behind(0, room)
+    }
+}
+
+/// The numbers of clients that a call wrote, if it did.
+fn listed(reply: ffi::Reply, clients: &[u64]) -> Result<Vec<u8>, Code> {
+    let count = usize::try_from(done(reply)?).map_err(|_| Code::OutOfMemory)?;
+    Ok(clients.iter().take(count).filter_map(|client| u8::try_from(*client).ok()).collect())
+}
+
+fn raw_record(record: &Record) -> ffi::RawRecord {
+    let (last, outcome) = record.last.map_or((0, 0), |(number, outcome)| (number, outcome.tag()));
+    ffi::RawRecord {
+        client: record.client.into(),
+        incarnation: record.incarnation,
+        last,
+        outcome,
+        left: record.left.into(),
+    }
+}
+
+fn record_of(raw: &ffi::RawRecord) -> Option<Record> {
+    let ffi::RawRecord { incarnation, last, outcome, left, .. } = *raw;
+    let client = u8::try_from(raw.client).ok()?;
+    let last = Outcome::of_tag(outcome.into()).map(|outcome| (last, outcome));
+    Some(Record { client, incarnation, last, left: left != 0 })
+}
+
+fn change_of(raw: &ffi::RawChange) -> Result<Option<Change>, Code> {
+    let unknown = Code::Other(raw.kind);
+    let client = u8::try_from(raw.client).map_err(|_| unknown)?;
+    Ok(match raw.kind {
+        0 => None,
+        1 => Some(Change::Registered { client, incarnation: raw.number }),
+        2 => Some(Change::Left { client }),
+        3 => {
+            let outcome = Outcome::of_tag(raw.outcome.into()).ok_or(unknown)?;
+            let write = match raw.write {
+                0 => Write::Insert(raw.row),
+                1 => Write::Put(raw.row),
+                2 => Write::Delete(raw.row.key),
+                _ => return Err(unknown),
+            };
+            Some(Change::Judged { client, number: raw.number, write, outcome })
+        }
+        _ => return Err(unknown),
+    })
+}
+
+#[cfg(test)]
+mod tests;

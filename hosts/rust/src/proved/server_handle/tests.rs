@@ -1,0 +1,69 @@
+use super::*;
+use crate::proved::client_handle::ClientHandle;
+use crate::wire::frames::split;
+
+/// A server without rows, and its epoch.
+fn open() -> (ServerHandle, u64) {
+    ServerHandle::open(&Snapshot::default(), Room::default(), Reach::default()).unwrap()
+}
+
+/// A server without rows whose epoch is kept.
+fn started() -> ServerHandle {
+    let (mut server, epoch) = open();
+    server.confirm(&[Change::Started { epoch }]).unwrap();
+    server
+}
+
+/// The first message of a client.
+fn hello(client: u8) -> Vec<u8> {
+    let mut frames = Vec::new();
+    ClientHandle::open(client, 1).unwrap().take(&mut frames).unwrap();
+    split(&frames).next().unwrap().0.to_vec()
+}
+
+fn register(server: &mut ServerHandle, client: u8) -> Change {
+    let change = server.step(&hello(client)).unwrap().unwrap();
+    assert_eq!(change, Change::Registered { client, incarnation: 1 });
+    change
+}
+
+#[test]
+fn what_is_said_waits_for_the_start_and_for_each_change() {
+    let (mut server, epoch) = open();
+    assert_eq!(server.take(&mut Vec::new()), Ok(0), "nothing is said");
+    let change = register(&mut server, 0);
+    assert_eq!(server.take(&mut Vec::new()), Err(Code::Unkept));
+    assert_eq!(server.confirm(&[Change::Started { epoch }]), Err(Code::Unkept));
+    assert_eq!(server.take(&mut Vec::new()), Err(Code::Unkept));
+    server.confirm(&[change]).unwrap();
+    assert!(server.take(&mut Vec::new()).unwrap() > 0);
+    assert_eq!(server.take(&mut Vec::new()), Ok(0), "it leaves once");
+}
+
+#[test]
+fn a_change_that_gets_lost_before_the_commit_is_missed() {
+    let mut server = started();
+    register(&mut server, 0);
+    let kept = register(&mut server, 1);
+    assert_eq!(server.confirm(&[kept]), Err(Code::Unkept));
+}
+
+#[test]
+fn a_change_that_was_not_reported_is_refused() {
+    let mut server = started();
+    let change = register(&mut server, 0);
+    assert_eq!(server.confirm(&[change, change]), Err(Code::NotTold));
+}
+
+#[test]
+fn a_hello_waits_for_its_incarnation() {
+    let mut handle = Handle::closed();
+    // SAFETY: the handle stays in its place, and `&mut` gives it to this call alone.
+    done(unsafe { ffi::krl_client_open(handle.raw(), 5, 1) }).unwrap();
+    assert_eq!(handle.take(&mut Vec::new()), Err(Code::Unkept));
+    assert_eq!(handle.confirm(2), Err(Code::NotTold));
+    assert_eq!(handle.confirm(1), Ok(1));
+    let mut frames = Vec::new();
+    handle.take(&mut frames).unwrap();
+    assert_eq!(split(&frames).count(), 1);
+}

@@ -1,0 +1,369 @@
+//! One connection of a server: what has come on it, what its peer is told, and what waits to be
+//! written.
+use crate::access::Entry;
+use crate::access::identity::Identity;
+use crate::log::seldom::Seldom;
+use crate::model::history::Seen;
+use crate::model::refusal::Refusal;
+use crate::net::outgoing::Outgoing;
+use crate::net::poller::{Readiness, Watched};
+use crate::net::tls::TlsSession;
+use crate::server::connections::closing::CloseReason;
+use crate::wire::frames::{Frames, GULP, HEAD};
+use crate::wire::host_frame::FromServer;
+use std::io::{self, ErrorKind, Read, Write};
+use std::time::{Duration, Instant};
+
+/// A connection on which nothing comes for so long is closed: clients tick more often.
+const SILENCE: Duration = Duration::from_secs(30);
+
+/// What the host of a peer that takes host frames has been told.
+#[derive(Debug, Default)]
+struct Host {
+    refusals: [Seldom; Refusal::REASONS],
+    /// The answer to its Hello, which leaves before all else.
+    answer: Vec<u8>,
+    /// How far the store had come, as it was told last.
+    seen: Option<Seen>,
+}
+
+/// What becomes of the frames that leave together.
+#[derive(Clone, Copy, Debug, PartialEq, Eq)]
+enum Batch {
+    NotBegun,
+    Begun,
+    /// The peer takes too little: the batch is lost.
+    Lost,
+}
+
+/// What a socket has that was not read.
+#[derive(Clone, Copy, Debug, PartialEq, Eq)]
+enum Unread {
+    Nothing,
+    Something,
+    /// The last that there is, and then the end.
+    Last,
+}
+
+/// What a look at a connection found.
+#[derive(Clone, Debug, PartialEq, Eq)]
+pub(crate) enum Looked {
+    /// A frame has come whole.
+    Frame,
+    /// No frame has come whole yet.
+    NoFrame,
+    /// A long frame begins, and has to be admitted by its head.
+    Long([u8; HEAD]),
+    /// It has ended.
+    Ended,
+    /// It begins a frame that is longer than any message.
+    TooLong,
+    /// The hand-shake of TLS failed, for this reason.
+    NotShaken(String),
+}
+
+/// A connection that is open, without its socket: who has that reads it when it is to be read, and
+/// writes what waits.
+#[derive(Debug)]
+pub(crate) struct Connection {
+    entry: Entry,
+    /// A frame has come whole.
+    has_spoken: bool,
+    incoming: Frames,
+    unread: Unread,
+    heard: Instant,
+    outgoing: Outgoing,
+    batch: Batch,
+    /// What leaves with the next batch, before what the server says.
+    told: Vec<u8>,
+    /// None if the peer has not said that it takes host frames.
+    host: Option<Host>,
+    /// Why nothing more is heard of it: then what waits is the last that is written.
+    ends_for: Option<CloseReason>,
+    /// Its client takes the server for what it serves.
+    is_let_in: bool,
+    /// The client whose report comes, if one comes that is long.
+    reporter: Option<u8>,
+}
+
+impl Connection {
+    /// A new connection, whose messages have at most `longest` bytes.
+    pub fn new(entry: Entry, longest: usize, now: Instant) -> Connection {
+        Connection {
+            entry,
+            has_spoken: false,
+            incoming: Frames::to_server(longest),
+            unread: Unread::Nothing,
+            heard: now,
+            outgoing: Outgoing::default(),
+            batch: Batch::NotBegun,
+            told: Vec::new(),
+            host: None,
+            ends_for: None,
+            is_let_in: false,
+            reporter: None,
+        }
+    }
+
+    /// The system has told that something came.
+    pub fn is_readable(&mut self, readiness: Readiness) {
+        if readiness.is_last {
+            self.unread = Unread::Last;
+        } else if self.unread == Unread::Nothing {
+            self.unread = Unread::Something;
+        }
+    }
+
+    /// Whether a look may find something.
+    pub fn is_ready(&self) -> bool {
+        self.ends_for.is_none() && (self.unread != Unread::Nothing || !self.incoming.needs_more())
+    }
+
+    /// Whether it is to be read before a look finds anything.
+    pub fn has_to_read(&self) -> bool {
+        let wants_more = self.incoming.needs_more() && self.incoming.long_head().is_none();
+        wants_more && self.unread != Unread::Nothing
+    }
+
+    /// Sees whether a frame has come whole.
+    pub fn look(&mut self) -> Looked {
+        if let Some(head) = self.incoming.long_head() {
+            return Looked::Long(head);
+        }
+        match (self.incoming.is_broken(), self.incoming.needs_more()) {
+            (true, _) => Looked::TooLong,
+            (false, true) => Looked::NoFrame,
+            (false, false) => {
+                self.has_spoken = true;
+                Looked::Frame
+            }
+        }
+    }
+
+    /// Takes what a read by [`Connection::fill`] came to, and sees whether a frame has come whole.
+    pub fn has_read(&mut self, came: io::Result<usize>, now: Instant) -> Looked {
+        match self.note_read(came, now) {
+            Ok(()) => self.look(),
+            Err(error) => self.why_unread(&error),
+        }
+    }
+
+    /// What a read that failed so found.
+    fn why_unread(&self, error: &io::Error) -> Looked {
+        let is_shaking = matches!(&self.entry, Entry::Unknown(session) if session.peer().is_none());
+        // Any other error is the socket's.
+        let is_of_tls =
+            matches!(error.kind(), ErrorKind::PermissionDenied | ErrorKind::InvalidData);
+        if is_shaking && is_of_tls { Looked::NotShaken(error.to_string()) } else { Looked::Ended }
+    }
+
+    /// Who is at the other end, as soon as that is known: by a certificate, or by a whole frame of
+    /// one who needs none.
+    pub fn known(&self) -> Option<Identity> {
+        match &self.entry {
+            Entry::Known(identity) => self.has_spoken.then_some(*identity),
+            Entry::Unknown(session) => session.peer(),
+        }
+    }
+
+    /// Who is at the other end. Of whom that is not known is nobody.
+    pub fn identity(&self) -> Identity {
+        match &self.entry {
+            Entry::Known(identity) => *identity,
+            Entry::Unknown(session) => session.peer().unwrap_or(Identity::nobody()),
+        }
+    }
+
+    fn session(&mut self) -> Option<&mut TlsSession> {
+        match &mut self.entry {
+            Entry::Known(_) => None,
+            Entry::Unknown(session) => Some(session),
+        }
+    }
+
+    /// Bytes in: all that comes passes here. It reads once, and says how many bytes came: none if the
+    /// other side has ended.
+    pub fn fill(&mut self, stream: &mut impl Read) -> io::Result<usize> {
+        match &mut self.entry {
+            Entry::Known(_) => self.incoming.fill(stream),
+            Entry::Unknown(session) => session.fill(stream, &mut self.incoming),
+        }
+    }
+
+    fn note_read(&mut self, came: io::Result<usize>, now: Instant) -> io::Result<()> {
+        match came {
+            Ok(0) => return Err(ErrorKind::UnexpectedEof.into()),
+            Ok(count) => {
+                self.heard = now;
+                // A socket that gives less than it could has no more. The end is no byte: who was
+                // told of it reads until it comes.
+                if count < GULP && self.unread == Unread::Something {
+                    self.unread = Unread::Nothing;
+                }
+            }
+            Err(error) if error.kind() == ErrorKind::Interrupted => {}
+            Err(error) if error.kind() == ErrorKind::WouldBlock => self.unread = Unread::Nothing,
+            Err(error) => return Err(error),
+        }
+        Ok(())
+    }
+
+    /// Bytes out: all that leaves passes here. It writes what the peer takes at once.
+    pub fn write(&mut self, stream: &mut impl Write, now: Instant) -> io::Result<()> {
+        if let Some(session) = self.session() {
+            let sealed = session.take_sealed()?;
+            self.outgoing.put(&sealed);
+        }
+        self.outgoing.write(stream, now)
+    }
+
+    /// Puts bytes behind those that leave.
+    fn put(&mut self, bytes: &[u8]) {
+        match &mut self.entry {
+            Entry::Known(_) => self.outgoing.put(bytes),
+            Entry::Unknown(session) => session.put(bytes),
+        }
+    }
+
+    /// What came and is not taken. It goes back by `put_back`: so its frames are judged where they
+    /// lie.
+    pub fn take_incoming(&mut self) -> Frames {
+        std::mem::take(&mut self.incoming)
+    }
+
+    pub fn put_back(&mut self, incoming: Frames) {
+        self.incoming = incoming;
+        self.reporter = None;
+    }
+
+    /// The long report of this client, which begins, may come whole.
+    pub fn admit_long(&mut self, client: u8) {
+        self.incoming.admit_long();
+        self.reporter = Some(client);
+    }
+
+    /// The client whose long report comes.
+    pub fn reporter(&self) -> Option<u8> {
+        self.reporter
+    }
+
+    /// What it has to be watched for. A socket that takes all is not watched for writes: it would
+    /// be told each time that the peer reads.
+    pub fn watched(&self) -> Watched {
+        match (self.outgoing.is_empty(), self.ends_for.is_some()) {
+            (true, _) => Watched::Reads,
+            (false, false) => Watched::Both,
+            (false, true) => Watched::Writes,
+        }
+    }
+
+    /// How many bytes wait to be written.
+    #[cfg(test)]
+    pub fn waits(&self) -> usize {
+        self.outgoing.waits()
+    }
+
+    /// Hears nothing more of it, for this reason. It is over when all is written that leaves with
+    /// the next batch.
+    pub fn end(&mut self, reason: CloseReason) {
+        self.ends_for.get_or_insert(reason);
+    }
+
+    /// Why nothing more is heard of it.
+    pub fn ends_for(&self) -> Option<CloseReason> {
+        self.ends_for
+    }
+
+    /// Its client takes the server for what it serves.
+    pub fn let_in(&mut self) {
+        self.is_let_in = true;
+    }
+
+    pub fn is_let_in(&self) -> bool {
+        self.is_let_in
+    }
+
+    pub fn is_over(&self) -> bool {
+        self.ends_for.is_some() && self.outgoing.is_empty()
+    }
+
+    /// Why the connection is closed now, if its peer is silent or takes nothing for too long.
+    pub fn why_dead(&self, now: Instant) -> Option<CloseReason> {
+        if self.outgoing.is_stuck(now) {
+            return Some(CloseReason::TakesNothing);
+        }
+        (self.silent_for(now) >= SILENCE).then_some(CloseReason::Silent)
+    }
+
+    /// When something came last.
+    pub fn heard_last(&self) -> Instant {
+        self.heard
+    }
+
+    /// How long nothing has come.
+    pub fn silent_for(&self, now: Instant) -> Duration {
+        now.saturating_duration_since(self.heard)
+    }
+
+    /// The peer's host takes host frames, and its Hello is answered so, before all else.
+    pub fn greet(&mut self, answer: FromServer) {
+        self.host.get_or_insert_default().answer = answer.frame();
+    }
+
+    /// Tells the peer's host why its client is not served: each reason once a second at most, and
+    /// none to a host that takes no host frames.
+    pub fn refuse(&mut self, refusal: Refusal, now: Instant) {
+        let Some(host) = &mut self.host else { return };
+        if host.refusals[refusal.reason()].lets(now).is_some() {
+            self.told.extend_from_slice(&FromServer::Refused(refusal).frame());
+        }
+    }
+
+    /// Puts a frame into the next batch, before what the server says.
+    pub fn tell(&mut self, frame: &[u8]) {
+        self.told.extend_from_slice(frame);
+    }
+
+    /// Puts a frame of the server into the batch. So far has the store come.
+    pub fn say(&mut self, frame: &[u8], seen: Option<Seen>) {
+        self.begin_batch(seen);
+        if self.batch == Batch::Begun {
+            self.put(frame);
+        }
+    }
+
+    /// Ends the batch, which has what was told even if nothing was said.
+    pub fn end_batch(&mut self, seen: Option<Seen>) {
+        self.begin_batch(seen);
+        self.batch = Batch::NotBegun;
+    }
+
+    /// Begins a batch, unless so much waits already that the peer seems stuck: then it is lost. To a
+    /// host it says before all else how far the store has come, if that is news. A connection that
+    /// ends serves no client, and is told nothing of the store.
+    fn begin_batch(&mut self, seen: Option<Seen>) {
+        if self.batch != Batch::NotBegun {
+            return;
+        }
+        let is_lost = self.outgoing.is_full();
+        self.batch = if is_lost { Batch::Lost } else { Batch::Begun };
+        let mut first = Vec::new();
+        if let Some(host) = &mut self.host {
+            let answer = std::mem::take(&mut host.answer);
+            let news = seen.filter(|_| host.seen != seen && self.ends_for.is_none());
+            if !is_lost {
+                first.extend(answer);
+                first.extend(news.map(|now| FromServer::Mark(now).frame()).unwrap_or_default());
+                host.seen = seen;
+            }
+        }
+        if !is_lost {
+            first.append(&mut self.told);
+            self.put(&first);
+        }
+        self.told.clear();
+    }
+}
+
+#[cfg(test)]
+mod tests;

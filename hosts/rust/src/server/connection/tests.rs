@@ -1,0 +1,150 @@
+use super::*;
+use crate::model::history::Mark;
+use crate::wire::frames::LONGEST_TO_SERVER;
+use std::io::Write;
+use std::os::unix::net::UnixStream;
+
+const HELLO: FromServer = FromServer::Hello { answers_signs: true };
+
+const SEEN: Seen = Seen { mark: Mark { start: 7, commits: 3 }, first_start: Some(5) };
+
+/// A connection, and its socket.
+struct Wired {
+    connection: Connection,
+    stream: UnixStream,
+}
+
+impl Wired {
+    /// What it has, after it was read if that is due.
+    fn look(&mut self) -> Looked {
+        if !self.connection.has_to_read() {
+            return self.connection.look();
+        }
+        let came = self.connection.fill(&mut self.stream);
+        self.connection.has_read(came, Instant::now())
+    }
+
+    fn write(&mut self) {
+        self.connection.write(&mut self.stream, Instant::now()).unwrap();
+    }
+}
+
+impl std::ops::Deref for Wired {
+    type Target = Connection;
+
+    fn deref(&self) -> &Connection {
+        &self.connection
+    }
+}
+
+impl std::ops::DerefMut for Wired {
+    fn deref_mut(&mut self) -> &mut Connection {
+        &mut self.connection
+    }
+}
+
+fn connection() -> (Wired, UnixStream) {
+    let (stream, theirs) = UnixStream::pair().unwrap();
+    stream.set_nonblocking(true).unwrap();
+    theirs.set_nonblocking(true).unwrap();
+    let entry = Entry::Known(Identity::everybody());
+    let connection = Connection::new(entry, LONGEST_TO_SERVER, Instant::now());
+    (Wired { connection, stream }, theirs)
+}
+
+fn send(connection: &mut Wired, frame: &[u8], seen: Option<Seen>) {
+    connection.say(frame, seen);
+    connection.end_batch(seen);
+    connection.write();
+}
+
+/// All that the peer hears until nothing waits.
+fn heard(connection: &mut Wired, peer: &mut UnixStream) -> Vec<u8> {
+    let (mut bytes, mut all) = (vec![0; 1 << 16], Vec::new());
+    loop {
+        while let Ok(count @ 1..) = peer.read(&mut bytes) {
+            all.extend_from_slice(&bytes[..count]);
+        }
+        if connection.watched() == Watched::Reads {
+            return all;
+        }
+        connection.write();
+    }
+}
+
+#[test]
+fn a_host_hears_of_itself_then_of_the_store_and_then_all_else() {
+    let (mut connection, mut peer) = connection();
+    connection.tell(b"told");
+    connection.greet(HELLO);
+    send(&mut connection, b"said", Some(SEEN));
+    let hello = HELLO.frame();
+    let news = FromServer::Mark(SEEN).frame();
+    assert_eq!(heard(&mut connection, &mut peer), [&hello[..], &news, b"told", b"said"].concat());
+    // What it knows is not told again.
+    send(&mut connection, b"said", Some(SEEN));
+    assert_eq!(heard(&mut connection, &mut peer), b"said");
+}
+
+#[test]
+fn a_peer_without_host_frames_hears_none() {
+    let (mut connection, mut peer) = connection();
+    connection.refuse(Refusal::Version { read: 1 }, Instant::now());
+    send(&mut connection, b"said", Some(SEEN));
+    assert_eq!(heard(&mut connection, &mut peer), b"said");
+}
+
+#[test]
+fn a_host_whose_store_went_back_hears_that_and_no_mark() {
+    let (mut connection, mut peer) = connection();
+    connection.greet(FromServer::WentBack);
+    connection.end(CloseReason::OlderStore);
+    send(&mut connection, &[], Some(SEEN));
+    assert_eq!(heard(&mut connection, &mut peer), FromServer::WentBack.frame());
+    assert!(connection.is_over());
+}
+
+#[test]
+fn a_batch_that_is_lost_is_lost_whole() {
+    let (mut connection, mut peer) = connection();
+    connection.greet(HELLO);
+    while !connection.outgoing.is_full() {
+        send(&mut connection, &[0; 1 << 12], None);
+    }
+    connection.tell(b"lost");
+    send(&mut connection, b"lost", Some(SEEN));
+    let before = heard(&mut connection, &mut peer);
+    assert!(!before.ends_with(b"lost"));
+    send(&mut connection, b"said", Some(SEEN));
+    let news = FromServer::Mark(SEEN).frame();
+    assert_eq!(heard(&mut connection, &mut peer), [&news[..], b"said"].concat());
+}
+
+#[test]
+fn a_refusal_is_told_once_a_second() {
+    let (mut connection, mut peer) = connection();
+    let (refusal, start) = (Refusal::Version { read: 1 }, Instant::now());
+    connection.greet(HELLO);
+    for after in [0, 0, 500] {
+        connection.refuse(refusal, start + Duration::from_millis(after));
+    }
+    send(&mut connection, &[], None);
+    let once = [HELLO.frame(), FromServer::Refused(refusal).frame()].concat();
+    assert_eq!(heard(&mut connection, &mut peer), once);
+}
+
+#[test]
+fn a_short_read_is_the_last_unless_the_end_was_told() {
+    let told = |is_last| Readiness { reads: true, is_last, writes: false };
+    let (mut connection, mut peer) = connection();
+    peer.write_all(&[3, 0]).unwrap();
+    connection.is_readable(told(false));
+    assert_eq!(connection.look(), Looked::NoFrame);
+    assert!(!connection.is_ready());
+    peer.write_all(&[0]).unwrap();
+    drop(peer);
+    connection.is_readable(told(true));
+    assert_eq!(connection.look(), Looked::NoFrame);
+    assert!(connection.is_ready());
+    assert_eq!(connection.look(), Looked::Ended);
+}

@@ -1,0 +1,407 @@
+//! The connections of a server, without their sockets: what comes on them goes in, and which of them
+//! are to be read, written and closed comes out. [`crate::server::sockets`] does that.
+use crate::lease::clocks::Now;
+use crate::model::history::Seen;
+use crate::model::refusal::Refusal;
+use crate::model::room::Room;
+use crate::net::poller::{Readiness, Watched};
+use crate::net::stream::PeerAddress;
+use crate::server::connection::{Connection, Looked};
+use crate::server::routing::Routes;
+use crate::server::shown::client_status::ClientConnection;
+use crate::server::strangers::Strangers;
+use crate::wire::frames::{Frames, HEAD};
+use crate::wire::host_frame::FromServer;
+use closing::{CloseReason, Closings};
+use std::collections::{BTreeMap, VecDeque};
+use std::fmt::Display;
+use std::io::{self, Read, Write};
+use std::time::{Duration, Instant};
+
+/// The most connections that are open at once, unless a server is told otherwise. One more is
+/// closed as it comes.
+pub(crate) const MAX_CONNECTIONS: usize = 256;
+
+/// A client speaks on a connection on which something has come within this time: each ticks more
+/// often, several times a second.
+const SPEAKS: Duration = Duration::from_secs(2);
+
+/// All open connections, and to which of them each client's messages go.
+pub(crate) struct Connections {
+    /// The most connections that are open at once.
+    most: usize,
+    /// The longest message that is taken.
+    longest: usize,
+    open: BTreeMap<u64, Peer>,
+    strangers: Strangers,
+    routes: Routes,
+    closings: Closings,
+    /// Those that may have a frame, in the order of their turns. Each is there once.
+    ready: VecDeque<u64>,
+    /// Those that have something to send. Each is there once.
+    sending: Vec<u64>,
+    /// Those that have to be written, and those that were closed.
+    to_write: VecDeque<u64>,
+    closed: VecDeque<Closed>,
+    next: u64,
+    /// After all that has come was read.
+    now: Now,
+}
+
+/// A connection, and where it stands in the lists.
+struct Peer {
+    connection: Connection,
+    address: PeerAddress,
+    opened: Instant,
+    is_in_ready: bool,
+    is_in_sending: bool,
+}
+
+/// A connection that was closed. What waits on it is written once more, as far as its peer takes it
+/// at once.
+#[derive(Debug)]
+pub(crate) struct Closed {
+    pub number: u64,
+    pub connection: Connection,
+}
+
+/// What the next connection in its turn has.
+pub(crate) enum Turn {
+    /// No connection has anything.
+    Nobody,
+    /// This one has no frame now, or is closed.
+    Nothing,
+    /// This one has to be read: by `Connections::fill`, and then by `Connections::has_read`.
+    Read(u64),
+    /// This one begins a long frame with this head, which has to be admitted or broken off.
+    Long(u64, [u8; HEAD]),
+    /// This one has a frame, the next of these. They go back by `Connections::put_back`.
+    Frame(u64, Frames),
+}
+
+impl Connections {
+    /// No connections yet, and at most so many at once, of a server of this room.
+    pub fn new(most: usize, room: Room, now: Now) -> Connections {
+        Connections {
+            most,
+            longest: room.longest_message(),
+            open: BTreeMap::new(),
+            strangers: Strangers::default(),
+            routes: Routes::default(),
+            closings: Closings::default(),
+            ready: VecDeque::new(),
+            sending: Vec::new(),
+            to_write: VecDeque::new(),
+            closed: VecDeque::new(),
+            next: 0,
+            now,
+        }
+    }
+
+    /// The connections at this moment, which is not before anything came that was read.
+    pub fn set_now(&mut self, now: Now) {
+        self.now = now;
+    }
+
+    /// The moment by which what has come is judged: it is not before any of it came.
+    pub fn now(&self) -> Now {
+        self.now
+    }
+
+    /// Whether a connection may have something to be heard or read.
+    pub fn are_busy(&self) -> bool {
+        !self.ready.is_empty()
+    }
+
+    /// The system has told what the socket of this connection is ready for.
+    pub fn is_ready(&mut self, number: u64, readiness: Readiness) {
+        let Some(peer) = self.open.get_mut(&number) else { return };
+        if readiness.reads {
+            peer.connection.is_readable(readiness);
+            self.line_up(number);
+        }
+        if readiness.writes {
+            self.to_write.push_back(number);
+        }
+    }
+
+    /// Gives the connection a turn, if it may have something and has none.
+    fn line_up(&mut self, number: u64) {
+        let Some(peer) = self.open.get_mut(&number) else { return };
+        if peer.connection.is_ready() && !peer.is_in_ready {
+            peer.is_in_ready = true;
+            self.ready.push_back(number);
+        }
+    }
+
+    /// What the next connection has. Each gives one frame or is read once, and then the others have
+    /// their turns.
+    pub fn turn(&mut self) -> Turn {
+        let Some(number) = self.ready.pop_front() else { return Turn::Nobody };
+        let Some(peer) = self.open.get_mut(&number) else { return Turn::Nothing };
+        peer.is_in_ready = false;
+        if !peer.connection.is_ready() {
+            return Turn::Nothing;
+        }
+        if peer.connection.has_to_read() {
+            return Turn::Read(number);
+        }
+        let looked = peer.connection.look();
+        self.looked(number, looked)
+    }
+
+    /// Reads once from the socket of this connection. It answers how many bytes came.
+    pub fn fill(&mut self, number: u64, stream: &mut impl Read) -> io::Result<usize> {
+        let peer = self.open.get_mut(&number);
+        peer.map_or(Err(io::ErrorKind::NotConnected.into()), |peer| peer.connection.fill(stream))
+    }
+
+    /// Takes what a read of this connection came to, at a moment after it. It answers what the
+    /// connection has.
+    pub fn has_read(&mut self, number: u64, came: io::Result<usize>, now: Now) -> Turn {
+        self.now = now;
+        let Some(peer) = self.open.get_mut(&number) else { return Turn::Nothing };
+        let looked = peer.connection.has_read(came, now.monotonic);
+        self.looked(number, looked)
+    }
+
+    fn looked(&mut self, number: u64, looked: Looked) -> Turn {
+        self.meet(number);
+        match looked {
+            Looked::Frame => self.frame(number),
+            Looked::Long(head) => Turn::Long(number, head),
+            Looked::NoFrame => {
+                // A hand-shake answers what came.
+                self.to_write.push_back(number);
+                self.line_up(number);
+                Turn::Nothing
+            }
+            Looked::Ended => {
+                self.close(number, CloseReason::Ended);
+                Turn::Nothing
+            }
+            Looked::TooLong => {
+                self.close(number, CloseReason::FrameTooLong);
+                Turn::Nothing
+            }
+            Looked::NotShaken(error) => {
+                self.close_for(number, CloseReason::HandshakeFailed, &error);
+                Turn::Nothing
+            }
+        }
+    }
+
+    fn frame(&mut self, number: u64) -> Turn {
+        let peer = self.open.get_mut(&number);
+        peer.map_or(Turn::Nothing, |peer| Turn::Frame(number, peer.connection.take_incoming()))
+    }
+
+    /// Gives the connection back what it had, without the frame that was judged.
+    pub fn put_back(&mut self, number: u64, incoming: Frames) {
+        if let Some(peer) = self.open.get_mut(&number) {
+            peer.connection.put_back(incoming);
+            self.line_up(number);
+        }
+    }
+
+    fn close(&mut self, number: u64, reason: CloseReason) {
+        self.close_for(number, reason, &"");
+    }
+
+    /// Closes a connection for this reason, of which `why` says more.
+    fn close_for(&mut self, number: u64, reason: CloseReason, why: &dyn Display) {
+        let at = self.at(number);
+        if let Some(Peer { connection, .. }) = self.open.remove(&number) {
+            self.closings.closed(&at, reason, why, self.now.monotonic);
+            self.closed.push_back(Closed { number, connection });
+        }
+        self.strangers.closed(number);
+        self.routes.close(number);
+    }
+
+    /// Hears nothing more of the connection, for this reason, and closes it when all is written
+    /// that leaves with the next batch.
+    pub fn end(&mut self, number: u64, reason: CloseReason) {
+        if let Some(peer) = self.in_sending(number) {
+            peer.end(reason);
+        }
+        self.routes.close(number);
+    }
+
+    /// The host of this peer takes host frames, and its Hello is answered so.
+    pub fn greet(&mut self, number: u64, answer: FromServer) {
+        if let Some(peer) = self.in_sending(number) {
+            peer.greet(answer);
+        }
+    }
+
+    /// Tells the peer's host why its client is not served.
+    pub fn refuse(&mut self, number: u64, refusal: Refusal) {
+        let now = self.now.monotonic;
+        if let Some(peer) = self.in_sending(number) {
+            peer.refuse(refusal, now);
+        }
+    }
+
+    /// Puts a frame into the next batch of the connection.
+    pub fn tell(&mut self, number: u64, frame: &[u8]) {
+        if let Some(peer) = self.in_sending(number) {
+            peer.tell(frame);
+        }
+    }
+
+    /// The client of this connection takes the server for what it serves.
+    pub fn let_in(&mut self, number: u64) {
+        if let Some(peer) = self.open.get_mut(&number) {
+            peer.connection.let_in();
+        }
+    }
+
+    pub fn is_let_in(&self, number: u64) -> bool {
+        self.open.get(&number).is_some_and(|peer| peer.connection.is_let_in())
+    }
+
+    /// A connection that has something to send.
+    fn in_sending(&mut self, number: u64) -> Option<&mut Connection> {
+        let peer = self.open.get_mut(&number)?;
+        if !peer.is_in_sending {
+            peer.is_in_sending = true;
+            self.sending.push(number);
+        }
+        Some(&mut peer.connection)
+    }
+
+    /// From now on the client's messages go to this connection.
+    pub fn route(&mut self, client: u8, number: u64) {
+        self.routes.set(client, number);
+    }
+
+    /// Whether something has come from the client just now, on another connection than this one.
+    pub fn speaks_elsewhere(&self, client: u8, number: u64) -> bool {
+        let other = self.routes.of(client).filter(|other| *other != number);
+        let other = other.and_then(|other| self.open.get(&other));
+        other.is_some_and(|peer| {
+            // What came while the server was busy has not been read yet.
+            peer.connection.is_ready() || peer.connection.silent_for(self.now.monotonic) < SPEAKS
+        })
+    }
+
+    /// The clients that are connected, by number.
+    pub fn clients(&self) -> Vec<u8> {
+        self.routes.clients()
+    }
+
+    /// The connection of the client, if it has one.
+    pub fn of_client(&self, client: u8, now: Instant) -> Option<ClientConnection> {
+        let peer = self.routes.of(client).and_then(|number| self.open.get(&number))?;
+        let open_for = now.saturating_duration_since(peer.opened);
+        Some(ClientConnection { peer: peer.address, open_for })
+    }
+
+    /// When something last came on the client's connection, if it has one.
+    pub fn heard_last(&self, client: u8) -> Option<Instant> {
+        let peer = self.routes.of(client).and_then(|number| self.open.get(&number))?;
+        Some(peer.connection.heard_last())
+    }
+
+    pub fn count(&self) -> usize {
+        self.open.len()
+    }
+
+    /// Begins to send: what was told, and behind it what the server says. So far has the store
+    /// come. Nothing that was not committed may be sent.
+    pub fn send(&mut self, seen: Option<Seen>) -> Sending<'_> {
+        Sending { connections: self, seen }
+    }
+
+    /// The next connection that has to be written.
+    pub fn next_to_write(&mut self) -> Option<u64> {
+        self.to_write.pop_front()
+    }
+
+    /// The next connection that was closed.
+    pub fn next_closed(&mut self) -> Option<Closed> {
+        self.closed.pop_front()
+    }
+
+    /// Writes what the peer takes, and closes the connection if that fails or was the last. It
+    /// answers for what the socket has to be watched then, if it is still open.
+    pub fn write(&mut self, number: u64, stream: &mut impl Write) -> Option<Watched> {
+        let peer = self.open.get_mut(&number)?;
+        let is_lost = peer.connection.write(stream, self.now.monotonic).is_err();
+        if is_lost || peer.connection.is_over() {
+            let reason = peer.connection.ends_for().unwrap_or(CloseReason::Ended);
+            self.close(number, reason);
+            return None;
+        }
+        Some(peer.connection.watched())
+    }
+
+    /// The socket of this connection has failed.
+    pub fn is_lost(&mut self, number: u64) {
+        self.close(number, CloseReason::Ended);
+    }
+
+    /// Closes the connections whose peers are silent, take nothing, or do not say who they are, for
+    /// too long.
+    pub fn close_dead(&mut self) {
+        let now = self.now.monotonic;
+        let why_dead = |(number, peer): (&u64, &Peer)| {
+            peer.connection.why_dead(now).map(|reason| (*number, reason))
+        };
+        let dead: Vec<_> = self.open.iter().filter_map(why_dead).collect();
+        let late: Vec<u64> = self.strangers.late(now).collect();
+        for (number, reason) in dead {
+            self.close(number, reason);
+        }
+        for number in late {
+            self.close(number, CloseReason::StrangerLate);
+        }
+    }
+
+    /// Hears nothing more of any connection: each is closed when all is written that was sent.
+    pub fn end_all(&mut self) {
+        let numbers: Vec<u64> = self.open.keys().copied().collect();
+        for number in numbers {
+            self.end(number, CloseReason::Ended);
+            self.to_write.push_back(number);
+        }
+    }
+}
+
+/// What leaves together, after a commit.
+pub(crate) struct Sending<'a> {
+    connections: &'a mut Connections,
+    seen: Option<Seen>,
+}
+
+impl Sending<'_> {
+    /// Puts a frame of the server behind those that leave. If the client has no connection, the
+    /// frame is lost.
+    pub fn put(&mut self, client: u8, frame: &[u8]) {
+        let Some(number) = self.connections.routes.of(client) else { return };
+        if let Some(connection) = self.connections.in_sending(number) {
+            connection.say(frame, self.seen);
+        }
+    }
+
+    /// All of it is to be written.
+    pub fn end(self) {
+        let Sending { connections, seen } = self;
+        let mut sending = std::mem::take(&mut connections.sending);
+        for number in sending.drain(..) {
+            if let Some(peer) = connections.open.get_mut(&number) {
+                peer.is_in_sending = false;
+                peer.connection.end_batch(seen);
+                connections.to_write.push_back(number);
+            }
+        }
+        connections.sending = sending;
+    }
+}
+
+pub(crate) mod closing;
+mod entering;
+mod long_frames;
+#[cfg(test)]
+mod tests;

@@ -1,0 +1,407 @@
+//! What a server decides, without its store, its sockets and a clock: it judges what has come, says
+//! what has to be committed, and only then what leaves. [`thread`] is the shell around it.
+use crate::lease::clocks::Now;
+use crate::lease::of_server::LeaseTable;
+use crate::log::event_log::EventLog;
+use crate::model::change::{Change, Record};
+use crate::model::history::History;
+use crate::model::refusal::{ClientSet, Refusal};
+use crate::proved::code::Code;
+use crate::proved::server_handle::ServerHandle;
+use crate::server::ServeError;
+use crate::server::connections::closing::CloseReason;
+use crate::server::connections::{Connections, Turn};
+use crate::server::held_back::HeldBack;
+use crate::server::routing::{Sender, sender};
+use crate::server::shown::client_status::LastHeard;
+use crate::server::shown::status::Status;
+use crate::server::shown::timings::{Open, Timings};
+use crate::server::shown::watch::Watch;
+use crate::shards::bounds::ShardBounds;
+use crate::wire::frames;
+use crate::wire::host_frame::{self, FromClient};
+use crate::wire::incoming::Incoming;
+use crate::wire::message::{Head, Kind, Message};
+use commit_group::CommitGroup;
+use greeting::Doubt;
+use std::sync::Arc;
+use std::time::{Duration, Instant};
+
+/// How often a client that seems stuck is told again what it may have missed, and the server is
+/// asked who waits for whom.
+const NUDGE: Duration = Duration::from_millis(50);
+
+/// How often a server that commits nothing asks whether the store is still its own.
+const ASKS_STORE: Duration = Duration::from_secs(1);
+
+/// How long a server that ends goes on to judge what has come.
+const LAST_TURNS: Duration = Duration::from_millis(100);
+
+/// How old what others see of a server may be while it is busy.
+const SHOWN_FOR: Duration = Duration::from_millis(5);
+
+/// What a server decides. It makes turns: each begins by [`EventLoop::begin`], takes what has come by
+/// [`EventLoop::hear_next`], and what time brings by [`EventLoop::nudge`]. What
+/// [`EventLoop::take_commit`] says is committed then, and [`EventLoop::committed`] is told so. Only after
+/// that [`EventLoop::send`] gives the connections what leaves.
+pub(crate) struct EventLoop {
+    server: ServerHandle,
+    history: Option<History>,
+    connections: Connections,
+    held_back: HeldBack,
+    leases: LeaseTable,
+    /// What this turn has changed.
+    changes: Vec<Change>,
+    /// Signs were answered in this turn.
+    owes_terms: bool,
+    /// The connections of this turn whose clients have seen what the store lacks.
+    doubts: Vec<Doubt>,
+    watch: Watch,
+    last_heard: LastHeard,
+    status: Status,
+    /// When the last turn ended.
+    turned: Instant,
+    /// When the status was shown last.
+    shown: Instant,
+    /// There were turns since it was shown.
+    is_stale: bool,
+    nudged: Instant,
+    /// When the store was asked last.
+    asked_store: Instant,
+    group: CommitGroup,
+    /// The server is to end, and goes on until then at most.
+    until: Option<Instant>,
+    /// Why it is to end, if nobody has told it to.
+    failure: Option<ServeError>,
+    timings: Arc<Timings>,
+    open: Open,
+    log: EventLog,
+    frames: Vec<u8>,
+    shard: Option<ShardBounds>,
+}
+
+/// What the next connection had.
+#[derive(Clone, Copy, Debug, PartialEq, Eq)]
+pub(crate) enum Heard {
+    /// No connection has anything.
+    Nobody,
+    /// It was judged, or it had nothing after all.
+    Judged,
+    /// It has to be read first.
+    Unread(u64),
+}
+
+impl EventLoop {
+    /// A server whose epoch is committed, and that takes these connections.
+    pub fn new(
+        server: ServerHandle,
+        history: Option<History>,
+        connections: Connections,
+        leases: LeaseTable,
+        timings: Arc<Timings>,
+        epoch: u64,
+        log: EventLog,
+    ) -> EventLoop {
+        let now = connections.now().monotonic;
+        EventLoop {
+            server,
+            history,
+            connections,
+            held_back: HeldBack::new(),
+            leases,
+            changes: Vec::new(),
+            owes_terms: false,
+            doubts: Vec::new(),
+            watch: Watch::default(),
+            last_heard: LastHeard::new(),
+            status: Status { epoch, ..Status::default() },
+            turned: now,
+            shown: now,
+            is_stale: false,
+            nudged: now,
+            asked_store: now,
+            group: CommitGroup::default(),
+            until: None,
+            failure: None,
+            timings,
+            open: Open::new(),
+            log,
+            frames: Vec::new(),
+            shard: None,
+        }
+    }
+
+    /// Its connections. What has come on them is given to them, and what leaves is taken from them.
+    pub fn connections(&mut self) -> &mut Connections {
+        &mut self.connections
+    }
+
+    /// The server is told to end, and goes on for a while to judge what has come.
+    pub fn stop(&mut self, now: Now) {
+        self.until = Some(now.monotonic + LAST_TURNS);
+    }
+
+    /// Whether it has been told to end.
+    pub fn is_to_end(&self) -> bool {
+        self.until.is_some()
+    }
+
+    /// Whether to make another turn after one that began then and judged so much. What came before the
+    /// stop is seen by the turn after it.
+    pub fn goes_on(&self, was_to_end: bool, began: Now, judged: usize) -> bool {
+        self.until.is_none_or(|until| !was_to_end || judged > 0 && began.monotonic < until)
+    }
+
+    /// Why it has ended, if nobody has told it to. It is told once.
+    pub fn take_failure(&mut self) -> Option<ServeError> {
+        self.failure.take()
+    }
+
+    /// How long to wait for the next turn if nothing comes.
+    pub fn longest_wait(&self) -> Duration {
+        match (self.until, self.is_stale) {
+            (Some(_), _) => Duration::ZERO,
+            (None, true) => {
+                SHOWN_FOR.saturating_sub(self.turned.saturating_duration_since(self.shown))
+            }
+            (None, false) => NUDGE,
+        }
+    }
+
+    /// The turn that began then has ended.
+    pub fn end_turn(&mut self, began: Now, now: Now) {
+        self.turned = now.monotonic;
+        self.timings.turned(began.monotonic, self.turned);
+    }
+
+    /// Hears the connection whose turn it is.
+    pub fn hear_next(&mut self) -> Result<Heard, ServeError> {
+        match self.connections.turn() {
+            Turn::Nobody => Ok(Heard::Nobody),
+            Turn::Read(connection) => Ok(Heard::Unread(connection)),
+            turn => self.take(turn).map(|()| Heard::Judged),
+        }
+    }
+
+    /// Hears what a connection has.
+    pub fn take(&mut self, turn: Turn) -> Result<(), ServeError> {
+        match turn {
+            Turn::Nobody | Turn::Nothing | Turn::Read(_) => {}
+            Turn::Long(connection, head) => self.judge_long(connection, &head)?,
+            Turn::Frame(connection, mut incoming) => {
+                if let Ok(Some(frame)) = incoming.next() {
+                    self.hear(connection, frame, self.connections.now())?;
+                }
+                self.connections.put_back(connection, incoming);
+            }
+        }
+        Ok(())
+    }
+
+    /// Takes what came on a connection, and adds what has to be kept.
+    fn hear(&mut self, connection: u64, frame: &[u8], now: Now) -> Result<(), ServeError> {
+        let frame = Incoming::read(frame);
+        if !self.connections.identity(connection).may_say(&frame) {
+            self.deny(connection, &frame);
+            return Ok(());
+        }
+        if !self.lets_in(connection, &frame) {
+            return Ok(());
+        }
+        match frame {
+            Incoming::Message(message) => {
+                let change = self.judge(connection, message, now)?;
+                change.map_or(Ok(()), |change| self.keep(change, now))
+            }
+            Incoming::Host(Some(FromClient::Hello(seen))) => {
+                self.greet(connection, seen);
+                Ok(())
+            }
+            Incoming::Host(Some(FromClient::OtherVersion)) => {
+                self.refuse_other_version(connection);
+                Ok(())
+            }
+            Incoming::Sign(sign) => self.hear_sign(connection, sign, now),
+            Incoming::Host(_) => Ok(()),
+        }
+    }
+
+    /// Gives the server one message, and says what has to be kept. A string that is no message ends
+    /// its connection.
+    fn judge(
+        &mut self,
+        connection: u64,
+        message: Message<'_>,
+        now: Now,
+    ) -> Result<Option<Change>, ServeError> {
+        if !self.hears(connection, message.head(), now)? {
+            return Ok(None);
+        }
+        let change = match self.server.step(message.bytes()) {
+            Ok(change) => change,
+            Err(Code::BadMessage) => {
+                self.status.refused += 1;
+                let length = message.bytes().len();
+                self.log.bad_message(&self.connections.at(connection), length);
+                if message.is_of_another_version() {
+                    let refusal = Refusal::Version { read: host_frame::VERSION };
+                    self.connections.refuse(connection, refusal);
+                }
+                self.connections.end(connection, CloseReason::BadMessage);
+                return Ok(None);
+            }
+            Err(Code::Alarm) => {
+                self.alarm(message);
+                return Ok(None);
+            }
+            // As if the message had been lost.
+            Err(Code::OutOfMemory) => return Ok(None),
+            Err(code) => return Err(ServeError::Refused(code)),
+        };
+        self.status.taken += 1;
+        self.route(connection, message)?;
+        Ok(change)
+    }
+
+    /// Takes the connection for that of the client that the message names, if it is the client's.
+    fn route(&mut self, connection: u64, message: Message<'_>) -> Result<(), ServeError> {
+        let Some(Head { kind, number, incarnation }) = message.head() else { return Ok(()) };
+        let Some(client) = message.client() else {
+            self.connections.refuse(connection, Refusal::ClientNumber { number });
+            return Ok(());
+        };
+        let record = self.server.record(client).map_err(ServeError::Refused)?;
+        match (sender(record.as_ref(), incarnation), kind) {
+            (Sender::Registered, _) => {
+                let now = self.connections.now().monotonic;
+                self.open.heard(client, message, now, &self.timings);
+                if kind.may_change_holdings() {
+                    self.watch.may_change(client);
+                }
+                self.connections.route(client, connection);
+            }
+            // The frame leaves after the change is on the disk, and tells the client that it need
+            // not say Bye again.
+            (Sender::Left, Kind::Bye) => self.connections.tell(connection, &frames::EMPTY),
+            (Sender::Left, _) => {}
+            (Sender::Stranger, _) => {
+                self.log.stranger(&self.connections.at(connection), client, incarnation);
+            }
+        }
+        if let Some(refusal) = self.refusal(record.as_ref(), incarnation) {
+            self.connections.refuse(connection, refusal);
+        }
+        Ok(())
+    }
+
+    /// Why the sender of a message of this incarnation is not served just now, if that is known.
+    fn refusal(&self, record: Option<&Record>, incarnation: u64) -> Option<Refusal> {
+        let missing: ClientSet = self.status.missing.iter().copied().collect();
+        match record {
+            Some(&Record { client, incarnation: registered, .. }) if registered > incarnation => {
+                Some(Refusal::Incarnation { client, registered })
+            }
+            _ if missing != ClientSet::default() => Some(Refusal::Missing(missing)),
+            _ => None,
+        }
+    }
+
+    /// Whether what is to be committed waits for writers that are about to write again, if it has
+    /// waited so long.
+    pub fn waits_for_writers(&self, waited: Duration) -> bool {
+        self.group.waits(&self.changes, waited)
+    }
+
+    /// Says again what clients may have missed, closes dead connections and evicts, if that is due. It
+    /// answers whether it was.
+    pub fn nudge(&mut self, now: Now) -> Result<bool, ServeError> {
+        if now.monotonic.saturating_duration_since(self.nudged) < NUDGE {
+            return Ok(false);
+        }
+        self.nudged = now.monotonic;
+        self.connections.close_dead();
+        for client in self.connections.clients() {
+            // A nudge for which there is no memory is a message that is lost.
+            let _ = self.server.nudge(client);
+        }
+        self.look_at_waits(now);
+        self.evict_silent(now)?;
+        Ok(true)
+    }
+
+    /// Takes what has to be committed before anything leaves, if anything has: nothing leaves if that fails.
+    ///
+    /// Nothing changed is committed too, if the store has to be asked whether it is still this
+    /// server's: before terms leave, before a store is called an older one, and now and then. A server
+    /// behind which another one has started would find that at its next commit, and its clients might
+    /// wait for it until then.
+    pub fn take_commit(&mut self, now: Now) -> Option<Vec<Change>> {
+        let since_asked = now.monotonic.saturating_duration_since(self.asked_store);
+        let asks = self.owes_terms || !self.doubts.is_empty() || since_asked >= ASKS_STORE;
+        let changes = std::mem::take(&mut self.changes);
+        (asks || !changes.is_empty()).then_some(changes)
+    }
+
+    /// The store has made this commit, which began then.
+    pub fn committed(
+        &mut self,
+        changes: &[Change],
+        began: Instant,
+        now: Now,
+    ) -> Result<(), ServeError> {
+        self.server.confirm(changes).map_err(ServeError::Refused)?;
+        self.asked_store = began;
+        self.owes_terms = false;
+        if !changes.is_empty() {
+            if let Some(history) = &mut self.history {
+                history.commit();
+            }
+            let time = now.monotonic.saturating_duration_since(began);
+            self.timings.committed(changes.len(), time);
+            self.group.committed(changes, time);
+            self.log.committed(changes, |client| self.connections.at_of(client));
+            self.count(changes);
+            self.see_members(changes);
+        }
+        for doubt in std::mem::take(&mut self.doubts) {
+            self.alarm_older_store(&doubt, now);
+        }
+        Ok(())
+    }
+
+    /// Gives the connections what leaves.
+    pub fn send(&mut self, now: Now) -> Result<(), ServeError> {
+        let length = self.server.take(&mut self.frames).map_err(ServeError::Refused)?;
+        let mut sending = self.connections.send(self.history.as_ref().and_then(History::seen));
+        for (message, frame) in frames::split(&self.frames[..length]) {
+            let message = Message::read(message);
+            let Some(client) = message.client() else { continue };
+            let is_push = message.kind().is_push();
+            if is_push && self.held_back.holds(client, message.bytes(), now.monotonic) {
+                continue;
+            }
+            self.open.said(client, message, now.monotonic, &self.timings);
+            if is_push {
+                self.watch.may_change(client);
+            }
+            sending.put(client, frame);
+            self.status.sent += 1;
+        }
+        sending.end();
+        Ok(())
+    }
+}
+
+pub(crate) mod thread;
+
+mod clients;
+mod commit_group;
+mod greeting;
+mod leases;
+mod long_frames;
+mod looks;
+mod notices;
+mod sharding;
+mod showing;
+#[cfg(test)]
+mod tests;

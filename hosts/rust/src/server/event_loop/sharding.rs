@@ -1,0 +1,58 @@
+//! Whom a server of a shard hears: clients that take it for what it serves.
+use super::EventLoop;
+use crate::model::refusal::Refusal;
+use crate::server::connections::closing::CloseReason;
+use crate::shards::bounds::ShardBounds;
+use crate::shards::fence::{self, OtherShard};
+use crate::wire::host_frame::{FromClient, FromServer};
+use crate::wire::incoming::Incoming;
+
+impl EventLoop {
+    /// The same server, of this shard.
+    pub fn of_shard(mut self, shard: Option<ShardBounds>) -> EventLoop {
+        self.shard = shard;
+        self
+    }
+
+    /// Whether a frame is heard further. A message and a sign are heard behind the word of the client's
+    /// host that it takes the server for what it serves, or at a server of all keys.
+    pub(super) fn lets_in(&mut self, connection: u64, frame: &Incoming<'_>) -> bool {
+        match *frame {
+            Incoming::Host(Some(FromClient::Shard(expected))) => {
+                if self.compare(connection, Some(expected)) {
+                    self.connections.tell(connection, &FromServer::Shard(expected).frame());
+                }
+                false
+            }
+            Incoming::Host(Some(FromClient::NoShard)) => {
+                self.refuse(connection, OtherShard { expected: None, served: self.shard });
+                false
+            }
+            Incoming::Host(Some(FromClient::Hello(_) | FromClient::OtherVersion) | None) => true,
+            Incoming::Message(_) | Incoming::Sign(_) => {
+                self.connections.is_let_in(connection) || self.compare(connection, None)
+            }
+        }
+    }
+
+    /// Lets the connection in if its client takes the server for what it serves, and else ends it. It
+    /// answers which.
+    fn compare(&mut self, connection: u64, expected: Option<ShardBounds>) -> bool {
+        match fence::compare(expected, self.shard) {
+            Ok(()) => {
+                self.connections.let_in(connection);
+                true
+            }
+            Err(other) => {
+                self.refuse(connection, other);
+                false
+            }
+        }
+    }
+
+    fn refuse(&mut self, connection: u64, other: OtherShard) {
+        self.log.other_shard(&self.connections.at(connection), &other);
+        self.connections.refuse(connection, Refusal::OtherShard(self.shard));
+        self.connections.end(connection, CloseReason::OtherShard);
+    }
+}

@@ -1,0 +1,89 @@
+//! To which connection a client's messages go.
+use crate::model::change::Record;
+use std::collections::HashMap;
+
+/// What a message says of its connection.
+#[derive(Clone, Copy, Debug, PartialEq, Eq)]
+pub(crate) enum Sender {
+    /// It comes from the client that the server knows under this number: the connection is the
+    /// client's.
+    Registered,
+    /// It comes from that client, which has left. Nothing more goes to it but the frame of no
+    /// bytes.
+    Left,
+    /// It comes from another incarnation, or from nobody that ever said Hello. Whoever sent it gets
+    /// nothing: an evicted process that still runs would else take its successor's messages.
+    Stranger,
+}
+
+/// Who has sent a message, by the server's record of its client after the message was taken.
+pub(crate) fn sender(record: Option<&Record>, incarnation: u64) -> Sender {
+    match record {
+        Some(record) if record.incarnation != incarnation => Sender::Stranger,
+        Some(Record { left: true, .. }) => Sender::Left,
+        Some(_) => Sender::Registered,
+        None => Sender::Stranger,
+    }
+}
+
+/// The connection on which each client spoke last.
+#[derive(Debug, Default)]
+pub(crate) struct Routes {
+    connections: HashMap<u8, u64>,
+}
+
+impl Routes {
+    /// From now on the client's messages go to this connection.
+    pub fn set(&mut self, client: u8, connection: u64) {
+        self.connections.insert(client, connection);
+    }
+
+    /// Nothing more goes to this connection.
+    pub fn close(&mut self, connection: u64) {
+        self.connections.retain(|_, to| *to != connection);
+    }
+
+    /// Where the client's messages go, if it is connected.
+    pub fn of(&self, client: u8) -> Option<u64> {
+        self.connections.get(&client).copied()
+    }
+
+    /// The clients that are connected, by number.
+    pub fn clients(&self) -> Vec<u8> {
+        let mut clients: Vec<u8> = self.connections.keys().copied().collect();
+        clients.sort_unstable();
+        clients
+    }
+}
+
+#[cfg(test)]
+mod tests {
+    use super::*;
+
+    fn record(incarnation: u64, left: bool) -> Record {
+        Record { client: 3, incarnation, last: None, left }
+    }
+
+    #[test]
+    fn only_the_registered_incarnation_is_the_client() {
+        assert_eq!(sender(Some(&record(7, false)), 7), Sender::Registered);
+        assert_eq!(sender(Some(&record(7, true)), 7), Sender::Left);
+        assert_eq!(sender(None, 7), Sender::Stranger);
+        for incarnation in [0, 1, 6, 8, u64::MAX] {
+            assert_eq!(sender(Some(&record(7, false)), incarnation), Sender::Stranger);
+            assert_eq!(sender(Some(&record(7, true)), incarnation), Sender::Stranger);
+        }
+    }
+
+    #[test]
+    fn a_client_has_the_last_connection() {
+        let mut routes = Routes::default();
+        routes.set(9, 1);
+        routes.set(3, 1);
+        routes.set(3, 2);
+        assert_eq!((routes.of(3), routes.of(9), routes.of(4)), (Some(2), Some(1), None));
+        assert_eq!(routes.clients(), [3, 9]);
+        routes.close(1);
+        assert_eq!((routes.of(3), routes.of(9)), (Some(2), None));
+    }
+}

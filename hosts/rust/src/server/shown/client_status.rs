@@ -1,0 +1,74 @@
+//! What an operator sees of each client.
+use crate::net::stream::PeerAddress;
+use crate::server::shown::watch::CLIENTS;
+use std::time::{Duration, Instant};
+
+/// A client that is registered and has not left, at one moment.
+#[derive(Clone, Debug, PartialEq, Eq)]
+pub struct ClientStatus {
+    /// Its number.
+    pub client: u8,
+    /// Its connection, if it has one.
+    pub connection: Option<ClientConnection>,
+    /// How long ago something last came from it; none if nothing has come since the server started.
+    pub silent_for: Option<Duration>,
+    /// How long its lease still runs.
+    pub lease: LeaseLeft,
+}
+
+/// The connection of a client.
+#[derive(Clone, Copy, Debug, PartialEq, Eq)]
+pub struct ClientConnection {
+    /// Who is at the other end.
+    pub peer: PeerAddress,
+    /// How long it has been open.
+    pub open_for: Duration,
+}
+
+/// How long a lease still runs, by the server's clock.
+#[derive(Clone, Copy, Debug, PartialEq, Eq)]
+pub enum LeaseLeft {
+    /// It does not end: only an operator evicts the client.
+    Unending,
+    /// It ends after this time, if no sign of the client comes. The server evicts the client then.
+    Ends(Duration),
+}
+
+/// When something last came from each client.
+#[derive(Debug)]
+pub(crate) struct LastHeard([Option<Instant>; CLIENTS as usize]);
+
+impl LastHeard {
+    pub fn new() -> LastHeard {
+        LastHeard([None; CLIENTS as usize])
+    }
+
+    /// Something came from the client at this moment, and nothing later.
+    pub fn heard(&mut self, client: u8, at: Instant) {
+        if let Some(last) = self.0.get_mut(usize::from(client)) {
+            *last = Some(at);
+        }
+    }
+
+    /// How long the client has been silent, if it was ever heard.
+    pub fn silent_for(&self, client: u8, now: Instant) -> Option<Duration> {
+        let last = self.0.get(usize::from(client)).copied().flatten();
+        last.map(|last| now.saturating_duration_since(last))
+    }
+}
+
+#[cfg(test)]
+mod tests {
+    use super::*;
+
+    #[test]
+    fn silence_begins_with_the_last_word() {
+        let (mut last, start) = (LastHeard::new(), Instant::now());
+        let after = |seconds| start + Duration::from_secs(seconds);
+        last.heard(3, start);
+        last.heard(3, after(2));
+        assert_eq!(last.silent_for(3, after(7)), Some(Duration::from_secs(5)));
+        assert_eq!(last.silent_for(3, start), Some(Duration::ZERO));
+        assert_eq!(last.silent_for(4, after(7)), None);
+    }
+}

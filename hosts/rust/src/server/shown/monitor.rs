@@ -1,0 +1,104 @@
+//! What a server lets other threads see of it while it runs.
+use crate::model::change::Snapshot;
+use crate::server::requests::{Request, Requests, Unanswered};
+use crate::server::shown::liveness::LONGEST_TURN;
+use crate::server::shown::status::Status;
+use crate::server::shown::timings::{Measured, Timings};
+use crate::store::StoreError;
+use std::fmt;
+use std::sync::{Arc, Mutex, PoisonError};
+use std::time::Duration;
+
+/// What is said of a server whose loop does not answer.
+pub(crate) const BUSY: &str = "the server's loop did not answer in time: it is busy, or hangs";
+
+/// A view of a server that may live in another thread, and longer than the server.
+#[derive(Clone)]
+pub struct Monitor {
+    pub(crate) status: Arc<Mutex<Status>>,
+    pub(crate) timings: Arc<Timings>,
+    pub(crate) requests: Requests,
+    pub(crate) longest_store_wait: Duration,
+}
+
+/// Why a server gave no snapshot.
+#[derive(Debug)]
+#[non_exhaustive]
+pub enum SnapshotError {
+    /// The server has ended, or ends before its turn comes to this.
+    Ended,
+    /// The server's loop did not come to it in time: it is busy, or hangs.
+    Busy,
+    /// The store failed. The server goes on.
+    Store(StoreError),
+}
+
+impl Monitor {
+    /// What the server looks like now, or a few milliseconds ago; if it has ended, at its end.
+    #[must_use]
+    pub fn status(&self) -> Status {
+        self.status.lock().unwrap_or_else(PoisonError::into_inner).clone()
+    }
+
+    /// What the server has measured since it started.
+    #[must_use]
+    pub fn measured(&self) -> Measured {
+        self.timings.read()
+    }
+
+    /// How long ago the server's loop last ended a turn. A loop that is idle turns twenty times a
+    /// second.
+    #[must_use]
+    pub fn since_last_turn(&self) -> Duration {
+        self.timings.since_last_turn()
+    }
+
+    /// All that the store has at one moment between two commits. The server serves nobody while
+    /// its store reads that, which is once through the table. Waits until the server's turn comes
+    /// to it.
+    ///
+    /// # Errors
+    ///
+    /// `Ended` if the server has ended; `Busy` if its loop does not answer within 30 seconds and
+    /// twice the longest wait for its store; `Store` if its store can't read what it keeps.
+    pub fn snapshot(&self) -> Result<Snapshot, SnapshotError> {
+        // The call before it, and its own.
+        let longest = 2 * self.longest_store_wait + LONGEST_TURN;
+        let answered = self.requests.answer(Request::Snapshot, longest);
+        answered.map_err(SnapshotError::from)?.map_err(SnapshotError::Store)
+    }
+}
+
+impl fmt::Debug for Monitor {
+    fn fmt(&self, f: &mut fmt::Formatter<'_>) -> fmt::Result {
+        f.debug_struct("Monitor").field("status", &self.status()).finish_non_exhaustive()
+    }
+}
+
+impl From<Unanswered> for SnapshotError {
+    fn from(why: Unanswered) -> SnapshotError {
+        match why {
+            Unanswered::Ended => SnapshotError::Ended,
+            Unanswered::Busy => SnapshotError::Busy,
+        }
+    }
+}
+
+impl fmt::Display for SnapshotError {
+    fn fmt(&self, f: &mut fmt::Formatter<'_>) -> fmt::Result {
+        match self {
+            SnapshotError::Ended => f.write_str("the server has ended"),
+            SnapshotError::Busy => f.write_str(BUSY),
+            SnapshotError::Store(error) => error.fmt(f),
+        }
+    }
+}
+
+impl std::error::Error for SnapshotError {
+    fn source(&self) -> Option<&(dyn std::error::Error + 'static)> {
+        match self {
+            SnapshotError::Ended | SnapshotError::Busy => None,
+            SnapshotError::Store(error) => Some(error),
+        }
+    }
+}

@@ -1,0 +1,322 @@
+//! How long things take in a server, as histograms.
+//!
+//! A measurement costs one increment of an atomic in the server's thread, and no memory.
+use crate::server::shown::watch::CLIENTS;
+use crate::wire::message::{Kind, Message};
+use std::sync::atomic::{AtomicU64, Ordering};
+use std::time::{Duration, Instant};
+
+/// The upper bounds of the buckets for times, in microseconds: 10 microseconds to 10 seconds.
+const MICROSECONDS: [u64; 19] = [
+    10, 20, 50, 100, 200, 500, 1_000, 2_000, 5_000, 10_000, 20_000, 50_000, 100_000, 200_000,
+    500_000, 1_000_000, 2_000_000, 5_000_000, 10_000_000,
+];
+
+/// The upper bounds of the buckets for the changes of one commit.
+const CHANGES: [u64; 9] = [1, 2, 4, 8, 16, 32, 64, 128, 256];
+
+const MAX_BUCKETS: usize = MICROSECONDS.len() + 1;
+
+/// A histogram: how many measurements lie in each bucket, and their sum.
+#[derive(Debug)]
+struct Histogram {
+    bounds: &'static [u64],
+    counts: [AtomicU64; MAX_BUCKETS],
+    sum: AtomicU64,
+}
+
+impl Histogram {
+    const fn new(bounds: &'static [u64]) -> Histogram {
+        assert!(bounds.len() < MAX_BUCKETS);
+        Histogram {
+            bounds,
+            counts: [const { AtomicU64::new(0) }; MAX_BUCKETS],
+            sum: AtomicU64::new(0),
+        }
+    }
+
+    fn add(&self, value: u64) {
+        let bucket = self.bounds.partition_point(|bound| *bound < value);
+        self.counts[bucket].fetch_add(1, Ordering::Relaxed);
+        self.sum.fetch_add(value, Ordering::Relaxed);
+    }
+
+    fn add_time(&self, time: Duration) {
+        self.add(u64::try_from(time.as_micros()).unwrap_or(u64::MAX >> 1));
+    }
+
+    fn read(&self) -> Counts {
+        let mut below = 0;
+        let mut buckets = Vec::with_capacity(self.bounds.len());
+        for (bound, count) in self.bounds.iter().zip(&self.counts) {
+            below += count.load(Ordering::Relaxed);
+            buckets.push((*bound, below));
+        }
+        let beyond = self.counts[self.bounds.len()].load(Ordering::Relaxed);
+        Counts { buckets, count: below + beyond, sum: self.sum.load(Ordering::Relaxed) }
+    }
+}
+
+/// The measurements of one kind, as they were counted at one moment.
+#[derive(Clone, Debug, Default, PartialEq, Eq)]
+pub struct Counts {
+    /// The upper bound of each bucket, ascending, with the count of all measurements up to it.
+    pub buckets: Vec<(u64, u64)>,
+    /// How many measurements there were.
+    pub count: u64,
+    /// Their sum.
+    pub sum: u64,
+}
+
+/// What a server has measured since it started. Times are in microseconds.
+#[derive(Clone, Debug, Default, PartialEq, Eq)]
+pub struct Measured {
+    /// From when a client's request for a lock came first until it was granted.
+    pub grants: Counts,
+    /// From when a callback was first sent to a client until a release of that client came.
+    pub releases: Counts,
+    /// The time of each commit of the store.
+    pub commits: Counts,
+    /// The number of changes of each commit.
+    pub commit_changes: Counts,
+    /// The time of each turn of the server's loop, without the time for which it waited.
+    pub turns: Counts,
+}
+
+/// The histograms of one server. Its thread measures, and any thread reads.
+#[derive(Debug)]
+pub(crate) struct Timings {
+    grants: Histogram,
+    releases: Histogram,
+    commits: Histogram,
+    commit_changes: Histogram,
+    turns: Histogram,
+    began: Instant,
+    last_turn: AtomicU64,
+    /// When the store was called that has not answered, in milliseconds, plus 1; 0 if there is no
+    /// such call.
+    store_called: AtomicU64,
+    /// When the store answered last.
+    store_answered: AtomicU64,
+}
+
+impl Timings {
+    pub fn new() -> Timings {
+        Timings {
+            grants: Histogram::new(&MICROSECONDS),
+            releases: Histogram::new(&MICROSECONDS),
+            commits: Histogram::new(&MICROSECONDS),
+            commit_changes: Histogram::new(&CHANGES),
+            turns: Histogram::new(&MICROSECONDS),
+            began: Instant::now(),
+            last_turn: AtomicU64::new(0),
+            store_called: AtomicU64::new(0),
+            store_answered: AtomicU64::new(0),
+        }
+    }
+
+    /// The store has made a commit of so many changes, which took so long.
+    pub fn committed(&self, changes: usize, time: Duration) {
+        self.commits.add_time(time);
+        self.commit_changes.add(changes as u64);
+    }
+
+    /// The loop has made a turn, from then to then.
+    pub fn turned(&self, began: Instant, ended: Instant) {
+        self.turns.add_time(ended.saturating_duration_since(began));
+        let at = ended.saturating_duration_since(self.began).as_millis();
+        let at = u64::try_from(at).unwrap_or(u64::MAX);
+        self.last_turn.store(at, Ordering::Relaxed);
+    }
+
+    /// How long ago the last turn ended, to a millisecond; if there was none, the server's start.
+    pub fn since_last_turn(&self) -> Duration {
+        self.since(self.last_turn.load(Ordering::Relaxed))
+    }
+
+    /// The store is called.
+    pub fn store_called(&self) {
+        self.store_called.store(self.now() + 1, Ordering::Relaxed);
+    }
+
+    /// The store has answered.
+    pub fn store_answered(&self) {
+        self.store_answered.store(self.now(), Ordering::Relaxed);
+        // Who sees that it does not wait any more sees when it was answered.
+        self.store_called.store(0, Ordering::Release);
+    }
+
+    /// For how long the store has not answered, if it was called.
+    pub fn waits_for_store(&self) -> Option<Duration> {
+        let called = self.store_called.load(Ordering::Acquire).checked_sub(1)?;
+        Some(self.since(called))
+    }
+
+    /// How long ago the last turn ended, or the store answered last, whichever was later.
+    pub fn since_last_step(&self) -> Duration {
+        self.since_last_turn().min(self.since(self.store_answered.load(Ordering::Relaxed)))
+    }
+
+    /// In milliseconds since the start.
+    fn now(&self) -> u64 {
+        u64::try_from(self.began.elapsed().as_millis()).unwrap_or(u64::MAX - 1)
+    }
+
+    fn since(&self, then: u64) -> Duration {
+        self.began.elapsed().saturating_sub(Duration::from_millis(then))
+    }
+
+    pub fn read(&self) -> Measured {
+        Measured {
+            grants: self.grants.read(),
+            releases: self.releases.read(),
+            commits: self.commits.read(),
+            commit_changes: self.commit_changes.read(),
+            turns: self.turns.read(),
+        }
+    }
+}
+
+/// What a client was last heard to ask, and since when.
+#[derive(Clone, Copy)]
+struct Asked {
+    request: u64,
+    since: Instant,
+}
+
+/// The requests that are not granted yet, and the callbacks that no release has answered yet.
+pub(crate) struct Open {
+    asked: [Option<Asked>; CLIENTS as usize],
+    last_request: [u64; CLIENTS as usize],
+    called_back: [Option<Instant>; CLIENTS as usize],
+}
+
+impl Open {
+    pub fn new() -> Open {
+        Open {
+            asked: [None; CLIENTS as usize],
+            last_request: [0; CLIENTS as usize],
+            called_back: [None; CLIENTS as usize],
+        }
+    }
+
+    /// A message of the client was taken.
+    pub fn heard(&mut self, client: u8, message: Message<'_>, now: Instant, timings: &Timings) {
+        let place = usize::from(client);
+        match (message.kind(), message.request()) {
+            // Only a request that is new begins: a client repeats one that is not answered, and a
+            // repeat may come after the grant.
+            (Kind::Lock, Some(request)) if request != self.last_request[place] => {
+                self.last_request[place] = request;
+                self.asked[place] = Some(Asked { request, since: now });
+            }
+            (Kind::Release, _) => {
+                if let Some(since) = self.called_back[place].take() {
+                    timings.releases.add_time(now.saturating_duration_since(since));
+                }
+            }
+            // What an earlier incarnation asked, or was told to give back, is over.
+            (Kind::Hello, _) => self.forget(place),
+            _ => {}
+        }
+    }
+
+    /// A message to the client leaves.
+    pub fn said(&mut self, client: u8, message: Message<'_>, now: Instant, timings: &Timings) {
+        let place = usize::from(client);
+        match (message.kind(), message.request()) {
+            (Kind::Grant, Some(request)) => {
+                if let Some(asked) = self.asked[place].take_if(|it| it.request == request) {
+                    timings.grants.add_time(now.saturating_duration_since(asked.since));
+                }
+            }
+            // A callback that is said again is as old as it was.
+            (Kind::Callback, _) => {
+                self.called_back[place].get_or_insert(now);
+            }
+            _ => {}
+        }
+    }
+
+    fn forget(&mut self, place: usize) {
+        self.asked[place] = None;
+        self.last_request[place] = 0;
+        self.called_back[place] = None;
+    }
+}
+
+#[cfg(test)]
+mod tests {
+    use super::*;
+    use crate::wire::message::tests::{callback, grant, hello, lock, release};
+
+    const MS: Duration = Duration::from_millis(1);
+
+    #[test]
+    fn a_measurement_lies_in_the_first_bucket_that_admits_it() {
+        let histogram = Histogram::new(&CHANGES);
+        for value in [1, 2, 3, 256, 257] {
+            histogram.add(value);
+        }
+        let counts = histogram.read();
+        let buckets =
+            [(1, 1), (2, 2), (4, 3), (8, 3), (16, 3), (32, 3), (64, 3), (128, 3), (256, 4)];
+        assert_eq!(counts, Counts { buckets: buckets.to_vec(), count: 5, sum: 519 });
+    }
+
+    #[test]
+    fn a_request_lasts_from_its_first_message_to_its_grant() {
+        let (timings, mut open, start) = (Timings::new(), Open::new(), Instant::now());
+        open.heard(3, Message::read(&lock(3, 5)), start, &timings);
+        open.heard(3, Message::read(&lock(3, 5)), start + MS, &timings);
+        open.said(3, Message::read(&grant(3, 4)), start + 2 * MS, &timings);
+        open.said(4, Message::read(&grant(4, 5)), start + 2 * MS, &timings);
+        assert_eq!(timings.read().grants.count, 0);
+        open.said(3, Message::read(&grant(3, 5)), start + 7 * MS, &timings);
+        open.said(3, Message::read(&grant(3, 5)), start + 9 * MS, &timings);
+        let grants = timings.read().grants;
+        assert_eq!((grants.count, grants.sum), (1, 7_000));
+    }
+
+    #[test]
+    fn a_late_repeat_of_a_request_is_no_new_one() {
+        let (timings, mut open, start) = (Timings::new(), Open::new(), Instant::now());
+        open.heard(3, Message::read(&lock(3, 5)), start, &timings);
+        open.said(3, Message::read(&grant(3, 5)), start + MS, &timings);
+        open.heard(3, Message::read(&lock(3, 5)), start + 2 * MS, &timings);
+        open.said(3, Message::read(&grant(3, 5)), start + 9 * MS, &timings);
+        assert_eq!(timings.read().grants.count, 1);
+        // Another incarnation counts its requests anew.
+        open.heard(3, Message::read(&hello(3)), start, &timings);
+        open.heard(3, Message::read(&lock(3, 5)), start, &timings);
+        open.said(3, Message::read(&grant(3, 5)), start + MS, &timings);
+        assert_eq!(timings.read().grants.count, 2);
+    }
+
+    #[test]
+    fn a_callback_lasts_until_the_next_release() {
+        let (timings, mut open, start) = (Timings::new(), Open::new(), Instant::now());
+        open.heard(3, Message::read(&release(3)), start, &timings);
+        open.said(3, Message::read(&callback(3)), start, &timings);
+        open.said(3, Message::read(&callback(3)), start + 3 * MS, &timings);
+        open.heard(4, Message::read(&release(4)), start + 4 * MS, &timings);
+        assert_eq!(timings.read().releases.count, 0);
+        open.heard(3, Message::read(&release(3)), start + 5 * MS, &timings);
+        open.heard(3, Message::read(&release(3)), start + 6 * MS, &timings);
+        let releases = timings.read().releases;
+        assert_eq!((releases.count, releases.sum), (1, 5_000));
+    }
+
+    #[test]
+    fn a_turn_is_the_last_one() {
+        let timings = Timings::new();
+        std::thread::sleep(20 * MS);
+        assert!(timings.since_last_turn() >= 20 * MS);
+        timings.turned(Instant::now(), Instant::now());
+        assert!(timings.since_last_turn() < 20 * MS);
+        timings.committed(3, 5 * MS);
+        let measured = timings.read();
+        assert_eq!((measured.turns.count, measured.commits.count), (1, 1));
+        assert_eq!((measured.commit_changes.count, measured.commit_changes.sum), (1, 3));
+    }
+}

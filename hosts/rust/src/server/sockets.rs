@@ -1,0 +1,174 @@
+//! The sockets of a server. Its one thread reads and writes them all, and waits for none: so no slow
+//! peer stops the others.
+use crate::access::Access;
+use crate::lease::clocks::Now;
+use crate::net::poller::{Poller, Readiness, Ready, Watched};
+use crate::net::stream::{Accepted, Listener, Stream};
+use crate::server::connections::{Closed, Connections, Turn};
+use crate::server::listening::Listening;
+use crate::wire::frames::GULP;
+use mio::Waker;
+use std::collections::HashMap;
+use std::io::{self, Read};
+use std::sync::Arc;
+use std::time::{Duration, Instant};
+
+/// The most connections that are taken between two turns.
+const MAX_TAKEN: usize = 32;
+
+/// How often a connection that ends is read, so that what is unread does not take the last answer
+/// with it.
+const LAST_READS: usize = 16;
+
+/// The sockets of all open connections, and the one that takes new ones.
+pub(crate) struct Sockets {
+    poller: Poller,
+    listening: Listening,
+    access: Access,
+    open: HashMap<u64, Socket>,
+}
+
+/// The socket of one connection.
+struct Socket {
+    stream: Stream,
+    watched: Watched,
+}
+
+impl Sockets {
+    /// Takes connections from the listener, and tells those for which there is no room that there are
+    /// so many; and what wakes it from other threads.
+    pub fn new(
+        listener: Listener,
+        max_connections: usize,
+        access: Access,
+    ) -> io::Result<(Sockets, Arc<Waker>)> {
+        let (poller, waker) = Poller::new()?;
+        poller.listen(&listener)?;
+        let listening = Listening::new(listener, max_connections)?;
+        Ok((Sockets { poller, listening, access, open: HashMap::new() }, waker))
+    }
+
+    /// Waits until there is something to do, but not longer than this, and says when that was. It
+    /// writes what peers take of what was sent, and takes new connections. It fails if no
+    /// connection can be taken any more.
+    pub fn wait(&mut self, connections: &mut Connections, longest: Duration) -> io::Result<Now> {
+        let is_busy =
+            connections.are_busy() || self.listening.is_ready(connections.now().monotonic);
+        self.poller.wait(if is_busy { Duration::ZERO } else { longest })?;
+        let now = Now::read();
+        connections.set_now(now);
+        for ready in self.poller.ready() {
+            match ready {
+                Ready::Woken => {}
+                Ready::Listener => self.listening.has_some(),
+                Ready::Connection(number, readiness) => connections.is_ready(number, readiness),
+            }
+        }
+        self.accept(connections, now.monotonic)?;
+        self.settle(connections);
+        Ok(now)
+    }
+
+    /// Takes new connections, a few at once.
+    fn accept(&mut self, connections: &mut Connections, now: Instant) -> io::Result<()> {
+        for _ in 0..MAX_TAKEN {
+            if !self.listening.is_ready(now) {
+                break;
+            }
+            if let Some(accepted) = self.listening.take(now)? {
+                self.enter(accepted, connections);
+            }
+        }
+        Ok(())
+    }
+
+    /// Takes a new connection, if there is room for it.
+    fn enter(&mut self, accepted: Accepted, connections: &mut Connections) {
+        if !connections.make_room() {
+            self.listening.turn_away(accepted, connections.count());
+        } else if let Err(error) = self.open(accepted, connections) {
+            // The system has no room for it: it is closed.
+            self.listening.not_taken(&error);
+        }
+    }
+
+    fn open(&mut self, accepted: Accepted, connections: &mut Connections) -> io::Result<()> {
+        let entry = self.access.enter(&accepted)?;
+        let Accepted { stream, peer, .. } = accepted;
+        stream.set_waiting(false)?;
+        let number = connections.enter(entry, peer);
+        self.poller.add(number, &stream).inspect_err(|_| connections.is_lost(number))?;
+        self.open.insert(number, Socket { stream, watched: Watched::Reads });
+        Ok(())
+    }
+
+    /// Reads once from this connection, and says what it has then.
+    pub fn read(&mut self, connections: &mut Connections, number: u64) -> Turn {
+        let Some(socket) = self.open.get_mut(&number) else { return Turn::Nothing };
+        let came = connections.fill(number, &mut socket.stream);
+        connections.has_read(number, came, Now::read())
+    }
+
+    /// Writes what is to be written, as far as the peers take it at once, and closes what is to be
+    /// closed.
+    pub fn settle(&mut self, connections: &mut Connections) {
+        while let Some(number) = connections.next_to_write() {
+            self.write(connections, number);
+        }
+        while let Some(closed) = connections.next_closed() {
+            self.close(closed, connections.now());
+        }
+    }
+
+    fn write(&mut self, connections: &mut Connections, number: u64) {
+        let Some(socket) = self.open.get_mut(&number) else { return };
+        let Some(watched) = connections.write(number, &mut socket.stream) else { return };
+        if watched == socket.watched {
+            return;
+        }
+        match self.poller.watch(number, &socket.stream, watched) {
+            Ok(()) => socket.watched = watched,
+            Err(_) => connections.is_lost(number),
+        }
+    }
+
+    /// Closes a connection. Its peer hears why, if it can: what waits is written once more.
+    fn close(&mut self, closed: Closed, now: Now) {
+        let Closed { number, mut connection } = closed;
+        let Some(mut socket) = self.open.remove(&number) else { return };
+        let _ = connection.write(&mut socket.stream, now.monotonic);
+        self.poller.remove(&socket.stream);
+    }
+
+    /// Ends all connections. What was sent is written first, as far as the peers take it until
+    /// then.
+    pub fn finish(mut self, connections: &mut Connections, until: Instant) {
+        connections.end_all();
+        self.settle(connections);
+        let mut now = Instant::now();
+        while connections.count() > 0 && now < until {
+            if self.poller.wait(until.saturating_duration_since(now)).is_err() {
+                return;
+            }
+            connections.set_now(Now::read());
+            for ready in self.poller.ready() {
+                if let Ready::Connection(number, readiness) = ready {
+                    connections.is_ready(number, Readiness { reads: false, ..readiness });
+                }
+            }
+            self.settle(connections);
+            now = Instant::now();
+        }
+    }
+}
+
+impl Drop for Socket {
+    /// Reads what the peer has said after all that was heard: a stream that is closed with bytes unread
+    /// may take the last answer with it.
+    fn drop(&mut self) {
+        let mut rest = [0; GULP];
+        let mut reads = (0..LAST_READS).map(|_| self.stream.read(&mut rest));
+        while let Some(Ok(1..)) = reads.next() {}
+        self.stream.shut();
+    }
+}

@@ -1,0 +1,154 @@
+//! How a sharded client is told to join.
+use crate::client::builder::Waits;
+use crate::client::lock_file::LockFileError;
+use crate::client::numbers;
+use crate::client::{Client, Errand};
+use crate::model::refused::JoinError;
+use crate::model::row::END;
+use crate::shards::client::ShardedClient;
+use crate::shards::map::{Shard, ShardMap};
+use crate::shards::refused::ShardJoinError;
+use std::ops::Range;
+use std::panic::resume_unwind;
+use std::path::{Path, PathBuf};
+use std::thread::{self, ScopedJoinHandle};
+use std::time::Duration;
+
+/// What a sharded client is told before it joins: its map, its number and the folder of its lock
+/// files, and how long its calls wait. The number and the folder have to be said.
+#[derive(Clone, Debug)]
+#[must_use = "a builder does nothing before `join`"]
+pub struct ShardedBuilder {
+    map: ShardMap,
+    numbers: Vec<u8>,
+    lock_folder: Option<PathBuf>,
+    keys: Range<u64>,
+    waits: Waits,
+}
+
+type Joined = Result<Client, JoinError>;
+
+impl ShardedBuilder {
+    pub(crate) fn new(map: ShardMap) -> ShardedBuilder {
+        let (numbers, lock_folder, waits) = (vec![], None, Waits::by_default());
+        ShardedBuilder { map, numbers, lock_folder, keys: 0..END + 1, waits }
+    }
+
+    /// The client's number at each shard, from 0 to 63.
+    pub fn number(mut self, number: u8) -> ShardedBuilder {
+        self.numbers = vec![number];
+        self
+    }
+
+    /// Several numbers, of which the client takes the first that is free at each of its shards, as
+    /// [`ClientBuilder::numbers`] says.
+    ///
+    /// [`ClientBuilder::numbers`]: crate::ClientBuilder::numbers
+    pub fn numbers(mut self, numbers: impl IntoIterator<Item = u8>) -> ShardedBuilder {
+        self.numbers = numbers.into_iter().collect();
+        self
+    }
+
+    /// The folder of the lock files, one for each shard and number. It has to be there.
+    pub fn lock_folder(mut self, path: impl Into<PathBuf>) -> ShardedBuilder {
+        self.lock_folder = Some(path.into());
+        self
+    }
+
+    /// The keys for which the client is: all of them by default. It joins only the shards that have
+    /// some of these keys, so that a server of another shard may be down. A call with keys of a shard
+    /// that it has not joined is refused by `BadRange` or `BadKey`.
+    pub fn keys(mut self, keys: Range<u64>) -> ShardedBuilder {
+        self.keys = keys;
+        self
+    }
+
+    /// How long `join` and each later call wait for an answer: fifteen seconds by default, and a
+    /// year at most.
+    pub fn timeout(mut self, timeout: Duration) -> ShardedBuilder {
+        self.waits.timeout = timeout;
+        self
+    }
+
+    /// How long `join` waits for its number if a server tells that another process has it, as
+    /// [`ClientBuilder::wait_if_in_use`] says.
+    ///
+    /// [`ClientBuilder::wait_if_in_use`]: crate::ClientBuilder::wait_if_in_use
+    pub fn wait_if_in_use(mut self, wait: Duration) -> ShardedBuilder {
+        self.waits.if_in_use = wait;
+        self
+    }
+
+    /// Joins all shards of its keys at once. If one does not answer, the others are left again.
+    ///
+    /// # Errors
+    ///
+    /// `Incomplete` if no number or no folder was said, or no shard has any of the keys; `LockFile` if
+    /// other processes have the lock files of all numbers; else those of [`Client::join`], with the
+    /// shard.
+    pub fn join(self) -> Result<ShardedClient, ShardJoinError> {
+        let of_none = |error| ShardJoinError { shard: None, error };
+        let missing = of_none(JoinError::Incomplete("a folder of lock files"));
+        let folder = self.lock_folder.as_deref().ok_or(missing)?;
+        let places = self.places().ok_or(of_none(JoinError::Incomplete("keys of a shard")))?;
+        let join = |number, waits| self.join_as(number, waits, folder, places.clone());
+        match self.numbers[..] {
+            [] => Err(of_none(JoinError::Incomplete("a number"))),
+            [number] => join(number, self.waits),
+            ref numbers => {
+                let joined = numbers::join_first(numbers, self.waits, join, |failed| &failed.error);
+                joined.unwrap_or(Err(of_none(JoinError::LockFile(LockFileError::Taken))))
+            }
+        }
+    }
+
+    /// Joins the shards of these places as the client of this number.
+    fn join_as(
+        &self,
+        number: u8,
+        waits: Waits,
+        folder: &Path,
+        places: Range<usize>,
+    ) -> Result<ShardedClient, ShardJoinError> {
+        let joined: Vec<Joined> = thread::scope(|scope| {
+            let joining = places.clone().map(|place| {
+                let shard = &self.map.shards()[place];
+                let lock_file = lock_file(folder, shard, number);
+                let servers = self.map.servers_of(place, shard);
+                let join = move || Client::start(servers, number, &lock_file, waits, Errand::Work);
+                thread::Builder::new().spawn_scoped(scope, join)
+            });
+            let joining: Vec<_> = joining.collect();
+            joining.into_iter().map(wait).collect()
+        });
+        let (mut clients, mut failed) = (Vec::new(), None);
+        for (shard, joined) in places.clone().zip(joined) {
+            match joined {
+                Ok(client) => clients.push(client),
+                Err(error) => {
+                    failed.get_or_insert(ShardJoinError { shard: Some(shard), error });
+                }
+            }
+        }
+        let client = ShardedClient::of(self.map.clone(), places.start, clients);
+        failed.map_or(Ok(client), Err)
+    }
+
+    /// The shards that have some of the keys. They lie next to one another.
+    fn places(&self) -> Option<Range<usize>> {
+        let parts = self.map.parts(self.keys.clone()).ok()?;
+        Some(parts.first()?.shard..parts.last()?.shard + 1)
+    }
+}
+
+/// The lock file of a shard's client. Its name has the shard's first key, by which the shard is the
+/// same one in each map that has it.
+fn lock_file(folder: &Path, shard: &Shard, number: u8) -> PathBuf {
+    folder.join(format!("shard-{}-client-{number}.lock", shard.first))
+}
+
+/// Waits until a shard's client has joined, or has not.
+fn wait(joining: std::io::Result<ScopedJoinHandle<'_, Joined>>) -> Joined {
+    let joining = joining.map_err(JoinError::NoThread)?;
+    joining.join().unwrap_or_else(|panic| resume_unwind(panic))
+}

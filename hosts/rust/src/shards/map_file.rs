@@ -1,0 +1,162 @@
+//! A map of shards as a file.
+use crate::shards::map::{BadShardMap, Shard, ShardMap};
+use serde::Deserialize;
+use std::fmt;
+use std::io;
+use std::num::NonZeroU64;
+use std::path::Path;
+
+/// Why a text is no map.
+#[derive(Debug)]
+#[non_exhaustive]
+pub enum BadMapFile {
+    /// The file can't be read.
+    File(io::Error),
+    /// It is not written as a map is: what is wrong, and in which line.
+    Form(String),
+    /// Its shards make no map.
+    Shards(BadShardMap),
+}
+
+#[derive(Debug, Deserialize)]
+#[serde(deny_unknown_fields)]
+struct MapFile {
+    version: NonZeroU64,
+    shard: Vec<ShardEntry>,
+}
+
+#[derive(Debug, Deserialize)]
+#[serde(deny_unknown_fields)]
+struct ShardEntry {
+    first: u64,
+    servers: String,
+}
+
+impl ShardMap {
+    /// The map that a text in TOML tells:
+    ///
+    /// ```
+    /// let map = krl::ShardMap::from_toml(
+    ///     r#"
+    ///     version = 3
+    ///
+    ///     [[shard]]
+    ///     first = 0
+    ///     servers = "tls:db1:7400,tls:db2:7400"
+    ///
+    ///     [[shard]]
+    ///     first = 500000
+    ///     servers = "tls:db3:7400"
+    ///     "#,
+    /// )?;
+    /// assert_eq!(map.bounds_of(0), Some("0..500000@3".parse()?));
+    /// # Ok::<(), Box<dyn std::error::Error>>(())
+    /// ```
+    ///
+    /// A shard ends where the next one begins.
+    ///
+    /// # Errors
+    ///
+    /// `Form`, or `Shards`.
+    pub fn from_toml(text: &str) -> Result<ShardMap, BadMapFile> {
+        let form = |error: toml::de::Error| BadMapFile::Form(error.to_string().trim_end().into());
+        let file: MapFile = toml::from_str(text).map_err(form)?;
+        let shards: Result<Vec<Shard>, BadMapFile> =
+            file.shard.iter().map(ShardEntry::shard).collect();
+        let map = ShardMap::new(shards?).map_err(BadMapFile::Shards)?;
+        Ok(map.with_version(file.version))
+    }
+
+    /// The map that a file tells, as [`ShardMap::from_toml`] reads it.
+    ///
+    /// # Errors
+    ///
+    /// `File`, or those of [`ShardMap::from_toml`].
+    pub fn from_file(path: impl AsRef<Path>) -> Result<ShardMap, BadMapFile> {
+        ShardMap::from_toml(&std::fs::read_to_string(path).map_err(BadMapFile::File)?)
+    }
+
+    /// The text that tells this map. That of a map without a version lacks it, and is read as none.
+    #[must_use]
+    pub fn to_toml(&self) -> String {
+        let version = self.version().map(|version| format!("version = {version}\n"));
+        let shard = |Shard { first, servers }: &Shard| {
+            let servers = toml::Value::String(servers.to_string());
+            format!("\n[[shard]]\nfirst = {first}\nservers = {servers}\n")
+        };
+        version.into_iter().chain(self.shards().iter().map(shard)).collect()
+    }
+}
+
+impl ShardEntry {
+    fn shard(&self) -> Result<Shard, BadMapFile> {
+        let ShardEntry { first, servers } = self;
+        let parsed = servers.parse().map_err(|error| {
+            BadMapFile::Form(format!(
+                "the servers '{servers}' of the shard from {first} on: {error}"
+            ))
+        });
+        Ok(Shard { first: *first, servers: parsed? })
+    }
+}
+
+impl fmt::Display for BadMapFile {
+    fn fmt(&self, f: &mut fmt::Formatter<'_>) -> fmt::Result {
+        match self {
+            BadMapFile::File(error) => write!(f, "it can't be read: {error}"),
+            BadMapFile::Form(what) => write!(
+                f,
+                "a map is a line `version = N`, and for each shard a table [[shard]] with `first` \
+                 and `servers`: {what}"
+            ),
+            BadMapFile::Shards(error) => error.fmt(f),
+        }
+    }
+}
+
+impl std::error::Error for BadMapFile {
+    fn source(&self) -> Option<&(dyn std::error::Error + 'static)> {
+        match self {
+            BadMapFile::File(error) => Some(error),
+            BadMapFile::Shards(error) => Some(error),
+            BadMapFile::Form(_) => None,
+        }
+    }
+}
+
+#[cfg(test)]
+mod tests {
+    use super::*;
+
+    const MAP: &str = "version = 3\n\n[[shard]]\nfirst = 0\nservers = \"127.0.0.1:1\"\n\n\
+                       [[shard]]\nfirst = 9\nservers = \"tls:db1:7400,tls:db2:7400\"\n";
+
+    #[test]
+    fn a_map_has_its_version_and_its_shards() {
+        let map = ShardMap::from_toml(MAP).unwrap();
+        assert_eq!(map.version().map(NonZeroU64::get), Some(3));
+        let shards: Vec<(u64, String)> =
+            map.shards().iter().map(|shard| (shard.first, shard.servers.to_string())).collect();
+        let last = (9, "tls:db1:7400,tls:db2:7400".into());
+        assert_eq!(shards, [(0, "127.0.0.1:1".into()), last]);
+        assert_eq!(map.to_toml(), MAP);
+    }
+
+    #[test]
+    fn what_is_no_map_is_told() {
+        let told = |text: &str| ShardMap::from_toml(text).unwrap_err().to_string();
+        for (old, new, expected) in [
+            ("version = 3\n", "", "missing field `version`"),
+            ("version = 3", "version = 0", "[[shard]]"),
+            ("first = 9", "frist = 9", "unknown field `frist`"),
+            ("first = 9", "first = 0", "each other one above the one before it"),
+            ("127.0.0.1:1", "here", "the servers 'here' of the shard from 0 on: "),
+        ] {
+            let said = told(&MAP.replace(old, new));
+            assert!(said.contains(expected), "{said}");
+        }
+        assert!(told("").contains("missing field `version`"));
+        let missing = ShardMap::from_file("/no/such/map.toml").unwrap_err().to_string();
+        assert!(missing.starts_with("it can't be read: "), "{missing}");
+    }
+}

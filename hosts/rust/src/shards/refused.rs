@@ -1,0 +1,80 @@
+//! Why a call over shards was refused.
+use crate::model::refused::{JoinError, Refused};
+use crate::proved::code::Code;
+use std::fmt;
+
+/// Why a call of a sharded client did not do what it should.
+#[derive(Clone, Copy, Debug, PartialEq, Eq)]
+#[non_exhaustive]
+pub struct ShardRefused {
+    /// The shard whose client refused, from 0. `None` if no shard did: the range or the key is none,
+    /// or no moment came at which all shards were known together.
+    pub shard: Option<usize>,
+    /// Why.
+    pub refused: Refused,
+}
+
+/// Why a sharded client did not join.
+#[derive(Debug)]
+#[non_exhaustive]
+pub struct ShardJoinError {
+    /// The first shard whose client did not join, from 0. `None` if none was asked.
+    pub shard: Option<usize>,
+    /// Why.
+    pub error: JoinError,
+}
+
+impl ShardRefused {
+    /// Makes an error of this shard.
+    pub(crate) fn at(shard: usize) -> impl Fn(Refused) -> ShardRefused {
+        move |refused| ShardRefused { shard: Some(shard), refused }
+    }
+}
+
+impl From<Refused> for ShardRefused {
+    fn from(refused: Refused) -> ShardRefused {
+        ShardRefused { shard: None, refused }
+    }
+}
+
+impl From<Code> for ShardRefused {
+    fn from(code: Code) -> ShardRefused {
+        Refused::from(code).into()
+    }
+}
+
+impl fmt::Display for ShardRefused {
+    fn fmt(&self, f: &mut fmt::Formatter<'_>) -> fmt::Result {
+        write_shard(self.shard, f)?;
+        self.refused.fmt(f)
+    }
+}
+
+impl fmt::Display for ShardJoinError {
+    fn fmt(&self, f: &mut fmt::Formatter<'_>) -> fmt::Result {
+        write_shard(self.shard, f)?;
+        self.error.fmt(f)
+    }
+}
+
+fn write_shard(shard: Option<usize>, f: &mut fmt::Formatter<'_>) -> fmt::Result {
+    shard.map_or(Ok(()), |shard| write!(f, "shard {shard}: "))
+}
+
+impl std::error::Error for ShardRefused {
+    fn source(&self) -> Option<&(dyn std::error::Error + 'static)> {
+        Some(&self.refused)
+    }
+}
+
+impl std::error::Error for ShardJoinError {
+    fn source(&self) -> Option<&(dyn std::error::Error + 'static)> {
+        Some(&self.error)
+    }
+}
+
+impl From<JoinError> for ShardJoinError {
+    fn from(error: JoinError) -> ShardJoinError {
+        ShardJoinError { shard: None, error }
+    }
+}

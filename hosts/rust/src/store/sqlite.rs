@@ -1,0 +1,442 @@
+//! A store over SQLite.
+pub(crate) mod checksum;
+pub(crate) mod copy;
+mod progress;
+mod version;
+
+use crate::model::change::{Change, Outcome, Record, Snapshot, Write};
+use crate::model::history::{History, Mark};
+use crate::model::lease_record::LeaseRecord;
+use crate::model::refusal::ClientSet;
+use crate::model::room::Room;
+use crate::model::row::{Row, Value};
+use crate::store::sqlite::checksum::Checksum;
+use crate::store::sqlite::version::Found;
+use crate::store::{Store, StoreError};
+use rusqlite::{
+    Connection, OptionalExtension, Row as SqlRow, Transaction, TransactionBehavior, params,
+};
+use std::path::Path;
+use std::time::Duration;
+
+/// A store in one file of SQLite, in WAL mode with synchronous=FULL: `commit` returns once the
+/// changes are on the disk. A write's row and its client's record change in one transaction.
+///
+/// One process at a time has the file open. If another one changed it all the same, since the system
+/// or the network's disk does not keep that lock, each commit finds it and is refused.
+#[derive(Debug)]
+pub struct SqliteStore {
+    connection: Connection,
+    /// The last mark of what this value has loaded and committed.
+    last: Option<Mark>,
+}
+
+/// How long it waits for another process that has the file open.
+const TIMEOUT: Duration = Duration::from_millis(200);
+
+/// How long a call may take: a sync of a busy disk, or the reading of the greatest table, takes
+/// seconds.
+const LONGEST_WAIT: Duration = Duration::from_secs(60);
+
+/// The page size of new stores, in bytes. A commit writes each page that it changes whole, and a
+/// write changes two: one of rows and one of records. SQLite's own 4,096 bytes take a commit a tenth
+/// longer, and 512 save next to nothing more.
+const PAGE_SIZE: i64 = 1024;
+
+/// How long the log may grow, in bytes, before its pages are copied into the file: as long as with
+/// SQLite's own page size and limit.
+const LOG: i64 = 1000 * 4096;
+
+const TABLES: &str = "
+    CREATE TABLE IF NOT EXISTS epoch (id INTEGER PRIMARY KEY CHECK (id = 0), epoch INTEGER NOT NULL);
+    CREATE TABLE IF NOT EXISTS entry (key INTEGER PRIMARY KEY, value BLOB NOT NULL);
+    CREATE TABLE IF NOT EXISTS record (
+        place INTEGER PRIMARY KEY, client INTEGER NOT NULL UNIQUE, incarnation INTEGER NOT NULL,
+        last INTEGER NOT NULL, outcome INTEGER NOT NULL, has_left INTEGER NOT NULL,
+        commits INTEGER NOT NULL DEFAULT 0);
+    CREATE TABLE IF NOT EXISTS start (
+        place INTEGER PRIMARY KEY, bits BLOB NOT NULL UNIQUE, commits INTEGER NOT NULL);
+    CREATE TABLE IF NOT EXISTS lease (
+        id INTEGER PRIMARY KEY CHECK (id = 0), longest INTEGER NOT NULL, unleased INTEGER NOT NULL);
+    CREATE TABLE IF NOT EXISTS room (
+        id INTEGER PRIMARY KEY CHECK (id = 0), most_rows INTEGER NOT NULL);
+    INSERT OR IGNORE INTO epoch VALUES (0, 0);
+    INSERT OR IGNORE INTO lease VALUES (0, 0, -1);";
+
+const EPOCH: &str = "UPDATE epoch SET epoch = ?1 WHERE id = 0";
+
+// A record that is there keeps its place: the records are in order of first registration.
+const REGISTER: &str = "INSERT INTO record (client, incarnation, last, outcome, has_left, commits)
+    VALUES (?1, ?2, 0, 0, 0, ?3)
+    ON CONFLICT (client) DO UPDATE
+    SET incarnation = ?2, last = 0, outcome = 0, has_left = 0, commits = ?3";
+const LEAVE: &str = "UPDATE record SET has_left = 1, commits = ?2 WHERE client = ?1";
+const JUDGE: &str = "UPDATE record SET last = ?2, outcome = ?3, commits = ?4 WHERE client = ?1";
+// The first start of the store of which this one is a copy. It has no commits here: to a client that
+// has seen some, the copy is an older store.
+const FIRST_START: &str = "INSERT INTO start (bits, commits) VALUES (?1, 0)";
+const FIRST: &str = "SELECT bits FROM start ORDER BY place LIMIT 1";
+
+// `unleased` has the bit of value 2^n for client n, as a number with a sign.
+const LEASE: &str = "UPDATE lease SET longest = ?1, unleased = ?2 WHERE id = 0";
+
+const ROOM: &str = "INSERT OR REPLACE INTO room VALUES (0, ?1)";
+
+const PUT: &str = "INSERT OR REPLACE INTO entry (key, value) VALUES (?1, ?2)";
+const DELETE: &str = "DELETE FROM entry WHERE key = ?1";
+const DELETE_FROM: &str = "DELETE FROM entry WHERE key >= ?1";
+
+impl SqliteStore {
+    /// Opens the file, and makes it if there is none. Another process that has it open makes
+    /// this fail, and every later open of another process fails while this store lives.
+    ///
+    /// The file says that it is a store, and of which version. One that an older krl made says
+    /// nothing of that yet, and says it from now on.
+    ///
+    /// # Errors
+    ///
+    /// If another process has the file open; if it is a database of another program, a file without
+    /// tables, such as a copy that lacks its log, or a store of a version that this program does not
+    /// know; if it was not opened since it was made, and differs from what was written then; if SQLite
+    /// can't read, make or write it.
+    pub fn open(path: impl AsRef<Path>) -> Result<SqliteStore, StoreError> {
+        SqliteStore::open_by(path.as_ref(), "EXCLUSIVE")
+    }
+
+    /// Takes the rows of this key and of all greater ones away, all or none: they are in another
+    /// store by now. No server may run on it, and each client has left.
+    ///
+    /// # Errors
+    ///
+    /// `Deposed` if somebody else has changed the store since it was loaded; `Failed` if SQLite
+    /// can't write it.
+    pub fn remove_from(&mut self, key: u64) -> Result<(), StoreError> {
+        let (last, transaction) = (self.last, self.begin()?);
+        is_own(&transaction, last)?;
+        run(&transaction, DELETE_FROM, params![signed(key)?])?;
+        self.last = finish(transaction, last, &[])?;
+        Ok(())
+    }
+
+    /// Writes these rows, each in place of the one of its key if there is one, all or none. No server
+    /// may run on it, and each client has left: one that has not would go on to answer from its cache
+    /// what is no longer so.
+    ///
+    /// # Errors
+    ///
+    /// `Deposed` if somebody else has changed the store since it was loaded; `Failed` if SQLite
+    /// can't write it.
+    pub fn write_rows(&mut self, rows: impl IntoIterator<Item = Row>) -> Result<(), StoreError> {
+        let (last, transaction) = (self.last, self.begin()?);
+        is_own(&transaction, last)?;
+        rows.into_iter().try_for_each(|row| commit_write(&transaction, &Write::Put(row)))?;
+        self.last = finish(transaction, last, &[])?;
+        Ok(())
+    }
+
+    fn begin(&mut self) -> Result<Transaction<'_>, StoreError> {
+        Ok(self.connection.transaction_with_behavior(TransactionBehavior::Immediate)?)
+    }
+
+    fn open_by(path: &Path, locking: &str) -> Result<SqliteStore, StoreError> {
+        // SQLite makes one as it looks.
+        let had_log = copy::beside(path, "-wal").exists();
+        let connection = Connection::open(path)?;
+        connection.busy_timeout(TIMEOUT)?;
+        connection.pragma_update(None, "locking_mode", locking)?;
+        // A file that is no store is left as it is.
+        let found = version::look(&connection)?;
+        if found == Found::Bare && !had_log {
+            return Err(StoreError::says(version::BARE));
+        }
+        if found == Found::New {
+            set_page_size(&connection)?;
+        }
+        let mode: String =
+            connection.query_row("PRAGMA journal_mode = WAL", [], |row| row.get(0))?;
+        if mode != "wal" {
+            return Err(StoreError::says("SQLite gives no WAL mode for this file"));
+        }
+        connection.pragma_update(None, "synchronous", "FULL")?;
+        limit_log(&connection)?;
+        if found != Found::Current {
+            prepare(&connection)?;
+        }
+        take_checksum(&connection)?;
+        let last = progress::last_mark(&connection)?;
+        Ok(SqliteStore { connection, last })
+    }
+}
+
+/// Removes the checksum of a store that was not opened since it was made, if it matches.
+fn take_checksum(connection: &Connection) -> Result<(), StoreError> {
+    if !checksum::is_there(connection)? {
+        return Ok(());
+    }
+    match checksum::compare(connection, &load(connection)?)? {
+        Checksum::Differs => Err(StoreError::says(checksum::DIFFERS)),
+        Checksum::Matches | Checksum::Absent => checksum::remove(connection),
+    }
+}
+
+/// Gives a file that has nothing yet the page size of a new store.
+pub(crate) fn set_page_size(connection: &Connection) -> Result<(), StoreError> {
+    Ok(connection.pragma_update(None, "page_size", PAGE_SIZE)?)
+}
+
+/// The page size of the file, in bytes.
+pub(crate) fn page_size(connection: &Connection) -> Result<i64, StoreError> {
+    Ok(connection.query_row("PRAGMA page_size", [], |row| row.get(0))?)
+}
+
+fn limit_log(connection: &Connection) -> Result<(), StoreError> {
+    let pages = LOG / page_size(connection)?;
+    Ok(connection.query_row(&format!("PRAGMA wal_autocheckpoint = {pages}"), [], |_| Ok(()))?)
+}
+
+impl Store for SqliteStore {
+    fn load(&mut self) -> Result<Snapshot, StoreError> {
+        let transaction = self.connection.transaction()?;
+        self.last = progress::last_mark(&transaction)?;
+        load(&transaction)
+    }
+
+    fn commit(&mut self, changes: &[Change]) -> Result<(), StoreError> {
+        let (last, transaction) = (self.last, self.begin()?);
+        is_own(&transaction, last)?;
+        if changes.is_empty() {
+            return Ok(());
+        }
+        progress::begin(&transaction, last, changes)?;
+        self.last = finish(transaction, last, changes)?;
+        Ok(())
+    }
+
+    fn snapshot(&mut self) -> Result<Snapshot, StoreError> {
+        load(&self.connection)
+    }
+
+    fn history(&mut self) -> Result<Option<History>, StoreError> {
+        progress::history(&self.connection)
+    }
+
+    fn longest_wait(&self) -> Duration {
+        LONGEST_WAIT
+    }
+}
+
+/// Commits the changes as one batch, and answers how far the store has come by it.
+fn finish(
+    transaction: Transaction<'_>,
+    last: Option<Mark>,
+    changes: &[Change],
+) -> Result<Option<Mark>, StoreError> {
+    let number = progress::next_number(last, changes);
+    let batch = signed(number)?;
+    changes.iter().try_for_each(|change| commit_one(&transaction, change, batch))?;
+    let last = progress::finish(&transaction, last, changes, number)?;
+    transaction.commit()?;
+    Ok(last)
+}
+
+/// Refuses what rests on another state of the store than this one.
+fn is_own(transaction: &Transaction<'_>, last: Option<Mark>) -> Result<(), StoreError> {
+    match progress::last_mark(transaction)? {
+        found if found == last => Ok(()),
+        found => Err(StoreError::Deposed(format!("{found:?}, and not {last:?}"))),
+    }
+}
+
+/// Gives the file the tables of a store, and the marks of this version, all or none.
+pub(crate) fn prepare(connection: &Connection) -> Result<(), StoreError> {
+    let transaction = connection.unchecked_transaction()?;
+    transaction.execute_batch(TABLES)?;
+    progress::add_commits(&transaction)?;
+    version::mark(&transaction)?;
+    Ok(transaction.commit()?)
+}
+
+/// All that the file has.
+pub(crate) fn load(connection: &Connection) -> Result<Snapshot, StoreError> {
+    let epoch = connection.query_row("SELECT epoch FROM epoch", [], |row| row.get(0))?;
+    let mut snapshot = Snapshot { epoch: positive(epoch)?, ..Snapshot::default() };
+    let mut entries = connection.prepare("SELECT key, value FROM entry")?;
+    let mut rows = entries.query([])?;
+    while let Some(row) = rows.next()? {
+        let Row { key, value } = row_of(row)?;
+        snapshot.rows.insert(key, value);
+    }
+    let mut records = connection.prepare(
+        "SELECT client, incarnation, last, outcome, has_left FROM record ORDER BY place",
+    )?;
+    let mut rows = records.query([])?;
+    while let Some(row) = rows.next()? {
+        snapshot.records.push(record_of(row)?);
+    }
+    snapshot.leases = lease_record(connection)?;
+    snapshot.room = kept_room(connection)?;
+    snapshot.first_start = first_start(connection)?;
+    Ok(snapshot)
+}
+
+/// Whether the file has this table. One of an older version, which is only read, may have none.
+fn has_table(connection: &Connection, name: &str) -> Result<bool, StoreError> {
+    let named = "SELECT count(*) FROM sqlite_master WHERE type = 'table' AND name = ?1";
+    let tables: i64 = connection.query_row(named, [name], |row| row.get(0))?;
+    Ok(tables > 0)
+}
+
+/// The bits of the first start of a server, if the file keeps one.
+fn first_start(connection: &Connection) -> Result<Option<u128>, StoreError> {
+    if !has_table(connection, "start")? {
+        return Ok(None);
+    }
+    let first = connection.query_row(FIRST, [], |row| row.get(0));
+    Ok(first.optional()?.map(u128::from_le_bytes))
+}
+
+/// The greatest room that a server had, if the file keeps one.
+fn kept_room(connection: &Connection) -> Result<Option<Room>, StoreError> {
+    if !has_table(connection, "room")? {
+        return Ok(None);
+    }
+    let kept = connection.query_row("SELECT most_rows FROM room", [], |row| row.get::<_, i64>(0));
+    let Some(rows) = kept.optional()? else { return Ok(None) };
+    let room = usize::try_from(rows).ok().and_then(|rows| Room::of(rows).ok());
+    room.map(Some).ok_or_else(|| StoreError::says("the room in the store is one of no server"))
+}
+
+/// What the file has of leases.
+fn lease_record(connection: &Connection) -> Result<LeaseRecord, StoreError> {
+    if !has_table(connection, "lease")? {
+        return Ok(LeaseRecord::UNKNOWN);
+    }
+    let kept = connection.query_row("SELECT longest, unleased FROM lease", [], |row| {
+        Ok((row.get(0)?, row.get::<_, i64>(1)?))
+    });
+    let (longest, unleased) = kept?;
+    let unleased = ClientSet::of_bits(unleased.cast_unsigned());
+    Ok(LeaseRecord { longest: positive(longest)?, unleased })
+}
+
+/// Gives a file that has the tables of a store and no more all of the snapshot.
+pub(crate) fn save(connection: &mut Connection, snapshot: &Snapshot) -> Result<(), StoreError> {
+    let transaction = connection.transaction()?;
+    let keep = |change: &Change| commit_one(&transaction, change, NOT_COUNTED);
+    keep(&Change::Started { epoch: snapshot.epoch })?;
+    if let Some(first_start) = snapshot.first_start {
+        run(&transaction, FIRST_START, params![first_start.to_le_bytes()])?;
+    }
+    for (key, value) in &snapshot.rows {
+        commit_write(&transaction, &Write::Insert(Row { key: *key, value: *value }))?;
+    }
+    for record in &snapshot.records {
+        save_record(&transaction, record)?;
+    }
+    keep(&Change::Leased(snapshot.leases))?;
+    if let Some(room) = snapshot.room {
+        keep(&Change::Room(room))?;
+    }
+    checksum::write(&transaction, snapshot)?;
+    Ok(transaction.commit()?)
+}
+
+/// What is written before a server has started is of no batch.
+const NOT_COUNTED: i64 = 0;
+
+fn save_record(transaction: &Transaction<'_>, record: &Record) -> Result<(), StoreError> {
+    let Record { client, incarnation, last, left } = *record;
+    run(transaction, REGISTER, params![client, signed(incarnation)?, NOT_COUNTED])?;
+    if let Some((number, outcome)) = last {
+        let judged = params![client, signed(number)?, outcome.tag(), NOT_COUNTED];
+        run(transaction, JUDGE, judged)?;
+    }
+    if left { run(transaction, LEAVE, params![client, NOT_COUNTED]) } else { Ok(()) }
+}
+
+/// Makes one change of the batch of this number.
+fn commit_one(
+    transaction: &Transaction<'_>,
+    change: &Change,
+    batch: i64,
+) -> Result<(), StoreError> {
+    match change {
+        Change::Started { epoch } => run(transaction, EPOCH, params![signed(*epoch)?]),
+        Change::Registered { client, incarnation } => {
+            run(transaction, REGISTER, params![client, signed(*incarnation)?, batch])
+        }
+        Change::Left { client } => run(transaction, LEAVE, params![client, batch]),
+        Change::Judged { client, number, write, outcome } => {
+            let judged = params![client, signed(*number)?, outcome.tag(), batch];
+            run(transaction, JUDGE, judged)?;
+            match outcome {
+                Outcome::Applied => commit_write(transaction, write),
+                _ => Ok(()),
+            }
+        }
+        Change::Leased(LeaseRecord { longest, unleased }) => {
+            let unleased = unleased.bits().cast_signed();
+            run(transaction, LEASE, params![signed(*longest)?, unleased])
+        }
+        Change::Room(room) => run(transaction, ROOM, params![signed(room.rows() as u64)?]),
+    }
+}
+
+fn commit_write(transaction: &Transaction<'_>, write: &Write) -> Result<(), StoreError> {
+    match write {
+        Write::Insert(Row { key, value }) | Write::Put(Row { key, value }) => {
+            run(transaction, PUT, params![signed(*key)?, value.as_bytes()])
+        }
+        Write::Delete(key) => run(transaction, DELETE, params![signed(*key)?]),
+    }
+}
+
+fn run(
+    transaction: &Transaction<'_>,
+    statement: &str,
+    values: &[&dyn rusqlite::ToSql],
+) -> Result<(), StoreError> {
+    transaction.prepare_cached(statement)?.execute(values)?;
+    Ok(())
+}
+
+fn row_of(row: &SqlRow<'_>) -> Result<Row, StoreError> {
+    let bytes: Vec<u8> = row.get(1)?;
+    let value = Value::new(&bytes)
+        .ok_or_else(|| StoreError::says("a value in the store has more than 32 bytes"))?;
+    Ok(Row { key: positive(row.get(0)?)?, value })
+}
+
+fn record_of(row: &SqlRow<'_>) -> Result<Record, StoreError> {
+    let last = positive(row.get(2)?)?;
+    let outcome = Outcome::of_tag(positive(row.get(3)?)?);
+    if (last == 0) != outcome.is_none() {
+        return Err(StoreError::says(
+            "a record in the store has an outcome and no write, or no outcome of one",
+        ));
+    }
+    Ok(Record {
+        client: row.get(0)?,
+        incarnation: positive(row.get(1)?)?,
+        last: outcome.map(|outcome| (last, outcome)),
+        left: row.get(4)?,
+    })
+}
+
+/// SQLite's numbers are signed. Each number that is kept lies below 2^63.
+fn signed(number: u64) -> Result<i64, StoreError> {
+    i64::try_from(number).map_err(|_| StoreError::says("a number of 2^63 or more can't be kept"))
+}
+
+fn positive(number: i64) -> Result<u64, StoreError> {
+    u64::try_from(number).map_err(|_| StoreError::says("a number in the store is negative"))
+}
+
+impl From<rusqlite::Error> for StoreError {
+    fn from(error: rusqlite::Error) -> StoreError {
+        StoreError::Failed(Box::new(error))
+    }
+}
+
+#[cfg(test)]
+mod tests;

@@ -1,0 +1,343 @@
+//! Frames of the hosts: what the host of a client and that of a server say to one another beneath
+//! the messages. `docs/WIRE.md` has the table.
+//!
+//! The first byte of a host frame is 0. No message of the library begins so: its version is 1.
+//!
+//! A Hello names the version of the stream, and its layout is the same in each version from 2 on: so
+//! each side can tell the other that they do not fit together.
+use crate::model::history::{Mark, Seen};
+use crate::model::refusal::{ClientSet, Refusal};
+use crate::shards::bounds::ShardBounds;
+use crate::wire::shard_frame;
+
+const HOST: u8 = 0;
+
+/// The version of the stream: of the frames of the hosts, and of the messages between them. In
+/// version 1 a grant had at most eight holdings, and a Hello named no version.
+pub(crate) const VERSION: u8 = 2;
+
+/// The version of a Hello that names none.
+const BEFORE_VERSIONS: u8 = 1;
+
+/// The second byte of a server's Hello if it answers signs; otherwise it is 0.
+const ANSWERS_SIGNS: u8 = 1;
+
+/// How many bytes a mark has: it may lack the store's first start, and a client may have heard none.
+const MARK_LENGTHS: [usize; 3] = [0, 24, 40];
+
+/// What the host of a client says.
+#[derive(Clone, Copy, Debug, PartialEq, Eq)]
+pub(crate) enum FromClient {
+    /// It takes host frames, and has seen so much of the store, if anything. This is the first
+    /// frame of its connection.
+    Hello(Option<Seen>),
+    /// The Hello of a host of another version.
+    OtherVersion,
+    /// It takes the server for this shard's.
+    Shard(ShardBounds),
+    /// The same, with numbers that are no shard's. No host says it.
+    NoShard,
+}
+
+/// What the host of a server says, and only to a host that has said Hello.
+#[derive(Clone, Copy, Debug, PartialEq, Eq)]
+pub(crate) enum FromServer {
+    /// It takes host frames. A host without leases answers no signs. The Hello of another version
+    /// is read as a refusal for that reason.
+    Hello { answers_signs: bool },
+    /// It does not serve the client, for this reason.
+    Refused(Refusal),
+    /// So much is on the disk. It leaves before the messages that rest on it.
+    Mark(Seen),
+    /// The store lacks what the client's host has seen of it.
+    WentBack,
+    /// It serves this shard, as the client's host has said.
+    Shard(ShardBounds),
+}
+
+/// Whether the frame, without its length, is one of a host.
+pub(crate) fn is_of_host(frame: &[u8]) -> bool {
+    frame.first() == Some(&HOST)
+}
+
+impl FromClient {
+    const HELLO: u8 = 0;
+    const SHARD: u8 = 2;
+
+    /// The frame, with its length.
+    pub fn frame(self) -> Vec<u8> {
+        match self {
+            FromClient::Hello(seen) => {
+                let mut said = seen.map(spelled_seen).unwrap_or_default();
+                said.push(VERSION);
+                framed(&[HOST, FromClient::HELLO], &said)
+            }
+            FromClient::OtherVersion => framed(&[HOST, FromClient::HELLO], &[]),
+            FromClient::Shard(shard) => {
+                framed(&[HOST, FromClient::SHARD], &shard_frame::spelled_bytes(Some(shard)))
+            }
+            FromClient::NoShard => {
+                framed(&[HOST, FromClient::SHARD], &shard_frame::spelled_bytes(None))
+            }
+        }
+    }
+
+    /// What the frame says, or `None` if it is of another kind: then it says nothing.
+    pub fn read(frame: &[u8]) -> Option<FromClient> {
+        match frame {
+            [HOST, FromClient::HELLO, said @ ..] => Some(read_hello(said)),
+            [HOST, FromClient::SHARD, shard @ ..] => {
+                Some(shard_frame::read(shard).map_or(FromClient::NoShard, FromClient::Shard))
+            }
+            _ => None,
+        }
+    }
+}
+
+impl FromServer {
+    const HELLO: u8 = 16;
+    const REFUSED: u8 = 17;
+    const MARK: u8 = 18;
+    const WENT_BACK: u8 = 19;
+    const SHARD: u8 = 22;
+
+    /// The frame, with its length.
+    pub fn frame(self) -> Vec<u8> {
+        match self {
+            FromServer::Hello { answers_signs } => {
+                let signs = if answers_signs { ANSWERS_SIGNS } else { 0 };
+                framed(&[HOST, FromServer::HELLO], &[signs, VERSION])
+            }
+            FromServer::Refused(refusal) => {
+                let (reason, numbers) = spelled(refusal);
+                framed(&[HOST, FromServer::REFUSED, reason], &numbers)
+            }
+            FromServer::Mark(seen) => framed(&[HOST, FromServer::MARK], &spelled_seen(seen)),
+            FromServer::WentBack => framed(&[HOST, FromServer::WENT_BACK], &[]),
+            FromServer::Shard(shard) => {
+                framed(&[HOST, FromServer::SHARD], &shard_frame::spelled_bytes(Some(shard)))
+            }
+        }
+    }
+
+    /// What the frame says, or `None` if it is of another kind: then it says nothing.
+    pub fn read(frame: &[u8]) -> Option<FromServer> {
+        match frame {
+            [HOST, FromServer::HELLO, said @ ..] => Some(read_server_hello(said)),
+            [HOST, FromServer::REFUSED, reason, numbers @ ..] => {
+                refusal(*reason, numbers).map(FromServer::Refused)
+            }
+            [HOST, FromServer::MARK, seen @ ..] => read_seen(seen).map(FromServer::Mark),
+            [HOST, FromServer::WENT_BACK, ..] => Some(FromServer::WentBack),
+            [HOST, FromServer::SHARD, shard @ ..] => {
+                shard_frame::read(shard).map(FromServer::Shard)
+            }
+            _ => None,
+        }
+    }
+}
+
+/// What follows the kind of a client's Hello: the mark, if it has heard one, and the version.
+fn read_hello(said: &[u8]) -> FromClient {
+    match said.split_last() {
+        Some((&VERSION, mark)) if MARK_LENGTHS.contains(&mark.len()) => {
+            FromClient::Hello(read_seen(mark))
+        }
+        _ => FromClient::OtherVersion,
+    }
+}
+
+/// What follows the kind of a server's Hello: whether it answers signs, and the version.
+fn read_server_hello(said: &[u8]) -> FromServer {
+    match *said {
+        [signs, VERSION, ..] => FromServer::Hello { answers_signs: signs == ANSWERS_SIGNS },
+        [_, read, ..] => FromServer::Refused(Refusal::Version { read }),
+        _ => FromServer::Refused(Refusal::Version { read: BEFORE_VERSIONS }),
+    }
+}
+
+/// The tag of a reason, and its numbers.
+fn spelled(refusal: Refusal) -> (u8, Vec<u8>) {
+    let (tag, numbers) = match refusal {
+        Refusal::OtherShard(served) => return (7, shard_frame::spelled_bytes(served)),
+        Refusal::Version { read } => (0, [read.into(), 0]),
+        Refusal::ClientNumber { number } => (1, [number, 0]),
+        Refusal::Incarnation { client, registered } => (2, [client.into(), registered]),
+        Refusal::Full { connections } => (3, [connections, 0]),
+        Refusal::Missing(clients) => (4, [clients.bits(), 0]),
+        Refusal::LeaseRuns { client, registered } => (5, [client.into(), registered]),
+        Refusal::Denied => (6, [0, 0]),
+        Refusal::FarAhead { client, latest } => (8, [client.into(), latest]),
+        Refusal::OtherStore => (9, [0, 0]),
+    };
+    (tag, numbers.map(u64::to_le_bytes).concat())
+}
+
+fn spelled_seen(seen: Seen) -> Vec<u8> {
+    let Seen { mark: Mark { start, commits }, first_start } = seen;
+    let mut bytes = [&start.to_le_bytes()[..], &commits.to_le_bytes()].concat();
+    bytes.extend(first_start.map(u128::to_le_bytes).into_iter().flatten());
+    bytes
+}
+
+/// A host of an earlier release sends the mark without the first start.
+fn read_seen(bytes: &[u8]) -> Option<Seen> {
+    let (start, rest) = bytes.split_first_chunk()?;
+    let (commits, rest) = rest.split_first_chunk()?;
+    let first_start = rest.first_chunk().map(|bits| u128::from_le_bytes(*bits));
+    let (start, commits) = (u128::from_le_bytes(*start), u64::from_le_bytes(*commits));
+    Some(Seen { mark: Mark { start, commits }, first_start })
+}
+
+fn refusal(reason: u8, numbers: &[u8]) -> Option<Refusal> {
+    let (first, rest) = numbers.split_first_chunk()?;
+    let (second, _) = rest.split_first_chunk()?;
+    let (first, second) = (u64::from_le_bytes(*first), u64::from_le_bytes(*second));
+    Some(match reason {
+        0 => Refusal::Version { read: u8::try_from(first).ok()? },
+        1 => Refusal::ClientNumber { number: first },
+        2 => Refusal::Incarnation { client: u8::try_from(first).ok()?, registered: second },
+        3 => Refusal::Full { connections: first },
+        4 => Refusal::Missing(ClientSet::of_bits(first)),
+        5 => Refusal::LeaseRuns { client: u8::try_from(first).ok()?, registered: second },
+        6 => Refusal::Denied,
+        7 => shard_frame::read_refusal(numbers)?,
+        8 => Refusal::FarAhead { client: u8::try_from(first).ok()?, latest: second },
+        9 => Refusal::OtherStore,
+        _ => return None,
+    })
+}
+
+/// A frame with its length: the head, and then the body.
+fn framed(head: &[u8], body: &[u8]) -> Vec<u8> {
+    let length = (head.len() + body.len()) as u64;
+    [&length.to_le_bytes(), head, body].concat()
+}
+
+#[cfg(test)]
+mod tests {
+    use super::*;
+    use crate::wire::frames::split;
+
+    const HELLO: FromServer = FromServer::Hello { answers_signs: true };
+    const SEEN: Seen =
+        Seen { mark: Mark { start: 1 << 127 | 5, commits: 258 }, first_start: Some(3 << 120 | 7) };
+    const SEEN_EARLIER: Seen = Seen { first_start: None, ..SEEN };
+
+    fn shard() -> ShardBounds {
+        "5..258@7".parse().unwrap()
+    }
+
+    fn said() -> Vec<FromServer> {
+        let missing = Refusal::Missing([3, 63].into_iter().collect());
+        let refusals = [
+            Refusal::Version { read: 1 },
+            Refusal::ClientNumber { number: u64::MAX },
+            Refusal::Incarnation { client: 63, registered: 1 << 60 },
+            Refusal::Full { connections: 256 },
+            missing,
+            Refusal::LeaseRuns { client: 63, registered: 7 },
+            Refusal::Denied,
+            Refusal::OtherShard(None),
+            Refusal::FarAhead { client: 63, latest: 1 << 61 },
+            Refusal::OtherStore,
+            Refusal::OtherShard(Some(shard())),
+        ];
+        let shard = FromServer::Shard(shard());
+        let others = [HELLO, FromServer::Mark(SEEN), FromServer::WentBack, shard];
+        refusals.map(FromServer::Refused).into_iter().chain(others).collect()
+    }
+
+    fn body(frame: &[u8]) -> Vec<u8> {
+        let mut found: Vec<_> = split(frame).map(|(body, _)| body.to_vec()).collect();
+        assert_eq!(found.len(), 1);
+        found.remove(0)
+    }
+
+    #[test]
+    fn what_is_said_is_read() {
+        for said in said() {
+            let body = body(&said.frame());
+            assert!(is_of_host(&body) && body.len() < crate::wire::frames::LONGEST_TO_CLIENT);
+            assert_eq!(FromServer::read(&body), Some(said));
+            // A later release may say more behind it.
+            assert_eq!(FromServer::read(&[&body[..], b"more"].concat()), Some(said));
+        }
+        for seen in [None, Some(SEEN), Some(SEEN_EARLIER)] {
+            let hello = FromClient::Hello(seen);
+            assert_eq!(FromClient::read(&body(&hello.frame())), Some(hello));
+        }
+        let other = FromClient::OtherVersion;
+        assert_eq!(FromClient::read(&body(&other.frame())), Some(other));
+        let mark = FromServer::Mark(SEEN_EARLIER);
+        assert_eq!(FromServer::read(&body(&mark.frame())), Some(mark));
+        for named in [FromClient::Shard(shard()), FromClient::NoShard] {
+            assert_eq!(FromClient::read(&body(&named.frame())), Some(named));
+        }
+        assert_eq!(FromClient::read(&[0, 2, 5]), Some(FromClient::NoShard));
+    }
+
+    #[test]
+    fn the_bytes_are_those_of_the_table() {
+        let refused = FromServer::Refused(Refusal::Incarnation { client: 3, registered: 258 });
+        let bytes = [0, 17, 2, 3, 0, 0, 0, 0, 0, 0, 0, 2, 1, 0, 0, 0, 0, 0, 0];
+        assert_eq!(body(&refused.frame()), bytes);
+        assert_eq!(FromClient::Hello(None).frame(), [3, 0, 0, 0, 0, 0, 0, 0, 0, 0, 2]);
+        let marked = [5, 0, 0, 0, 0, 0, 0, 0, 0, 0, 0, 0, 0, 0, 0, 128, 2, 1, 0, 0, 0, 0, 0, 0];
+        let first = [7, 0, 0, 0, 0, 0, 0, 0, 0, 0, 0, 0, 0, 0, 0, 3];
+        let marked_in = |seen| body(&FromServer::Mark(seen).frame());
+        assert_eq!(marked_in(SEEN), [&[0, 18][..], &marked, &first].concat());
+        assert_eq!(marked_in(SEEN_EARLIER), [&[0, 18][..], &marked].concat());
+        let seen = FromClient::Hello(Some(SEEN));
+        assert_eq!(body(&seen.frame()), [&[0, 0][..], &marked, &first, &[2]].concat());
+        assert_eq!(body(&HELLO.frame()), [0, 16, 1, 2]);
+        let unsigned = FromServer::Hello { answers_signs: false };
+        assert_eq!(body(&unsigned.frame()), [0, 16, 0, 2]);
+        let numbers = [5, 0, 0, 0, 0, 0, 0, 0, 2, 1, 0, 0, 0, 0, 0, 0, 7, 0, 0, 0, 0, 0, 0, 0];
+        assert_eq!(body(&FromClient::Shard(shard()).frame()), [&[0, 2][..], &numbers].concat());
+        assert_eq!(body(&FromServer::Shard(shard()).frame()), [&[0, 22][..], &numbers].concat());
+        let other = FromServer::Refused(Refusal::OtherShard(Some(shard())));
+        assert_eq!(body(&other.frame()), [&[0, 17, 7][..], &numbers].concat());
+    }
+
+    #[test]
+    fn a_hello_of_another_version_is_known_by_both_sides() {
+        let refused = |read| Some(FromServer::Refused(Refusal::Version { read }));
+        for (hello, read) in [(&[0, 16][..], 1), (&[0, 16, 1], 1), (&[0, 16, 1, 3, 9], 3)] {
+            assert_eq!(FromServer::read(hello), refused(read), "{hello:?}");
+        }
+        let of_client = |said: &[u8]| FromClient::read(&[&[0, 0], said].concat());
+        // A mark of a host of before versions may end as a version does.
+        for said in [&[][..], &[2; 24], &[2; 40], &[1], &[3], &[2, 9], &[2; 26]] {
+            assert_eq!(of_client(said), Some(FromClient::OtherVersion), "{said:?}");
+        }
+        for length in MARK_LENGTHS {
+            let hello = of_client(&[&vec![7; length][..], &[VERSION]].concat());
+            assert!(matches!(hello, Some(FromClient::Hello(_))), "{length}");
+        }
+    }
+
+    #[test]
+    fn what_is_cut_off_or_unknown_says_nothing() {
+        for said in said() {
+            let body = body(&said.frame());
+            let shortest = match said {
+                // One that is shorter names no version.
+                FromServer::Hello { .. } => 2,
+                FromServer::Mark(_) => 26,
+                _ => body.len(),
+            };
+            for length in 0..shortest {
+                assert_eq!(FromServer::read(&body[..length]), None);
+            }
+        }
+        assert_eq!(
+            FromServer::read(&[0, 17, 10, 0, 0, 0, 0, 0, 0, 0, 0, 0, 0, 0, 0, 0, 0, 0, 0]),
+            None
+        );
+        assert_eq!(FromServer::read(&[0, 0]), None, "a client's");
+        assert_eq!(FromClient::read(&[0, 16]), None, "a server's");
+        assert_eq!(FromClient::read(&[1, 0]), None, "a message");
+        assert!(!is_of_host(&[]) && !is_of_host(&[1, 0]));
+    }
+}

@@ -1,0 +1,33 @@
+//! What a client and its host say to a server, frame by frame.
+use crate::lease::of_client::Sign;
+use crate::wire::host_frame::{self, FromClient};
+use crate::wire::message::Message;
+
+/// A frame that has come to a server, read once.
+#[derive(Clone, Copy, Debug)]
+pub(crate) enum Incoming<'f> {
+    /// A message of the library, or a string that is none: the library judges it.
+    Message(Message<'f>),
+    /// A word of the client's host, or `None` if it says nothing that this server knows.
+    Host(Option<FromClient>),
+    /// A sign of the client's host.
+    Sign(Sign),
+}
+
+impl Incoming<'_> {
+    /// A frame without its length.
+    pub fn read(frame: &[u8]) -> Incoming<'_> {
+        if !host_frame::is_of_host(frame) {
+            return Incoming::Message(Message::read(frame));
+        }
+        Sign::read(frame).map_or_else(|| Incoming::Host(FromClient::read(frame)), Incoming::Sign)
+    }
+
+    /// The client that it names as the one that speaks, if it is one.
+    pub fn client(&self) -> Option<u8> {
+        match self {
+            Incoming::Message(message) => message.client(),
+            Incoming::Host(_) | Incoming::Sign(_) => None,
+        }
+    }
+}
