@@ -143,6 +143,25 @@ fn operators_alone_see_the_status_and_order_backups() {
 }
 
 #[test]
+fn a_server_that_is_an_operator_shows_the_others_of_its_table() {
+    let setup = Setup::new(&["server", "server-operator"]);
+    let other = setup.serve();
+    let page_of = |holder: &str, wanted: &str| {
+        let mut command = program();
+        command.arg("serve").arg("--store").arg(setup.file(&format!("{holder}.db")));
+        command.args(["--others", &other.status]).args(setup.shows(holder));
+        let serving = Serving::start_by(&mut command);
+        until(wanted, || serving.get("/").1.contains(wanted));
+        serving.get("/").1
+    };
+    // The other one closes a connection that shows no name of an operator.
+    page_of("server", &format!("the status port {} gave no answer", other.status));
+    let page =
+        page_of("server-operator", "<td class=\"serving\">serving</td><td>all</td><td>1</td>");
+    assert!(page.contains(&format!("https://{}/", &other.status["tls:".len()..])), "{page}");
+}
+
+#[test]
 fn strangers_at_the_status_port_do_not_flood_the_log() {
     let setup = Setup::new(&["server"]);
     let serving = setup.serve();
