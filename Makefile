@@ -4,6 +4,7 @@
 #     make install PREFIX=/usr    puts them, the headers and the libraries there; DESTDIR stands before it
 #     make dist                   makes an archive of the same in OUT
 #     make deb                    makes a package for Debian of the same in OUT
+#     make wheel                  makes a wheel of the client for Python in OUT
 PREFIX = /usr/local
 LIBRARY = $(CURDIR)/crates/krl_embed/out
 KIT = $(dir $(realpath $(shell command -v rt)))../c
@@ -28,4 +29,7 @@ dist: all
 deb: all
 	LIBRARY=$(LIBRARY) KIT=$(KIT) PROGRAMS=$(TARGET)/release hosts/packaging/debian-package $(OUT)
 
-.PHONY: all deb dist install
+wheel: all
+	hosts/packaging/wheel $(TARGET)/release/libkrl_client.so $(OUT)
+
+.PHONY: all deb dist install wheel

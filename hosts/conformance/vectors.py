@@ -7,25 +7,27 @@
 Each line is a JSON value. `to` says who reads the bytes, `server` or `client`. If they are a
 message, `message` has it, and its encoding is these bytes again; else `fault` has the first fault
 from the left, by the names of `docs/WIRE.md`. What is a message, and which fault is the first, the
-library says: its decoders are proved. `KRL_SHARED_LIBRARY` names its file.
+library says: its decoders are proved. `KRL_SHARED_LIBRARY` names its file, `libkrl.so` by default.
 """
 
 from __future__ import annotations
 
 import ctypes
+import functools
 import json
+import os
 import sys
 from collections.abc import Iterator
 from pathlib import Path
 from typing import Any
 
-sys.path.insert(0, str(Path(__file__).resolve().parent.parent / "python"))
-
-from krl._library import Code, library  # noqa: E402
-import messages as coder  # noqa: E402
-from messages import encode  # noqa: E402
+import messages as coder
+from messages import encode
 
 FILE = Path(__file__).with_name("vectors.jsonl")
+
+DONE, BAD_MESSAGE = 0, 8
+"""The codes of `krl.h` that a decoder answers."""
 
 FAULTS = "Short Version Kind Span Mode Part Outcome Flag Length Count Order Trailing".split()
 
@@ -126,14 +128,30 @@ def faulty_reports() -> Iterator[bytes]:
     yield report[:26] + b"\xff\xff\xff\xff" + report[30:]
 
 
+class Reply(ctypes.Structure):
+    """A `krl_reply`."""
+
+    _fields_ = [("code", ctypes.c_uint32), ("detail", ctypes.c_uint64)]
+    code: int
+    detail: int
+
+
+@functools.cache
+def decoder(to: str) -> Any:
+    """The library's decoder of messages to the server, or to the client."""
+    respell = ctypes.CDLL(os.environ.get("KRL_SHARED_LIBRARY", "libkrl.so.0"))[f"krl_respell_to_{to}"]
+    respell.argtypes = [ctypes.c_char_p, ctypes.c_size_t, ctypes.c_char_p, ctypes.c_size_t]
+    respell.restype = Reply
+    return respell
+
+
 def fault_of(to: str, message: bytes) -> str | None:
     """The first fault of the bytes, or `None` if they are a message. The library says it."""
-    respell = getattr(library(), f"krl_respell_to_{to}")
     room = ctypes.create_string_buffer(len(message))
-    reply = respell(message, len(message), room, len(message))
-    if reply.code == Code.BAD_MESSAGE:
+    reply = decoder(to)(message, len(message), room, len(message))
+    if reply.code == BAD_MESSAGE:
         return FAULTS[reply.detail]
-    if reply.code != Code.DONE or room.raw != message:
+    if reply.code != DONE or room.raw != message:
         sys.exit(f"vectors: {message.hex()}: the library answers {reply.code}")
     return None
 

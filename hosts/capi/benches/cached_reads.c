@@ -67,7 +67,7 @@ int main(int word_count, char **words) {
     want(krlc_join(&options, &client, NULL) == KRLC_OK);
     rows = krlc_rows_new();
     room = calloc(row_count, sizeof *room);
-    want(rows != NULL && room != NULL && krlc_read(client, 0, row_count, rows, NULL) == KRLC_OK);
+    want(rows != NULL && room != NULL && krlc_read(client, 0, row_count, rows, 0, NULL) == KRLC_OK);
     double borrowed = middle(borrow);
     printf("%.1f %.1f\n", borrowed, middle(copy));
     krlc_free(client);

@@ -21,13 +21,13 @@ static void print(const krlc_rows *rows) {
 static int greet(krlc_client *client, krlc_rows *rows) {
     krlc_error error;
     /* An answer such as KRLC_EXISTS is no error. */
-    if (krlc_insert(client, 15, "hello", 5, &error) > KRLC_ANSWERS)
+    if (krlc_insert(client, 15, "hello", 5, 0, &error) > KRLC_ANSWERS)
         return fail(&error);
-    if (krlc_read(client, 10, 20, rows, &error) != KRLC_OK)
+    if (krlc_read(client, 10, 20, rows, 0, &error) != KRLC_OK)
         return fail(&error);
     if (krlc_cached(client, 10, 20, rows) == KRLC_OK)
         print(rows);
-    return krlc_leave(client, &error) == KRLC_OK ? 0 : fail(&error);
+    return krlc_leave(client, 0, &error) == KRLC_OK ? 0 : fail(&error);
 }
 
 int main(int count, char **words) {

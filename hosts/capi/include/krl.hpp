@@ -87,6 +87,11 @@ inline std::uint32_t check(std::uint32_t code, const krlc_error &failed) {
     throw error(failed);
 }
 
+/* The outcome of a write. */
+inline outcome judged(std::uint32_t code, const krlc_error &failed) {
+    return static_cast<outcome>(check(code, failed));
+}
+
 /* The same of a call that writes no sentence. */
 inline std::uint32_t check(std::uint32_t code) {
     if (code > KRLC_ANSWERS)
@@ -169,6 +174,9 @@ class rows {
     std::unique_ptr<krlc_rows, detail::free_rows> room_;
 };
 
+/* How long a call waits for an answer: a call that is given none waits for its client's timeout. */
+using timeout = std::chrono::milliseconds;
+
 /* A pinned range: other clients wait for it until this is destroyed. It may live longer than its client. */
 class pin {
   public:
@@ -180,19 +188,18 @@ class pin {
         return code != KRLC_PIN_IS_VOID && detail::check(code) == KRLC_OK;
     }
     /* These writes are made while the pin holds, or never: otherwise KRLC_PIN_IS_VOID is thrown. */
-    [[nodiscard]] outcome insert(std::uint64_t key, std::string_view value) {
-        krlc_error failed;
-        std::uint32_t code = krlc_pin_insert(pin_.get(), key, value.data(), value.size(), &failed);
-        return static_cast<outcome>(detail::check(code, failed));
+    [[nodiscard]] outcome insert(std::uint64_t key, std::string_view value, timeout time = {}) {
+        return written(krlc_pin_insert, key, value, time);
     }
-    [[nodiscard]] outcome put(std::uint64_t key, std::string_view value) {
-        krlc_error failed;
-        std::uint32_t code = krlc_pin_put(pin_.get(), key, value.data(), value.size(), &failed);
-        return static_cast<outcome>(detail::check(code, failed));
+    [[nodiscard]] outcome put(std::uint64_t key, std::string_view value, timeout time = {}) {
+        return written(krlc_pin_put, key, value, time);
     }
-    [[nodiscard]] outcome erase(std::uint64_t key) {
+    [[nodiscard]] outcome set(std::uint64_t key, std::string_view value, timeout time = {}) {
+        return written(krlc_pin_set, key, value, time);
+    }
+    [[nodiscard]] outcome erase(std::uint64_t key, timeout time = {}) {
         krlc_error failed;
-        return static_cast<outcome>(detail::check(krlc_pin_delete(pin_.get(), key, &failed), failed));
+        return detail::judged(krlc_pin_delete(pin_.get(), key, detail::milliseconds(time), &failed), failed);
     }
     /* Ends the pin now. Later calls throw. */
     void release() noexcept { pin_.reset(); }
@@ -200,6 +207,15 @@ class pin {
     krlc_pin *get() const noexcept { return pin_.get(); }
 
   private:
+    using write_call = std::uint32_t (*)(krlc_pin *, std::uint64_t, const void *, std::size_t, std::uint64_t,
+                                         krlc_error *);
+
+    outcome written(write_call call, std::uint64_t key, std::string_view value, timeout time) {
+        krlc_error failed;
+        std::uint64_t waits = detail::milliseconds(time);
+        return detail::judged(call(pin_.get(), key, value.data(), value.size(), waits, &failed), failed);
+    }
+
     std::unique_ptr<krlc_pin, detail::free_pin> pin_;
 };
 
@@ -215,6 +231,8 @@ struct options {
     std::string map;
     std::string lock_file;
     std::uint32_t number = 0;
+    /* In place of `number`, several of which the first free one is taken: bit 3 is for the number 3. */
+    std::uint64_t numbers = 0;
     std::chrono::milliseconds timeout{0};
     std::chrono::milliseconds wait_if_in_use{0};
     std::string tls_authority;
@@ -234,6 +252,7 @@ inline krlc_options options_of(const options &wanted) {
     options.map = or_null(wanted.map);
     options.lock_file = or_null(wanted.lock_file);
     options.number = wanted.number;
+    options.numbers = wanted.numbers;
     options.timeout_ms = milliseconds(wanted.timeout);
     options.wait_if_in_use_ms = milliseconds(wanted.wait_if_in_use);
     options.tls_authority = or_null(wanted.tls_authority);
@@ -266,52 +285,52 @@ class client {
     }
 
     /* The rows of a range: from the cache if that has it, otherwise from the servers. */
-    [[nodiscard]] krl::rows read(std::uint64_t lo, std::uint64_t hi) {
+    [[nodiscard]] krl::rows read(std::uint64_t lo, std::uint64_t hi, timeout time = {}) {
         krl::rows found;
-        read(lo, hi, found);
+        read(lo, hi, found, time);
         return found;
     }
     /* The same, into rows that were there before. */
-    void read(std::uint64_t lo, std::uint64_t hi, krl::rows &into) {
+    void read(std::uint64_t lo, std::uint64_t hi, krl::rows &into, timeout time = {}) {
         krlc_error failed;
-        detail::check(krlc_read(client_.get(), lo, hi, into.get(), &failed), failed);
+        detail::check(krlc_read(client_.get(), lo, hi, into.get(), detail::milliseconds(time), &failed), failed);
     }
     /* Reads from the cache only, without a message: false if that does not have the whole range. */
     [[nodiscard]] bool cached(std::uint64_t lo, std::uint64_t hi, krl::rows &into) {
         return detail::check(krlc_cached(client_.get(), lo, hi, into.get())) == KRLC_OK;
     }
 
-    [[nodiscard]] outcome insert(std::uint64_t key, std::string_view value) {
-        krlc_error failed;
-        std::uint32_t code = krlc_insert(client_.get(), key, value.data(), value.size(), &failed);
-        return static_cast<outcome>(detail::check(code, failed));
+    [[nodiscard]] outcome insert(std::uint64_t key, std::string_view value, timeout time = {}) {
+        return written(krlc_insert, key, value, time);
     }
-    [[nodiscard]] outcome put(std::uint64_t key, std::string_view value) {
-        krlc_error failed;
-        std::uint32_t code = krlc_put(client_.get(), key, value.data(), value.size(), &failed);
-        return static_cast<outcome>(detail::check(code, failed));
+    [[nodiscard]] outcome put(std::uint64_t key, std::string_view value, timeout time = {}) {
+        return written(krlc_put, key, value, time);
     }
-    [[nodiscard]] outcome erase(std::uint64_t key) {
+    /* Gives a key this value, whether or not it has a row. */
+    [[nodiscard]] outcome set(std::uint64_t key, std::string_view value, timeout time = {}) {
+        return written(krlc_set, key, value, time);
+    }
+    [[nodiscard]] outcome erase(std::uint64_t key, timeout time = {}) {
         krlc_error failed;
-        return static_cast<outcome>(detail::check(krlc_delete(client_.get(), key, &failed), failed));
+        return detail::judged(krlc_delete(client_.get(), key, detail::milliseconds(time), &failed), failed);
     }
 
     /* Pins what the client holds of the range, without reading it. */
-    [[nodiscard]] krl::pin pin_held(std::uint64_t lo, std::uint64_t hi) {
+    [[nodiscard]] krl::pin pin_held(std::uint64_t lo, std::uint64_t hi, timeout time = {}) {
         krlc_pin *taken = nullptr;
         krlc_error failed;
-        detail::check(krlc_pin_held(client_.get(), lo, hi, &taken, &failed), failed);
+        detail::check(krlc_pin_held(client_.get(), lo, hi, &taken, detail::milliseconds(time), &failed), failed);
         return krl::pin(taken);
     }
     /* Read a range and pin it: to read it only, to write there next, or so that nobody else reads it. */
-    [[nodiscard]] pinned pin_for_read(std::uint64_t lo, std::uint64_t hi) {
-        return pinned_by(krlc_pin_for_read, lo, hi);
+    [[nodiscard]] pinned pin_for_read(std::uint64_t lo, std::uint64_t hi, timeout time = {}) {
+        return pinned_by(krlc_pin_for_read, lo, hi, time);
     }
-    [[nodiscard]] pinned pin_for_update(std::uint64_t lo, std::uint64_t hi) {
-        return pinned_by(krlc_pin_for_update, lo, hi);
+    [[nodiscard]] pinned pin_for_update(std::uint64_t lo, std::uint64_t hi, timeout time = {}) {
+        return pinned_by(krlc_pin_for_update, lo, hi, time);
     }
-    [[nodiscard]] pinned pin_for_write(std::uint64_t lo, std::uint64_t hi) {
-        return pinned_by(krlc_pin_for_write, lo, hi);
+    [[nodiscard]] pinned pin_for_write(std::uint64_t lo, std::uint64_t hi, timeout time = {}) {
+        return pinned_by(krlc_pin_for_write, lo, hi, time);
     }
 
     /* Waits until the client no longer knows that the range has just these rows: false after the time. */
@@ -323,11 +342,13 @@ class client {
         return detail::check(code, failed) == KRLC_OK;
     }
     /* Gives back what the client holds of the range. */
-    void forget(std::uint64_t lo, std::uint64_t hi) {
+    void forget(std::uint64_t lo, std::uint64_t hi, timeout time = {}) {
         krlc_error failed;
-        detail::check(krlc_forget(client_.get(), lo, hi, &failed), failed);
+        detail::check(krlc_forget(client_.get(), lo, hi, detail::milliseconds(time), &failed), failed);
     }
 
+    /* The client's number: it tells which one of `numbers` was free. */
+    [[nodiscard]] std::uint32_t number() const noexcept { return krlc_number(client_.get()); }
     /* What the client shows of each shard that it has joined, or of its one server. */
     [[nodiscard]] std::vector<krlc_status> status() const {
         std::vector<krlc_status> shown(krlc_joined(client_.get()));
@@ -336,31 +357,42 @@ class client {
             detail::check(krlc_status_at(client_.get(), place, &shown[place], &failed), failed);
         return shown;
     }
-    void set_timeout(std::chrono::milliseconds timeout) {
+    /* How long calls wait from now on that are given no timeout. */
+    void set_timeout(timeout time) {
         krlc_error failed;
-        detail::check(krlc_set_timeout(client_.get(), detail::milliseconds(timeout), &failed), failed);
+        detail::check(krlc_set_timeout(client_.get(), detail::milliseconds(time), &failed), failed);
     }
     void reload_tls() {
         krlc_error failed;
         detail::check(krlc_reload_tls(client_.get(), &failed), failed);
     }
     /* Gives back all that the client holds, and waits until each server has that on its disk. */
-    void leave() {
+    void leave(timeout time = {}) {
         krlc_error failed;
-        detail::check(krlc_leave(client_.get(), &failed), failed);
+        detail::check(krlc_leave(client_.get(), detail::milliseconds(time), &failed), failed);
     }
 
     krlc_client *get() const noexcept { return client_.get(); }
 
   private:
-    using pin_call = std::uint32_t (*)(krlc_client *, std::uint64_t, std::uint64_t, krlc_rows *, krlc_pin **,
-                                       krlc_error *);
+    using write_call = std::uint32_t (*)(krlc_client *, std::uint64_t, const void *, std::size_t, std::uint64_t,
+                                         krlc_error *);
 
-    pinned pinned_by(pin_call call, std::uint64_t lo, std::uint64_t hi) {
+    outcome written(write_call call, std::uint64_t key, std::string_view value, timeout time) {
+        krlc_error failed;
+        std::uint64_t waits = detail::milliseconds(time);
+        return detail::judged(call(client_.get(), key, value.data(), value.size(), waits, &failed), failed);
+    }
+
+    using pin_call = std::uint32_t (*)(krlc_client *, std::uint64_t, std::uint64_t, krlc_rows *, krlc_pin **,
+                                       std::uint64_t, krlc_error *);
+
+    pinned pinned_by(pin_call call, std::uint64_t lo, std::uint64_t hi, timeout time) {
         krl::rows found;
         krlc_pin *taken = nullptr;
         krlc_error failed;
-        detail::check(call(client_.get(), lo, hi, found.get(), &taken, &failed), failed);
+        std::uint64_t waits = detail::milliseconds(time);
+        detail::check(call(client_.get(), lo, hi, found.get(), &taken, waits, &failed), failed);
         return {std::move(found), krl::pin(taken)};
     }
 

@@ -9,8 +9,9 @@
  *     krlc_error error;
  *     krlc_client *client;
  *     krlc_rows *rows = krlc_rows_new();
- *     if (krlc_join(&options, &client, &error) != KRLC_OK || krlc_insert(client, 15, "hello", 5, &error) > KRLC_ANSWERS
- *         || krlc_read(client, 10, 20, rows, &error) != KRLC_OK)
+ *     if (krlc_join(&options, &client, &error) != KRLC_OK
+ *         || krlc_insert(client, 15, "hello", 5, 0, &error) > KRLC_ANSWERS
+ *         || krlc_read(client, 10, 20, rows, 0, &error) != KRLC_OK)
  *         fprintf(stderr, "%s\n", error.sentence);
  *
  * Results. Each call returns a code. KRLC_OK means that it did what it should. A code up to KRLC_ANSWERS is another
@@ -25,8 +26,9 @@
  * it: no other call may use it during that call or after it. Calls that take rows or an error are made by one thread
  * at a time for each of these. Which thread makes a call never matters.
  *
- * Waiting. A call described as waiting takes at most the client's timeout. Every other call waits for at most one step
- * of the client, which takes microseconds.
+ * Waiting. A call with a `timeout_ms` waits for an answer for at most so many milliseconds, and at most a year. 0 stands
+ * for the client's timeout. `krlc_join`, `krlc_evict` and `krlc_free` wait as they describe. Every other call waits for
+ * at most one step of the client, which takes microseconds.
  *
  * Misuse. A null pointer where none may be, a handle that was freed, and text that is not UTF-8 return KRLC_MISUSE. A
  * freed handle is detected as long as fewer than 1,000 handles of its kind have been freed since. No call unwinds into
@@ -34,9 +36,9 @@
  *
  * Processes. A client does not survive `fork`: in the child, calls that take a client or a pin of the parent return
  * KRLC_FORKED, and freeing it there leaves the parent's client as it is. The child may join under another number. It
- * has the parent's lock file open, so the parent's number is not free again before the child has ended or has called
- * `exec`. The library starts no process, installs no signal handler, and its writes raise no SIGPIPE. Once loaded, it
- * stays until the process ends.
+ * has the parent's lock file open: if the parent is killed, its number is not free again before the child has ended or
+ * has called `exec`. The library starts no process, installs no signal handler, and its writes raise no SIGPIPE. Once
+ * loaded, it stays until the process ends.
  */
 #ifndef KRL_CLIENT_H
 #define KRL_CLIENT_H
@@ -68,6 +70,9 @@ extern "C" {
 
 /* The greatest end of a range: one past KRLC_END, since a range may include the gap after the last key. */
 #define KRLC_TOP UINT64_C(9223372036854775808)
+
+/* The numbers of clients are 0 and greater, and below this. */
+#define KRLC_NUMBERS 64
 
 /* The most bytes of a value. */
 #define KRLC_MAX_VALUE_BYTES 32
@@ -120,7 +125,7 @@ typedef enum krlc_code {
     KRLC_BAD_MAP = 22,
     /* A file for TLS cannot be read or does not fit the others; or the library was built without TLS. */
     KRLC_BAD_TLS = 23,
-    /* Another process has the lock file, or it cannot be used. */
+    /* The lock file cannot be used, or is that of another number. */
     KRLC_LOCK_FILE = 24,
     /* The range meets a pin of this client. */
     KRLC_PINNED = 25,
@@ -130,6 +135,8 @@ typedef enum krlc_code {
     KRLC_LEFT = 27,
     /* The client or the pin belongs to the parent of this process. */
     KRLC_FORKED = 28,
+    /* Another process has the lock file, or those of all numbers. */
+    KRLC_LOCK_FILE_TAKEN = 29,
 
     /* Errors after which a write may have been applied, or may still be: see `krlc_is_unknown_outcome`. */
 
@@ -225,11 +232,15 @@ typedef struct krlc_options {
     const char *servers;
     /* The file of a map of shards. */
     const char *map;
-    /* With `servers`, the lock file of this number on this machine, which is made if there is none. With `map`, an
-     * existing folder for such files, one for each shard. */
+    /* With `servers` and `number`, the lock file of this number on this machine, which is made if there is none. With
+     * `map` or `numbers`, an existing folder for such files: one for each number and each shard. */
     const char *lock_file;
     /* The client's number, from 0 to 63: one process at a time may be the client of a number. */
     uint32_t number;
+    /* In place of `number`, several numbers, of which the client takes the first that is free. Each is a bit: 1 << 3 is
+     * for the number 3. A number whose lock file another process has is left for the next one at once, and one that
+     * another process has by the server's report after a second. */
+    uint64_t numbers;
     /* How long a call waits for an answer, in milliseconds, at most a year: 15,000 by default. */
     uint64_t timeout_ms;
     /* How long `krlc_join` waits, in milliseconds, while another process has the number, as its server reports it: as
@@ -275,8 +286,9 @@ bool krlc_is_unknown_outcome(uint32_t code);
 /* Clients. */
 
 /* Joins, and waits until the server serves the client. The client is freed by `krlc_free`. Errors: KRLC_MISUSE,
- * KRLC_BAD_NUMBER, KRLC_BAD_ADDRESS, KRLC_BAD_MAP, KRLC_BAD_TLS, KRLC_BAD_RANGE, KRLC_LOCK_FILE, KRLC_NO_THREAD,
- * KRLC_TIMED_OUT, KRLC_UNSERVED, KRLC_TURNED_AWAY, KRLC_OTHER_SHARD, KRLC_OUT_OF_MEMORY. Then `client` is null. */
+ * KRLC_BAD_NUMBER, KRLC_BAD_ADDRESS, KRLC_BAD_MAP, KRLC_BAD_TLS, KRLC_BAD_RANGE, KRLC_LOCK_FILE,
+ * KRLC_LOCK_FILE_TAKEN, KRLC_NO_THREAD, KRLC_TIMED_OUT, KRLC_UNSERVED, KRLC_TURNED_AWAY, KRLC_OTHER_SHARD,
+ * KRLC_OUT_OF_MEMORY. Then `client` is null. */
 KRLC_NODISCARD uint32_t krlc_join(const krlc_options *options, krlc_client **client, krlc_error *error);
 
 /* Ends the client of a number for good, if its process is gone and will not come back: an operator's call. It joins by
@@ -292,19 +304,22 @@ KRLC_NODISCARD uint32_t krlc_evict(const krlc_options *options, krlc_error *erro
 /* Gives back all that the client holds, and waits until each server has that on its disk. From then on calls return
  * KRLC_LEFT, and the cache has nothing. Errors: KRLC_TIMED_OUT, KRLC_UNSERVED, KRLC_TURNED_AWAY, KRLC_OTHER_SHARD,
  * KRLC_STOPPED: other clients may wait for what this client held. */
-KRLC_NODISCARD uint32_t krlc_leave(krlc_client *client, krlc_error *error);
+KRLC_NODISCARD uint32_t krlc_leave(krlc_client *client, uint64_t timeout_ms, krlc_error *error);
 
 /* Frees a client. One that has not left leaves, and this call waits at most a second for that. Pins may be freed before
  * or after it; the client's number is free again after both. A null pointer and a freed client change nothing. */
 void krlc_free(krlc_client *client);
 
-/* From now on, calls wait for so many milliseconds, from 1 to a year: greater numbers count as a year. Errors:
- * KRLC_MISUSE for 0. */
+/* From now on, calls whose `timeout_ms` is 0 wait for so many milliseconds, from 1 to a year: greater numbers count as
+ * a year. Errors: KRLC_MISUSE for 0. */
 KRLC_NODISCARD uint32_t krlc_set_timeout(krlc_client *client, uint64_t timeout_ms, krlc_error *error);
 
 /* Reads the files for TLS again: connections that are made from now on use them. Errors: KRLC_BAD_TLS, also if the
  * client has none. Then the earlier ones stay. */
 KRLC_NODISCARD uint32_t krlc_reload_tls(krlc_client *client, krlc_error *error);
+
+/* The client's number: it tells which one of `numbers` was free. KRLC_NUMBERS if the client cannot be used. */
+uint32_t krlc_number(krlc_client *client);
 
 /* How many shards the client has joined: 1 without a map. 0 if the client cannot be used. */
 size_t krlc_joined(krlc_client *client);
@@ -332,18 +347,20 @@ KRLC_NODISCARD uint32_t krlc_cached_row(krlc_client *client, uint64_t key, krlc_
 /* Reads from the cache if that has the range; otherwise locks what it lacks, and waits. Errors: KRLC_BAD_RANGE,
  * KRLC_TIMED_OUT, KRLC_UNSERVED, KRLC_TURNED_AWAY, KRLC_OTHER_SHARD, KRLC_STORE_WENT_BACK, KRLC_OUT_OF_MEMORY,
  * KRLC_STOPPED, KRLC_LEFT. */
-KRLC_NODISCARD uint32_t krlc_read(krlc_client *client, uint64_t lo, uint64_t hi, krlc_rows *rows, krlc_error *error);
+KRLC_NODISCARD uint32_t krlc_read(krlc_client *client, uint64_t lo, uint64_t hi, krlc_rows *rows, uint64_t timeout_ms,
+                                  krlc_error *error);
 
-/* Waits for at most so many milliseconds until the client no longer knows that the range has just these rows. KRLC_OK
- * means that a read may have something new; KRLC_UNCHANGED that the time is over. It sends nothing. For a range that
- * the cache does not have, it is KRLC_OK at once. The rows are those of an earlier answer, in the order of their keys.
- * Errors: KRLC_MISUSE, KRLC_BAD_RANGE, KRLC_TOO_LONG. */
+/* Waits for at most so many milliseconds, with 0 not at all, until the client no longer knows that the range has just
+ * these rows. KRLC_OK means that a read may have something new; KRLC_UNCHANGED that the time is over. It sends nothing.
+ * For a range that the cache does not have, it is KRLC_OK at once. The rows are those of an earlier answer, in the
+ * order of their keys. Errors: KRLC_MISUSE, KRLC_BAD_RANGE, KRLC_TOO_LONG. */
 KRLC_NODISCARD uint32_t krlc_wait_for_change(krlc_client *client, uint64_t lo, uint64_t hi, const krlc_row *rows,
                                              size_t count, uint64_t timeout_ms, krlc_error *error);
 
 /* Gives back what the client holds of the range, and waits until a write on its way is answered. Errors: those of
  * `krlc_read`, and KRLC_PINNED. */
-KRLC_NODISCARD uint32_t krlc_forget(krlc_client *client, uint64_t lo, uint64_t hi, krlc_error *error);
+KRLC_NODISCARD uint32_t krlc_forget(krlc_client *client, uint64_t lo, uint64_t hi, uint64_t timeout_ms,
+                                    krlc_error *error);
 
 /* Writes. Each waits until the server has it on its disk, or has refused it. Answers: KRLC_EXISTS and KRLC_FULL of an
  * insert, KRLC_ABSENT of a put and of a delete. Errors: KRLC_BAD_KEY, KRLC_TOO_LONG, KRLC_TIMED_OUT, KRLC_UNSERVED,
@@ -352,14 +369,20 @@ KRLC_NODISCARD uint32_t krlc_forget(krlc_client *client, uint64_t lo, uint64_t h
 
 /* Inserts a row. */
 KRLC_NODISCARD uint32_t krlc_insert(krlc_client *client, uint64_t key, const void *bytes, size_t length,
-                                    krlc_error *error);
+                                    uint64_t timeout_ms, krlc_error *error);
 
 /* Replaces the value of a row. */
 KRLC_NODISCARD uint32_t krlc_put(krlc_client *client, uint64_t key, const void *bytes, size_t length,
-                                 krlc_error *error);
+                                 uint64_t timeout_ms, krlc_error *error);
+
+/* Gives a key this value, whether or not it has a row. It is a put, and an insert if there is no row; and so on by
+ * turns, as long as other clients make and delete the row in between. All its writes together take `timeout_ms` at
+ * most. Answers: KRLC_OK, or KRLC_FULL if there was no row and there is no room for one. */
+KRLC_NODISCARD uint32_t krlc_set(krlc_client *client, uint64_t key, const void *bytes, size_t length,
+                                 uint64_t timeout_ms, krlc_error *error);
 
 /* Deletes a row. */
-KRLC_NODISCARD uint32_t krlc_delete(krlc_client *client, uint64_t key, krlc_error *error);
+KRLC_NODISCARD uint32_t krlc_delete(krlc_client *client, uint64_t key, uint64_t timeout_ms, krlc_error *error);
 
 /* Pins. While a pin lives, no other client takes what this client holds of the range: others wait. A client has at most
  * eight pins at a server. A pin becomes void if the client's lease ends or the server's store goes back. */
@@ -368,21 +391,21 @@ KRLC_NODISCARD uint32_t krlc_delete(krlc_client *client, uint64_t key, krlc_erro
  * `krlc_pin_for_read` does. The range is not empty. Errors: KRLC_BAD_RANGE, KRLC_TOO_MANY_PINS, KRLC_STORE_WENT_BACK,
  * KRLC_LEASE_ENDED, KRLC_UNSERVED, KRLC_LEFT. Then `pin` is null, which holds for the next three calls too. */
 KRLC_NODISCARD uint32_t krlc_pin_held(krlc_client *client, uint64_t lo, uint64_t hi, krlc_pin **pin,
-                                      krlc_error *error);
+                                      uint64_t timeout_ms, krlc_error *error);
 
-/* Reads the range and pins it. `rows` may be null. It waits. Errors: those of `krlc_read`, and KRLC_TOO_MANY_PINS. */
+/* Reads the range and pins it. `rows` may be null. Errors: those of `krlc_read`, and KRLC_TOO_MANY_PINS. */
 KRLC_NODISCARD uint32_t krlc_pin_for_read(krlc_client *client, uint64_t lo, uint64_t hi, krlc_rows *rows,
-                                          krlc_pin **pin, krlc_error *error);
+                                          krlc_pin **pin, uint64_t timeout_ms, krlc_error *error);
 
 /* The same, and no other client pins an overlapping range for an update while the pin lives: to read the range, and
  * then to write there. */
 KRLC_NODISCARD uint32_t krlc_pin_for_update(krlc_client *client, uint64_t lo, uint64_t hi, krlc_rows *rows,
-                                            krlc_pin **pin, krlc_error *error);
+                                            krlc_pin **pin, uint64_t timeout_ms, krlc_error *error);
 
 /* The same, and no other client reads the range while the pin lives: for threads that pin and write through one
  * client at the same time. */
 KRLC_NODISCARD uint32_t krlc_pin_for_write(krlc_client *client, uint64_t lo, uint64_t hi, krlc_rows *rows,
-                                           krlc_pin **pin, krlc_error *error);
+                                           krlc_pin **pin, uint64_t timeout_ms, krlc_error *error);
 
 /* Whether no other client has taken anything of the range since it was pinned: KRLC_OK, or KRLC_PIN_IS_VOID, for which
  * no sentence is written. A caller asks after its work: the answer is that of a moment of this call. */
@@ -391,10 +414,12 @@ KRLC_NODISCARD uint32_t krlc_pin_holds(krlc_pin *pin);
 /* Writes that are made while the pin holds, or never. The key may be outside the range, but with a map at a shard that
  * has a part of it. Answers and errors: those of `krlc_insert`, and KRLC_PIN_IS_VOID. */
 KRLC_NODISCARD uint32_t krlc_pin_insert(krlc_pin *pin, uint64_t key, const void *bytes, size_t length,
-                                        krlc_error *error);
+                                        uint64_t timeout_ms, krlc_error *error);
 KRLC_NODISCARD uint32_t krlc_pin_put(krlc_pin *pin, uint64_t key, const void *bytes, size_t length,
-                                     krlc_error *error);
-KRLC_NODISCARD uint32_t krlc_pin_delete(krlc_pin *pin, uint64_t key, krlc_error *error);
+                                     uint64_t timeout_ms, krlc_error *error);
+KRLC_NODISCARD uint32_t krlc_pin_set(krlc_pin *pin, uint64_t key, const void *bytes, size_t length,
+                                     uint64_t timeout_ms, krlc_error *error);
+KRLC_NODISCARD uint32_t krlc_pin_delete(krlc_pin *pin, uint64_t key, uint64_t timeout_ms, krlc_error *error);
 
 /* Ends a pin: other clients get the range that they wait for. A null pointer and a freed pin change nothing. If the
  * client was freed before, its last pin may wait a second for servers that do not answer. */

@@ -15,7 +15,7 @@ use crate::fault::{ErrorRoom, Fault, answer, quiet};
 use crate::fork;
 use crate::handle::{Handle, Kind};
 use crate::input::{self, GivenRow, range};
-use crate::options::{Options, options_at};
+use crate::options::{NUMBERS, Options, options_at};
 use crate::status::Status;
 use crate::table::{Table, Write};
 use krl::Row;
@@ -108,11 +108,15 @@ pub unsafe extern "C" fn krlc_evict(options: *const Options, error: *mut ErrorRo
 }
 
 #[unsafe(no_mangle)]
-pub unsafe extern "C" fn krlc_leave(client: *mut Client, error: *mut ErrorRoom) -> u32 {
+pub unsafe extern "C" fn krlc_leave(
+    client: *mut Client,
+    timeout_ms: u64,
+    error: *mut ErrorRoom,
+) -> u32 {
     let leave = || {
         // SAFETY: the caller frees the client after this call.
         let table = unsafe { table(client) }?;
-        table.depart(table.timeout())?;
+        table.depart(table.timeout_of(timeout_ms))?;
         Ok(Code::Ok)
     };
     // SAFETY: the caller vouches for the room of the error.
@@ -153,6 +157,13 @@ pub unsafe extern "C" fn krlc_reload_tls(client: *mut Client, error: *mut ErrorR
     };
     // SAFETY: the caller vouches for the room of the error.
     unsafe { answer(error, reload) }
+}
+
+#[unsafe(no_mangle)]
+pub unsafe extern "C" fn krlc_number(client: *mut Client) -> u32 {
+    // SAFETY: the caller frees the client after this call.
+    let number = || unsafe { table(client) }.map_or(NUMBERS, |table| table.number().into());
+    quiet(number).unwrap_or(NUMBERS)
 }
 
 #[unsafe(no_mangle)]
@@ -258,6 +269,7 @@ pub unsafe extern "C" fn krlc_read(
     lo: u64,
     hi: u64,
     rows: *mut Rows,
+    timeout_ms: u64,
     error: *mut ErrorRoom,
 ) -> u32 {
     let read = || {
@@ -266,7 +278,7 @@ pub unsafe extern "C" fn krlc_read(
         let keys = range(lo, hi)?;
         if !table.cached_into(keys.clone(), rows) {
             rows.clear();
-            *rows = table.read(keys)?;
+            *rows = table.read(keys, table.timeout_of(timeout_ms))?;
         }
         Ok(Code::Ok)
     };
@@ -300,11 +312,13 @@ pub unsafe extern "C" fn krlc_forget(
     client: *mut Client,
     lo: u64,
     hi: u64,
+    timeout_ms: u64,
     error: *mut ErrorRoom,
 ) -> u32 {
     let forget = || {
         // SAFETY: the caller frees the client after this call.
-        unsafe { table(client) }?.forget(range(lo, hi)?)?;
+        let table = unsafe { table(client) }?;
+        table.forget(range(lo, hi)?, table.timeout_of(timeout_ms))?;
         Ok(Code::Ok)
     };
     // SAFETY: the caller vouches for the room of the error.
@@ -318,13 +332,14 @@ pub unsafe extern "C" fn krlc_forget(
 /// As the header says of the calls below.
 unsafe fn write(
     client: *mut Client,
+    timeout_ms: u64,
     error: *mut ErrorRoom,
     write: impl FnOnce() -> Result<Write, Fault>,
 ) -> u32 {
     let write = || {
         // SAFETY: the caller frees the client after this call.
         let table = unsafe { table(client) }?;
-        Ok(table.write(write()?)?.into())
+        Ok(table.write(write()?, table.timeout_of(timeout_ms))?.into())
     };
     // SAFETY: the caller vouches for the room of the error.
     unsafe { answer(error, write) }
@@ -336,12 +351,13 @@ pub unsafe extern "C" fn krlc_insert(
     key: u64,
     bytes: *const c_void,
     length: usize,
+    timeout_ms: u64,
     error: *mut ErrorRoom,
 ) -> u32 {
     // SAFETY: the caller vouches for so many bytes.
     let value = || unsafe { input::value(bytes.cast(), length) };
     // SAFETY: the caller vouches for the client and the room.
-    unsafe { write(client, error, || Ok(Write::Insert(key, value()?))) }
+    unsafe { write(client, timeout_ms, error, || Ok(Write::Insert(key, value()?))) }
 }
 
 #[unsafe(no_mangle)]
@@ -350,16 +366,37 @@ pub unsafe extern "C" fn krlc_put(
     key: u64,
     bytes: *const c_void,
     length: usize,
+    timeout_ms: u64,
     error: *mut ErrorRoom,
 ) -> u32 {
     // SAFETY: the caller vouches for so many bytes.
     let value = || unsafe { input::value(bytes.cast(), length) };
     // SAFETY: the caller vouches for the client and the room.
-    unsafe { write(client, error, || Ok(Write::Put(key, value()?))) }
+    unsafe { write(client, timeout_ms, error, || Ok(Write::Put(key, value()?))) }
 }
 
 #[unsafe(no_mangle)]
-pub unsafe extern "C" fn krlc_delete(client: *mut Client, key: u64, error: *mut ErrorRoom) -> u32 {
+pub unsafe extern "C" fn krlc_set(
+    client: *mut Client,
+    key: u64,
+    bytes: *const c_void,
+    length: usize,
+    timeout_ms: u64,
+    error: *mut ErrorRoom,
+) -> u32 {
+    // SAFETY: the caller vouches for so many bytes.
+    let value = || unsafe { input::value(bytes.cast(), length) };
     // SAFETY: the caller vouches for the client and the room.
-    unsafe { write(client, error, || Ok(Write::Delete(key))) }
+    unsafe { write(client, timeout_ms, error, || Ok(Write::Set(key, value()?))) }
+}
+
+#[unsafe(no_mangle)]
+pub unsafe extern "C" fn krlc_delete(
+    client: *mut Client,
+    key: u64,
+    timeout_ms: u64,
+    error: *mut ErrorRoom,
+) -> u32 {
+    // SAFETY: the caller vouches for the client and the room.
+    unsafe { write(client, timeout_ms, error, || Ok(Write::Delete(key))) }
 }

@@ -31,12 +31,17 @@ impl Joined {
         self.tls.reload()
     }
 
-    pub fn pin_held(&self, keys: Range<u64>) -> Result<OwnPin, Fault> {
-        Ok(OwnPin::of_held(&self.table, keys)?)
+    pub fn pin_held(&self, keys: Range<u64>, timeout_ms: u64) -> Result<OwnPin, Fault> {
+        Ok(OwnPin::of_held(&self.table, keys, self.table.timeout_of(timeout_ms))?)
     }
 
-    pub fn pin_for(&self, keys: Range<u64>, purpose: Purpose) -> Result<(Vec<Row>, OwnPin), Fault> {
-        Ok(OwnPin::of_read(&self.table, keys, purpose)?)
+    pub fn pin_for(
+        &self,
+        keys: Range<u64>,
+        purpose: Purpose,
+        timeout_ms: u64,
+    ) -> Result<(Vec<Row>, OwnPin), Fault> {
+        Ok(OwnPin::of_read(&self.table, keys, purpose, self.table.timeout_of(timeout_ms))?)
     }
 
     /// Leaves. While it has pins the table stays, so it is told to leave before.

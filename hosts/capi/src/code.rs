@@ -1,5 +1,5 @@
 //! What a call returns.
-use krl::{Code as LibraryCode, JoinError, Outcome, Refused};
+use krl::{Code as LibraryCode, JoinError, LockFileError, Outcome, Refused};
 use std::ffi::CStr;
 
 macro_rules! codes {
@@ -47,6 +47,7 @@ codes! {
     TooManyPins = 26, c"KRLC_TOO_MANY_PINS";
     Left = 27, c"KRLC_LEFT";
     Forked = 28, c"KRLC_FORKED";
+    LockFileTaken = 29, c"KRLC_LOCK_FILE_TAKEN";
     TimedOut = 40, c"KRLC_TIMED_OUT";
     Unserved = 41, c"KRLC_UNSERVED";
     StoreWentBack = 42, c"KRLC_STORE_WENT_BACK";
@@ -117,6 +118,7 @@ impl From<&Refused> for Code {
 impl From<&JoinError> for Code {
     fn from(error: &JoinError) -> Code {
         match error {
+            JoinError::LockFile(LockFileError::Taken) => Code::LockFileTaken,
             JoinError::LockFile(_) => Code::LockFile,
             JoinError::BadNumber => Code::BadNumber,
             JoinError::Incomplete(_) => Code::Misuse,

@@ -4,7 +4,7 @@ use crate::calls::krlc_version;
 use crate::code::Code;
 use crate::fault::{ErrorRoom, MAX_SENTENCE_BYTES};
 use crate::input::GivenRow;
-use crate::options::Options;
+use crate::options::{NUMBERS, Options};
 use crate::reason::Reason;
 use crate::status::Status;
 use std::collections::{BTreeMap, BTreeSet};
@@ -128,6 +128,7 @@ fn program(header: &str) -> String {
         ("KRLC_MAX_VALUE_BYTES", krl::MAX_VALUE_BYTES as u64),
         ("KRLC_MAX_SENTENCE_BYTES", MAX_SENTENCE_BYTES as u64),
         ("KRLC_FOR_EVER", u64::MAX),
+        ("KRLC_NUMBERS", u64::from(NUMBERS)),
     ];
     for (name, number) in numbers {
         writeln!(program, "_Static_assert({name} == UINT64_C({number}), \"{name}\");").unwrap();
@@ -135,7 +136,7 @@ fn program(header: &str) -> String {
     layout!(program, GivenRow, "krlc_row", key length bytes);
     layout!(program, ErrorRoom, "krlc_error", code shard reason sentence);
     layout!(program, Status, "krlc_status", shard epoch incarnation lease_left_ms is_connected);
-    layout!(program, Options, "krlc_options", size servers map lock_file number timeout_ms
+    layout!(program, Options, "krlc_options", size servers map lock_file number numbers timeout_ms
         wait_if_in_use_ms tls_authority tls_certificate tls_key table lo hi);
     program
 }

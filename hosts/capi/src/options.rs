@@ -14,6 +14,9 @@ use std::ptr;
 use std::slice;
 use std::time::Duration;
 
+/// A client's number is below this.
+pub const NUMBERS: u32 = 64;
+
 /// No later version has more bytes of options: a greater size was never set.
 const MAX_SIZE: usize = 4096;
 
@@ -27,6 +30,7 @@ pub struct Options {
     pub map: *const c_char,
     pub lock_file: *const c_char,
     pub number: u32,
+    pub numbers: u64,
     pub timeout_ms: u64,
     pub wait_if_in_use_ms: u64,
     pub tls_authority: *const c_char,
@@ -42,11 +46,18 @@ pub struct Options {
 pub struct Wish<'o> {
     place: Place,
     lock_file: &'o Path,
-    number: u8,
+    number: Number,
     timeout: Option<Duration>,
     wait_if_in_use: Option<Duration>,
     keys: Range<u64>,
     tls: Tls,
+}
+
+/// One number, or several of which the first that is free is taken.
+#[derive(Debug)]
+enum Number {
+    One(u8),
+    FirstOf(Vec<u8>),
 }
 
 #[derive(Debug)]
@@ -105,11 +116,10 @@ impl Options {
             key: text("tls_key", self.tls_key)?,
             table: text("table", self.table)?,
         };
-        let bad_number = |_| Fault::new(Code::BadNumber, "a client's number is 0 to 63");
         Ok(Wish {
             place,
             lock_file: Path::new(lock_file),
-            number: u8::try_from(self.number).map_err(bad_number)?,
+            number: Number::new(self.number, self.numbers)?,
             timeout: waited(self.timeout_ms),
             wait_if_in_use: waited(self.wait_if_in_use_ms),
             keys: self.keys()?,
@@ -130,6 +140,26 @@ impl Options {
 /// A time that is 0 if it is not set.
 fn waited(milliseconds: u64) -> Option<Duration> {
     (milliseconds > 0).then(|| Duration::from_millis(milliseconds))
+}
+
+impl Number {
+    fn new(number: u32, numbers: u64) -> Result<Number, Fault> {
+        if numbers == 0 {
+            let bad = |_| Fault::new(Code::BadNumber, "a client's number is 0 to 63");
+            return u8::try_from(number).map(Number::One).map_err(bad);
+        }
+        if number != 0 {
+            return Err(Fault::misuse("the options `number` and `numbers` are both set"));
+        }
+        Ok(Number::FirstOf((0..64).filter(|number| numbers >> number & 1 == 1).collect()))
+    }
+
+    fn one(self) -> Result<u8, Fault> {
+        match self {
+            Number::One(number) => Ok(number),
+            Number::FirstOf(_) => Err(Fault::misuse("an eviction is of one number")),
+        }
+    }
 }
 
 impl Place {
@@ -171,7 +201,7 @@ impl Wish<'_> {
         }
         match self.place {
             Place::One(servers) => {
-                Ok(evict(self.tls.show_to(servers), self.number, self.lock_file)?)
+                Ok(evict(self.tls.show_to(servers), self.number.one()?, self.lock_file)?)
             }
             Place::Sharded(_) => Err(Fault::misuse("a client is evicted at one server, not a map")),
         }
@@ -182,7 +212,12 @@ impl Wish<'_> {
         let table = match self.place {
             Place::One(servers) => {
                 let builder = Client::builder(self.tls.show_to(servers));
-                let mut builder = builder.number(self.number).lock_file(self.lock_file);
+                let mut builder = match self.number {
+                    Number::One(number) => builder.number(number).lock_file(self.lock_file),
+                    Number::FirstOf(numbers) => {
+                        builder.numbers(numbers).lock_folder(self.lock_file)
+                    }
+                };
                 if let Some(timeout) = self.timeout {
                     builder = builder.timeout(timeout);
                 }
@@ -193,7 +228,11 @@ impl Wish<'_> {
             }
             Place::Sharded(map) => {
                 let builder = ShardedClient::builder(with_tls(&map, &self.tls)?).keys(self.keys);
-                let mut builder = builder.number(self.number).lock_folder(self.lock_file);
+                let builder = builder.lock_folder(self.lock_file);
+                let mut builder = match self.number {
+                    Number::One(number) => builder.number(number),
+                    Number::FirstOf(numbers) => builder.numbers(numbers),
+                };
                 if let Some(timeout) = self.timeout {
                     builder = builder.timeout(timeout);
                 }

@@ -1,21 +1,27 @@
 //! A pin that keeps its client.
-use crate::table::{Purpose, Table, TablePin};
-use krl::{Row, ShardRefused};
+use crate::table::{Purpose, Table, TablePin, Write};
+use krl::{Outcome, Row, ShardRefused};
 use std::ops::Range;
 use std::sync::Arc;
+use std::time::Duration;
 
 /// A pin, which C may free before its client or after it.
 #[derive(Debug)]
 pub struct OwnPin {
     /// It borrows from the table, and ends first: members are dropped in this order.
     pin: TablePin<'static>,
-    _table: Arc<Table>,
+    table: Arc<Table>,
 }
 
 impl OwnPin {
     /// Pins the range as the client holds it.
-    pub fn of_held(table: &Arc<Table>, keys: Range<u64>) -> Result<OwnPin, ShardRefused> {
-        OwnPin::new(table, |table| table.pin(keys).map(|pin| ((), pin))).map(|((), pin)| pin)
+    pub fn of_held(
+        table: &Arc<Table>,
+        keys: Range<u64>,
+        timeout: Duration,
+    ) -> Result<OwnPin, ShardRefused> {
+        let pin = |table: &'static Table| table.pin(keys, timeout).map(|pin| ((), pin));
+        OwnPin::new(table, pin).map(|((), pin)| pin)
     }
 
     /// Reads the range and pins it.
@@ -23,8 +29,9 @@ impl OwnPin {
         table: &Arc<Table>,
         keys: Range<u64>,
         purpose: Purpose,
+        timeout: Duration,
     ) -> Result<(Vec<Row>, OwnPin), ShardRefused> {
-        OwnPin::new(table, |table| table.pin_for(keys, purpose))
+        OwnPin::new(table, |table| table.pin_for(keys, purpose, timeout))
     }
 
     fn new<T>(
@@ -35,10 +42,15 @@ impl OwnPin {
         // the pin. The functions above keep nothing else of it.
         let lent: &'static Table = unsafe { &*Arc::as_ptr(table) };
         let (found, pin) = pin(lent)?;
-        Ok((found, OwnPin { pin, _table: Arc::clone(table) }))
+        Ok((found, OwnPin { pin, table: Arc::clone(table) }))
     }
 
-    pub fn get(&self) -> &TablePin<'_> {
-        &self.pin
+    pub fn holds(&self) -> bool {
+        self.pin.holds()
+    }
+
+    /// Makes a write that waits for so many milliseconds, of which 0 stands for the timeout.
+    pub fn write(&self, write: Write, timeout_ms: u64) -> Result<Outcome, ShardRefused> {
+        self.pin.write(write, self.table.timeout_of(timeout_ms))
     }
 }

@@ -1,5 +1,5 @@
 //! The table that a client works on: that of one server, or that of all servers of a map.
-use krl::{Client, Outcome, Pin, Refused, Row, ShardRefused, ShardedClient, ShardedPin, Value};
+use krl::{Client, Outcome, Pin, Row, ShardRefused, ShardedClient, ShardedPin, Value};
 use std::ops::Range;
 use std::time::Duration;
 
@@ -30,16 +30,47 @@ pub enum Purpose {
 pub enum Write {
     Insert(u64, Value),
     Put(u64, Value),
+    Set(u64, Value),
     Delete(u64),
 }
 
 type Answer<T> = Result<T, ShardRefused>;
 
+/// Makes a write by what has the calls for it: clients and pins, of one server or of several.
+macro_rules! written {
+    ($by:expr, $write:expr) => {
+        match $write {
+            Write::Insert(key, value) => $by.insert(key, value),
+            Write::Put(key, value) => $by.put(key, value),
+            Write::Set(key, value) => $by.set(key, value),
+            Write::Delete(key) => $by.delete(key),
+        }
+    };
+}
+
+/// Reads a range and pins it, by the client of one server or of several.
+macro_rules! pinned {
+    ($by:expr, $keys:expr, $purpose:expr) => {
+        match $purpose {
+            Purpose::Read => $by.pin_for_read($keys),
+            Purpose::Update => $by.pin_for_update($keys),
+            Purpose::Write => $by.pin_for_write($keys),
+        }
+    };
+}
+
 impl Table {
-    pub fn read(&self, keys: Range<u64>) -> Answer<Vec<Row>> {
+    pub fn number(&self) -> u8 {
         match self {
-            Table::One(client) => Ok(client.read(keys)?),
-            Table::Sharded(client) => client.read(keys),
+            Table::One(client) => client.number(),
+            Table::Sharded(client) => client.number(),
+        }
+    }
+
+    pub fn read(&self, keys: Range<u64>, timeout: Duration) -> Answer<Vec<Row>> {
+        match self {
+            Table::One(client) => Ok(client.within(timeout).read(keys)?),
+            Table::Sharded(client) => client.within(timeout).read(keys),
         }
     }
 
@@ -57,44 +88,37 @@ impl Table {
         }
     }
 
-    pub fn write(&self, write: Write) -> Answer<Outcome> {
+    pub fn write(&self, write: Write, timeout: Duration) -> Answer<Outcome> {
         match self {
-            Table::One(client) => Ok(match write {
-                Write::Insert(key, value) => client.insert(key, value),
-                Write::Put(key, value) => client.put(key, value),
-                Write::Delete(key) => client.delete(key),
-            }?),
-            Table::Sharded(client) => match write {
-                Write::Insert(key, value) => client.insert(key, value),
-                Write::Put(key, value) => client.put(key, value),
-                Write::Delete(key) => client.delete(key),
-            },
+            Table::One(client) => Ok(written!(client.within(timeout), write)?),
+            Table::Sharded(client) => written!(client.within(timeout), write),
         }
     }
 
-    pub fn pin(&self, keys: Range<u64>) -> Answer<TablePin<'_>> {
+    /// Pins what is held. Over several servers it has to be read first.
+    pub fn pin(&self, keys: Range<u64>, timeout: Duration) -> Answer<TablePin<'_>> {
         match self {
             Table::One(client) => Ok(client.pin(keys).map(TablePin::One)?),
-            Table::Sharded(client) => client.pin(keys).map(TablePin::Sharded),
+            Table::Sharded(client) => {
+                let pinned = client.within(timeout).pin_for_read(keys);
+                pinned.map(|(_, pin)| TablePin::Sharded(pin))
+            }
         }
     }
 
-    pub fn pin_for(&self, keys: Range<u64>, purpose: Purpose) -> Answer<(Vec<Row>, TablePin<'_>)> {
+    pub fn pin_for(
+        &self,
+        keys: Range<u64>,
+        purpose: Purpose,
+        timeout: Duration,
+    ) -> Answer<(Vec<Row>, TablePin<'_>)> {
         match self {
             Table::One(client) => {
-                let (rows, pin) = match purpose {
-                    Purpose::Read => client.pin_for_read(keys),
-                    Purpose::Update => client.pin_for_update(keys),
-                    Purpose::Write => client.pin_for_write(keys),
-                }?;
+                let (rows, pin) = pinned!(client.within(timeout), keys, purpose)?;
                 Ok((rows, TablePin::One(pin)))
             }
             Table::Sharded(client) => {
-                let (rows, pin) = match purpose {
-                    Purpose::Read => client.pin_for_read(keys),
-                    Purpose::Update => client.pin_for_update(keys),
-                    Purpose::Write => client.pin_for_write(keys),
-                }?;
+                let (rows, pin) = pinned!(client.within(timeout), keys, purpose)?;
                 Ok((rows, TablePin::Sharded(pin)))
             }
         }
@@ -107,10 +131,10 @@ impl Table {
         }
     }
 
-    pub fn forget(&self, keys: Range<u64>) -> Answer<()> {
+    pub fn forget(&self, keys: Range<u64>, timeout: Duration) -> Answer<()> {
         match self {
-            Table::One(client) => Ok(client.forget(keys)?),
-            Table::Sharded(client) => client.forget(keys),
+            Table::One(client) => Ok(client.within(timeout).forget(keys)?),
+            Table::Sharded(client) => client.within(timeout).forget(keys),
         }
     }
 
@@ -129,6 +153,11 @@ impl Table {
         }
     }
 
+    /// How long a call waits that names so many milliseconds, of which 0 stands for the timeout.
+    pub fn timeout_of(&self, milliseconds: u64) -> Duration {
+        if milliseconds == 0 { self.timeout() } else { Duration::from_millis(milliseconds) }
+    }
+
     pub fn set_timeout(&self, timeout: Duration) {
         match self {
             Table::One(client) => client.set_timeout(timeout),
@@ -145,21 +174,10 @@ impl TablePin<'_> {
         }
     }
 
-    pub fn write(&self, write: Write) -> Answer<Outcome> {
+    pub fn write(&self, write: Write, timeout: Duration) -> Answer<Outcome> {
         match self {
-            TablePin::One(pin) => {
-                let outcome: Result<Outcome, Refused> = match write {
-                    Write::Insert(key, value) => pin.insert(key, value),
-                    Write::Put(key, value) => pin.put(key, value),
-                    Write::Delete(key) => pin.delete(key),
-                };
-                Ok(outcome?)
-            }
-            TablePin::Sharded(pin) => match write {
-                Write::Insert(key, value) => pin.insert(key, value),
-                Write::Put(key, value) => pin.put(key, value),
-                Write::Delete(key) => pin.delete(key),
-            },
+            TablePin::One(pin) => Ok(written!(pin.within(timeout), write)?),
+            TablePin::Sharded(pin) => written!(pin.within(timeout), write),
         }
     }
 }

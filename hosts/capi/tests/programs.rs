@@ -242,10 +242,12 @@ fn a_lease_that_ends_leaves_neither_rows_nor_pins() {
     world.ends_under("tests/programs/lease.c", "pinned\n");
 }
 
+const README: &str = include_str!("../README.md");
+const CLIENTS: &str = include_str!("../../../docs/CLIENTS.md");
+
 /// Runs the lines of the page in this language, as the body of a program with these headers.
-fn run_page(language: &str, compiler: &str, headers: &[&str]) -> String {
-    let world = World::new(&format!("page-{compiler}"));
-    let page = include_str!("../README.md");
+fn run_page(page: &str, language: &str, compiler: &str, headers: &[&str]) -> String {
+    let world = World::new(&format!("page-{}-{compiler}", page.len()));
     let lines = page.split_once(&format!("```{language}\n")).unwrap().1;
     let lines = lines.split_once("```").unwrap().0.replace("127.0.0.1:7400", &world.place);
     let lines = lines.replace("client-3.lock", &text(&world.folder.join("client-3.lock")));
@@ -257,10 +259,14 @@ fn run_page(language: &str, compiler: &str, headers: &[&str]) -> String {
 }
 
 #[test]
-fn the_lines_of_the_page() {
-    assert_eq!(run_page("c", "cc", &["krl_client.h", "err.h", "stdio.h"]), "15=hello\n");
+fn the_lines_of_the_pages() {
+    let (headers, classes) = (["krl_client.h", "err.h", "stdio.h"], ["krl.hpp", "iostream"]);
+    assert_eq!(run_page(README, "c", "cc", &headers), "15=hello\n");
+    assert_eq!(run_page(CLIENTS, "c", "cc", &headers), "15=world\n");
     for compiler in compilers() {
-        assert_eq!(run_page("cpp", compiler, &["krl.hpp", "iostream"]), "15=world\n");
+        assert_eq!(run_page(README, "cpp", compiler, &classes), "15=world\n");
+        let printed = run_page(CLIENTS, "cpp", compiler, &classes);
+        assert_eq!(printed, "1 rows, of which one has changed\n15=world\n");
     }
 }
 

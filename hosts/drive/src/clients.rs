@@ -3,6 +3,7 @@ use crate::history::{History, Tally};
 use crate::log::{Note, notes};
 use crate::nodes::{READERS, WRITERS, end_file};
 use krl::Snapshot;
+use std::collections::BTreeMap;
 use std::error::Error;
 use std::path::{Path, PathBuf};
 use std::process::{Child, ChildStdout, Command, ExitStatus};
@@ -88,15 +89,15 @@ impl Drop for Process {
     }
 }
 
-/// These clients are another program's, if there is one: a reader and a writer.
-const OTHERS: [u8; 2] = [2, 3];
+/// The clients that are other programs' than this one: their numbers, and the program of each. It does
+/// what `nodes` does.
+pub type Others = BTreeMap<u8, PathBuf>;
 
 /// The clients of a drive.
 pub struct Clients {
     folder: PathBuf,
     servers: String,
-    /// The program of half of the clients, if it is another one. It does what `nodes` does.
-    other: Option<PathBuf>,
+    others: Others,
     running: Vec<(u8, Process)>,
     killed: usize,
     /// How much they had noted as the last round ended.
@@ -108,18 +109,19 @@ pub struct Clients {
 impl Clients {
     /// Starts them, as clients of these servers.
     pub fn start(folder: &Path, servers: String) -> std::io::Result<Clients> {
-        Clients::start_beside(None, folder, servers)
+        Clients::start_beside(Others::new(), folder, servers)
     }
 
-    /// Starts them, half of them by another program, if there is one.
+    /// Starts them, some of them by other programs.
     pub fn start_beside(
-        other: Option<PathBuf>,
+        others: Others,
         folder: &Path,
         servers: String,
     ) -> std::io::Result<Clients> {
         let folder = folder.to_path_buf();
         let (running, noted) = (Vec::new(), Noted::default());
-        let mut clients = Clients { folder, servers, other, running, killed: 0, noted, in_vain: 0 };
+        let mut clients =
+            Clients { folder, servers, others, running, killed: 0, noted, in_vain: 0 };
         for number in READERS.into_iter().chain(WRITERS) {
             clients.start_one(number)?;
         }
@@ -130,27 +132,29 @@ impl Clients {
     pub fn start_one(&mut self, number: u8) -> std::io::Result<()> {
         let role = if WRITERS.contains(&number) { "writer" } else { "reader" };
         let words = [role, &number.to_string(), &self.servers];
-        let program = match &self.other {
-            Some(other) if OTHERS.contains(&number) => other.clone(),
-            _ => std::env::current_exe()?,
+        let program = match self.others.get(&number) {
+            Some(other) => other.clone(),
+            None => std::env::current_exe()?,
         };
         let client = Process::start(&mut command(program, &words, &self.folder))?;
         self.running.push((number, client));
         Ok(())
     }
 
-    /// How many lines the clients of another program have noted.
-    pub fn noted_by_others(&self) -> std::io::Result<usize> {
-        OTHERS.iter().map(|number| notes(&self.folder, *number).map(|notes| notes.len())).sum()
+    /// How many lines that one of the clients of other programs has noted which has noted the
+    /// fewest, if there are such clients.
+    pub fn least_noted_by_others(&self) -> std::io::Result<Option<usize>> {
+        let noted = |number: &u8| notes(&self.folder, *number).map(|notes| notes.len());
+        let noted: Vec<usize> = self.others.keys().map(noted).collect::<std::io::Result<_>>()?;
+        Ok(noted.into_iter().min())
     }
 
-    /// Waits until both clients of another program have begun, if there are any: it may take long to
-    /// start.
+    /// Waits until each client of another program has begun: it may take long to start.
     pub fn wait_for_others(&self) -> Result<(), Box<dyn Error>> {
         let end = Instant::now() + ENDING;
-        while self.other.is_some() && !self.noted_by_others().is_ok_and(|count| count > 0) {
+        while !self.least_noted_by_others().is_ok_and(|least| least != Some(0)) {
             if end < Instant::now() {
-                return Err("the other program notes nothing".into());
+                return Err("another program notes nothing".into());
             }
             thread::sleep(Duration::from_millis(5));
         }

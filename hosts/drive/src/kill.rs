@@ -1,7 +1,7 @@
 //! The drive: a server and four clients in processes of their own, killed again and again while
 //! they read and write.
 use crate::Found;
-use crate::clients::{Clients, ENDING, Process, judge, this};
+use crate::clients::{Clients, ENDING, Others, Process, judge, this};
 use crate::log::now;
 use crate::lossy::{self, Carrier};
 use crate::nodes::store_file;
@@ -42,26 +42,34 @@ const LONGER_BY_TLS: u32 = 3;
 /// And so much longer if messages are lost: a lost greeting is said again after 200 milliseconds.
 const LONGER_BY_LOSS: u32 = 2;
 
-/// The clients of another program have to note so many lines for each round.
-const LEAST_BY_OTHERS: u64 = 5;
+/// Each client of another program has to note so many lines: one that does nothing says nothing.
+const LEAST_BY_OTHERS: usize = 10;
 
-/// Half of the clients are another program's, and all else is as in `run`.
+/// A reader and a writer are another program's, and all else is as in `run`.
 pub fn beside(folder: &Path, rounds: u64, program: &Path, net: &str) -> Found {
-    drive(folder, rounds, "sqlite", net, Some(program.to_path_buf()))
+    let others = [2, 3].map(|number| (number, program.to_path_buf()));
+    drive(folder, rounds, "sqlite", net, others.into())
+}
+
+/// The clients 0 to 3 are those of four programs, in this order, of which `-` stands for this one, and
+/// all else is as in `run`.
+pub fn among(folder: &Path, rounds: u64, net: &str, programs: [&str; 4]) -> Found {
+    let others = (0..).zip(programs).filter(|(_, program)| *program != "-");
+    let others = others.map(|(number, program)| (number, PathBuf::from(program)));
+    drive(folder, rounds, "sqlite", net, others.collect())
 }
 
 pub fn run(folder: &Path, rounds: u64, store: &str, net: &str) -> Found {
-    drive(folder, rounds, store, net, None)
+    drive(folder, rounds, store, net, Others::new())
 }
 
-fn drive(folder: &Path, rounds: u64, store: &str, net: &str, other: Option<PathBuf>) -> Found {
-    let is_beside = other.is_some();
+fn drive(folder: &Path, rounds: u64, store: &str, net: &str, others: Others) -> Found {
     std::fs::create_dir_all(folder)?;
     let server_at = free_address()?;
     let net = Net::of_name(net)?;
     let clients_at = net.start(server_at)?;
     let server = start_server(folder, &net.address(server_at), store, net.lease())?;
-    let clients = Clients::start_beside(other, folder, net.address(clients_at))?;
+    let clients = Clients::start_beside(others, folder, net.address(clients_at))?;
     let (folder, store) = (folder.to_path_buf(), store.to_string());
     let mut drive = Drive { folder, store, server_at, net, server, clients };
     drive.clients.wait_for_others()?;
@@ -81,8 +89,9 @@ fn drive(folder: &Path, rounds: u64, store: &str, net: &str, other: Option<PathB
         tally.answered,
         tally.wrong
     );
-    if is_beside && (drive.clients.noted_by_others()? as u64) < LEAST_BY_OTHERS * rounds {
-        return Err("the other program did too little to say anything".into());
+    let least = drive.clients.least_noted_by_others()?;
+    if least.is_some_and(|least| least < LEAST_BY_OTHERS) {
+        return Err("another program did too little to say anything".into());
     }
     judge(&tally, rounds, hung)
 }

@@ -3,6 +3,7 @@
 //! ```text
 //! krl_drive kill FOLDER ROUNDS [sqlite|unsynced [direct|lossy|tls|lossy-tls]]  kills all of them
 //! krl_drive beside FOLDER ROUNDS PROGRAM [direct|lossy]           half of the clients are PROGRAM's
+//! krl_drive among FOLDER ROUNDS NETWORK PROGRAM PROGRAM PROGRAM PROGRAM   each client is another's
 //! krl_drive leases FOLDER ROUNDS [direct|lossy]                  stops and kills clients with leases
 //! krl_drive takeover FOLDER ROUNDS                                kills who holds what another wants
 //! krl_drive failover FOLDER ROUNDS SERVER [FAULTS [HOW..]]        breaks servers that stand by
@@ -113,6 +114,9 @@ fn run(words: &[&str]) -> Found {
         }
         ["beside", folder, rounds, program, net] => {
             kill::beside(Path::new(folder), rounds.parse()?, Path::new(program), net)
+        }
+        ["among", folder, rounds, net, first, second, third, fourth] => {
+            kill::among(Path::new(folder), rounds.parse()?, net, [first, second, third, fourth])
         }
         ["leases", folder, rounds] => leases::run(Path::new(folder), rounds.parse()?, "direct"),
         ["leases", folder, rounds, net] => leases::run(Path::new(folder), rounds.parse()?, net),

@@ -1,69 +1,12 @@
 """A client of krl, the key-range lock server: it answers reads from its cache, and never stale.
 
-The rules are those of the library ``libkrl.so``, whose functions are proved; this package is the
-host around it, and nothing of it is proved.
-
-    import krl
-
-    with krl.join("127.0.0.1:7400", 0, "/var/lib/app/client-0.lock") as client:
-        client.insert(15, b"hello")
-        rows = client.read(10, 20)              # asks the server, and keeps the range
-        assert client.cached(10, 20) == rows    # no message, also while the server is down
+It is the client of ``libkrl_client``, whose calls this package makes: there is no protocol in it.
+``README.md`` has examples, and ``krl.aio`` the same for ``asyncio``.
 """
 
-from ._handle import Outcome, Row
-from .client import END, TOP, Client, Pin, join
-from .errors import (
-    BadKey,
-    BadRange,
-    BadValue,
-    Closed,
-    Error,
-    JoinError,
-    LibraryError,
-    LockFileError,
-    LockFileTaken,
-    OutOfMemory,
-    PinIsVoid,
-    Pinned,
-    Reason,
-    Refusal,
-    Refused,
-    Stopped,
-    StoreWentBack,
-    TimedOut,
-    TooManyPins,
-    Unserved,
-)
+from ._library import END as END, TOP as TOP, Outcome as Outcome, Row as Row
+from .client import Changes as Changes, Client as Client, Pin as Pin, Status as Status, Tls as Tls
+from .client import evict as evict, join as join, join_map as join_map
+from .errors import *
 
 __version__ = "0.1.0"
-
-__all__ = [
-    "BadKey",
-    "BadRange",
-    "BadValue",
-    "Client",
-    "Closed",
-    "END",
-    "Error",
-    "JoinError",
-    "LibraryError",
-    "LockFileError",
-    "LockFileTaken",
-    "OutOfMemory",
-    "Outcome",
-    "Pin",
-    "PinIsVoid",
-    "Pinned",
-    "Reason",
-    "Refusal",
-    "Refused",
-    "Row",
-    "StoreWentBack",
-    "Stopped",
-    "TOP",
-    "TimedOut",
-    "TooManyPins",
-    "Unserved",
-    "join",
-]

@@ -1,158 +1,184 @@
-"""The calls of the shared library ``libkrl.so``, as ``krl.h`` declares them."""
+"""The calls of ``libkrl_client.so``, as ``krl_client.h`` declares and describes them."""
 
 from __future__ import annotations
 
 import ctypes
 import functools
 import os
-from ctypes import POINTER, c_bool, c_char_p, c_size_t, c_uint32, c_uint64, c_void_p
+import struct
+from collections.abc import Callable
+from ctypes import byref, c_bool, c_char, c_char_p, c_int32, c_size_t, c_uint32, c_uint64, c_void_p
 from enum import IntEnum
 from pathlib import Path
-from typing import Any
+from typing import Any, NamedTuple
 
-from .errors import LibraryError
+from ._waiting import made
+from .errors import BadOption, Closed, Forked, JoinError, LibraryError, LockFileError
+from .errors import LockFileTaken, OutOfMemory, Reason, Refused, Stopped, Unserved
 
-NAMED_BY = "KRL_SHARED_LIBRARY"
-"""This variable names the file, if it is neither beside the package nor where the system looks."""
+NAMED_BY = "KRL_CLIENT_LIBRARY"
+"""This variable names the file, if it is neither in the package nor where the system looks."""
 
 VERSION = 1_000
-"""The version of ``krl.h`` whose calls are declared here: ``KRL_VERSION``."""
+"""The ``KRLC_VERSION`` of the header whose calls are declared here."""
+
+OK, MISS, ANSWERS, MISUSE, BAD_TLS, LOCK_FILE, LOCK_FILE_TAKEN = 0, 5, 15, 16, 23, 24, 29
+BAD_OPTIONS = (MISUSE, 17, 20, 21, 22, BAD_TLS)
+"""Codes of the header. Those up to ``ANSWERS`` are no errors."""
+
+NUMBERS, FOR_EVER = 64, (1 << 64) - 1
+
+END, TOP = (1 << 63) - 1, 1 << 63
+"""One past the greatest key, and the end of the widest range."""
 
 
-class Handle(ctypes.Structure):
-    """A client. One of zeros is closed."""
+class Row(NamedTuple):
+    """A row of the table."""
 
-    _fields_ = [("is_open", c_bool), ("at", c_void_p)]
-
-
-class Reply(ctypes.Structure):
-    """A code, and its detail."""
-
-    _fields_ = [("code", c_uint32), ("detail", c_uint64)]
-    code: int
-    detail: int
+    key: int
+    value: bytes
 
 
-class ClientState(ctypes.Structure):
-    """What a client shows of itself."""
+class Outcome(IntEnum):
+    """How a write was judged. Only ``APPLIED`` is true: the others changed nothing."""
+
+    APPLIED, EXISTS, ABSENT, FULL, NOT_HELD = range(5)
+
+    def __bool__(self) -> bool:
+        return self is Outcome.APPLIED
+
+
+class Failure(ctypes.Structure):
+    """A ``krlc_error``."""
+
+    _fields_ = [("code", c_uint32), ("shard", c_int32), ("reason", c_int32), ("text", c_char * 500)]
+
+
+class Options(ctypes.Structure):
+    """A ``krlc_options``."""
 
     _fields_ = [
-        ("reply", Reply),
-        ("epoch", c_uint64),
-        ("seen", c_uint64),
-        ("lock", c_uint32),
-        ("write", c_uint32),
-        ("number", c_uint64),
-        ("outcome", c_uint64),
+        ("size", c_size_t),
+        *((name, c_char_p) for name in ("servers", "map", "lock_file")),
+        ("number", c_uint32),
+        *((name, c_uint64) for name in ("numbers", "timeout_ms", "wait_if_in_use_ms")),
+        *((name, c_char_p) for name in ("tls_authority", "tls_certificate", "tls_key", "table")),
+        *((name, c_uint64) for name in ("lo", "hi")),
     ]
-    reply: Reply
-    epoch: int
-    lock: int
-    write: int
-    number: int
-    outcome: int
 
 
-class Held(ctypes.Structure):
-    """What a client believes that it holds at a point."""
+class StatusRoom(ctypes.Structure):
+    """A ``krlc_status``."""
 
-    _fields_ = [("reply", Reply), ("range", c_uint32), ("key", c_uint32)]
-    range: int
-    key: int
-
-
-class Code(IntEnum):
-    """What a call answers: those of the codes that a client's host looks at."""
-
-    DONE = 0
-    UNSAID = 1
-    OUT_OF_MEMORY = 2
-    CLOSED = 3
-    GONE = 7
-    BAD_MESSAGE = 8
-    TOO_SHORT = 9
-    MISS = 10
-    PENDING = 11
-    BAD_CLIENT = 13
-    SPENT = 14
-    BAD_VALUE = 16
-    BAD_POINT = 21
-    BAD_SPAN = 22
-    NOT_JOINED = 23
-    BUSY = 24
-    NOT_HELD = 25
-    PINNED = 26
-    WRITING = 27
-    TOO_MANY_PINS = 28
+    _fields_ = [
+        *((name, c_uint64) for name in ("shard", "epoch", "incarnation", "lease_left_ms")),
+        ("is_connected", c_bool),
+    ]
 
 
-_HANDLE: Any = POINTER(Handle)
-_SPAN: list[Any] = [_HANDLE, c_uint64, c_uint64]
-_WRITE: list[Any] = [_HANDLE, c_uint64, c_char_p, c_size_t]
-_RESPELL: list[Any] = [c_char_p, c_size_t, c_char_p, c_size_t]
+ROW = struct.Struct("=QQ32s")
+"""A ``krlc_row``: the key, the length of the value, and its bytes."""
 
-_CALLS: dict[str, tuple[type[ctypes.Structure | c_uint32] | None, list[Any]]] = {
-    "krl_client_open": (Reply, _SPAN),
-    "krl_client_step": (Reply, [_HANDLE, c_char_p, c_size_t]),
-    "krl_client_tick": (Reply, [_HANDLE]),
-    "krl_client_lock": (Reply, [*_SPAN, c_uint32]),
-    "krl_client_insert": (Reply, _WRITE),
-    "krl_client_put": (Reply, _WRITE),
-    "krl_client_delete": (Reply, [_HANDLE, c_uint64]),
-    "krl_client_scan": (Reply, [*_SPAN, c_void_p, c_size_t]),
-    "krl_client_forget": (Reply, _SPAN),
-    "krl_client_pin": (Reply, _SPAN),
-    "krl_client_unpin": (Reply, [_HANDLE, c_uint64]),
-    "krl_client_held": (Held, [_HANDLE, c_uint64]),
-    "krl_client_status": (ClientState, [_HANDLE]),
-    "krl_client_leave": (Reply, [_HANDLE]),
-    "krl_version": (c_uint32, []),
-    "krl_confirm": (Reply, [_HANDLE, c_uint64]),
-    "krl_take": (Reply, [_HANDLE, c_void_p, c_size_t]),
-    "krl_close": (None, [_HANDLE]),
-    "krl_respell_to_server": (Reply, _RESPELL),
-    "krl_respell_to_client": (Reply, _RESPELL),
+RowRoom, _new = c_char * ROW.size, tuple.__new__
+
+
+def rows_in(packed: bytes | ctypes.Array[c_char]) -> list[Row]:
+    """The rows of an array of ``krlc_row``. Each is made of a tuple, which is the fastest way."""
+    return [_new(Row, (key, value[:length])) for key, length, value in ROW.iter_unpack(packed)]
+
+
+class Handle(c_void_p):
+    """A client, a pin or rows. It is freed with the last reference to it: each call that uses it
+    has one, so none uses it while it is freed. A null handle stands for one that is gone."""
+
+    free: Callable[[Handle], None] | None = None
+
+    @classmethod
+    def freed_by(cls, name: str) -> Handle:
+        """A null handle, for a call that makes one."""
+        handle = cls()
+        handle.free = getattr(library(), name)
+        return handle
+
+    def __del__(self) -> None:
+        if self.free is not None and self.value is not None:
+            self.free(self)
+
+
+class Rows(Handle):
+    """Room for the rows of one answer."""
+
+    def __init__(self) -> None:
+        super().__init__(library().rows_new())
+        self.free = library().rows_free
+        if self.value is None:
+            raise OutOfMemory("memory was refused")
+
+    def taken(self) -> list[Row]:
+        """The rows."""
+        at = library().rows_get(self, byref(count := c_size_t()))
+        return rows_in(ctypes.string_at(at, count.value * ROW.size)) if count.value else []
+
+
+_TYPES: dict[str, Any] = {
+    "-": None,
+    "?": c_bool,
+    "i": c_uint32,
+    "n": c_size_t,
+    "q": c_uint64,
+    "s": c_char_p,
+    # Any pointer: ctypes takes a handle, a reference, an array or an address for it.
+    "p": c_void_p,
 }
+
+_AT_ONCE = """version:i is_unknown_outcome:?i set_timeout:ipqp number:ip joined:np status_at:ipnpp
+    cached:ipqqp cached_row:ipqp pin_holds:ip rows_new:p rows_get:ppp rows_free:-p"""
+"""The calls that wait for nobody, each with the types of its result and of its parameters. They
+keep the interpreter's lock."""
+
+_WAITING = """join:ippp evict:ipp leave:ipqp free:-p reload_tls:ipp read:ipqqpqp forget:ipqqqp
+    wait_for_change:ipqqsnqp insert:ipqsnqp put:ipqsnqp set:ipqsnqp delete:ipqqp
+    pin_held:ipqqpqp pin_for_read:ipqqppqp pin_for_update:ipqqppqp pin_for_write:ipqqppqp
+    pin_insert:ipqsnqp pin_put:ipqsnqp pin_set:ipqsnqp pin_delete:ipqqp pin_free:-p"""
+"""The calls that may wait: other threads of the program go on meanwhile."""
+
+
+class Library:
+    """The library. Its attributes are the calls, by their names without ``krlc_``."""
+
+    def __init__(self, place: str) -> None:
+        for loaded, calls in ((ctypes.PyDLL(place), _AT_ONCE), (ctypes.CDLL(place), _WAITING)):
+            for name, types in (call.split(":") for call in calls.split()):
+                function = getattr(loaded, f"krlc_{name}")
+                function.restype, *function.argtypes = [_TYPES[letter] for letter in types]
+                setattr(self, name, function)
+        if not fits(self.version()):
+            raise OSError(f"{place} is version {spelled(self.version())}, not {spelled(VERSION)}")
+
+    def __getattr__(self, name: str) -> Any:
+        raise AttributeError(f"the library has no call krlc_{name}")
 
 
 @functools.cache
-def library() -> ctypes.CDLL:
+def library() -> Library:
     """The library, which is loaded once.
 
     Raises ``LibraryError`` if it is not found, has another version, or lacks a call.
     """
-    tried = []
-    for place in _places():
+    here, name, tried = Path(__file__).resolve(), "libkrl_client.so", []
+    # `make install` puts the package into share/krl/python, next to the folder lib.
+    installed = here.parents[min(4, len(here.parents) - 1)] / "lib"
+    places = [str(here.with_name(name)), str(installed / f"{name}.0"), f"{name}.0"]
+    named = os.environ.get(NAMED_BY)
+    for place in [named] if named else places:
         try:
-            return _declared(ctypes.CDLL(place))
+            return Library(place)
         except (OSError, AttributeError) as error:
             tried.append(str(error))
     raise LibraryError(
-        "libkrl.so can't be loaded: put it beside the package krl or where the system looks for "
-        f"libraries, or name the file by {NAMED_BY}. Tried: {'; '.join(tried)}"
+        "libkrl_client.so cannot be loaded: put it into the package krl or where the system looks "
+        f"for libraries, or name the file by {NAMED_BY}. Tried: {'; '.join(tried)}"
     )
-
-
-def _places() -> list[str]:
-    """Where the library may be. One that is named is the only one."""
-    named = os.environ.get(NAMED_BY)
-    if named:
-        return [named]
-    here = Path(__file__).resolve()
-    # The package is installed as share/krl/python/krl, beside the folder lib.
-    installed = here.parents[4] / "lib" if len(here.parents) > 4 else here.parent
-    return [str(here.with_name("libkrl.so")), str(installed / "libkrl.so.0"), "libkrl.so.0"]
-
-
-def _declared(found: ctypes.CDLL) -> ctypes.CDLL:
-    for name, (result, arguments) in _CALLS.items():
-        call = getattr(found, name)
-        call.restype = result
-        call.argtypes = arguments
-    version = found.krl_version()
-    if not fits(version):
-        raise OSError(f"{found._name} is version {spelled(version)}, not {spelled(VERSION)}")
-    return found
 
 
 def fits(version: int) -> bool:
@@ -163,3 +189,44 @@ def fits(version: int) -> bool:
 def spelled(version: int) -> str:
     """The version as people write it."""
     return f"{version // 1_000_000}.{version // 1000 % 1000}.{version % 1000}"
+
+
+def refused(code: int, failure: Failure | None = None) -> Refused:
+    """The error of a client's call that returned this code."""
+    # A null handle is one that Python has let go.
+    kind = Refused.kinds.get(Closed.code if code == MISUSE else code, Stopped)
+    has_sentence = failure is not None and kind not in (Closed, Forked)
+    error = kind(failure.text.decode() if failure and has_sentence else kind.__doc__)
+    error.is_unknown_outcome = library().is_unknown_outcome(code)
+    if failure is not None and failure.shard >= 0:
+        error.shard = failure.shard
+    if isinstance(error, Unserved) and failure is not None and failure.reason in set(Reason):
+        error.reason = Reason(failure.reason)
+    return error
+
+
+def not_joined(code: int, failure: Failure) -> JoinError:
+    """The error of a client that did not join."""
+    kinds: dict[int, type[JoinError]] = dict.fromkeys(BAD_OPTIONS, BadOption)
+    kinds |= {LOCK_FILE: LockFileError, LOCK_FILE_TAKEN: LockFileTaken}
+    error = kinds.get(code, JoinError)(failure.text.decode())
+    if code not in kinds and code in Refused.kinds:
+        error.__cause__ = refused(code, failure)
+    return error
+
+
+def call(name: str, *words: Any) -> int:
+    """Makes a call that may wait, and returns the code of its answer. Raises a ``Refused`` for any
+    other code."""
+    failure = Failure()
+    code: int = made(getattr(library(), name), *words, byref(failure))
+    # An error keeps what this function names as long as somebody keeps the error.
+    del words
+    return answered(code, failure)
+
+
+def answered(code: int, failure: Failure) -> int:
+    """The code of an answer. Raises a ``Refused`` for any other code."""
+    if code > ANSWERS:
+        raise refused(code, failure)
+    return code

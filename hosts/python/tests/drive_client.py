@@ -9,12 +9,14 @@ when there is a file FOLDER/end. The drive kills it, and compares all notes.
 
 from __future__ import annotations
 
+import os
 import sys
 import threading
 import time
 from collections.abc import Callable
 from itertools import count, cycle
 from pathlib import Path
+from typing import Protocol
 
 sys.path.insert(0, str(Path(__file__).resolve().parent.parent))
 
@@ -24,6 +26,8 @@ WRITERS = (1, 3)
 KEYS = 10
 STEP = 10
 TIMEOUT = 3.0
+
+UNANSWERED = (krl.TimedOut, krl.LeaseEnded)
 
 Keys = tuple[int, int]
 
@@ -61,16 +65,40 @@ class Log:
         self.note("R", begun, time.time_ns(), *keys, *numbers)
 
 
+def tls_of(number: int, servers: str) -> krl.Tls | None:
+    """What the client shows, if the servers are at addresses of TLS: see `certificates.rs`."""
+    if "tls:" not in servers:
+        return None
+    own = Path(os.environ["KRL_CERTIFICATES"]) / f"client-{number}"
+    return krl.Tls(own.with_name("authority.crt"), f"{own}.crt", f"{own}.key")
+
+
+class DriveClient(Protocol):
+    """What a node needs of its client."""
+
+    def read(self, start: int, stop: int) -> list[krl.Row]: ...
+    def cached(self, start: int, stop: int) -> list[krl.Row] | None: ...
+    def insert(self, key: int, value: bytes) -> krl.Outcome: ...
+    def put(self, key: int, value: bytes) -> krl.Outcome: ...
+    def delete(self, key: int) -> krl.Outcome: ...
+    def leave(self) -> None: ...
+
+
+def joined(number: int, servers: str, lock_file: Path) -> DriveClient:
+    """A client of the drive."""
+    # A server that recovers, or is being started, answers late.
+    client = krl.join(servers, number, lock_file, 5 * TIMEOUT, tls=tls_of(number, servers))
+    client.timeout = TIMEOUT
+    return client
+
+
 class Node:
     """A process of the drive."""
 
-    def __init__(self, number: int, servers: str, folder: Path) -> None:
-        lock_file = folder / f"client-{number}.lock"
+    def __init__(self, number: int, folder: Path, client: DriveClient) -> None:
         self.number = number
         self._end = folder / "end"
-        # A server that recovers, or is being started, answers late.
-        self.client = krl.join(servers, number, lock_file, 5 * TIMEOUT)
-        self.client.timeout = TIMEOUT
+        self.client = client
         self.log = Log(folder, number)
 
     def runs(self) -> bool:
@@ -80,7 +108,9 @@ class Node:
         (first, second), (third, fourth) = (
             tuple(map(of, WRITERS)) for of in (range_of, still_range_of)
         )
-        for keys in cycle([(first[0], second[1]), first, third, second, fourth]):
+        # One callback takes a whole range from the cache. Single keys stay there.
+        one, other = ((start + STEP, start + STEP + 1) for start, _ in (first, second))
+        for keys in cycle([(first[0], second[1]), one, first, third, other, second, fourth]):
             if not self.runs():
                 return
             begun = time.time_ns()
@@ -92,7 +122,7 @@ class Node:
     def read(self, start: int, stop: int) -> list[krl.Row] | None:
         try:
             return self.client.read(start, stop)
-        except krl.TimedOut:
+        except UNANSWERED:
             return None
 
     def fill(self) -> None:
@@ -125,7 +155,7 @@ class Node:
         """A write that is not answered may have changed the table, or may still do so."""
         try:
             outcome = write()
-        except krl.TimedOut:
+        except UNANSWERED:
             return None
         self.log.note("A", time.time_ns(), key, int(outcome is krl.Outcome.APPLIED))
         return outcome
@@ -169,12 +199,14 @@ def writer(node: Node) -> None:
         node.read_own(key)
 
 
-def main() -> None:
-    role, number, servers, folder = sys.argv[1:]
-    node = Node(int(number), servers, Path(folder))
+def main(join: Callable[[int, str, Path], DriveClient]) -> None:
+    """Does what the words of the program say, by clients that join so."""
+    role, text, servers, folder = sys.argv[1:]
+    number, place = int(text), Path(folder)
+    node = Node(number, place, join(number, servers, place / f"client-{number}.lock"))
     {"reader": reader, "writer": writer}[role](node)
     node.client.leave()
 
 
 if __name__ == "__main__":
-    main()
+    main(joined)

@@ -1,6 +1,6 @@
 """A server in a process of its own, for the tests.
 
-`KRL_SERVER_PROGRAM` names the program `krl-server`, and `KRL_DRIVE_PROGRAM` the drive.
+`KRL_SERVER_PROGRAM` names the program `krl-server`, and `KRL_CLIENT_LIBRARY` the library.
 """
 
 from __future__ import annotations
@@ -10,8 +10,8 @@ import shutil
 import signal
 import socket
 import subprocess
+import sys
 import tempfile
-import threading
 import time
 import unittest
 from collections.abc import Callable
@@ -57,101 +57,76 @@ def in_child(call: Callable[[], object]) -> str:
     return said
 
 
-class Relay:
-    """Stands before a server at a Unix socket. From a moment on the connections that it has swallow
-    what is said, and end nowhere; newer ones pass it on."""
+def free_port() -> int:
+    """A port of the loopback at which nobody listens."""
+    with socket.create_server(("127.0.0.1", 0)) as listener:
+        port: int = listener.getsockname()[1]
+        return port
 
-    def __init__(self, folder: Path, server: str) -> None:
-        self.address = f"unix:{folder / 'relay'}"
-        self._server = server.removeprefix("unix:")
-        self._open: list[socket.socket] = []
-        self._swallows: set[socket.socket] = set()
-        self._listener = socket.socket(socket.AF_UNIX)
-        self._listener.bind(str(folder / "relay"))
-        self._listener.listen()
-        threading.Thread(target=self._accept, daemon=True).start()
 
-    def swallow(self) -> None:
-        """The connections of now pass nothing on any more."""
-        self._swallows |= set(self._open)
-
-    def cut(self) -> None:
-        """Ends the connections that there are. Another one may be made."""
-        for stream in list(self._open):
-            try:
-                stream.shutdown(socket.SHUT_RDWR)
-            except OSError:
-                pass  # The peer has gone.
-
-    def close(self) -> None:
-        """Ends all connections."""
-        self._listener.close()
-        self.cut()
-
-    def _accept(self) -> None:
-        while True:
-            try:
-                near = self._listener.accept()[0]
-            except OSError:
-                return
-            far = socket.socket(socket.AF_UNIX)
-            try:
-                far.connect(self._server)
-            except OSError:
-                near.close()  # The server has not started yet.
-                far.close()
-                continue
-            self._open += [near, far]
-            for one, other in ((near, far), (far, near)):
-                threading.Thread(target=self._pass, args=(one, other), daemon=True).start()
-
-    def _pass(self, one: socket.socket, other: socket.socket) -> None:
-        try:
-            while came := one.recv(1 << 12):
-                if one not in self._swallows:
-                    other.sendall(came)
-        except OSError:
-            pass
-        if one not in self._swallows:
-            other.close()
+def lines_of(*lines: str) -> list[str]:
+    """The command by which another Python runs these lines."""
+    return [sys.executable, "-c", "\n".join(("import krl, os", *lines))]
 
 
 class Served(unittest.TestCase):
     """A test with a server at a Unix socket, in a folder of its own."""
 
+    SERVED_BY: tuple[str, ...] = ("--lease", "off")
+    """More words of the server."""
+
     def setUp(self) -> None:
         self.folder = Path(tempfile.mkdtemp(prefix="krl-"))
         self.addCleanup(shutil.rmtree, self.folder)
         self.address = f"unix:{self.folder / 'socket'}"
-        self.server = self.start()
-        self.addCleanup(lambda: self.stop())
+        self.server = self.start(*self.SERVED_BY)
+        self.addCleanup(lambda: end(self.server))
 
-    def start(self, store: str = "store.db") -> subprocess.Popen[bytes]:
+    def start(
+        self, *more: str, store: str = "store.db", at: str = ""
+    ) -> subprocess.Popen[bytes]:
         """Starts a server. A client waits until it answers."""
-        words = ["--listen", self.address, "--status", "off", "--log-level", "error"]
+        words = ["--listen", at or self.address, "--status", "off", "--log-level", "error", *more]
         variables = {name: text for name, text in os.environ.items() if name[:4] != "KRL_"}
         command = [program("KRL_SERVER_PROGRAM"), "serve", "--store", str(self.folder / store)]
         return subprocess.Popen(command + words, env=variables)
 
     def stop(self) -> None:
         """Kills the server."""
-        self.server.kill()
-        self.server.wait()
+        end(self.server)
+
+    def start_again(self, store: str = "store.db") -> None:
+        """Kills the server, and starts another one."""
+        self.stop()
+        self.server = self.start(*self.SERVED_BY, store=store)
 
     def join(self, number: int, timeout: float = PATIENCE) -> krl.Client:
         """A client, which leaves when the test ends."""
         client = krl.join(self.address, number, self.lock_file(number), timeout)
-        self.addCleanup(self._leave, client)
+        self.addCleanup(leave, client)
         return client
 
     def lock_file(self, number: int) -> Path:
         """The lock file of a number."""
         return self.folder / f"client-{number}.lock"
 
-    @staticmethod
-    def _leave(client: krl.Client) -> None:
-        client.timeout = 0
-        try:
-            client.leave()
-        except krl.Refused:
-            pass
+    def end_without_leaving(self, number: int, *lines: str) -> None:
+        """A process joins as the client of this number, does this, and is killed."""
+        join = f"client = krl.join({self.address!r}, {number}, {str(self.lock_file(number))!r})"
+        ended = subprocess.run(lines_of(join, *lines, "os.kill(os.getpid(), 9)"))
+        self.assertEqual(ended.returncode, -9)
+
+
+def end(server: subprocess.Popen[bytes]) -> None:
+    """Kills a server."""
+    server.kill()
+    server.wait()
+
+
+def leave(client: krl.Client) -> None:
+    """Leaves, at once."""
+    try:
+        client.timeout = 0.001
+        client.leave()
+    except krl.Refused:
+        pass  # It has left before, or its server is gone.

@@ -41,7 +41,7 @@ pub use client::Client;
 pub use client::builder::ClientBuilder;
 pub use client::evict::evict;
 pub use client::lock_file::LockFileError;
-pub use client::pin::Pin;
+pub use client::pin::{Pin, PinWithin};
 pub use lease::of_server::{BadLeases, Leases};
 pub use model::change::{Change, Outcome, Record, Snapshot, Write};
 pub use model::history::{History, Mark};
@@ -83,6 +83,7 @@ pub use shards::client::{ShardStatus, ShardedClient, ShardedPin};
 pub use shards::fence::OtherShard;
 pub use shards::map::{BadShardMap, Shard, ShardMap};
 pub use shards::refused::{ShardJoinError, ShardRefused};
+pub use shards::within::{ShardedPinWithin, ShardedWithin};
 #[cfg(feature = "sqlite")]
 pub use store::sqlite::SqliteStore;
 #[cfg(feature = "sqlite")]

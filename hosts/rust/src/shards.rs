@@ -11,3 +11,4 @@ pub(crate) mod map_file;
 pub(crate) mod one_moment;
 pub(crate) mod refused;
 mod standing;
+pub(crate) mod within;

@@ -138,6 +138,10 @@ fn a_call_waits_for_a_time_of_its_own() {
     assert_eq!(other.within(short).read(10..11), Err(Refused::TimedOut));
     assert_eq!(other.within(short).set(10, value("b")), Err(Refused::TimedOut));
     assert!(other.within(short).pin_for_read(10..11).is_err());
+    let own = other.pin(50..60).unwrap();
+    assert_eq!(own.within(short).put(10, value("b")), Err(Refused::TimedOut));
+    assert_eq!(own.within(short).set(10, value("b")), Err(Refused::TimedOut));
+    drop(own);
     assert!(begun.elapsed() < other.timeout(), "it waited as its other calls do");
     drop(pin);
     assert_eq!(other.within(Duration::MAX).put(10, value("c")), Ok(Outcome::Applied));

@@ -207,6 +207,34 @@ fn a_write_is_bound_to_the_pin_at_the_shard_of_its_key() {
 /// A client that waits for a point has pinned nothing from there on: so nobody who has that point
 /// waits for the client.
 #[test]
+fn a_call_waits_for_a_time_of_its_own() {
+    let world = World::new("within");
+    // The gap after the pinned range ends here.
+    world.insert_rows([150]);
+    let (client, other) = (world.join(0), world.join(1));
+    assert_eq!((client.number(), other.number()), (0, 1));
+    let (_, pin) = client.pin_for_write(90..110).unwrap();
+    let (_, pinned) = other.pin_for_read(200..210).unwrap();
+    let (begun, short) = (Instant::now(), Duration::from_millis(50));
+    let why = |refused: ShardRefused| (refused.refused, refused.shard);
+    let within = other.within(short);
+    assert_eq!(within.read(100..101).map_err(why), Err((Refused::TimedOut, Some(1))));
+    assert_eq!(within.set(99, Value::from(1)).map_err(why), Err((Refused::TimedOut, Some(0))));
+    assert_eq!(
+        within.pin_for_update(99..101).map_err(why).err(),
+        Some((Refused::TimedOut, Some(0)))
+    );
+    let (own, value) = (pinned.within(short), Value::from(1));
+    assert_eq!(own.insert(100, value).map_err(why), Err((Refused::TimedOut, Some(1))));
+    assert_eq!(own.put(99, value).map_err(why), Err((Refused::PinIsVoid, Some(0))));
+    assert!(begun.elapsed() < other.timeout(), "it waited as its other calls do");
+    drop(pin);
+    assert_eq!(other.within(Duration::MAX).set(100, Value::from(2)), Ok(Outcome::Applied));
+    drop(pinned);
+    assert_eq!(other.within(LONG).forget(..), Ok(()));
+}
+
+#[test]
 fn a_client_that_waits_keeps_nothing_that_comes_behind() {
     let world = World::new("waits");
     world.insert_rows([10, 300]);

@@ -20,13 +20,14 @@ pub unsafe extern "C" fn krlc_pin_held(
     lo: u64,
     hi: u64,
     pin: *mut *mut Pin,
+    timeout_ms: u64,
     error: *mut ErrorRoom,
 ) -> u32 {
     let take = || {
         // SAFETY: the caller vouches for the room.
         unsafe { put_out("a pin", pin, ptr::null_mut()) }?;
         // SAFETY: the caller frees the client after this call.
-        let taken = unsafe { CLIENTS.own_value(client) }?.pin_held(range(lo, hi)?)?;
+        let taken = unsafe { CLIENTS.own_value(client) }?.pin_held(range(lo, hi)?, timeout_ms)?;
         // SAFETY: the caller vouches for the room.
         unsafe { put_out("a pin", pin, PINS.open(taken)?) }?;
         Ok(Code::Ok)
@@ -45,7 +46,7 @@ unsafe fn pin_for(
     (client, lo, hi): (*mut Client, u64, u64),
     rows: *mut Rows,
     pin: *mut *mut Pin,
-    error: *mut ErrorRoom,
+    (timeout_ms, error): (u64, *mut ErrorRoom),
 ) -> u32 {
     let take = || {
         // SAFETY: the caller vouches for the room.
@@ -54,7 +55,7 @@ unsafe fn pin_for(
         let client = unsafe { CLIENTS.own_value(client) }?;
         // SAFETY: the caller frees the rows after this call, and uses them in no other one.
         let room = if rows.is_null() { None } else { Some(unsafe { emptied(rows) }?) };
-        let (found, taken) = client.pin_for(range(lo, hi)?, purpose)?;
+        let (found, taken) = client.pin_for(range(lo, hi)?, purpose, timeout_ms)?;
         // SAFETY: the caller vouches for the room.
         unsafe { put_out("a pin", pin, PINS.open(taken)?) }?;
         if let Some(room) = room {
@@ -73,10 +74,11 @@ pub unsafe extern "C" fn krlc_pin_for_read(
     hi: u64,
     rows: *mut Rows,
     pin: *mut *mut Pin,
+    timeout_ms: u64,
     error: *mut ErrorRoom,
 ) -> u32 {
     // SAFETY: the caller vouches for all of them.
-    unsafe { pin_for(Purpose::Read, (client, lo, hi), rows, pin, error) }
+    unsafe { pin_for(Purpose::Read, (client, lo, hi), rows, pin, (timeout_ms, error)) }
 }
 
 #[unsafe(no_mangle)]
@@ -86,10 +88,11 @@ pub unsafe extern "C" fn krlc_pin_for_update(
     hi: u64,
     rows: *mut Rows,
     pin: *mut *mut Pin,
+    timeout_ms: u64,
     error: *mut ErrorRoom,
 ) -> u32 {
     // SAFETY: the caller vouches for all of them.
-    unsafe { pin_for(Purpose::Update, (client, lo, hi), rows, pin, error) }
+    unsafe { pin_for(Purpose::Update, (client, lo, hi), rows, pin, (timeout_ms, error)) }
 }
 
 #[unsafe(no_mangle)]
@@ -99,10 +102,11 @@ pub unsafe extern "C" fn krlc_pin_for_write(
     hi: u64,
     rows: *mut Rows,
     pin: *mut *mut Pin,
+    timeout_ms: u64,
     error: *mut ErrorRoom,
 ) -> u32 {
     // SAFETY: the caller vouches for all of them.
-    unsafe { pin_for(Purpose::Write, (client, lo, hi), rows, pin, error) }
+    unsafe { pin_for(Purpose::Write, (client, lo, hi), rows, pin, (timeout_ms, error)) }
 }
 
 #[unsafe(no_mangle)]
@@ -110,7 +114,7 @@ pub unsafe extern "C" fn krlc_pin_holds(pin: *mut Pin) -> u32 {
     let holds = || {
         // SAFETY: the caller frees the pin after this call.
         let pin = unsafe { PINS.own_value(pin) }?;
-        Ok(if pin.get().holds() { Code::Ok } else { Code::PinIsVoid })
+        Ok(if pin.holds() { Code::Ok } else { Code::PinIsVoid })
     };
     // SAFETY: there is no room for an error.
     unsafe { answer(ptr::null_mut(), holds) }
@@ -123,13 +127,14 @@ pub unsafe extern "C" fn krlc_pin_holds(pin: *mut Pin) -> u32 {
 /// As the header says of the calls below.
 unsafe fn write(
     pin: *mut Pin,
+    timeout_ms: u64,
     error: *mut ErrorRoom,
     write: impl FnOnce() -> Result<Write, Fault>,
 ) -> u32 {
     let write = || {
         // SAFETY: the caller frees the pin after this call.
         let pin = unsafe { PINS.own_value(pin) }?;
-        Ok(pin.get().write(write()?)?.into())
+        Ok(pin.write(write()?, timeout_ms)?.into())
     };
     // SAFETY: the caller vouches for the room of the error.
     unsafe { answer(error, write) }
@@ -141,12 +146,13 @@ pub unsafe extern "C" fn krlc_pin_insert(
     key: u64,
     bytes: *const c_void,
     length: usize,
+    timeout_ms: u64,
     error: *mut ErrorRoom,
 ) -> u32 {
     // SAFETY: the caller vouches for so many bytes.
     let value = || unsafe { input::value(bytes.cast(), length) };
     // SAFETY: the caller vouches for the pin and the room.
-    unsafe { write(pin, error, || Ok(Write::Insert(key, value()?))) }
+    unsafe { write(pin, timeout_ms, error, || Ok(Write::Insert(key, value()?))) }
 }
 
 #[unsafe(no_mangle)]
@@ -155,18 +161,39 @@ pub unsafe extern "C" fn krlc_pin_put(
     key: u64,
     bytes: *const c_void,
     length: usize,
+    timeout_ms: u64,
     error: *mut ErrorRoom,
 ) -> u32 {
     // SAFETY: the caller vouches for so many bytes.
     let value = || unsafe { input::value(bytes.cast(), length) };
     // SAFETY: the caller vouches for the pin and the room.
-    unsafe { write(pin, error, || Ok(Write::Put(key, value()?))) }
+    unsafe { write(pin, timeout_ms, error, || Ok(Write::Put(key, value()?))) }
 }
 
 #[unsafe(no_mangle)]
-pub unsafe extern "C" fn krlc_pin_delete(pin: *mut Pin, key: u64, error: *mut ErrorRoom) -> u32 {
+pub unsafe extern "C" fn krlc_pin_set(
+    pin: *mut Pin,
+    key: u64,
+    bytes: *const c_void,
+    length: usize,
+    timeout_ms: u64,
+    error: *mut ErrorRoom,
+) -> u32 {
+    // SAFETY: the caller vouches for so many bytes.
+    let value = || unsafe { input::value(bytes.cast(), length) };
     // SAFETY: the caller vouches for the pin and the room.
-    unsafe { write(pin, error, || Ok(Write::Delete(key))) }
+    unsafe { write(pin, timeout_ms, error, || Ok(Write::Set(key, value()?))) }
+}
+
+#[unsafe(no_mangle)]
+pub unsafe extern "C" fn krlc_pin_delete(
+    pin: *mut Pin,
+    key: u64,
+    timeout_ms: u64,
+    error: *mut ErrorRoom,
+) -> u32 {
+    // SAFETY: the caller vouches for the pin and the room.
+    unsafe { write(pin, timeout_ms, error, || Ok(Write::Delete(key))) }
 }
 
 #[unsafe(no_mangle)]

@@ -6,23 +6,29 @@ static krlc_error error;
 static void writes(krlc_client *client, krlc_rows *rows) {
     uint64_t keys[] = {15, 17, 150};
     const char *values[] = {"five", "", "last"};
-    EXPECT(KRLC_OK, krlc_insert(client, 15, "fifteen", 7, &error));
-    EXPECT(KRLC_OK, krlc_insert(client, 17, NULL, 0, NULL));
-    EXPECT(KRLC_OK, krlc_insert(client, 150, "last", 4, &error));
-    EXPECT(KRLC_EXISTS, krlc_insert(client, 15, "again", 5, &error));
-    EXPECT(KRLC_OK, krlc_put(client, 15, "five", 4, &error));
-    EXPECT(KRLC_ABSENT, krlc_put(client, 16, "six", 3, &error));
-    EXPECT(KRLC_ABSENT, krlc_delete(client, 16, &error));
-    EXPECT(KRLC_OK, krlc_insert(client, 18, "eight", 5, &error));
-    EXPECT(KRLC_OK, krlc_delete(client, 18, &error));
-    EXPECT(KRLC_OK, krlc_read(client, 0, KRLC_TOP, rows, &error));
+    EXPECT(KRLC_OK, krlc_insert(client, 15, "fifteen", 7, 0, &error));
+    EXPECT(KRLC_OK, krlc_insert(client, 17, NULL, 0, 0, NULL));
+    EXPECT(KRLC_OK, krlc_insert(client, 150, "last", 4, 0, &error));
+    EXPECT(KRLC_EXISTS, krlc_insert(client, 15, "again", 5, 0, &error));
+    EXPECT(KRLC_OK, krlc_put(client, 15, "five", 4, 0, &error));
+    EXPECT(KRLC_ABSENT, krlc_put(client, 16, "six", 3, 0, &error));
+    EXPECT(KRLC_ABSENT, krlc_delete(client, 16, 0, &error));
+    EXPECT(KRLC_OK, krlc_insert(client, 18, "eight", 5, 0, &error));
+    EXPECT(KRLC_OK, krlc_delete(client, 18, 0, &error));
+    EXPECT(KRLC_OK, krlc_read(client, 0, KRLC_TOP, rows, 0, &error));
     WANT(are(rows, 3, keys, values));
-    EXPECT(KRLC_BAD_KEY, krlc_insert(client, KRLC_END, "", 0, &error));
+    EXPECT(KRLC_OK, krlc_set(client, 18, "made", 4, 0, &error));
+    EXPECT(KRLC_OK, krlc_set(client, 18, "set", 3, 0, &error));
+    EXPECT(KRLC_OK, krlc_read(client, 18, 19, rows, 0, &error));
+    WANT(are(rows, 1, (uint64_t[]){18}, (const char *[]){"set"}));
+    EXPECT(KRLC_OK, krlc_delete(client, 18, 0, &error));
+    EXPECT(KRLC_BAD_KEY, krlc_set(client, KRLC_END, "", 0, 0, &error));
+    EXPECT(KRLC_BAD_KEY, krlc_insert(client, KRLC_END, "", 0, 0, &error));
     WANT(error.code == KRLC_BAD_KEY && error.shard == -1 && error.reason == KRLC_NO_REASON);
     WANT(strlen(error.sentence) > 10);
-    EXPECT(KRLC_TOO_LONG, krlc_put(client, 15, "123456789 123456789 123456789 123", 33, &error));
-    EXPECT(KRLC_OK, krlc_put(client, 15, "123456789 123456789 123456789 12", 32, &error));
-    EXPECT(KRLC_OK, krlc_put(client, 15, "five", 4, &error));
+    EXPECT(KRLC_TOO_LONG, krlc_put(client, 15, "123456789 123456789 123456789 123", 33, 0, &error));
+    EXPECT(KRLC_OK, krlc_put(client, 15, "123456789 123456789 123456789 12", 32, 0, &error));
+    EXPECT(KRLC_OK, krlc_put(client, 15, "five", 4, 0, &error));
 }
 
 static void reads(krlc_client *client, krlc_rows *rows) {
@@ -30,7 +36,7 @@ static void reads(krlc_client *client, krlc_rows *rows) {
     const char *values[] = {"five", ""};
     krlc_row room[3] = {0};
     size_t count = 0;
-    EXPECT(KRLC_OK, krlc_read(client, 10, 20, rows, &error));
+    EXPECT(KRLC_OK, krlc_read(client, 10, 20, rows, 0, &error));
     WANT(are(rows, 2, keys, values));
     EXPECT(KRLC_OK, krlc_cached(client, 10, 20, rows));
     WANT(are(rows, 2, keys, values));
@@ -42,69 +48,72 @@ static void reads(krlc_client *client, krlc_rows *rows) {
     WANT(count == 2 && room[2].key == 15);
     EXPECT(KRLC_TOO_SHORT, krlc_cached_into(client, 10, 20, NULL, 0, &count));
     WANT(count == 2);
-    EXPECT(KRLC_OK, krlc_forget(client, 10, 20, &error));
+    EXPECT(KRLC_OK, krlc_forget(client, 10, 20, 0, &error));
     EXPECT(KRLC_MISS, krlc_cached(client, 10, 20, rows));
     WANT(are(rows, 0, keys, values));
     count = 7;
     EXPECT(KRLC_MISS, krlc_cached_into(client, 10, 20, room, 3, &count));
     WANT(count == 7);
     EXPECT(KRLC_MISS, krlc_cached_row(client, 15, room));
-    EXPECT(KRLC_OK, krlc_read(client, 10, 20, rows, &error));
+    EXPECT(KRLC_OK, krlc_read(client, 10, 20, rows, 0, &error));
     EXPECT(KRLC_OK, krlc_cached_row(client, 15, room));
     WANT(room[0].key == 15 && room[0].length == 4 && memcmp(room[0].bytes, "five", 4) == 0);
     EXPECT(KRLC_ABSENT, krlc_cached_row(client, 16, room));
     WANT(room[0].key == 15);
     EXPECT(KRLC_BAD_KEY, krlc_cached_row(client, KRLC_END, room));
-    EXPECT(KRLC_OK, krlc_forget(client, 10, 20, &error));
+    EXPECT(KRLC_OK, krlc_forget(client, 10, 20, 0, &error));
     EXPECT(KRLC_BAD_RANGE, krlc_cached(client, 20, 10, rows));
     EXPECT(KRLC_BAD_RANGE, krlc_cached_into(client, 0, KRLC_TOP + 1, room, 3, &count));
-    EXPECT(KRLC_BAD_RANGE, krlc_read(client, 20, 10, rows, &error));
-    EXPECT(KRLC_BAD_RANGE, krlc_forget(client, 20, 10, &error));
+    EXPECT(KRLC_BAD_RANGE, krlc_read(client, 20, 10, rows, 0, &error));
+    EXPECT(KRLC_BAD_RANGE, krlc_forget(client, 20, 10, 0, &error));
     EXPECT(KRLC_BAD_RANGE, krlc_wait_for_change(client, 20, 10, NULL, 0, 1, &error));
     /* Over the bound of the shards, if there are some. */
-    EXPECT(KRLC_OK, krlc_read(client, 15, 151, rows, &error));
+    EXPECT(KRLC_OK, krlc_read(client, 15, 151, rows, 0, &error));
     EXPECT(KRLC_OK, krlc_cached(client, 15, 151, rows));
 }
 
 static void changes(krlc_client *client, krlc_client *other, krlc_rows *rows) {
     size_t count = 0;
-    EXPECT(KRLC_OK, krlc_read(client, 10, 200, rows, &error));
+    EXPECT(KRLC_OK, krlc_read(client, 10, 200, rows, 0, &error));
     const krlc_row *known = krlc_rows_get(rows, &count);
     WANT(count == 3);
     EXPECT(KRLC_UNCHANGED, krlc_wait_for_change(client, 10, 200, known, count, 10, &error));
     EXPECT(KRLC_OK, krlc_wait_for_change(client, 10, 200, known, count - 1, LONG_MS, &error));
-    EXPECT(KRLC_OK, krlc_put(other, 150, "next", 4, &error));
+    EXPECT(KRLC_OK, krlc_put(other, 150, "next", 4, 0, &error));
     EXPECT(KRLC_OK, krlc_wait_for_change(client, 10, 200, known, count, LONG_MS, &error));
-    EXPECT(KRLC_OK, krlc_read(client, 150, 151, rows, &error));
+    EXPECT(KRLC_OK, krlc_read(client, 150, 151, rows, 0, &error));
     WANT(are(rows, 1, (uint64_t[]){150}, (const char *[]){"next"}));
 }
 
 static void pins(krlc_client *client, krlc_rows *rows) {
     krlc_pin *pin = NULL, *second = NULL;
-    EXPECT(KRLC_OK, krlc_pin_for_update(client, 10, 20, rows, &pin, &error));
+    EXPECT(KRLC_OK, krlc_pin_for_update(client, 10, 20, rows, &pin, 0, &error));
     WANT(are(rows, 2, (uint64_t[]){15, 17}, (const char *[]){"five", ""}));
-    EXPECT(KRLC_OK, krlc_pin_put(pin, 15, "pinned", 6, &error));
-    EXPECT(KRLC_OK, krlc_pin_insert(pin, 16, "new", 3, &error));
-    EXPECT(KRLC_EXISTS, krlc_pin_insert(pin, 16, "new", 3, &error));
-    EXPECT(KRLC_OK, krlc_pin_delete(pin, 16, &error));
-    EXPECT(KRLC_ABSENT, krlc_pin_delete(pin, 16, &error));
-    EXPECT(KRLC_TOO_LONG, krlc_pin_put(pin, 15, "", 33, &error));
+    EXPECT(KRLC_OK, krlc_pin_put(pin, 15, "pinned", 6, 0, &error));
+    EXPECT(KRLC_OK, krlc_pin_insert(pin, 16, "new", 3, 0, &error));
+    EXPECT(KRLC_EXISTS, krlc_pin_insert(pin, 16, "new", 3, 0, &error));
+    EXPECT(KRLC_OK, krlc_pin_delete(pin, 16, 0, &error));
+    EXPECT(KRLC_ABSENT, krlc_pin_delete(pin, 16, 0, &error));
+    EXPECT(KRLC_OK, krlc_pin_set(pin, 16, "made", 4, 0, &error));
+    EXPECT(KRLC_OK, krlc_pin_set(pin, 16, "set", 3, 0, &error));
+    EXPECT(KRLC_OK, krlc_pin_delete(pin, 16, 0, &error));
+    EXPECT(KRLC_TOO_LONG, krlc_pin_put(pin, 15, "", 33, 0, &error));
     EXPECT(KRLC_OK, krlc_pin_holds(pin));
-    EXPECT(KRLC_PINNED, krlc_forget(client, 10, 20, &error));
-    EXPECT(KRLC_OK, krlc_pin_held(client, 30, 40, &second, &error));
+    EXPECT(KRLC_PINNED, krlc_forget(client, 10, 20, 0, &error));
+    EXPECT(KRLC_OK, krlc_pin_held(client, 30, 40, &second, 0, &error));
     krlc_pin_free(second);
     krlc_pin_free(pin);
-    EXPECT(KRLC_OK, krlc_forget(client, 10, 20, &error));
-    EXPECT(KRLC_OK, krlc_pin_for_read(client, 10, 200, NULL, &pin, &error));
+    EXPECT(KRLC_OK, krlc_forget(client, 10, 20, 0, &error));
+    EXPECT(KRLC_OK, krlc_pin_for_read(client, 10, 200, NULL, &pin, 0, &error));
     krlc_pin_free(pin);
-    EXPECT(KRLC_OK, krlc_pin_for_write(client, 10, 20, rows, &pin, &error));
+    EXPECT(KRLC_OK, krlc_pin_for_write(client, 10, 20, rows, &pin, 0, &error));
     krlc_pin_free(pin);
-    EXPECT(KRLC_BAD_RANGE, krlc_pin_for_read(client, 10, 10, rows, &pin, &error));
+    EXPECT(KRLC_BAD_RANGE, krlc_pin_for_read(client, 10, 10, rows, &pin, 0, &error));
     WANT(pin == NULL);
     krlc_pin *many[9] = {NULL};
     for (uint64_t i = 0; i < 8; i++)
-        EXPECT(KRLC_OK, krlc_pin_held(client, 2 * i, 2 * i + 1, &many[i], &error));
-    EXPECT(KRLC_TOO_MANY_PINS, krlc_pin_held(client, 16, 17, &many[8], &error));
+        EXPECT(KRLC_OK, krlc_pin_held(client, 2 * i, 2 * i + 1, &many[i], 0, &error));
+    EXPECT(KRLC_TOO_MANY_PINS, krlc_pin_held(client, 16, 17, &many[8], 0, &error));
     for (int i = 0; i < 9; i++)
         krlc_pin_free(many[i]);
 }
@@ -112,6 +121,7 @@ static void pins(krlc_client *client, krlc_rows *rows) {
 static void shows(krlc_client *client, const world *world) {
     krlc_status status = {0};
     size_t joined = krlc_joined(client);
+    WANT(krlc_number(client) == 0);
     WANT(joined == (strcmp(world->kind, "map") == 0 ? 2 : 1));
     for (size_t place = 0; place < joined; place++) {
         EXPECT(KRLC_OK, krlc_status_at(client, place, &status, &error));
@@ -124,14 +134,32 @@ static void shows(krlc_client *client, const world *world) {
 
 /* A client that waits until it times out, since the other one's pin keeps it waiting. */
 static void waits(krlc_client *client, krlc_client *other, krlc_rows *rows) {
-    krlc_pin *pin = NULL;
-    EXPECT(KRLC_OK, krlc_pin_for_write(other, 300, 310, NULL, &pin, &error));
+    krlc_pin *pin = NULL, *second = NULL, *none = NULL;
+    /* The gap after the pinned range ends here. */
+    EXPECT(KRLC_OK, krlc_insert(other, 315, "bound", 5, 0, &error));
+    EXPECT(KRLC_OK, krlc_pin_for_write(other, 300, 310, NULL, &pin, 0, &error));
+    EXPECT(KRLC_OK, krlc_pin_for_read(client, 320, 330, rows, &second, 0, &error));
     EXPECT(KRLC_OK, krlc_set_timeout(client, 50, &error));
-    EXPECT(KRLC_TIMED_OUT, krlc_read(client, 300, 310, rows, &error));
+    EXPECT(KRLC_TIMED_OUT, krlc_read(client, 300, 310, rows, 0, &error));
     WANT(krlc_is_unknown_outcome(error.code));
     EXPECT(KRLC_OK, krlc_set_timeout(client, LONG_MS, &error));
+    /* Timeouts of single calls: the client's would be longer than the test may take. */
+    EXPECT(KRLC_TIMED_OUT, krlc_read(client, 300, 310, rows, 50, &error));
+    EXPECT(KRLC_TIMED_OUT, krlc_insert(client, 301, "", 0, 50, &error));
+    EXPECT(KRLC_TIMED_OUT, krlc_put(client, 301, "", 0, 50, &error));
+    EXPECT(KRLC_TIMED_OUT, krlc_set(client, 301, "", 0, 50, &error));
+    EXPECT(KRLC_TIMED_OUT, krlc_delete(client, 301, 50, &error));
+    EXPECT(KRLC_TIMED_OUT, krlc_pin_for_read(client, 300, 310, rows, &none, 50, &error));
+    EXPECT(KRLC_TIMED_OUT, krlc_pin_for_update(client, 300, 310, rows, &none, 50, &error));
+    EXPECT(KRLC_TIMED_OUT, krlc_pin_for_write(client, 300, 310, rows, &none, 50, &error));
+    WANT(none == NULL);
+    EXPECT(KRLC_TIMED_OUT, krlc_pin_insert(second, 301, "", 0, 50, &error));
+    EXPECT(KRLC_TIMED_OUT, krlc_pin_put(second, 301, "", 0, 50, &error));
+    EXPECT(KRLC_TIMED_OUT, krlc_pin_set(second, 301, "", 0, 50, &error));
+    EXPECT(KRLC_TIMED_OUT, krlc_pin_delete(second, 301, 50, &error));
+    krlc_pin_free(second);
     krlc_pin_free(pin);
-    EXPECT(KRLC_OK, krlc_read(client, 300, 310, rows, &error));
+    EXPECT(KRLC_OK, krlc_read(client, 300, 310, rows, 0, &error));
 }
 
 int main(int argument_count, char **arguments) {
@@ -147,17 +175,17 @@ int main(int argument_count, char **arguments) {
     pins(client, rows);
     shows(client, &world);
     waits(client, other, rows);
-    EXPECT(KRLC_OK, krlc_leave(client, &error));
-    EXPECT(KRLC_LEFT, krlc_read(client, 10, 20, rows, &error));
-    EXPECT(KRLC_LEFT, krlc_insert(client, 1, "", 0, &error));
+    EXPECT(KRLC_OK, krlc_leave(client, 0, &error));
+    EXPECT(KRLC_LEFT, krlc_read(client, 10, 20, rows, 0, &error));
+    EXPECT(KRLC_LEFT, krlc_insert(client, 1, "", 0, 0, &error));
     EXPECT(KRLC_MISS, krlc_cached(client, 10, 20, rows));
     krlc_free(client);
     /* The number is free again. A pin may be freed after its client, and before. */
     client = join(&world, 0);
     krlc_pin *pin = NULL;
-    EXPECT(KRLC_OK, krlc_pin_for_read(client, 10, 20, rows, &pin, &error));
+    EXPECT(KRLC_OK, krlc_pin_for_read(client, 10, 20, rows, &pin, 0, &error));
     krlc_free(client);
-    EXPECT(KRLC_LEFT, krlc_pin_put(pin, 15, "", 0, &error));
+    EXPECT(KRLC_LEFT, krlc_pin_put(pin, 15, "", 0, 0, &error));
     krlc_pin_free(pin);
     krlc_free(join(&world, 0));
     krlc_free(other);

@@ -9,7 +9,7 @@ static krlc_client *client;
 static void *write_on(void *key) {
     krlc_error error;
     uint32_t code;
-    while ((code = krlc_put(client, (uint64_t)(uintptr_t)key, "new", 3, &error)) <= KRLC_ANSWERS)
+    while ((code = krlc_put(client, (uint64_t)(uintptr_t)key, "new", 3, 0, &error)) <= KRLC_ANSWERS)
         continue;
     WANT(krlc_is_unknown_outcome(code) && (code == KRLC_TIMED_OUT || code == KRLC_UNSERVED));
     return NULL;
@@ -28,7 +28,7 @@ int main(int argument_count, char **arguments) {
     for (int i = 0; i < 4; i++)
         WANT(pthread_join(threads[i], NULL) == 0);
     /* On a slow machine the calls may time out before the server goes. */
-    uint32_t left = krlc_leave(client, NULL);
+    uint32_t left = krlc_leave(client, 0, NULL);
     WANT(left == KRLC_OK || left == KRLC_TIMED_OUT || left == KRLC_UNSERVED);
     krlc_free(client);
     return 0;

@@ -15,9 +15,9 @@ static void *update(void *unused) {
     krlc_error error;
     for (uint32_t i = 1; i <= UPDATES; i++) {
         krlc_pin *pin = NULL;
-        EXPECT(KRLC_OK, krlc_pin_for_write(writing, 10, 21, NULL, &pin, &error));
-        EXPECT(KRLC_OK, krlc_pin_put(pin, 12, &i, sizeof i, &error));
-        EXPECT(KRLC_OK, krlc_pin_put(pin, 18, &i, sizeof i, &error));
+        EXPECT(KRLC_OK, krlc_pin_for_write(writing, 10, 21, NULL, &pin, 0, &error));
+        EXPECT(KRLC_OK, krlc_pin_put(pin, 12, &i, sizeof i, 0, &error));
+        EXPECT(KRLC_OK, krlc_pin_put(pin, 18, &i, sizeof i, 0, &error));
         EXPECT(KRLC_OK, krlc_pin_holds(pin));
         int before = atomic_load(&reads);
         krlc_pin_free(pin);
@@ -42,7 +42,7 @@ static void *read_both(void *unused) {
     while (!atomic_load(&is_done) || last < UPDATES) {
         size_t count = 0;
         if (krlc_cached(reading, 10, 21, rows) != KRLC_OK)
-            EXPECT(KRLC_OK, krlc_read(reading, 10, 21, rows, &error));
+            EXPECT(KRLC_OK, krlc_read(reading, 10, 21, rows, 0, &error));
         const krlc_row *row = krlc_rows_get(rows, &count);
         WANT(count == 2 && number_of(&row[0]) == number_of(&row[1]) && number_of(&row[0]) >= last);
         last = number_of(&row[0]);
@@ -59,12 +59,12 @@ static void *write_own(void *unused) {
     krlc_rows *rows = krlc_rows_new();
     for (uint64_t i = 0; i < OWN_WRITES; i++) {
         size_t count = 0;
-        EXPECT(KRLC_OK, krlc_insert(reading, 1000 + i, &i, sizeof i, &error));
-        EXPECT(KRLC_OK, krlc_read(reading, 1000 + i, 1001 + i, rows, &error));
+        EXPECT(KRLC_OK, krlc_insert(reading, 1000 + i, &i, sizeof i, 0, &error));
+        EXPECT(KRLC_OK, krlc_read(reading, 1000 + i, 1001 + i, rows, 0, &error));
         const krlc_row *row = krlc_rows_get(rows, &count);
         WANT(count == 1 && row->key == 1000 + i && memcmp(row->bytes, &i, sizeof i) == 0);
         EXPECT(KRLC_OK, krlc_status_at(reading, 0, &status, &error));
-        EXPECT(KRLC_OK, krlc_delete(reading, 1000 + i, &error));
+        EXPECT(KRLC_OK, krlc_delete(reading, 1000 + i, 0, &error));
     }
     krlc_rows_free(rows);
     return unused;
@@ -76,8 +76,8 @@ int main(int argument_count, char **arguments) {
     uint32_t none = 0;
     writing = join(&world, 0);
     reading = join(&world, 1);
-    EXPECT(KRLC_OK, krlc_insert(writing, 12, &none, sizeof none, NULL));
-    EXPECT(KRLC_OK, krlc_insert(writing, 18, &none, sizeof none, NULL));
+    EXPECT(KRLC_OK, krlc_insert(writing, 12, &none, sizeof none, 0, NULL));
+    EXPECT(KRLC_OK, krlc_insert(writing, 18, &none, sizeof none, 0, NULL));
     for (int i = 0; i < READERS; i++)
         WANT(pthread_create(&threads[i], NULL, read_both, NULL) == 0);
     WANT(pthread_create(&threads[READERS], NULL, update, NULL) == 0);

@@ -65,6 +65,37 @@ void reads_and_writes(krl::client &client, krl::client &other) {
     want(other.erase(17) == krl::outcome::applied, "an erase");
     client.read(10, 20, rows);
     want(rows.size() == 1 && rows[0].value == "other", "the row of the other client");
+    want(client.set(17, "set") == krl::outcome::applied, "a set of no row");
+    want(client.set(17, "again") == krl::outcome::applied, "a set of a row");
+    want(client.erase(17) == krl::outcome::applied, "an erase of what was set");
+}
+
+/* The client's own timeout would be longer than the test may take. */
+void timeouts(krl::client &client, krl::client &other) {
+    /* The gap after the pinned range ends here. */
+    want(other.insert(315, "bound") == krl::outcome::applied, "an insert");
+    auto held = other.pin_for_write(300, 310);
+    auto own = client.pin_for_read(320, 330);
+    throws(KRLC_TIMED_OUT, [&] { (void)client.read(300, 310, 50ms); });
+    throws(KRLC_TIMED_OUT, [&] { (void)client.insert(301, "", 50ms); });
+    throws(KRLC_TIMED_OUT, [&] { (void)client.set(301, "", 50ms); });
+    throws(KRLC_TIMED_OUT, [&] { (void)client.erase(301, 50ms); });
+    throws(KRLC_TIMED_OUT, [&] { (void)client.pin_for_update(300, 310, 50ms); });
+    throws(KRLC_TIMED_OUT, [&] { (void)own.pin.put(301, "", 50ms); });
+    throws(KRLC_TIMED_OUT, [&] { (void)own.pin.set(301, "", 50ms); });
+    throws(KRLC_TIMED_OUT, [&] { (void)own.pin.erase(301, 50ms); });
+    held.pin.release();
+    want(client.read(300, 310, 60s).empty(), "a read after the pin");
+}
+
+void numbers(char **words) {
+    krl::options several;
+    several.servers = words[2];
+    several.lock_file = words[3];
+    several.numbers = 1 << 5 | 1 << 6;
+    krl::client first(several), second(several);
+    want(first.number() == 5 && second.number() == 6, "the first free numbers");
+    throws(KRLC_LOCK_FILE_TAKEN, [&] { krl::client third(several); });
 }
 
 void pins(krl::client &client) {
@@ -76,6 +107,8 @@ void pins(krl::client &client) {
     want(pin.insert(16, "new") == krl::outcome::applied, "an insert by a pin");
     krl::pin moved = std::move(pin);
     want(moved.erase(16) == krl::outcome::applied && moved.holds(), "a pin that was moved");
+    want(moved.set(16, "set") == krl::outcome::applied, "a set by a pin");
+    want(moved.erase(16) == krl::outcome::applied, "an erase by a pin");
     throws(KRLC_MISUSE, [&] { (void)empty.holds(); });
     moved.release();
     client.forget(10, 20);
@@ -95,6 +128,8 @@ int main(int count, char **words) {
     krl::client client = join(words, 0), other = join(words, 1);
     reads_and_writes(client, other);
     pins(client);
+    timeouts(client, other);
+    numbers(words);
     krl::client moved = std::move(client);
     want(moved.status().size() == 1 && moved.status()[0].epoch == 1, "the status");
     throws(KRLC_MISUSE, [&] { (void)client.read(1, 2); });
@@ -103,8 +138,8 @@ int main(int count, char **words) {
     throws(KRLC_BAD_RANGE, [&] { (void)moved.cached(2, 1, rows); });
     throws(KRLC_BAD_KEY, [&] { (void)moved.insert(krl::end_of_keys, ""); });
     throws(KRLC_TOO_LONG, [&] { (void)moved.insert(1, std::string(33, 'x')); });
-    throws(KRLC_LOCK_FILE, [&] { join(words, 1); });
-    throws(KRLC_LOCK_FILE, [&] { krl::evict(options(words, 1)); });
+    throws(KRLC_LOCK_FILE_TAKEN, [&] { join(words, 1); });
+    throws(KRLC_LOCK_FILE_TAKEN, [&] { krl::evict(options(words, 1)); });
     krl::evict(options(words, 2));
     throws(KRLC_MISUSE, [&] { krl::client nowhere{krl::options()}; });
     throws(KRLC_BAD_TLS, [&] { moved.reload_tls(); });

@@ -1,11 +1,12 @@
 //! A pinned range, and the writes that are bound to it.
 use crate::client::Client;
 use crate::client::set;
+use crate::client::within::Within;
 use crate::model::change::{Outcome, Write};
 use crate::model::refused::Refused;
 use crate::model::row::{Row, Value};
 use std::fmt;
-use std::time::Instant;
+use std::time::{Duration, Instant};
 
 /// A pinned range: no other client takes away what the client holds of it, as long as this lives.
 /// If the server's store goes back, or the client's lease ends, the pin is void: [`Client`] says
@@ -36,6 +37,15 @@ impl<'c> Pin<'c> {
         self.client.link.with_jobs(|jobs| jobs.holds_pin(self.id))
     }
 
+    /// The same writes, each of which waits so long for an answer, a year at most.
+    pub fn within(&self, timeout: Duration) -> PinWithin<'_> {
+        PinWithin { within: self.client.within(timeout), id: self.id }
+    }
+
+    fn by_default(&self) -> PinWithin<'_> {
+        self.within(self.client.timeout())
+    }
+
     /// Inserts a row while the pin holds, or never. The outcome is that of [`Client::insert`]. The
     /// key may lie outside the pinned range.
     ///
@@ -46,7 +56,7 @@ impl<'c> Pin<'c> {
     /// [`Refused::is_unknown_outcome`] is true, the table may have changed; if it has, then before
     /// any other client changed what was pinned.
     pub fn insert(&self, key: u64, value: Value) -> Result<Outcome, Refused> {
-        self.write(Write::Insert(Row { key, value }))
+        self.by_default().insert(key, value)
     }
 
     /// Gives a row another value while the pin holds, or never. The outcome is that of
@@ -56,7 +66,7 @@ impl<'c> Pin<'c> {
     ///
     /// Those of [`Pin::insert`].
     pub fn put(&self, key: u64, value: Value) -> Result<Outcome, Refused> {
-        self.write(Write::Put(Row { key, value }))
+        self.by_default().put(key, value)
     }
 
     /// Gives a key this value, whether or not it has a row, while the pin holds, or never. The
@@ -66,9 +76,7 @@ impl<'c> Pin<'c> {
     ///
     /// Those of [`Pin::insert`].
     pub fn set(&self, key: u64, value: Value) -> Result<Outcome, Refused> {
-        let within = self.client.within(self.client.timeout());
-        let (first, end) = (within.likely(Row { key, value }), within.end());
-        set::set(first, end, |write| self.write_by(end, write))
+        self.by_default().set(key, value)
     }
 
     /// Deletes a row while the pin holds, or never. The outcome is that of [`Client::delete`]. The
@@ -78,16 +86,60 @@ impl<'c> Pin<'c> {
     ///
     /// Those of [`Pin::insert`].
     pub fn delete(&self, key: u64) -> Result<Outcome, Refused> {
-        self.write(Write::Delete(key))
+        self.by_default().delete(key)
+    }
+}
+
+/// A pin whose writes wait for another time than [`Client::timeout`]: see [`Pin::within`].
+///
+/// Each call is that of [`Pin`] of the same name, with its outcomes and errors.
+#[derive(Clone, Copy, Debug)]
+#[must_use = "it does nothing before one of its calls"]
+pub struct PinWithin<'p> {
+    within: Within<'p>,
+    id: u64,
+}
+
+impl PinWithin<'_> {
+    /// Inserts a row, as [`Pin::insert`] does.
+    ///
+    /// # Errors
+    ///
+    /// Those of [`Pin::insert`].
+    pub fn insert(self, key: u64, value: Value) -> Result<Outcome, Refused> {
+        self.write(self.within.end(), Write::Insert(Row { key, value }))
     }
 
-    fn write(&self, write: Write) -> Result<Outcome, Refused> {
-        self.write_by(self.client.within(self.client.timeout()).end(), write)
+    /// Gives a row another value, as [`Pin::put`] does.
+    ///
+    /// # Errors
+    ///
+    /// Those of [`Pin::insert`].
+    pub fn put(self, key: u64, value: Value) -> Result<Outcome, Refused> {
+        self.write(self.within.end(), Write::Put(Row { key, value }))
     }
 
-    fn write_by(&self, end: Instant, write: Write) -> Result<Outcome, Refused> {
-        let within = self.client.within(self.client.timeout());
-        within.write_by(end, write, |jobs, write| jobs.write_under(self.id, write))
+    /// Gives a key this value, as [`Pin::set`] does. The time is that of all its writes together.
+    ///
+    /// # Errors
+    ///
+    /// Those of [`Pin::insert`].
+    pub fn set(self, key: u64, value: Value) -> Result<Outcome, Refused> {
+        let (first, end) = (self.within.likely(Row { key, value }), self.within.end());
+        set::set(first, end, |write| self.write(end, write))
+    }
+
+    /// Deletes a row, as [`Pin::delete`] does.
+    ///
+    /// # Errors
+    ///
+    /// Those of [`Pin::insert`].
+    pub fn delete(self, key: u64) -> Result<Outcome, Refused> {
+        self.write(self.within.end(), Write::Delete(key))
+    }
+
+    fn write(self, end: Instant, write: Write) -> Result<Outcome, Refused> {
+        self.within.write_by(end, write, |jobs, write| jobs.write_under(self.id, write))
     }
 }
 

@@ -11,6 +11,7 @@ use crate::shards::builder::ShardedBuilder;
 use crate::shards::map::ShardMap;
 use crate::shards::one_moment::{self, Known};
 use crate::shards::refused::{ShardJoinError, ShardRefused};
+use crate::shards::within::{ShardedPinWithin, ShardedWithin};
 use std::ops::{Range, RangeBounds};
 use std::path::Path;
 use std::time::{Duration, Instant};
@@ -59,6 +60,11 @@ impl ShardedPin<'_> {
         self.pins.iter().all(|(_, pin)| pin.holds())
     }
 
+    /// The same writes, each of which waits so long for an answer, a year at most.
+    pub fn within(&self, timeout: Duration) -> ShardedPinWithin<'_> {
+        ShardedPinWithin::new(self, timeout)
+    }
+
     /// Inserts a row while the pin holds at the shard of the key, or never, as [`Pin::insert`] does.
     ///
     /// # Errors
@@ -99,7 +105,7 @@ impl ShardedPin<'_> {
     }
 
     /// Makes a call by the pin at the shard of the key.
-    fn at(
+    pub(crate) fn at(
         &self,
         key: u64,
         call: impl FnOnce(&Pin<'_>) -> Result<Outcome, Refused>,
@@ -110,6 +116,9 @@ impl ShardedPin<'_> {
         call(pin).map_err(ShardRefused::at(shard))
     }
 }
+
+/// Rows that were read, and their pin.
+pub(crate) type Pinned<'c> = Result<(Vec<Row>, ShardedPin<'c>), ShardRefused>;
 
 /// What a sharded client shows of a shard.
 #[derive(Clone, Debug, PartialEq, Eq)]
@@ -180,6 +189,12 @@ impl ShardedClient {
         &self.map
     }
 
+    /// The client's number, from 0 to 63.
+    #[must_use]
+    pub fn number(&self) -> u8 {
+        self.clients.first().map_or(0, Client::number)
+    }
+
     /// What the client shows of each shard that it has joined, in their order.
     #[must_use]
     pub fn status(&self) -> Vec<ShardStatus> {
@@ -203,8 +218,10 @@ impl ShardedClient {
         self.clients.first().map_or(Duration::ZERO, Client::timeout)
     }
 
-    fn end_of_call(&self) -> Instant {
-        Instant::now() + self.timeout()
+    /// The same calls, each of which waits so long for an answer, a year at most. Calls of other
+    /// threads wait as before.
+    pub fn within(&self, timeout: Duration) -> ShardedWithin<'_> {
+        ShardedWithin::new(self, timeout)
     }
 
     /// The rows of the range: from the caches, with no message and no waiting, if they know it. Else
@@ -216,8 +233,16 @@ impl ShardedClient {
     ///
     /// Those of [`Client::read`], with the shard.
     pub fn read(&self, keys: impl RangeBounds<u64>) -> Result<Vec<Row>, ShardRefused> {
+        self.within(self.timeout()).read(keys)
+    }
+
+    /// Reads until the deadline.
+    pub(crate) fn read_by(
+        &self,
+        keys: impl RangeBounds<u64>,
+        end: Instant,
+    ) -> Result<Vec<Row>, ShardRefused> {
         let parts = self.parts(keys)?;
-        let end = self.end_of_call();
         let mut rows = Vec::new();
         while !self.is_known(&parts, &mut rows) {
             // Nothing is pinned before each shard has answered: one that is down would else keep
@@ -281,12 +306,7 @@ impl ShardedClient {
     /// **While it waits for a point, nothing of the range is pinned from that point on.** It takes
     /// the shards in ascending order, and each shard's client its points so. If the caches do not
     /// know all parts at the end, all pins are given back before it begins again.
-    fn take(
-        &self,
-        parts: &[Part],
-        purpose: Purpose,
-        end: Instant,
-    ) -> Result<(Vec<Row>, ShardedPin<'_>), ShardRefused> {
+    fn take(&self, parts: &[Part], purpose: Purpose, end: Instant) -> Pinned<'_> {
         let mut rows = Vec::new();
         loop {
             let pins = parts.iter().map(|part| self.take_one(part, purpose, end));
@@ -321,13 +341,8 @@ impl ShardedClient {
     /// # Errors
     ///
     /// Those of [`Client::pin_for_read`], with the shard. Then nothing more is pinned than before.
-    pub fn pin_for_read(
-        &self,
-        keys: impl RangeBounds<u64>,
-    ) -> Result<(Vec<Row>, ShardedPin<'_>), ShardRefused> {
-        let (parts, end) = (self.parts_to_pin(&keys)?, self.end_of_call());
-        self.fetch(&parts, end)?;
-        self.take(&parts, Purpose::Read, end)
+    pub fn pin_for_read(&self, keys: impl RangeBounds<u64>) -> Pinned<'_> {
+        self.within(self.timeout()).pin_for_read(keys)
     }
 
     /// The same for an update, as [`Client::pin_for_update`] does. It takes one part after another:
@@ -336,11 +351,8 @@ impl ShardedClient {
     /// # Errors
     ///
     /// Those of [`ShardedClient::pin_for_read`].
-    pub fn pin_for_update(
-        &self,
-        keys: impl RangeBounds<u64>,
-    ) -> Result<(Vec<Row>, ShardedPin<'_>), ShardRefused> {
-        self.take(&self.parts_to_pin(&keys)?, Purpose::Update, self.end_of_call())
+    pub fn pin_for_update(&self, keys: impl RangeBounds<u64>) -> Pinned<'_> {
+        self.within(self.timeout()).pin_for_update(keys)
     }
 
     /// The same to write without asking for more, as [`Client::pin_for_write`] does.
@@ -348,11 +360,8 @@ impl ShardedClient {
     /// # Errors
     ///
     /// Those of [`ShardedClient::pin_for_read`].
-    pub fn pin_for_write(
-        &self,
-        keys: impl RangeBounds<u64>,
-    ) -> Result<(Vec<Row>, ShardedPin<'_>), ShardRefused> {
-        self.take(&self.parts_to_pin(&keys)?, Purpose::Write, self.end_of_call())
+    pub fn pin_for_write(&self, keys: impl RangeBounds<u64>) -> Pinned<'_> {
+        self.within(self.timeout()).pin_for_write(keys)
     }
 
     /// Pins the range, when the client holds all of it: **it waits, other than [`Client::pin`]**.
@@ -366,12 +375,22 @@ impl ShardedClient {
         self.pin_for_read(keys).map(|(_, pin)| pin)
     }
 
-    fn parts_to_pin(&self, keys: &impl RangeBounds<u64>) -> Result<Vec<Part>, ShardRefused> {
+    /// Reads the range and pins it for this, until the deadline.
+    pub(crate) fn pin_by(
+        &self,
+        keys: &impl RangeBounds<u64>,
+        purpose: Purpose,
+        end: Instant,
+    ) -> Pinned<'_> {
         let keys = keys_of(keys)?;
         if keys.is_empty() {
             return Err(Refused::BadRange.into());
         }
-        Ok(self.parts(keys)?)
+        let parts = self.parts(keys)?;
+        if purpose == Purpose::Read {
+            self.fetch(&parts, end)?;
+        }
+        self.take(&parts, purpose, end)
     }
 
     /// Inserts a row. The outcome is `Applied`, `Exists`, or `Full` if the key's shard is full.
@@ -412,7 +431,7 @@ impl ShardedClient {
     }
 
     /// Makes a call at the shard of the key, and at no other one.
-    fn at(
+    pub(crate) fn at(
         &self,
         key: u64,
         call: impl FnOnce(&Client) -> Result<Outcome, Refused>,
@@ -430,8 +449,17 @@ impl ShardedClient {
     ///
     /// Those of [`Client::forget`], with the first shard that refused. The others have done it.
     pub fn forget(&self, keys: impl RangeBounds<u64>) -> Result<(), ShardRefused> {
+        self.within(self.timeout()).forget(keys)
+    }
+
+    /// Gives back what the client holds of the range, until the deadline.
+    pub(crate) fn forget_by(
+        &self,
+        keys: impl RangeBounds<u64>,
+        end: Instant,
+    ) -> Result<(), ShardRefused> {
         let forget = |jobs: &mut Jobs, keys: &Range<u64>| jobs.forget(keys.clone());
-        self.ask_all(&self.parts(keys)?, self.end_of_call(), forget).map(drop)
+        self.ask_all(&self.parts(keys)?, end, forget).map(drop)
     }
 
     /// Leaves all shards at once, and waits until each server has kept that.
