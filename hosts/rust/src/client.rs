@@ -23,8 +23,9 @@ use crate::client::lock_file::LockFile;
 use crate::client::pin::Pin;
 use crate::client::within::Within;
 use crate::lease::clocks::Now;
-use crate::lease::of_client::Older;
+use crate::lease::terms::Older;
 use crate::model::change::Outcome;
+use crate::model::client_number::ClientNumber;
 use crate::model::range::keys_of;
 use crate::model::refusal::Refusal;
 use crate::model::refused::{JoinError, Refused};
@@ -45,8 +46,6 @@ pub(crate) const FAREWELL: Duration = Duration::from_secs(1);
 
 /// A client waits no longer than this, a year.
 const MAX_TIMEOUT: Duration = Duration::from_secs(365 * 24 * 3600);
-
-const MAX_CLIENTS: u8 = 64;
 
 /// A client of a number from 0 to 63. Its calls may come from several threads; a thread of its own
 /// keeps the connection, makes it again when it breaks, and says again what is not answered.
@@ -119,7 +118,7 @@ impl Client {
         waits: Waits,
         errand: Errand,
     ) -> Result<Client, JoinError> {
-        if number >= MAX_CLIENTS {
+        if ClientNumber::of(number).is_none() {
             return Err(JoinError::BadNumber);
         }
         let (mut lock_file, incarnation) = LockFile::take(lock_file, number)?;

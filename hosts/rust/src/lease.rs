@@ -3,3 +3,4 @@ pub(crate) mod boot_clock;
 pub(crate) mod clocks;
 pub(crate) mod of_client;
 pub(crate) mod of_server;
+pub(crate) mod terms;

@@ -1,6 +1,5 @@
 //! The library of the rules, whose functions are proved, behind types that keep what it asks for.
 pub(crate) mod client_handle;
-pub(crate) mod code;
 pub(crate) mod ffi;
 pub(crate) mod gate;
 pub(crate) mod partition;

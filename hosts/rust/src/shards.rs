@@ -1,9 +1,7 @@
 //! Several servers, each of which has a part of the keys, and a client of them all.
-pub(crate) mod bounds;
 pub(crate) mod builder;
 mod cached;
 pub(crate) mod client;
-pub(crate) mod fence;
 pub(crate) mod map;
 mod map_change;
 #[cfg(feature = "map-file")]

@@ -8,8 +8,8 @@ pub use server::{Said, Server, Start};
 
 pub use crate::client::jobs::{Held, Purpose};
 
-use crate::lease::of_client::Sign;
-use crate::lease::of_server::Answer;
+use crate::lease::terms::Answer;
+use crate::lease::terms::Sign;
 use crate::model::refusal::Refusal;
 use crate::net::connect_fault::NotTaken;
 use crate::wire::host_frame::{self, FromClient, FromServer};

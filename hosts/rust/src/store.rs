@@ -2,8 +2,10 @@
 #[cfg(feature = "sqlite")]
 pub(crate) mod sqlite;
 
-use crate::model::change::{Change, Snapshot};
+use crate::model::change::Change;
+
 use crate::model::history::History;
+use crate::model::snapshot::Snapshot;
 use std::fmt;
 use std::time::Duration;
 

@@ -24,6 +24,12 @@ pub fn last() -> Option<u64> {
     Some(LAST.load(Ordering::Relaxed)).filter(|last| *last > 0)
 }
 
+/// How long ago this process last made a backup.
+pub fn age(now: SystemTime) -> Option<Duration> {
+    let now = now.duration_since(UNIX_EPOCH).unwrap_or_default().as_secs();
+    last().map(|at| Duration::from_secs(now.saturating_sub(at)))
+}
+
 /// The order to make a backup.
 #[derive(Debug, Deserialize, Serialize)]
 #[serde(deny_unknown_fields)]

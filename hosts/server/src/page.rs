@@ -9,6 +9,7 @@ mod overview;
 mod servers;
 mod waits_picture;
 
+use crate::backup;
 use crate::others::Report;
 use crate::pages::{self, Shown, Table};
 use crate::role::State;
@@ -59,6 +60,7 @@ pub async fn html(shown: &Shown, monitor: &Monitor, points: Range<u64>) -> Strin
         rates: shown.recent.rates(&status, now),
         histograms: shown.recent.histograms(&monitor.measured(), epoch, now),
         certificate: tls.map(|tls| pages::seconds_left(&tls.certificate(), SystemTime::now())),
+        backup: backup::age(SystemTime::now()),
         servers: servers(shown, &shown.role.state(), &status).await,
     };
     overview.html()

@@ -405,6 +405,7 @@ fn as_json(
         "evicted_total": status.evicted,
         "unleased": status.unleased,
         "longest_lease_seconds": status.longest_lease.as_secs_f64(),
+        "last_backup": backup::last(),
     });
     Page::new(StatusCode::OK, JSON, format!("{text:#}\n"))
 }

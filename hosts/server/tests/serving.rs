@@ -210,6 +210,8 @@ fn a_backup_under_load_is_the_table_at_a_moment() {
     let folder = tempfile::tempdir().unwrap();
     let serving = Serving::start(&folder.path().join("krl.db"));
     let (count, ends) = (AtomicU64::new(0), AtomicBool::new(false));
+    let shown = "<dt>last backup</dt>";
+    assert!(!serving.get("/").1.contains(shown));
     thread::scope(|scope| {
         let _over = Over(&ends);
         scope.spawn(|| {
@@ -232,6 +234,10 @@ fn a_backup_under_load_is_the_table_at_a_moment() {
             is_moment(&file, before, after + 1);
         }
     });
+    assert!(
+        serving.get("/").1.contains(shown)
+            && !serving.get("/status.json").1.contains("\"last_backup\": null")
+    );
 }
 
 /// One client inserts 0, 1, 2, and so on: so a table at a moment has just the keys below some

@@ -27,8 +27,9 @@ fn a_run_by_a_seed_is_the_same_byte_for_byte() {
 #[test]
 fn each_kind_of_thing_happens() {
     let mut all = Counts::default();
-    for seed in 100..140 {
-        let report = run(seed, false);
+    // An eviction waits for the end of a lease, so these runs are longer.
+    for seed in 100..130 {
+        let report = World::new(Settings::of(seed, Duration::from_secs(20))).run();
         assert_eq!(report.wrong, [""; 0], "seed {seed}");
         all.add(&report.counts);
     }

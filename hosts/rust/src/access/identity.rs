@@ -1,5 +1,6 @@
 //! Who is at the other end of a connection, and what it may say.
-use crate::model::refusal::ClientSet;
+use crate::model::client_number::ClientNumber;
+use crate::model::client_set::ClientSet;
 use crate::wire::incoming::Incoming;
 use crate::wire::message::Message;
 use std::fmt;
@@ -146,8 +147,8 @@ impl Role {
 
 /// A client's number, without a sign and without zeros before it.
 fn number_of(text: &str) -> Option<u8> {
-    let number: u8 = text.parse().ok()?;
-    (number < 64 && number.to_string() == text).then_some(number)
+    let number = ClientNumber::of(text.parse::<u8>().ok()?)?.get();
+    (number.to_string() == text).then_some(number)
 }
 
 impl TableName {
@@ -219,7 +220,7 @@ impl std::error::Error for BadTableName {}
 mod tests {
     use super::*;
     use crate::lease::boot_clock::Moment;
-    use crate::lease::of_client::{Older, Sign};
+    use crate::lease::terms::{Older, Sign};
     use crate::wire::host_frame::FromClient;
 
     fn message(kind: u8, client: u8) -> Vec<u8> {

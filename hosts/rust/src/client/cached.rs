@@ -1,10 +1,10 @@
 //! Reads of a client's cache. Any number of threads make them at once, and they take no lock.
 use crate::client::Client;
 use crate::lease::boot_clock::Moment;
+use crate::model::code::Code;
 use crate::model::range::keys_of;
 use crate::model::row::Row;
 use crate::proved::client_handle::Scan;
-use crate::proved::code::Code;
 use std::cell::Cell;
 use std::ops::{Range, RangeBounds};
 

@@ -3,7 +3,7 @@
 //! The file has the last incarnation that may have been said to a server. One that reached no server
 //! leaves the file as it was: the next one then knows the incarnation that a server may still know,
 //! and that no process of it is left.
-use crate::lease::of_client::Older;
+use crate::lease::terms::Older;
 use std::fmt;
 use std::fs::{File, OpenOptions, TryLockError};
 use std::io::{self, Read, Seek, SeekFrom, Write};

@@ -3,10 +3,10 @@
 use crate::client::Client;
 use crate::client::jobs::Jobs;
 use crate::client::pin::Pin;
+use crate::model::code::Code;
 use crate::model::range::keys_of;
 use crate::model::refused::Refused;
 use crate::model::row::Row;
-use crate::proved::code::Code;
 use std::ops::RangeBounds;
 use std::time::{Duration, Instant};
 

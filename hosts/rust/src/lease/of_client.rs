@@ -1,53 +1,17 @@
 //! How long a client may answer from its cache, by the clock of its machine. The rule is the
 //! library's; what is said to the server, and when, is decided here.
 use crate::lease::boot_clock::Moment;
+use crate::lease::terms::{FOR_EVER, Grant, Older, Sign};
 use crate::proved::ffi;
 use std::io;
 use std::sync::Arc;
 use std::sync::atomic::{AtomicU64, Ordering};
 use std::time::Duration;
 
-/// The moment that never comes, and the length of what does not end.
-pub(crate) const FOR_EVER: u64 = u64::MAX;
-
 /// A sign rides on messages that leave anyway if the last one is older than this part of the lease,
 /// and goes by itself if it is older than that part.
 const RIDES: u64 = 6;
 const GOES_ALONE: u64 = 3;
-
-/// What a client's host knows of the older incarnations of its client.
-#[derive(Clone, Copy, Debug, PartialEq, Eq)]
-pub(crate) enum Older {
-    /// Nothing: each may still answer.
-    Unknown,
-    /// No process of this one is left: it stood in the lock file that this host holds.
-    IsOver(u64),
-    /// An operator vouches that none answers any more.
-    Vouched,
-}
-
-/// What a client's host says of its lease.
-#[derive(Clone, Copy, Debug, PartialEq, Eq)]
-pub(crate) struct Sign {
-    pub client: u8,
-    pub incarnation: u64,
-    /// When it was said, by the clock of the client's machine. It comes back as it is.
-    pub stamp: Moment,
-    /// The length of the lease by which the client lives, in nanoseconds: 0 before its first terms,
-    /// and `FOR_EVER` if its lease does not end.
-    pub length: u64,
-    pub older: Older,
-}
-
-/// The terms by which a server's host answers a sign.
-#[derive(Clone, Copy, Debug, PartialEq, Eq)]
-pub(crate) struct Grant {
-    pub incarnation: u64,
-    /// That of the sign.
-    pub stamp: Moment,
-    /// The length of the lease from that moment on, in nanoseconds.
-    pub length: u64,
-}
 
 /// What leaves just now beside a sign.
 #[derive(Clone, Copy, Debug, PartialEq, Eq)]

@@ -1,95 +1,14 @@
 //! When a server evicts a client, by the clock of the server's machine. The rule is the library's;
 //! which clients there are, and what is known of each, is kept here.
 use crate::lease::boot_clock::Moment;
-use crate::lease::of_client::{FOR_EVER, Grant, Older, Sign};
+use crate::lease::terms::{Answer, FOR_EVER, Grant, LeaseLeft, Leases, Older, Sign};
 use crate::model::change::Record;
+use crate::model::client_number::{ClientNumber, PerClient};
 use crate::model::lease_record::LeaseRecord;
 use crate::proved::ffi;
-use crate::server::shown::client_status::LeaseLeft;
-use std::fmt;
 use std::time::Duration;
 
-const CLIENTS: usize = 64;
-
-/// A shorter lease would end between two ticks of a client. A longer one keeps nobody from waiting.
-const SHORTEST: Duration = Duration::from_millis(300);
-const LONGEST: Duration = Duration::from_secs(24 * 3600);
-
-/// In a hundred. Two clocks that are slewed against each other as fast as chrony ever does, 83,333
-/// parts in a million each, differ by 18.2 in a hundred.
-const DRIFT: u32 = 25;
-const MAX_DRIFT: u32 = 100;
-
-/// What a server grants its clients: how long each may answer from its cache after its last sign.
-#[derive(Clone, Copy, Debug, PartialEq, Eq)]
-pub struct Leases {
-    length: Duration,
-    /// How much further the server's clock may go than a client's meanwhile, in a hundred.
-    drift: u32,
-}
-
-/// Why leases can't be so.
-#[derive(Clone, Copy, Debug, PartialEq, Eq)]
-pub enum BadLeases {
-    /// It is shorter than 300 milliseconds, or longer than a day.
-    Length(Duration),
-    /// It is more than 100 in a hundred.
-    Drift(u32),
-}
-
-impl Leases {
-    /// Leases of a length from 300 milliseconds to a day, with a drift of 25 in a hundred.
-    ///
-    /// # Errors
-    ///
-    /// `Length` for another length.
-    pub fn of(length: Duration) -> Result<Leases, BadLeases> {
-        let is_length = (SHORTEST..=LONGEST).contains(&length);
-        is_length.then_some(Leases { length, drift: DRIFT }).ok_or(BadLeases::Length(length))
-    }
-
-    /// The same with another drift, from 0 to 100 in a hundred.
-    ///
-    /// # Errors
-    ///
-    /// `Drift` above 100.
-    pub fn with_drift(self, drift: u32) -> Result<Leases, BadLeases> {
-        let is_drift = drift <= MAX_DRIFT;
-        is_drift.then_some(Leases { drift, ..self }).ok_or(BadLeases::Drift(drift))
-    }
-
-    /// How long each lease runs from its client's last sign on.
-    #[must_use]
-    pub fn length(self) -> Duration {
-        self.length
-    }
-
-    /// The library's terms. A server without leases grants some that do not end.
-    pub(crate) fn terms(leases: Option<Leases>) -> ffi::Terms {
-        match leases {
-            Some(Leases { length, drift }) => {
-                let length = u64::try_from(length.as_nanos()).unwrap_or(FOR_EVER);
-                ffi::Terms { length, drift }
-            }
-            None => ffi::Terms { length: FOR_EVER, drift: DRIFT },
-        }
-    }
-}
-
-impl fmt::Display for BadLeases {
-    fn fmt(&self, f: &mut fmt::Formatter<'_>) -> fmt::Result {
-        match self {
-            BadLeases::Length(length) => {
-                write!(f, "a lease of {length:?}: expected 300 milliseconds to a day")
-            }
-            BadLeases::Drift(drift) => {
-                write!(f, "a drift of {drift} in a hundred: expected 0 to {MAX_DRIFT}")
-            }
-        }
-    }
-}
-
-impl std::error::Error for BadLeases {}
+const CLIENTS: usize = ClientNumber::COUNT as usize;
 
 /// A client that is registered and has not left.
 #[derive(Clone, Copy, Debug)]
@@ -109,16 +28,6 @@ struct Known {
     signed: Option<(u64, Older)>,
 }
 
-/// What is answered to a sign.
-#[derive(Clone, Copy, Debug, PartialEq, Eq)]
-pub(crate) enum Answer {
-    Granted(Grant),
-    /// The incarnation was evicted, or has left, or a greater one is registered.
-    Ended {
-        incarnation: u64,
-    },
-}
-
 /// The leases of a server's clients.
 #[derive(Debug)]
 pub(crate) struct LeaseTable {
@@ -126,7 +35,7 @@ pub(crate) struct LeaseTable {
     record: LeaseRecord,
     /// From when on no lease of an older server runs, apart from those that do not end.
     old_end: u64,
-    known: [Known; CLIENTS],
+    known: PerClient<Known>,
 }
 
 impl LeaseTable {

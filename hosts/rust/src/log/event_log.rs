@@ -12,11 +12,10 @@ use crate::access::identity::Identity;
 use crate::log::seldom::Seldom;
 use crate::model::change::{Change, Record};
 use crate::model::history::Mark;
+use crate::model::room::Room;
+use crate::model::shard_fence::OtherShard;
 use crate::net::address::Address;
 use crate::net::stream::PeerAddress;
-use crate::server::connections::closing::At;
-use crate::server::room_at_start::RoomAtStart;
-use crate::shards::fence::OtherShard;
 use std::collections::BTreeMap;
 use std::fmt::Display;
 use std::time::Instant;
@@ -26,6 +25,14 @@ macro_rules! tell {
         #[cfg(feature = "tracing")]
         tracing::$level!($($event)*);
     }};
+}
+
+/// A connection, as the log names it.
+#[cfg_attr(not(feature = "tracing"), allow(dead_code, reason = "only the log reads it"))]
+#[derive(Clone, Copy, Debug)]
+pub(crate) struct At {
+    pub connection: u64,
+    pub peer: PeerAddress,
 }
 
 /// What a server has told, so that nothing is told twice.
@@ -71,8 +78,7 @@ impl EventLog {
     }
 
     /// A server with this room has started. Less than one had before may be meant, or be a slip.
-    pub fn has_room(start: &RoomAtStart) {
-        let RoomAtStart { room, greatest } = start;
+    pub fn has_room(room: Room, greatest: Room) {
         if room < greatest {
             tell!(warn, %room, %greatest, "the server has less room than one had before it");
         }

@@ -1,8 +1,7 @@
 //! What survives a restart of a server, and how it changes.
 use crate::model::lease_record::LeaseRecord;
 use crate::model::room::Room;
-use crate::model::row::{Row, Value};
-use std::collections::BTreeMap;
+use crate::model::row::Row;
 use std::fmt;
 
 /// A change that a client asks for.
@@ -96,65 +95,6 @@ impl Change {
     }
 }
 
-/// All that survives.
-#[derive(Clone, Debug, Default, PartialEq, Eq)]
-pub struct Snapshot {
-    /// How many times a server has started.
-    pub epoch: u64,
-    /// The rows.
-    pub rows: BTreeMap<u64, Value>,
-    /// The records, in order of first registration.
-    pub records: Vec<Record>,
-    /// What is known of leases.
-    pub leases: LeaseRecord,
-    /// The greatest room that a server had over it. A store that no server has served keeps none, and
-    /// one of before it was kept neither.
-    pub room: Option<Room>,
-    /// The bits of the first start of a server over the store, if there was one and the store keeps
-    /// its history. A copy has the same: by them an older copy is told from another store.
-    pub first_start: Option<u128>,
-}
-
-impl Snapshot {
-    /// Makes one change.
-    pub fn apply(&mut self, change: &Change) {
-        match *change {
-            Change::Started { epoch } => self.epoch = epoch,
-            Change::Registered { client, incarnation } => self.register(client, incarnation),
-            Change::Left { client } => self.revise(client, |record| record.left = true),
-            Change::Leased(leases) => self.leases = leases,
-            Change::Room(room) => self.room = Some(room),
-            Change::Judged { client, number, write, outcome } => {
-                self.revise(client, |record| record.last = Some((number, outcome)));
-                if outcome == Outcome::Applied {
-                    self.write(write);
-                }
-            }
-        }
-    }
-
-    fn register(&mut self, client: u8, incarnation: u64) {
-        let new = Record { client, incarnation, last: None, left: false };
-        match self.records.iter_mut().find(|record| record.client == client) {
-            Some(record) => *record = new,
-            None => self.records.push(new),
-        }
-    }
-
-    fn revise(&mut self, client: u8, how: impl FnOnce(&mut Record)) {
-        if let Some(record) = self.records.iter_mut().find(|record| record.client == client) {
-            how(record);
-        }
-    }
-
-    fn write(&mut self, write: Write) {
-        match write {
-            Write::Insert(row) | Write::Put(row) => self.rows.insert(row.key, row.value),
-            Write::Delete(key) => self.rows.remove(&key),
-        };
-    }
-}
-
 impl Write {
     /// The key that the write is about.
     #[must_use]
@@ -203,34 +143,5 @@ impl Outcome {
 impl fmt::Display for Outcome {
     fn fmt(&self, f: &mut fmt::Formatter<'_>) -> fmt::Result {
         fmt::Debug::fmt(self, f)
-    }
-}
-
-#[cfg(test)]
-mod tests {
-    use super::*;
-
-    #[test]
-    fn the_rows_that_are_counted_are_those_of_the_table() {
-        let row = |key| Row { key, value: Value::from(key) };
-        let judged = |write, outcome| Change::Judged { client: 3, number: 1, write, outcome };
-        let mut table = Snapshot::default();
-        let mut rows = 0;
-        for (change, count) in [
-            (Change::Started { epoch: 1 }, 0),
-            (Change::Registered { client: 3, incarnation: 1 }, 0),
-            (judged(Write::Insert(row(1)), Outcome::Applied), 1),
-            (judged(Write::Insert(row(2)), Outcome::NotHeld), 1),
-            (judged(Write::Insert(row(2)), Outcome::Applied), 2),
-            (judged(Write::Insert(row(2)), Outcome::Exists), 2),
-            (judged(Write::Put(row(1)), Outcome::Applied), 2),
-            (judged(Write::Delete(7), Outcome::Absent), 2),
-            (judged(Write::Delete(1), Outcome::Applied), 1),
-            (Change::Left { client: 3 }, 1),
-        ] {
-            table.apply(&change);
-            rows = change.rows_after(rows);
-            assert_eq!((rows, table.rows.len() as u64), (count, count), "{change:?}");
-        }
     }
 }

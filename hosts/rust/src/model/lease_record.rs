@@ -1,9 +1,8 @@
 //! What a store keeps of leases.
-use crate::lease::of_server::Leases;
-use crate::model::refusal::ClientSet;
+use crate::lease::terms::Leases;
+use crate::model::client_number::ClientNumber;
+use crate::model::client_set::ClientSet;
 use crate::proved::ffi;
-
-const CLIENTS: u8 = 64;
 
 /// What a store has to keep of leases, for the servers after this one. A server stores it before
 /// anything rests on it.
@@ -47,7 +46,7 @@ impl LeaseRecord {
 
     /// What the rule makes of it for each client. The longest lease is the same for all.
     pub(crate) fn each(self, rule: impl Fn(u8, ffi::KeptLease) -> ffi::KeptLease) -> LeaseRecord {
-        (0..CLIENTS).fold(self, |record, client| {
+        ClientNumber::all().fold(self, |record, client| {
             record.with_client(client, rule(client, self.of_client(client)))
         })
     }

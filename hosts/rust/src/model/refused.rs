@@ -1,8 +1,8 @@
 //! Why a client's call was refused.
 use crate::client::lock_file::LockFileError;
+use crate::model::code::Code;
 use crate::model::refusal::Refusal;
-use crate::proved::code::Code;
-use crate::shards::fence::OtherShard;
+use crate::model::shard_fence::OtherShard;
 use std::fmt;
 use std::io;
 

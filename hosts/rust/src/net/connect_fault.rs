@@ -1,6 +1,6 @@
 //! Why a client has no connection: the network failed, or the two sides do not take each other.
 use crate::model::refusal::Refusal;
-use crate::shards::fence::OtherShard;
+use crate::model::shard_fence::OtherShard;
 use std::fmt;
 use std::io::{self, ErrorKind};
 

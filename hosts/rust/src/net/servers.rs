@@ -1,7 +1,7 @@
 //! Where a client finds its server: one place, or several at which servers stand by.
+use crate::model::shard_bounds::ShardBounds;
 use crate::net::address::{Address, BadAddress};
 use crate::net::tls::TlsConfig;
-use crate::shards::bounds::ShardBounds;
 use std::fmt;
 use std::net::SocketAddr;
 use std::str::FromStr;

@@ -1,10 +1,11 @@
 //! A safe owner of a client's handle, and those who scan its cache at the same time.
 use crate::lease::boot_clock::Moment;
 use crate::lease::clocks::Now;
-use crate::lease::of_client::{End, Lease, Older};
+use crate::lease::of_client::{End, Lease};
+use crate::lease::terms::Older;
 use crate::model::change::{Outcome, Write};
+use crate::model::code::Code;
 use crate::model::row::Row;
-use crate::proved::code::Code;
 use crate::proved::ffi;
 use crate::proved::gate::{Owner, Reader, Reading};
 use crate::proved::server_handle::{Handle, code, done};

@@ -1,5 +1,5 @@
 //! Which shard has a key, and which part of a range each shard has: the library says it.
-use crate::proved::code::Code;
+use crate::model::code::Code;
 use crate::proved::ffi;
 use crate::proved::server_handle::done;
 use std::ops::Range;

@@ -1,12 +1,13 @@
 //! A safe owner of the library's handles, and a server's. `client_handle.rs` has a client's.
-use crate::model::change::{Change, Outcome, Record, Snapshot, Write};
+use crate::model::change::{Change, Outcome, Record, Write};
+use crate::model::client_number::{ClientNumber, PerClient};
+use crate::model::code::Code;
+use crate::model::lock::{HeldSlot, Waiting, mode_name};
 use crate::model::reach::Reach;
 use crate::model::room::Room;
 use crate::model::row::Row;
-use crate::proved::code::Code;
+use crate::model::snapshot::Snapshot;
 use crate::proved::ffi;
-use crate::server::shown::locks::HeldSlot;
-use crate::server::shown::watch::{CLIENTS, Waiting, mode_name};
 use std::ptr;
 
 /// A handle. It stays in its place: the library's caller may not copy it.
@@ -159,7 +160,7 @@ impl ServerHandle {
 
     /// The clients whose reports are missing.
     pub fn missing(&mut self) -> Result<Vec<u8>, Code> {
-        let mut clients = [0; CLIENTS as usize];
+        let mut clients: PerClient<u64> = [0; ClientNumber::COUNT as usize];
         let room = clients.len();
         // SAFETY: as for any handle, and there is so much room to be written to.
         let reply =
@@ -179,7 +180,7 @@ impl ServerHandle {
 
     /// The clients that wait for a lock, by number, each with those that it waits for.
     pub fn waiting(&mut self) -> Result<Vec<Waiting>, Code> {
-        (0..CLIENTS).filter_map(|client| self.waiting_of(client).transpose()).collect()
+        ClientNumber::all().filter_map(|client| self.waiting_of(client).transpose()).collect()
     }
 
     fn waiting_of(&mut self, client: u8) -> Result<Option<Waiting>, Code> {
@@ -195,7 +196,7 @@ impl ServerHandle {
     }
 
     fn waited_for(&mut self, client: u8) -> Result<Vec<u8>, Code> {
-        let mut clients = [0; CLIENTS as usize];
+        let mut clients: PerClient<u64> = [0; ClientNumber::COUNT as usize];
         let (at, room) = (clients.as_mut_ptr(), clients.len());
         // SAFETY: as for any handle, and there is so much room to be written to.
         let reply =
@@ -221,6 +222,18 @@ impl ServerHandle {
     /// they have. The room grows as it has to, and is used again.
     pub fn take(&mut self, room: &mut Vec<u8>) -> Result<usize, Code> {
         self.handle.take_behind(0, room)
+    }
+}
+
+impl Snapshot {
+    /// Judges it as a server does that starts on it. Nothing is kept, and no server runs after it.
+    ///
+    /// # Errors
+    ///
+    /// The code by which the library refuses it: it is not what a server kept, or memory was
+    /// refused.
+    pub fn judge(&self) -> Result<(), Code> {
+        ServerHandle::open(self, Room::MAX, Reach::default()).map(drop)
     }
 }
 

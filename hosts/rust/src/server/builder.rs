@@ -1,14 +1,26 @@
-//! What a server is told before it starts.
+//! How a server is told to start, and starts.
 use crate::access::Access;
-use crate::lease::of_server::Leases;
+use crate::lease::clocks::Now;
+use crate::lease::terms::Leases;
 use crate::model::reach::Reach;
 use crate::model::room::Room;
+use crate::model::shard_bounds::ShardBounds;
 use crate::net::stream::Listener;
+use crate::server::Server;
 use crate::server::connections::MAX_CONNECTIONS;
-use crate::server::{ServeError, Server};
-use crate::shards::bounds::ShardBounds;
+use crate::server::error::ServeError;
+use crate::server::event_loop::thread::ServerThread;
+use crate::server::opening::{Decided, Opened};
+use crate::server::requests::Requests;
+use crate::server::shown::liveness::TimedStore;
+use crate::server::shown::status::Status;
+use crate::server::shown::timings::Timings;
+use crate::server::sockets::Sockets;
 use crate::store::Store;
+use std::convert::Infallible;
 use std::fmt;
+use std::sync::{Arc, Mutex};
+use std::thread;
 
 /// A server that has not started: its listener, its store, whom it lets in, how many connections it
 /// takes, for how many rows it has room, how many slots a grant takes, and the leases that it grants.
@@ -102,6 +114,74 @@ impl<S: Store + 'static> ServerBuilder<S> {
     /// `MoreRows` if it has more rows than there is room for.
     pub fn start(self) -> Result<Server, ServeError> {
         Server::start_with(self.listener, self.store, self.options)
+    }
+}
+
+impl Server {
+    /// Serves what the store has. It blocks, and returns only with an error.
+    ///
+    /// # Errors
+    ///
+    /// Those of [`Server::start`]; `Store` if a change could not be committed: nothing that rests
+    /// on it was sent; `OlderStore` if a client that has shown who it is has seen what the store
+    /// lacks; `Panicked`.
+    pub fn serve(
+        listener: impl Into<Listener>,
+        store: impl Store + 'static,
+    ) -> Result<Infallible, ServeError> {
+        Server::start(listener, store)?.wait()
+    }
+
+    /// Starts a server in a thread of its own. When this returns, the new epoch is kept and
+    /// connections are taken.
+    ///
+    /// # Errors
+    ///
+    /// `Store` if the store fails; `Refused` if what it gives is not what a server committed, or
+    /// memory is refused; `Network` if the listener fails, may not be listened at, or there is no
+    /// thread.
+    pub fn start(
+        listener: impl Into<Listener>,
+        store: impl Store + 'static,
+    ) -> Result<Server, ServeError> {
+        Server::builder(listener, store).start()
+    }
+
+    /// Says more of a server before it starts: whom it lets in, how many connections it takes, and the
+    /// leases that it grants.
+    pub fn builder<S: Store + 'static>(
+        listener: impl Into<Listener>,
+        store: S,
+    ) -> ServerBuilder<S> {
+        ServerBuilder::new(listener.into(), store)
+    }
+
+    pub(crate) fn start_with(
+        listener: Listener,
+        mut store: impl Store + 'static,
+        options: Options,
+    ) -> Result<Server, ServeError> {
+        let Options { access, leases, shard, room, reach, max_connections } = options;
+        let address = listener.address()?;
+        access.check(&address)?;
+        if access.has_users() {
+            listener.let_users_connect()?;
+        }
+        let timings = Arc::new(Timings::new());
+        let decided = Decided { leases, shard, room, reach, max_connections };
+        let opened = decided.open(&mut store, &address, Arc::clone(&timings), Now::read)?;
+        let Opened { events, epoch, room } = opened;
+        let (sockets, waker) = Sockets::new(listener, max_connections, access)?;
+        let (requests, asked) = Requests::new(waker);
+        let status = Arc::new(Mutex::new(Status { epoch, room, reach, ..Status::default() }));
+        let shown = Arc::clone(&status);
+        let longest_store_wait = store.longest_wait();
+        let store = TimedStore::new(store, Arc::clone(&timings));
+        let serving = ServerThread::new(events, store, sockets, asked);
+        let thread = thread::Builder::new().name("krl-server".into());
+        let thread = thread.spawn(move || serving.run_to_the_end(&shown))?;
+        let thread = Some(thread);
+        Ok(Server { address, room, reach, requests, status, timings, longest_store_wait, thread })
     }
 }
 

@@ -8,7 +8,7 @@ use crate::model::refusal::Refusal;
 use crate::net::outgoing::Outgoing;
 use crate::net::poller::{Readiness, Watched};
 use crate::net::tls::TlsSession;
-use crate::server::connections::closing::CloseReason;
+use crate::server::close_reason::CloseReason;
 use crate::wire::frames::{Frames, GULP, HEAD};
 use crate::wire::host_frame::FromServer;
 use std::io::{self, ErrorKind, Read, Write};

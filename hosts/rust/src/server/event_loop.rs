@@ -4,22 +4,23 @@ use crate::lease::clocks::Now;
 use crate::lease::of_server::LeaseTable;
 use crate::log::event_log::EventLog;
 use crate::model::change::{Change, Record};
+use crate::model::client_set::ClientSet;
+use crate::model::code::Code;
 use crate::model::history::History;
-use crate::model::refusal::{ClientSet, Refusal};
-use crate::proved::code::Code;
+use crate::model::refusal::{Refusal, STREAM_VERSION};
+use crate::model::shard_bounds::ShardBounds;
 use crate::proved::server_handle::ServerHandle;
-use crate::server::ServeError;
-use crate::server::connections::closing::CloseReason;
+use crate::server::close_reason::CloseReason;
 use crate::server::connections::{Connections, Turn};
+use crate::server::error::ServeError;
 use crate::server::held_back::HeldBack;
 use crate::server::routing::{Sender, sender};
 use crate::server::shown::client_status::LastHeard;
 use crate::server::shown::status::Status;
 use crate::server::shown::timings::{Open, Timings};
 use crate::server::shown::watch::Watch;
-use crate::shards::bounds::ShardBounds;
 use crate::wire::frames;
-use crate::wire::host_frame::{self, FromClient};
+use crate::wire::host_frame::FromClient;
 use crate::wire::incoming::Incoming;
 use crate::wire::message::{Head, Kind, Message};
 use commit_group::CommitGroup;
@@ -244,7 +245,7 @@ impl EventLoop {
                 let length = message.bytes().len();
                 self.log.bad_message(&self.connections.at(connection), length);
                 if message.is_of_another_version() {
-                    let refusal = Refusal::Version { read: host_frame::VERSION };
+                    let refusal = Refusal::Version { read: STREAM_VERSION };
                     self.connections.refuse(connection, refusal);
                 }
                 self.connections.end(connection, CloseReason::BadMessage);

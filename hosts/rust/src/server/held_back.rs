@@ -1,4 +1,5 @@
 //! Pushes that are said again too soon.
+use crate::model::client_number::{ClientNumber, PerClient};
 use std::time::{Duration, Instant};
 
 /// How long a repeat of a push is held back.
@@ -8,8 +9,6 @@ use std::time::{Duration, Instant};
 /// late acknowledgement, and so on for ever.
 const PAUSE: Duration = Duration::from_millis(5);
 
-const CLIENTS: usize = 64;
-
 struct Push {
     message: Vec<u8>,
     sent: Instant,
@@ -17,13 +16,13 @@ struct Push {
 
 /// The last push to each client.
 pub(crate) struct HeldBack {
-    last: [Option<Push>; CLIENTS],
+    last: PerClient<Option<Push>>,
     count: u64,
 }
 
 impl HeldBack {
     pub fn new() -> HeldBack {
-        HeldBack { last: [const { None }; CLIENTS], count: 0 }
+        HeldBack { last: [const { None }; ClientNumber::COUNT as usize], count: 0 }
     }
 
     /// How many repeats were held back.

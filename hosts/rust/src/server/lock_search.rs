@@ -1,6 +1,7 @@
 //! A search for who holds what, which a server's loop makes in pages between its turns.
-use crate::server::shown::locks::{HeldRun, HeldSlot};
-use crate::server::shown::watch::{CLIENTS, Wait};
+use crate::model::client_number::ClientNumber;
+use crate::model::lock::HeldSlot;
+use crate::server::shown::watch::Wait;
 use std::ops::Range;
 use std::time::Duration;
 
@@ -10,6 +11,21 @@ const PAGE: usize = 1024;
 /// How long a page may take.
 const LONG: Duration = Duration::from_millis(10);
 const SHORT: Duration = Duration::from_millis(1);
+
+/// Neighboring slots of which a client holds something in one mode.
+#[derive(Clone, Copy, Debug, PartialEq, Eq, PartialOrd, Ord)]
+pub struct HeldRun {
+    /// The first point of the first slot.
+    pub lo: u64,
+    /// One past the last point of the last slot.
+    pub hi: u64,
+    /// The client.
+    pub client: u8,
+    /// The name of the mode that the client holds.
+    pub mode: &'static str,
+    /// How many slots they are.
+    pub slots: u64,
+}
 
 /// What a run is.
 #[derive(Clone, Copy, Debug, PartialEq, Eq)]
@@ -47,6 +63,27 @@ pub(crate) struct Page {
     pub took: Duration,
 }
 
+impl HeldRun {
+    pub(crate) fn of(slot: &HeldSlot) -> HeldRun {
+        let HeldSlot { lo, hi, client, mode } = *slot;
+        HeldRun { lo, hi, client, mode, slots: 1 }
+    }
+
+    pub(crate) fn first_slot(self) -> HeldSlot {
+        let HeldRun { lo, hi, client, mode, .. } = self;
+        HeldSlot { lo, hi, client, mode }
+    }
+
+    /// Takes the next run into this one if they are neighbors, and answers whether they are.
+    pub(crate) fn join(&mut self, next: &HeldRun) -> bool {
+        let is_next = (self.client, self.mode, self.hi) == (next.client, next.mode, next.lo);
+        if is_next {
+            (self.hi, self.slots) = (next.hi, self.slots + next.slots);
+        }
+        is_next
+    }
+}
+
 impl Search {
     /// A search for single slots, for somebody who waits for it.
     pub fn of_slots(points: Range<u64>, most: usize) -> Search {
@@ -59,7 +96,7 @@ impl Search {
     }
 
     fn new(points: Range<u64>, most: usize, runs: Runs, longest: Duration) -> Search {
-        let client = if points.is_empty() { CLIENTS } else { 0 };
+        let client = if points.is_empty() { ClientNumber::COUNT } else { 0 };
         Search { from: points.start, points, most, runs, longest, client, found: 0, mode: None }
     }
 
@@ -74,7 +111,7 @@ impl Search {
     }
 
     pub fn is_done(&self) -> bool {
-        self.client == CLIENTS
+        self.client == ClientNumber::COUNT
     }
 
     /// The runs that come next, by client and point: as many as a page has, or as come until it is

@@ -1,19 +1,20 @@
 //! How a server begins over what its store has.
 use crate::lease::clocks::Now;
-use crate::lease::of_server::{LeaseTable, Leases};
+use crate::lease::of_server::LeaseTable;
+use crate::lease::terms::Leases;
 use crate::log::event_log::EventLog;
-use crate::model::change::{Change, Snapshot};
+use crate::model::change::Change;
 use crate::model::reach::Reach;
 use crate::model::room::Room;
+use crate::model::shard_bounds::ShardBounds;
+use crate::model::snapshot::Snapshot;
 use crate::net::address::Address;
 use crate::proved::server_handle::ServerHandle;
-use crate::server::ServeError;
 use crate::server::connections::Connections;
+use crate::server::error::ServeError;
 use crate::server::event_loop::EventLoop;
 use crate::server::room_at_start::RoomAtStart;
 use crate::server::shown::timings::Timings;
-use crate::shards::bounds::ShardBounds;
-use crate::shards::fence;
 use crate::store::Store;
 use std::sync::Arc;
 
@@ -65,7 +66,7 @@ impl Decided {
         let connections = Connections::new(max_connections, room, now);
         let (rows, records) = (snapshot.rows.len(), &snapshot.records);
         let log = EventLog::started(epoch, address, rows, records);
-        EventLog::has_room(&at_start);
+        EventLog::has_room(room, at_start.greatest);
         let events = EventLoop::new(server, history, connections, table, timings, epoch, log);
         let events = events.of_shard(shard).of_table(rows, room, reach);
         Ok(Opened { events, epoch, room })
@@ -75,6 +76,33 @@ impl Decided {
 /// Refuses a store with a key that the shard does not have: nobody would find it.
 fn refuse_other_keys(store: &Snapshot, shard: Option<ShardBounds>) -> Result<(), ServeError> {
     let Some(shard) = shard else { return Ok(()) };
-    let stray = fence::stray_key(store, shard);
+    let stray = stray_key(store, shard);
     stray.map_or(Ok(()), |key| Err(ServeError::OtherKey { key, shard }))
+}
+
+/// A key of the store that the shard does not have, if there is one.
+fn stray_key(store: &Snapshot, shard: ShardBounds) -> Option<u64> {
+    let keys = shard.keys();
+    let below = store.rows.range(..keys.start).next();
+    below.or_else(|| store.rows.range(keys.end..).next()).map(|(key, _)| *key)
+}
+
+#[cfg(test)]
+mod tests {
+    use super::*;
+    use crate::model::row::Value;
+
+    #[test]
+    fn keys_of_another_shard_are_found() {
+        let store = |keys: &[u64]| Snapshot {
+            rows: keys.iter().map(|key| (*key, Value::from(0))).collect(),
+            ..Snapshot::default()
+        };
+        let shard = "10..20@1".parse().unwrap();
+        for (keys, stray) in
+            [(&[][..], None), (&[10, 19], None), (&[9, 10], Some(9)), (&[15, 20], Some(20))]
+        {
+            assert_eq!(stray_key(&store(keys), shard), stray);
+        }
+    }
 }

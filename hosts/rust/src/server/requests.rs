@@ -1,5 +1,5 @@
 //! What other threads ask of a server's loop.
-use crate::model::change::Snapshot;
+use crate::model::snapshot::Snapshot;
 use crate::server::lock_search::{Page, Search};
 use crate::store::StoreError;
 use mio::Waker;

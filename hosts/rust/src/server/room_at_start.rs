@@ -1,7 +1,8 @@
 //! The room of a server that starts, and the room that its store keeps.
-use crate::model::change::{Change, Snapshot};
+use crate::model::change::Change;
 use crate::model::room::Room;
-use crate::server::ServeError;
+use crate::model::snapshot::Snapshot;
+use crate::server::error::ServeError;
 
 /// The room of a server that starts.
 #[derive(Clone, Copy, Debug, PartialEq, Eq)]
@@ -32,18 +33,6 @@ impl RoomAtStart {
     /// What the start has to commit, if the store does not keep the greatest room yet.
     pub fn change(&self, store: &Snapshot) -> Option<Change> {
         (store.room != Some(self.greatest)).then_some(Change::Room(self.greatest))
-    }
-}
-
-impl Snapshot {
-    /// The room of a server that starts on it and is given none: the greatest that one had before.
-    /// For a store of before it was kept it is 65,536, and it is never less than the rows need. A
-    /// store that no server has served and that has no rows has none.
-    #[must_use]
-    pub fn kept_room(&self) -> Option<Room> {
-        let is_new = self.epoch == 0 && self.rows.is_empty();
-        let kept = self.room.or((!is_new).then(Room::default));
-        kept.map(|room| room.max(Room::for_rows(self.rows.len())))
     }
 }
 

@@ -1,11 +1,11 @@
 //! Which servers have which keys.
+use crate::model::code::Code;
 use crate::model::range::keys_of;
 use crate::model::refused::Refused;
 use crate::model::row::END;
+use crate::model::shard_bounds::ShardBounds;
 use crate::net::servers::Servers;
-use crate::proved::code::Code;
 use crate::proved::partition::{Part, Partition};
-use crate::shards::bounds::ShardBounds;
 use std::fmt;
 use std::num::NonZeroU64;
 use std::ops::{Range, RangeBounds};

@@ -1,6 +1,6 @@
 //! Why a call over shards was refused.
+use crate::model::code::Code;
 use crate::model::refused::{JoinError, Refused};
-use crate::proved::code::Code;
 use std::fmt;
 
 /// Why a call of a sharded client did not do what it should.

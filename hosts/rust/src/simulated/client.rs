@@ -2,7 +2,7 @@
 use crate::client::jobs::{Asked, Held, Jobs, Purpose};
 use crate::client::session::Session;
 use crate::lease::clocks::Now;
-use crate::lease::of_client::{Older, Sign};
+use crate::lease::terms::{Older, Sign};
 use crate::model::change::{Outcome, Write};
 use crate::model::refused::Refused;
 use crate::model::row::Row;

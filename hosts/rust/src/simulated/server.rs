@@ -2,14 +2,14 @@
 use crate::access::Entry;
 use crate::access::identity::Identity;
 use crate::lease::clocks::Now;
-use crate::lease::of_server::Leases;
+use crate::lease::terms::Leases;
 use crate::model::change::Change;
 use crate::model::reach::Reach;
 use crate::model::room::Room;
 use crate::net::address::Address;
 use crate::net::poller::Readiness;
 use crate::net::stream::PeerAddress;
-use crate::server::ServeError;
+use crate::server::error::ServeError;
 use crate::server::event_loop::{EventLoop, Heard};
 use crate::server::opening::{Decided, Opened};
 use crate::server::shown::timings::Timings;

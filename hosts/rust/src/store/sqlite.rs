@@ -4,12 +4,14 @@ pub(crate) mod copy;
 mod progress;
 mod version;
 
-use crate::model::change::{Change, Outcome, Record, Snapshot, Write};
+use crate::model::change::{Change, Outcome, Record, Write};
+
+use crate::model::client_set::ClientSet;
 use crate::model::history::{History, Mark};
 use crate::model::lease_record::LeaseRecord;
-use crate::model::refusal::ClientSet;
 use crate::model::room::Room;
 use crate::model::row::{Row, Value};
+use crate::model::snapshot::Snapshot;
 use crate::store::sqlite::checksum::Checksum;
 use crate::store::sqlite::version::Found;
 use crate::store::{Store, StoreError};

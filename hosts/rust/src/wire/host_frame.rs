@@ -5,16 +5,13 @@
 //!
 //! A Hello names the version of the stream, and its layout is the same in each version from 2 on: so
 //! each side can tell the other that they do not fit together.
+use crate::model::client_set::ClientSet;
 use crate::model::history::{Mark, Seen};
-use crate::model::refusal::{ClientSet, Refusal};
-use crate::shards::bounds::ShardBounds;
+use crate::model::refusal::{Refusal, STREAM_VERSION};
+use crate::model::shard_bounds::ShardBounds;
 use crate::wire::shard_frame;
 
 const HOST: u8 = 0;
-
-/// The version of the stream: of the frames of the hosts, and of the messages between them. In
-/// version 1 a grant had at most eight holdings, and a Hello named no version.
-pub(crate) const VERSION: u8 = 2;
 
 /// The version of a Hello that names none.
 const BEFORE_VERSIONS: u8 = 1;
@@ -69,7 +66,7 @@ impl FromClient {
         match self {
             FromClient::Hello(seen) => {
                 let mut said = seen.map(spelled_seen).unwrap_or_default();
-                said.push(VERSION);
+                said.push(STREAM_VERSION);
                 framed(&[HOST, FromClient::HELLO], &said)
             }
             FromClient::OtherVersion => framed(&[HOST, FromClient::HELLO], &[]),
@@ -106,7 +103,7 @@ impl FromServer {
         match self {
             FromServer::Hello { answers_signs } => {
                 let signs = if answers_signs { ANSWERS_SIGNS } else { 0 };
-                framed(&[HOST, FromServer::HELLO], &[signs, VERSION])
+                framed(&[HOST, FromServer::HELLO], &[signs, STREAM_VERSION])
             }
             FromServer::Refused(refusal) => {
                 let (reason, numbers) = spelled(refusal);
@@ -140,7 +137,7 @@ impl FromServer {
 /// What follows the kind of a client's Hello: the mark, if it has heard one, and the version.
 fn read_hello(said: &[u8]) -> FromClient {
     match said.split_last() {
-        Some((&VERSION, mark)) if MARK_LENGTHS.contains(&mark.len()) => {
+        Some((&STREAM_VERSION, mark)) if MARK_LENGTHS.contains(&mark.len()) => {
             FromClient::Hello(read_seen(mark))
         }
         _ => FromClient::OtherVersion,
@@ -150,7 +147,7 @@ fn read_hello(said: &[u8]) -> FromClient {
 /// What follows the kind of a server's Hello: whether it answers signs, and the version.
 fn read_server_hello(said: &[u8]) -> FromServer {
     match *said {
-        [signs, VERSION, ..] => FromServer::Hello { answers_signs: signs == ANSWERS_SIGNS },
+        [signs, STREAM_VERSION, ..] => FromServer::Hello { answers_signs: signs == ANSWERS_SIGNS },
         [_, read, ..] => FromServer::Refused(Refusal::Version { read }),
         _ => FromServer::Refused(Refusal::Version { read: BEFORE_VERSIONS }),
     }
@@ -312,7 +309,7 @@ mod tests {
             assert_eq!(of_client(said), Some(FromClient::OtherVersion), "{said:?}");
         }
         for length in MARK_LENGTHS {
-            let hello = of_client(&[&vec![7; length][..], &[VERSION]].concat());
+            let hello = of_client(&[&vec![7; length][..], &[STREAM_VERSION]].concat());
             assert!(matches!(hello, Some(FromClient::Hello(_))), "{length}");
         }
     }

@@ -1,5 +1,5 @@
 //! What a client and its host say to a server, frame by frame.
-use crate::lease::of_client::Sign;
+use crate::lease::terms::Sign;
 use crate::wire::host_frame::{self, FromClient};
 use crate::wire::message::Message;
 

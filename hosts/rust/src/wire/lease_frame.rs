@@ -1,7 +1,7 @@
 //! Host frames on leases. `docs/WIRE.md` has the table, and `host_frame.rs` the others.
 use crate::lease::boot_clock::Moment;
-use crate::lease::of_client::{FOR_EVER, Grant, Older, Sign};
-use crate::lease::of_server::Answer;
+use crate::lease::terms::Answer;
+use crate::lease::terms::{FOR_EVER, Grant, Older, Sign};
 
 const HOST: u8 = 0;
 const SIGN: u8 = 1;

@@ -1,5 +1,6 @@
 //! What a host reads of the library's messages: the one place that knows where their fields stand.
 //! `docs/WIRE.md` has the table.
+use crate::model::client_number::ClientNumber;
 use std::ops::Range;
 
 const KIND_AT: usize = 1;
@@ -106,7 +107,7 @@ impl Head {
 
     /// The client that the message names, if it is one.
     pub fn client(self) -> Option<u8> {
-        u8::try_from(self.number).ok().filter(|client| *client < 64)
+        ClientNumber::of(self.number).map(ClientNumber::get)
     }
 }
 

@@ -1,6 +1,6 @@
 //! How a shard is spelled in the frames of the hosts. `docs/WIRE.md` has the table.
 use crate::model::refusal::Refusal;
-use crate::shards::bounds::ShardBounds;
+use crate::model::shard_bounds::ShardBounds;
 use std::num::NonZeroU64;
 
 /// The three numbers of a shard: its first key, its end, and the version of its map. Those of none

@@ -22,6 +22,8 @@ pub struct Overview<'a> {
     pub histograms: Option<Histograms>,
     /// How many seconds the server's certificate is still valid, if it shows one.
     pub certificate: Option<i64>,
+    /// How long ago the process made its last backup, if it has made one.
+    pub backup: Option<Duration>,
     /// The servers of the table, as a part of the page.
     pub servers: String,
 }
@@ -68,6 +70,9 @@ impl Overview<'_> {
         }
         if let Some(seconds) = self.certificate {
             figure("certificate", &certificate(seconds));
+        }
+        if let Some(age) = self.backup {
+            figure("last backup", &format!("{} ago", brief(age)));
         }
         head.add(format_args!("</dl>"));
         head.text()

@@ -6,8 +6,8 @@
 //! it takes such a callback again as soon as it has the push, before it asks for anything else. The
 //! library says the release again then, and this time it names that push.
 use super::Jobs;
+use crate::model::code::Code;
 use crate::proved::client_handle::{ClientHandle, Shown};
-use crate::proved::code::Code;
 use crate::wire::message::Message;
 use std::ops::Range;
 

@@ -1,8 +1,8 @@
 //! Taking a range part by part, and pinning what is taken.
 use super::{Asked, Job, JobId, Jobs, Reply};
+use crate::model::code::Code;
 use crate::model::row::Row;
 use crate::proved::client_handle::{Mode, Scan};
-use crate::proved::code::Code;
 use std::ops::Range;
 
 /// What a range is held for.

@@ -1,9 +1,10 @@
 //! The lease of a client: what it may say, its signs, and how it ends.
 use super::{Dropped, Jobs, Stage};
 use crate::lease::boot_clock::Moment;
-use crate::lease::of_client::{Company, Sign};
-use crate::lease::of_server::Answer;
-use crate::proved::code::Code;
+use crate::lease::of_client::Company;
+use crate::lease::terms::Answer;
+use crate::lease::terms::Sign;
+use crate::model::code::Code;
 use std::io::{self, ErrorKind};
 use std::time::Duration;
 

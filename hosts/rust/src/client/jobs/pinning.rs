@@ -1,7 +1,7 @@
 //! Pins of a client, and what is given back behind them.
 use super::Jobs;
+use crate::model::code::Code;
 use crate::model::refused::Refused;
-use crate::proved::code::Code;
 use std::ops::Range;
 
 impl Jobs {

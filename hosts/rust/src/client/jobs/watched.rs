@@ -1,10 +1,10 @@
 //! Ranges whose changes a caller waits for.
 use super::{Asked, JobId, Jobs, Reply};
 use crate::client::cached::kept;
+use crate::model::code::Code;
 use crate::model::refused::Refused;
 use crate::model::row::Row;
 use crate::proved::client_handle::Scan;
-use crate::proved::code::Code;
 use std::ops::Range;
 use std::sync::mpsc::{SyncSender, sync_channel};
 

@@ -1,10 +1,11 @@
 //! A server and two clients of the library, whose messages are handed over one by one.
 use super::{Asking, Jobs};
 use crate::lease::clocks::Now;
-use crate::model::change::{Change, Outcome, Snapshot, Write};
+use crate::model::change::{Change, Outcome, Write};
 use crate::model::reach::Reach;
 use crate::model::room::Room;
 use crate::model::row::{Row, Value};
+use crate::model::snapshot::Snapshot;
 use crate::proved::client_handle::{ClientHandle, Scan};
 use crate::proved::server_handle::ServerHandle;
 use crate::wire::frames::split;

@@ -2,9 +2,9 @@
 use super::bound::Wanted;
 use super::{Job, JobId, Jobs, Reply};
 use crate::model::change::{Outcome, Write};
+use crate::model::code::Code;
 use crate::model::refused::Refused;
 use crate::proved::client_handle::{Mode, Scan, Shown};
-use crate::proved::code::Code;
 use std::time::{Duration, Instant};
 
 /// A delete keeps the slot of its row for so long, while it waits for the slot after it. Whoever has

@@ -9,9 +9,9 @@ mod narrowed;
 mod reach;
 
 use super::{Asking, JobId, Jobs};
+use crate::model::code::Code;
 use crate::model::row::{END, Row};
 use crate::proved::client_handle::{Mode, Scan, Shown};
-use crate::proved::code::Code;
 pub(super) use narrowed::Narrowed;
 use reach::{TooFar, farthest};
 use std::ops::Range;

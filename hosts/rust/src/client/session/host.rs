@@ -1,7 +1,7 @@
 //! What a client's host and that of its server say to one another beneath the messages.
 use super::Session;
 use crate::client::jobs::Dropped;
-use crate::lease::of_server::Answer;
+use crate::lease::terms::Answer;
 use crate::log::event_log;
 use crate::model::refusal::Refusal;
 use crate::model::refused::Refused;

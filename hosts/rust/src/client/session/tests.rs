@@ -1,11 +1,11 @@
 //! A session whose server is a few frames, and whose time is passed by hand.
 use super::*;
-use crate::lease::of_client::{Grant, Older, Sign};
-use crate::lease::of_server::Answer;
+use crate::lease::terms::Answer;
+use crate::lease::terms::{Grant, Older, Sign};
 use crate::model::history::Mark;
+use crate::model::shard_fence::OtherShard;
 use crate::net::connect_fault::{NotTaken, OtherVersion};
 use crate::proved::client_handle::ClientHandle;
-use crate::shards::fence::OtherShard;
 use crate::wire::frames::split;
 use crate::wire::host_frame::{FromClient, FromServer};
 

@@ -1,5 +1,5 @@
 use super::*;
-use crate::model::refusal::ClientSet;
+use crate::model::client_set::ClientSet;
 
 const SECOND: u64 = 1_000_000_000;
 
@@ -209,15 +209,4 @@ fn who_is_evicted_half_is_evicted_anew() {
     table.evict(3, 8);
     assert_eq!(table.register(3, 8, at(12)), record(10, 0));
     assert_eq!(table.to_evict(at(24)), [(3, 8), (5, 7)]);
-}
-
-#[test]
-fn what_is_no_lease() {
-    let short = Duration::from_millis(299);
-    assert_eq!(Leases::of(short), Err(BadLeases::Length(short)));
-    assert!(Leases::of(LONGEST + Duration::from_nanos(1)).is_err());
-    let bad = Leases::of(LONGEST).unwrap().with_drift(101).unwrap_err();
-    assert_eq!(bad.to_string(), "a drift of 101 in a hundred: expected 0 to 100");
-    let said = BadLeases::Length(short).to_string();
-    assert_eq!(said, "a lease of 299ms: expected 300 milliseconds to a day");
 }

@@ -2,6 +2,7 @@
 //! only just have to. Nobody who was evicted may answer.
 use super::*;
 use crate::lease::of_client::{Company, End, Lease};
+use crate::lease::terms::DRIFT;
 use std::sync::Arc;
 
 const CLIENT: u8 = 3;

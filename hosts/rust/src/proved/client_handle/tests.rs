@@ -1,6 +1,6 @@
 use super::world::{ALL, LAST, Scanned, World, are_rows};
 use super::*;
-use crate::lease::of_client::Grant;
+use crate::lease::terms::Grant;
 use std::cell::Cell;
 use std::sync::Barrier;
 use std::sync::atomic::{AtomicBool, AtomicU64, Ordering};

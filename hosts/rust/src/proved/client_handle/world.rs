@@ -1,10 +1,11 @@
 //! A server and two clients of the library in one process, whose messages are handed over at once.
 use super::{ClientHandle, Mode, Scan};
 use crate::lease::clocks::Now;
-use crate::model::change::{Change, Snapshot};
+use crate::model::change::Change;
 use crate::model::reach::Reach;
 use crate::model::room::Room;
 use crate::model::row::{Row, Value};
+use crate::model::snapshot::Snapshot;
 use crate::proved::server_handle::ServerHandle;
 use crate::wire::frames::split;
 use crate::wire::message::Message;

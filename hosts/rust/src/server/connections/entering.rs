@@ -1,10 +1,11 @@
 //! Connections that come: who is at the other end, and who goes for one more.
-use super::closing::{At, CloseReason};
 use super::{Connections, Peer};
 use crate::access::Entry;
 use crate::access::identity::Identity;
 use crate::log::event_log;
+use crate::log::event_log::At;
 use crate::net::stream::PeerAddress;
+use crate::server::close_reason::CloseReason;
 use crate::server::connection::Connection;
 
 impl Connections {

@@ -1,6 +1,6 @@
 //! Long frames: a report is the only one, and each client may have one on its way.
 use super::Connections;
-use super::closing::CloseReason;
+use crate::server::close_reason::CloseReason;
 
 impl Connections {
     /// The long report of this client may come whole on the connection. Another connection on which

@@ -5,7 +5,7 @@
 //! others would wait for the end of that one, and then for their own. So such a commit waits for
 //! those that wrote with it just before, for a small part of the time that a commit takes.
 use crate::model::change::Change;
-use crate::model::refusal::ClientSet;
+use crate::model::client_set::ClientSet;
 use std::time::Duration;
 
 /// A commit waits for this part of its own time at most.

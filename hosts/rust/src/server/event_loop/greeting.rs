@@ -4,10 +4,10 @@ use super::{EventLoop, LAST_TURNS};
 use crate::access::identity::Identity;
 use crate::lease::clocks::Now;
 use crate::model::history::{Comparison, Mark, Seen};
-use crate::model::refusal::Refusal;
-use crate::server::ServeError;
-use crate::server::connections::closing::CloseReason;
-use crate::wire::host_frame::{FromServer, VERSION};
+use crate::model::refusal::{Refusal, STREAM_VERSION};
+use crate::server::close_reason::CloseReason;
+use crate::server::error::ServeError;
+use crate::wire::host_frame::FromServer;
 
 /// A connection whose client has seen what the store lacks: so the store is an older copy, or another
 /// server has it.
@@ -35,7 +35,7 @@ impl EventLoop {
     /// heard: it would take no long grant, and ask for it again and again.
     pub(super) fn refuse_other_version(&mut self, connection: u64) {
         self.log.other_version(&self.connections.at(connection));
-        let refusal = Refusal::Version { read: VERSION };
+        let refusal = Refusal::Version { read: STREAM_VERSION };
         self.connections.greet(connection, FromServer::Refused(refusal));
         self.connections.end(connection, CloseReason::OtherVersion);
     }

@@ -2,12 +2,12 @@
 use super::EventLoop;
 use crate::lease::boot_clock::Moment;
 use crate::lease::clocks::Now;
-use crate::lease::of_client::Sign;
+use crate::lease::terms::Sign;
 use crate::model::change::Change;
+use crate::model::code::Code;
 use crate::model::refusal::Refusal;
-use crate::proved::code::Code;
-use crate::server::ServeError;
 use crate::server::ahead;
+use crate::server::error::ServeError;
 use crate::wire::message::{self, Head, Kind};
 
 impl EventLoop {

@@ -2,8 +2,8 @@
 use super::EventLoop;
 use crate::access::identity::Identity;
 use crate::model::change::Record;
-use crate::server::ServeError;
-use crate::server::connections::closing::CloseReason;
+use crate::server::close_reason::CloseReason;
+use crate::server::error::ServeError;
 use crate::server::routing::{Sender, sender};
 use crate::wire::frames::HEAD;
 use crate::wire::incoming::Incoming;

@@ -2,8 +2,8 @@
 use super::EventLoop;
 use crate::lease::clocks::Now;
 use crate::model::change::{Change, Outcome, Write};
+use crate::model::lock::HeldSlot;
 use crate::server::lock_search::{Page, Search};
-use crate::server::shown::locks::HeldSlot;
 use std::time::Duration;
 
 impl EventLoop {

@@ -1,7 +1,7 @@
 //! What a connection says that people have to hear of.
 use super::EventLoop;
 use crate::model::refusal::Refusal;
-use crate::server::connections::closing::CloseReason;
+use crate::server::close_reason::CloseReason;
 use crate::wire::host_frame::{FromClient, FromServer};
 use crate::wire::incoming::Incoming;
 use crate::wire::message::Message;

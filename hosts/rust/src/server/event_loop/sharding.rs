@@ -1,9 +1,9 @@
 //! Whom a server of a shard hears: clients that take it for what it serves.
 use super::EventLoop;
 use crate::model::refusal::Refusal;
-use crate::server::connections::closing::CloseReason;
-use crate::shards::bounds::ShardBounds;
-use crate::shards::fence::{self, OtherShard};
+use crate::model::shard_bounds::ShardBounds;
+use crate::model::shard_fence::{self, OtherShard};
+use crate::server::close_reason::CloseReason;
 use crate::wire::host_frame::{FromClient, FromServer};
 use crate::wire::incoming::Incoming;
 
@@ -38,7 +38,7 @@ impl EventLoop {
     /// Lets the connection in if its client takes the server for what it serves, and else ends it. It
     /// answers which.
     fn compare(&mut self, connection: u64, expected: Option<ShardBounds>) -> bool {
-        match fence::compare(expected, self.shard) {
+        match shard_fence::compare(expected, self.shard) {
             Ok(()) => {
                 self.connections.let_in(connection);
                 true

@@ -4,7 +4,7 @@ use super::EventLoop;
 use super::Heard;
 use crate::lease::clocks::Now;
 use crate::log::event_log;
-use crate::server::ServeError;
+use crate::server::error::ServeError;
 use crate::server::lock_search::Page;
 use crate::server::requests::Request;
 use crate::server::shown::status::Status;

@@ -1,6 +1,7 @@
 //! What an operator sees of each client.
+use crate::lease::terms::LeaseLeft;
+use crate::model::client_number::{ClientNumber, PerClient};
 use crate::net::stream::PeerAddress;
-use crate::server::shown::watch::CLIENTS;
 use std::time::{Duration, Instant};
 
 /// A client that is registered and has not left, at one moment.
@@ -25,22 +26,13 @@ pub struct ClientConnection {
     pub open_for: Duration,
 }
 
-/// How long a lease still runs, by the server's clock.
-#[derive(Clone, Copy, Debug, PartialEq, Eq)]
-pub enum LeaseLeft {
-    /// It does not end: only an operator evicts the client.
-    Unending,
-    /// It ends after this time, if no sign of the client comes. The server evicts the client then.
-    Ends(Duration),
-}
-
 /// When something last came from each client.
 #[derive(Debug)]
-pub(crate) struct LastHeard([Option<Instant>; CLIENTS as usize]);
+pub(crate) struct LastHeard(PerClient<Option<Instant>>);
 
 impl LastHeard {
     pub fn new() -> LastHeard {
-        LastHeard([None; CLIENTS as usize])
+        LastHeard([None; ClientNumber::COUNT as usize])
     }
 
     /// Something came from the client at this moment, and nothing later.

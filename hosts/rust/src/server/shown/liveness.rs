@@ -1,16 +1,13 @@
 //! Whether a server's loop goes on.
-use crate::model::change::{Change, Snapshot};
+use crate::model::change::Change;
 use crate::model::history::History;
-use crate::server::shown::monitor::Monitor;
+use crate::model::snapshot::Snapshot;
+use crate::server::shown::monitor::{LONGEST_TURN, Monitor};
 use crate::server::shown::timings::Timings;
 use crate::store::{Store, StoreError};
 use std::fmt;
 use std::sync::Arc;
 use std::time::Duration;
-
-/// The longest turn of a loop that does not wait for its store. Judging the longest report takes
-/// some seconds.
-pub(crate) const LONGEST_TURN: Duration = Duration::from_secs(30);
 
 /// A shorter wait for the store is not worth a word.
 const SHORT_WAIT: Duration = Duration::from_secs(1);

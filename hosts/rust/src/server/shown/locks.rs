@@ -1,44 +1,17 @@
 //! Who holds which slots of a server's table, and who waits there.
+use crate::model::client_number::ClientNumber;
+use crate::model::lock::HeldSlot;
 use crate::model::range::keys_of;
-use crate::server::lock_search::{Page, Search};
+use crate::server::lock_search::{HeldRun, Page, Search};
 use crate::server::requests::{Request, Unanswered};
 use crate::server::shown::monitor::{BUSY, Monitor};
-use crate::server::shown::watch::{CLIENTS, Wait};
+use crate::server::shown::watch::Wait;
 use std::fmt;
 use std::ops::{Range, RangeBounds};
 use std::time::Duration;
 
 /// How long a page of the answer may take: the server's loop may wait for its store meanwhile.
 const LONGEST_WAIT: Duration = Duration::from_secs(10);
-
-/// A slot of which a client holds something.
-#[derive(Clone, Copy, Debug, PartialEq, Eq, PartialOrd, Ord)]
-pub struct HeldSlot {
-    /// The slot's first point.
-    pub lo: u64,
-    /// One past the slot's last point, which is the key of its entry; in the last slot, which has
-    /// no entry, it is [`END`](crate::END).
-    pub hi: u64,
-    /// The client.
-    pub client: u8,
-    /// The name of the mode that the client holds.
-    pub mode: &'static str,
-}
-
-/// Neighboring slots of which a client holds something in one mode.
-#[derive(Clone, Copy, Debug, PartialEq, Eq, PartialOrd, Ord)]
-pub struct HeldRun {
-    /// The first point of the first slot.
-    pub lo: u64,
-    /// One past the last point of the last slot.
-    pub hi: u64,
-    /// The client.
-    pub client: u8,
-    /// The name of the mode that the client holds.
-    pub mode: &'static str,
-    /// How many slots they are.
-    pub slots: u64,
-}
 
 /// A search for who holds what in a range, a page at a time. Its clients are looked up one after
 /// another, by number, and the server goes on between two pages: so what was found of one client is
@@ -101,7 +74,7 @@ impl Monitor {
     /// ended; `Busy` if its loop does not answer within ten seconds.
     pub fn locks(&self, points: impl RangeBounds<u64>, most: usize) -> Result<Locks, LocksError> {
         let points = keys_of(&points).map_err(|_| LocksError::BadRange)?;
-        let most = most.max(CLIENTS.into());
+        let most = most.max(ClientNumber::COUNT.into());
         let first = self.page(Search::of_slots(points.clone(), most.saturating_add(1)))?;
         let is_of_one_moment = first.rest.is_done();
         let Page { mut held, waits, mut rest, .. } = first;
@@ -122,27 +95,6 @@ impl Monitor {
             Unanswered::Ended => LocksError::Ended,
             Unanswered::Busy => LocksError::Busy,
         })
-    }
-}
-
-impl HeldRun {
-    pub(crate) fn of(slot: &HeldSlot) -> HeldRun {
-        let HeldSlot { lo, hi, client, mode } = *slot;
-        HeldRun { lo, hi, client, mode, slots: 1 }
-    }
-
-    fn first_slot(self) -> HeldSlot {
-        let HeldRun { lo, hi, client, mode, .. } = self;
-        HeldSlot { lo, hi, client, mode }
-    }
-
-    /// Takes the next run into this one if they are neighbors, and answers whether they are.
-    pub(crate) fn join(&mut self, next: &HeldRun) -> bool {
-        let is_next = (self.client, self.mode, self.hi) == (next.client, next.mode, next.lo);
-        if is_next {
-            (self.hi, self.slots) = (next.hi, self.slots + next.slots);
-        }
-        is_next
     }
 }
 

@@ -1,13 +1,16 @@
 //! What a server lets other threads see of it while it runs.
-use crate::model::change::Snapshot;
+use crate::model::snapshot::Snapshot;
 use crate::server::requests::{Request, Requests, Unanswered};
-use crate::server::shown::liveness::LONGEST_TURN;
 use crate::server::shown::status::Status;
 use crate::server::shown::timings::{Measured, Timings};
 use crate::store::StoreError;
 use std::fmt;
 use std::sync::{Arc, Mutex, PoisonError};
 use std::time::Duration;
+
+/// The longest turn of a loop that does not wait for its store. Judging the longest report takes
+/// some seconds.
+pub(crate) const LONGEST_TURN: Duration = Duration::from_secs(30);
 
 /// What is said of a server whose loop does not answer.
 pub(crate) const BUSY: &str = "the server's loop did not answer in time: it is busy, or hangs";

@@ -1,7 +1,7 @@
 //! What an operator sees of a server.
 use crate::model::reach::Reach;
 use crate::model::room::Room;
-use crate::server::connections::closing::ClosedConnections;
+use crate::server::close_reason::ClosedConnections;
 use crate::server::shown::client_status::ClientStatus;
 use crate::server::shown::watch::{HeldSlots, Wait};
 use std::fmt;

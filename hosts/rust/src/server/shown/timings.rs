@@ -1,7 +1,7 @@
 //! How long things take in a server, as histograms.
 //!
 //! A measurement costs one increment of an atomic in the server's thread, and no memory.
-use crate::server::shown::watch::CLIENTS;
+use crate::model::client_number::{ClientNumber, PerClient};
 use crate::wire::message::{Kind, Message};
 use std::sync::atomic::{AtomicU64, Ordering};
 use std::time::{Duration, Instant};
@@ -186,17 +186,17 @@ struct Asked {
 
 /// The requests that are not granted yet, and the callbacks that no release has answered yet.
 pub(crate) struct Open {
-    asked: [Option<Asked>; CLIENTS as usize],
-    last_request: [u64; CLIENTS as usize],
-    called_back: [Option<Instant>; CLIENTS as usize],
+    asked: PerClient<Option<Asked>>,
+    last_request: PerClient<u64>,
+    called_back: PerClient<Option<Instant>>,
 }
 
 impl Open {
     pub fn new() -> Open {
         Open {
-            asked: [None; CLIENTS as usize],
-            last_request: [0; CLIENTS as usize],
-            called_back: [None; CLIENTS as usize],
+            asked: [None; ClientNumber::COUNT as usize],
+            last_request: [0; ClientNumber::COUNT as usize],
+            called_back: [None; ClientNumber::COUNT as usize],
         }
     }
 

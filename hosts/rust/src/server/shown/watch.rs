@@ -1,9 +1,8 @@
 //! Who waits, for whom, and for how long.
-use crate::model::refusal::ClientSet;
+use crate::model::client_number::ClientNumber;
+use crate::model::client_set::ClientSet;
+use crate::model::lock::{Waiting, mode_name};
 use std::time::{Duration, Instant};
-
-/// The numbers of clients lie below this one.
-pub(crate) const CLIENTS: u8 = 64;
 
 /// A client that waits for a lock.
 #[derive(Clone, Debug, PartialEq, Eq)]
@@ -31,21 +30,6 @@ pub struct HeldSlots {
     pub client: u8,
     /// The number of slots, each an entry with the gap below it, of which it holds something.
     pub slots: u64,
-}
-
-const MODES: [&str; 13] = [
-    "N", "S", "U", "X", "RangeS-S", "RangeS-U", "RangeI-N", "RangeI-S", "RangeI-U", "RangeI-X",
-    "RangeX-S", "RangeX-U", "RangeX-X",
-];
-
-/// A client that waits, as the server tells it.
-pub(crate) struct Waiting {
-    pub client: u8,
-    pub request: u64,
-    pub point: u64,
-    pub hi: u64,
-    pub mode: u32,
-    pub waits_for: Vec<u8>,
 }
 
 /// A request that was seen to wait, and since when.
@@ -121,7 +105,8 @@ impl Watch {
     /// The client whose slots are to be counted next, if there is one: first those that have
     /// joined, and then each in its turn, since counting takes time.
     pub fn next_to_count(&mut self) -> Option<u8> {
-        let next = (1..=CLIENTS).map(|step| (self.counted + step) % CLIENTS);
+        let next =
+            (1..=ClientNumber::COUNT).map(|step| (self.counted + step) % ClientNumber::COUNT);
         let next = self
             .joined
             .iter()
@@ -152,12 +137,6 @@ fn wait(waiting: Waiting, since: Instant, now: Instant) -> Wait {
     let Waiting { client, point, hi, mode, waits_for, .. } = waiting;
     let (mode, waited) = (mode_name(mode), now.saturating_duration_since(since));
     Wait { client, point, hi, mode, waited, waits_for }
-}
-
-/// The name of a mode by its number in `krl.h`.
-pub(crate) fn mode_name(mode: u32) -> &'static str {
-    let place = usize::try_from(mode).ok();
-    place.and_then(|place| MODES.get(place)).copied().unwrap_or("unknown")
 }
 
 #[cfg(test)]

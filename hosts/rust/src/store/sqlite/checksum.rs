@@ -1,5 +1,6 @@
 //! The checksum of a store that no server has changed since it was made, such as a backup.
-use crate::model::change::{Record, Snapshot};
+use crate::model::change::Record;
+use crate::model::snapshot::Snapshot;
 use crate::store::StoreError;
 use rusqlite::{Connection, OptionalExtension, params};
 use sha2::{Digest, Sha256};

@@ -1,5 +1,5 @@
 //! Stores as files: one that is read, and a new one that is written.
-use crate::model::change::Snapshot;
+use crate::model::snapshot::Snapshot;
 use crate::store::StoreError;
 use crate::store::sqlite::checksum::{self, Checksum};
 use crate::store::sqlite::copy::part::Part;

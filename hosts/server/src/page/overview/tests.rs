@@ -35,6 +35,7 @@ fn overview<'a>(status: &'a Status, held: &'a Held) -> Overview<'a> {
         rates: Some(Rates { taken: 1.0, sent: 2.5, changes: 40.4, ..Rates::default() }),
         histograms: None,
         certificate: Some(2_000_000),
+        backup: Some(Duration::from_secs(18_000)),
         servers: String::new(),
     }
 }
@@ -51,6 +52,7 @@ fn the_head_has_the_state() {
         "<dt>messages</dt><dd>3.5 in a second</dd>",
         "<dt>changes</dt><dd>40 in a second</dd>",
         "<dt>certificate</dt><dd>23 days more</dd>",
+        "<dt>last backup</dt><dd>5 h ago</dd>",
         "<title>krl: serving</title>",
     ] {
         assert!(html.contains(figure), "{figure}: {html}");

@@ -2,7 +2,7 @@ use super::super::world::{World, messages, pass, row};
 use super::super::{Asking, Code};
 use super::*;
 use crate::lease::clocks::Now;
-use crate::lease::of_client::{FOR_EVER, Grant, Older};
+use crate::lease::terms::{FOR_EVER, Grant, Older};
 use crate::model::change::{Outcome, Write};
 use crate::model::refused::Refused;
 use crate::proved::client_handle::{ClientHandle, Scan};

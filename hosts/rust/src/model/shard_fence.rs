@@ -3,8 +3,7 @@
 //!
 //! A client with an old map would write a key to a server that no longer has it, where nobody looks
 //! for it. So both sides compare what the server serves, before the library hears a message.
-use crate::model::change::Snapshot;
-use crate::shards::bounds::ShardBounds;
+use crate::model::shard_bounds::ShardBounds;
 use std::cmp::Ordering;
 use std::fmt;
 use std::io::{self, ErrorKind};
@@ -26,13 +25,6 @@ pub(crate) fn compare(
     served: Option<ShardBounds>,
 ) -> Result<(), OtherShard> {
     if expected == served { Ok(()) } else { Err(OtherShard { expected, served }) }
-}
-
-/// A key of the store that the shard does not have, if there is one.
-pub(crate) fn stray_key(store: &Snapshot, shard: ShardBounds) -> Option<u64> {
-    let keys = shard.keys();
-    let below = store.rows.range(..keys.start).next();
-    below.or_else(|| store.rows.range(keys.end..).next()).map(|(key, _)| *key)
 }
 
 /// What a client has heard of its server's shard on one connection.
@@ -105,7 +97,6 @@ impl std::error::Error for OtherShard {}
 #[cfg(test)]
 mod tests {
     use super::*;
-    use crate::model::row::Value;
 
     fn bounds(text: &str) -> ShardBounds {
         text.parse().unwrap()
@@ -133,20 +124,6 @@ mod tests {
         assert_eq!(fence.passes(), Ok(()));
         assert!(fence.hear(bounds("0..9@4")).is_err() && fence.passes().is_err());
         assert!(Fence::new(None).hear(bounds("0..9@3")).is_err());
-    }
-
-    #[test]
-    fn keys_of_another_shard_are_found() {
-        let store = |keys: &[u64]| Snapshot {
-            rows: keys.iter().map(|key| (*key, Value::from(0))).collect(),
-            ..Snapshot::default()
-        };
-        let shard = bounds("10..20@1");
-        for (keys, stray) in
-            [(&[][..], None), (&[10, 19], None), (&[9, 10], Some(9)), (&[15, 20], Some(20))]
-        {
-            assert_eq!(stray_key(&store(keys), shard), stray);
-        }
     }
 
     #[test]

@@ -1,6 +1,29 @@
-//! What survives of a shard that is cut in two, or of two shards that become one.
-use crate::model::change::{Record, Snapshot};
+//! All that survives a restart of a server: how it changes, and how it is cut in two or merged.
+use crate::model::change::{Change, Outcome, Record, Write};
+use crate::model::lease_record::LeaseRecord;
+use crate::model::room::Room;
+use crate::model::row::Value;
+use std::collections::BTreeMap;
 use std::fmt;
+
+/// All that survives.
+#[derive(Clone, Debug, Default, PartialEq, Eq)]
+pub struct Snapshot {
+    /// How many times a server has started.
+    pub epoch: u64,
+    /// The rows.
+    pub rows: BTreeMap<u64, Value>,
+    /// The records, in order of first registration.
+    pub records: Vec<Record>,
+    /// What is known of leases.
+    pub leases: LeaseRecord,
+    /// The greatest room that a server had over it. A store that no server has served keeps none, and
+    /// one of before it was kept neither.
+    pub room: Option<Room>,
+    /// The bits of the first start of a server over the store, if there was one and the store keeps
+    /// its history. A copy has the same: by them an older copy is told from another store.
+    pub first_start: Option<u128>,
+}
 
 /// What makes no shard out of two.
 #[derive(Clone, Copy, Debug, PartialEq, Eq)]
@@ -16,6 +39,54 @@ pub enum NotNeighbors {
 }
 
 impl Snapshot {
+    /// Makes one change.
+    pub fn apply(&mut self, change: &Change) {
+        match *change {
+            Change::Started { epoch } => self.epoch = epoch,
+            Change::Registered { client, incarnation } => self.register(client, incarnation),
+            Change::Left { client } => self.revise(client, |record| record.left = true),
+            Change::Leased(leases) => self.leases = leases,
+            Change::Room(room) => self.room = Some(room),
+            Change::Judged { client, number, write, outcome } => {
+                self.revise(client, |record| record.last = Some((number, outcome)));
+                if outcome == Outcome::Applied {
+                    self.write(write);
+                }
+            }
+        }
+    }
+
+    fn register(&mut self, client: u8, incarnation: u64) {
+        let new = Record { client, incarnation, last: None, left: false };
+        match self.records.iter_mut().find(|record| record.client == client) {
+            Some(record) => *record = new,
+            None => self.records.push(new),
+        }
+    }
+
+    fn revise(&mut self, client: u8, how: impl FnOnce(&mut Record)) {
+        if let Some(record) = self.records.iter_mut().find(|record| record.client == client) {
+            how(record);
+        }
+    }
+
+    fn write(&mut self, write: Write) {
+        match write {
+            Write::Insert(row) | Write::Put(row) => self.rows.insert(row.key, row.value),
+            Write::Delete(key) => self.rows.remove(&key),
+        };
+    }
+
+    /// The room of a server that starts on it and is given none: the greatest that one had before.
+    /// For a store of before it was kept it is 65,536, and it is never less than the rows need. A
+    /// store that no server has served and that has no rows has none.
+    #[must_use]
+    pub fn kept_room(&self) -> Option<Room> {
+        let is_new = self.epoch == 0 && self.rows.is_empty();
+        let kept = self.room.or((!is_new).then(Room::default));
+        kept.map(|room| room.max(Room::for_rows(self.rows.len())))
+    }
+
     /// The clients that are registered and have not left, in ascending order.
     #[must_use]
     pub fn present(&self) -> Vec<u8> {
@@ -88,9 +159,7 @@ impl std::error::Error for NotNeighbors {}
 #[cfg(test)]
 mod tests {
     use super::*;
-    use crate::model::change::Outcome;
-    use crate::model::room::Room;
-    use crate::model::row::{END, Value};
+    use crate::model::row::{END, Row};
 
     fn record(client: u8, incarnation: u64) -> Record {
         Record { client, incarnation, last: Some((1, Outcome::Applied)), left: true }
@@ -165,5 +234,29 @@ mod tests {
         let there = |client| Record { left: false, ..record(client, 1) };
         let snapshot = snapshot(1, &[], &[there(9), record(5, 1), there(2)]);
         assert_eq!(snapshot.present(), [2, 9]);
+    }
+
+    #[test]
+    fn the_rows_that_are_counted_are_those_of_the_table() {
+        let row = |key| Row { key, value: Value::from(key) };
+        let judged = |write, outcome| Change::Judged { client: 3, number: 1, write, outcome };
+        let mut table = Snapshot::default();
+        let mut rows = 0;
+        for (change, count) in [
+            (Change::Started { epoch: 1 }, 0),
+            (Change::Registered { client: 3, incarnation: 1 }, 0),
+            (judged(Write::Insert(row(1)), Outcome::Applied), 1),
+            (judged(Write::Insert(row(2)), Outcome::NotHeld), 1),
+            (judged(Write::Insert(row(2)), Outcome::Applied), 2),
+            (judged(Write::Insert(row(2)), Outcome::Exists), 2),
+            (judged(Write::Put(row(1)), Outcome::Applied), 2),
+            (judged(Write::Delete(7), Outcome::Absent), 2),
+            (judged(Write::Delete(1), Outcome::Applied), 1),
+            (Change::Left { client: 3 }, 1),
+        ] {
+            table.apply(&change);
+            rows = change.rows_after(rows);
+            assert_eq!((rows, table.rows.len() as u64), (count, count), "{change:?}");
+        }
     }
 }
