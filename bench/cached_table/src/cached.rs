@@ -1,6 +1,7 @@
 //! krl-cache: each process keeps rows in its own memory.
 use crate::method::{Counted, Done, Found, Method, PROCESSES, Place, ROWS};
 use crate::plain;
+use crate::steps::{Parts, Steps};
 use krl_cache::tokio_postgres::types::ToSql;
 use krl_cache::tokio_postgres::{Error, Row};
 use krl_cache::{Cache, PostgresOrigin, PostgresRow, Table};
@@ -36,11 +37,15 @@ impl PostgresRow for Item {
 pub struct Cached {
     cache: Cache<PostgresOrigin<Item>>,
     bytes: usize,
+    steps: Steps,
 }
 
 impl Cached {
     pub fn new(place: &Place, number: u8) -> Found<Cached> {
-        Ok(Cached { cache: builder(place, number)?.open()?, bytes: place.bytes })
+        let steps = Steps::default();
+        let noted = steps.clone();
+        let builder = builder(place, number)?.on_step(move |step| noted.note(step));
+        Ok(Cached { cache: builder.open()?, bytes: place.bytes, steps })
     }
 }
 
@@ -55,11 +60,17 @@ impl Method for Cached {
 
     fn write(&mut self, key: u64) -> Found<u64> {
         let (mut count, bytes) = (0, self.bytes);
+        self.steps.begin();
         self.cache.update(key, |item| {
             count = item.n + 1;
             Some(Item { n: count, body: vec![0xaa; bytes] })
         })?;
+        self.steps.end();
         Ok(count.cast_unsigned())
+    }
+
+    fn parts(&self) -> Parts {
+        self.steps.parts()
     }
 }
 

@@ -8,6 +8,7 @@ mod random;
 mod redis;
 mod report;
 mod slices;
+mod steps;
 
 use crate::method::{Done, Place, ROWS};
 use clap::Parser;
@@ -84,5 +85,6 @@ fn run(arguments: &Arguments) -> Done {
         plan.hot, place.bytes, plan.reads, plan.writes
     );
     print!("{}", report::table(&measured, plan.time));
+    print!("{}", report::parts(&measured));
     Ok(())
 }

@@ -1,4 +1,5 @@
 //! A way to read and to write a table.
+use crate::steps::Parts;
 use std::error::Error;
 use std::ops::Range;
 use std::path::PathBuf;
@@ -32,6 +33,11 @@ pub trait Method {
 
     /// Changes a row, and answers how often it has been changed then.
     fn write(&mut self, key: u64) -> Found<u64>;
+
+    /// How long each part of a write took, if that is known.
+    fn parts(&self) -> Parts {
+        Parts::default()
+    }
 }
 
 /// What Redis has of a row begins with how often the row was changed.

@@ -5,6 +5,7 @@ use crate::method::{Done, Found, Method, PROCESSES, Place, ROWS};
 use crate::plain::Plain;
 use crate::random::Random;
 use crate::redis::Aside;
+use crate::steps::Parts;
 use std::sync::Barrier;
 use std::thread;
 use std::time::{Duration, Instant};
@@ -33,6 +34,8 @@ pub struct Measured {
     pub writes: Vec<Duration>,
     pub rows: u64,
     pub stale: u64,
+    /// The parts of the writes, if they are known.
+    pub parts: Parts,
 }
 
 impl Measured {
@@ -43,6 +46,7 @@ impl Measured {
         self.writes.extend(other.writes);
         self.rows += other.rows;
         self.stale += other.stale;
+        self.parts.iter_mut().zip(other.parts).for_each(|(all, part)| all.extend(part));
     }
 }
 
@@ -94,6 +98,9 @@ impl<'p> Process<'p> {
             }
         }
         barrier.wait();
+        for (measured, method) in measured.iter_mut().zip(&self.methods) {
+            measured.parts = method.parts();
+        }
         Ok(measured)
     }
 

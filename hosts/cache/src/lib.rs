@@ -32,9 +32,9 @@
 //! transaction draws. A process keeps bodies in memory by key and version.
 //!
 //! A **writer** pins its keys in krl for an update, begins a transaction in the database and locks
-//! them there, makes its changes, **announces** them by putting a fresh version into krl for each
-//! key, and commits. The announcement takes the keys out of every cache, and nobody has a body of
-//! that version before the commit.
+//! them there. It makes its changes, and while the database works it **announces** them by putting a
+//! fresh version into krl for each key. Then it commits. The announcement takes the keys out of
+//! every cache, and nobody has a body of that version before the commit.
 //!
 //! A **reader** scans krl's rows, usually in its own cache, and answers if it has a body of just
 //! those versions. Otherwise it loads bodies from the database and compares the versions. If they
@@ -76,7 +76,7 @@ pub use error::{CacheError, OtherKey};
 pub use mark::LAST_KEY;
 pub use memory::{MemoryOrigin, MemoryTransaction};
 pub use origin::{
-    Change, CommitError, Filling, Origin, OriginError, OriginIdentity, Stored, Transaction,
+    Change, CommitError, Filling, Needed, Origin, OriginError, OriginIdentity, Stored, Transaction,
 };
 #[cfg(feature = "postgres")]
 pub use postgres::{PostgresFilling, PostgresOrigin, PostgresRow, PostgresTransaction};

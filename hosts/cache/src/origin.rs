@@ -33,6 +33,15 @@ pub enum Change<B> {
     Delete,
 }
 
+/// Whether somebody still needs the rows of a load.
+#[derive(Clone, Copy, Debug, PartialEq, Eq)]
+pub enum Needed {
+    /// They are needed.
+    Yes,
+    /// Nobody needs them.
+    No,
+}
+
 /// What names a database and its history: at most 24 bytes. A database that was restored to an
 /// earlier state should have another identity; where it does not, an operator fills krl again.
 #[derive(Clone, Debug, PartialEq, Eq)]
@@ -89,6 +98,24 @@ pub trait Origin: Send + Sync {
     /// If the database does not answer.
     fn load(&self, keys: &[u64]) -> Result<Vec<Stored<Self::Body>>, OriginError>;
 
+    /// Loads rows as [`Origin::load`] does, and calls `meanwhile` once, while the database works or
+    /// before. If that answers `Needed::No`, the call waits for nothing more, and may answer no
+    /// rows. By default it calls `meanwhile`, and then loads.
+    ///
+    /// # Errors
+    ///
+    /// If the database does not answer. `meanwhile` may not have been called then.
+    fn load_while(
+        &self,
+        keys: &[u64],
+        meanwhile: impl FnOnce() -> Needed,
+    ) -> Result<Vec<Stored<Self::Body>>, OriginError> {
+        match meanwhile() {
+            Needed::Yes => self.load(keys),
+            Needed::No => Ok(Vec::new()),
+        }
+    }
+
     /// Begins a transaction and locks these keys, which ascend, whether they have a row or not.
     /// Until the transaction ends, no other transaction locks or changes one of them. If another
     /// transaction has changed one of them, the call waits until that one has ended.
@@ -97,6 +124,22 @@ pub trait Origin: Send + Sync {
     ///
     /// If the database does not answer, or does not grant the locks in time.
     fn begin(&self, keys: &[u64]) -> Result<Self::Transaction<'_>, OriginError>;
+
+    /// Begins a transaction as [`Origin::begin`] does, and calls `meanwhile` once, while the
+    /// database works or afterwards. By default it begins, and then calls `meanwhile`.
+    ///
+    /// # Errors
+    ///
+    /// Those of [`Origin::begin`]. `meanwhile` may not have been called then.
+    fn begin_while(
+        &self,
+        keys: &[u64],
+        meanwhile: impl FnOnce(),
+    ) -> Result<Self::Transaction<'_>, OriginError> {
+        let transaction = self.begin(keys)?;
+        meanwhile();
+        Ok(transaction)
+    }
 
     /// Begins a transaction that waits for all others, and keeps others from changing the table.
     ///
@@ -132,6 +175,23 @@ pub trait Transaction {
         version: Version,
         changes: &[(u64, Change<Self::Body>)],
     ) -> Result<(), OriginError>;
+
+    /// Makes changes as [`Transaction::apply`] does, and calls `meanwhile` once, while the database
+    /// works or afterwards. By default it makes them, and then calls `meanwhile`.
+    ///
+    /// # Errors
+    ///
+    /// Those of [`Transaction::apply`]. `meanwhile` may not have been called then.
+    fn apply_while(
+        &mut self,
+        version: Version,
+        changes: &[(u64, Change<Self::Body>)],
+        meanwhile: impl FnOnce(),
+    ) -> Result<(), OriginError> {
+        self.apply(version, changes)?;
+        meanwhile();
+        Ok(())
+    }
 
     /// Commits. What is committed is durable.
     ///

@@ -3,7 +3,7 @@ use crate::bodies::Moment;
 use crate::cache::Cache;
 use crate::error::CacheError;
 use crate::mark::{LAST_KEY, keys_of};
-use crate::origin::{Origin, Stored};
+use crate::origin::{Needed, Origin, Stored};
 use crate::version::Version;
 use std::cell::RefCell;
 use std::collections::HashMap;
@@ -11,6 +11,9 @@ use std::ops::{Range, RangeBounds};
 use std::sync::Arc;
 use std::sync::atomic::Ordering;
 use std::time::Instant;
+
+/// So many keys of a range are looked at one by one at most.
+const FEW: u64 = 64;
 
 /// A row.
 #[derive(Debug, PartialEq, Eq)]
@@ -66,6 +69,15 @@ impl<B> Loaded<B> {
     }
 }
 
+/// The rows of a scan, and what was loaded while krl was asked.
+type ScannedWithAhead<B> = (Scanned<B>, Ahead<B>);
+
+/// What was loaded while krl was asked, in this filling.
+struct Ahead<B> {
+    bodies: Vec<Stored<B>>,
+    filling: u64,
+}
+
 /// Whether the database's row is the one of which krl has the version. If not, a writer was lost
 /// between its announcement and its commit, or is between the two, or has been there since krl was
 /// scanned.
@@ -99,7 +111,10 @@ impl<O: Origin> Cache<O> {
         let end = self.end_of_call();
         let mut loaded = Loaded { bodies: HashMap::new(), filling: 0 };
         loop {
-            match self.scan(&keys, &loaded)? {
+            let (scanned, ahead) = self.scan(&keys, &loaded)?;
+            // Only now: a body counts if it was there before the scan.
+            self.keep_all(ahead, &mut loaded);
+            match scanned {
                 Scanned::All(rows) => {
                     self.counters.reads.add(1);
                     return Ok(rows);
@@ -133,7 +148,8 @@ impl<O: Origin> Cache<O> {
         })
     }
 
-    /// Scans krl's rows of the range, and finds their bodies.
+    /// Scans krl's rows of the range, and finds their bodies. It answers also what was loaded while
+    /// krl was asked.
     ///
     /// A body counts only if it was in memory **before** the scan. Then its version was committed
     /// at the moment of the scan, so the row is the database's at that moment.
@@ -141,18 +157,58 @@ impl<O: Origin> Cache<O> {
         &self,
         keys: &Range<u64>,
         loaded: &Loaded<O::Body>,
-    ) -> Result<Scanned<O::Body>, CacheError> {
+    ) -> Result<ScannedWithAhead<O::Body>, CacheError> {
         ROOM.with_borrow_mut(|room| {
             let by = self.moment();
+            let mut ahead = Ahead { bodies: Vec::new(), filling: by.filling };
             if !self.reader.cached_into(keys.clone(), room) {
                 self.counters.asked.add(1);
-                *room = self.reader.read(keys.clone())?;
+                *room = self.ask(keys, loaded, by, &mut ahead)?;
             }
             if !self.is_filled(by.filling) {
-                return Ok(Scanned::Unmarked);
+                return Ok((Scanned::Unmarked, ahead));
             }
-            Ok(self.with_bodies(room, by, loaded))
+            Ok((self.with_bodies(room, by, loaded), ahead))
         })
+    }
+
+    /// Asks krl for the rows. If krl's client does not know a key, its row was probably changed: so
+    /// the database is asked for the bodies of such keys at the same time.
+    fn ask(
+        &self,
+        keys: &Range<u64>,
+        loaded: &Loaded<O::Body>,
+        by: Moment,
+        ahead: &mut Ahead<O::Body>,
+    ) -> Result<Vec<krl::Row>, CacheError> {
+        let unknown = self.unknown(keys);
+        if unknown.is_empty() {
+            return Ok(self.reader.read(keys.clone())?);
+        }
+        let mut read = None;
+        let found = self.origin.load_while(&unknown, || {
+            let rows = read.insert(self.reader.read(keys.clone()));
+            let is_missing = |rows: &Vec<krl::Row>| {
+                !matches!(self.with_bodies(rows, by, loaded), Scanned::All(_))
+            };
+            if rows.as_ref().is_ok_and(is_missing) { Needed::Yes } else { Needed::No }
+        });
+        // What failed is asked again, and reported then.
+        if let Ok(found) = found {
+            self.counters.loads.add(1);
+            self.counters.loaded.add(found.len());
+            ahead.bodies = found;
+        }
+        Ok(read.unwrap_or_else(|| self.reader.read(keys.clone()))?)
+    }
+
+    /// The keys that krl's client does not know, if the range has few keys.
+    fn unknown(&self, keys: &Range<u64>) -> Vec<u64> {
+        if keys.end - keys.start > FEW {
+            return Vec::new();
+        }
+        let is_known = |key: u64| self.reader.for_each_cached(key..=key, |_| ());
+        keys.clone().filter(|key| !is_known(*key)).collect()
     }
 
     fn with_bodies(
@@ -192,7 +248,14 @@ impl<O: Origin> Cache<O> {
         missing: &[(u64, Version)],
         loaded: &mut Loaded<O::Body>,
     ) -> Result<(), CacheError> {
-        for (key, version) in self.load(missing, loaded)? {
+        let filling = self.filling.load(Ordering::SeqCst);
+        let is_missing =
+            |(key, version): &&(u64, Version)| loaded.find(*key, *version, filling).is_none();
+        let missing: Vec<(u64, Version)> = missing.iter().filter(is_missing).copied().collect();
+        if missing.is_empty() {
+            return Ok(());
+        }
+        for (key, version) in self.load(&missing, loaded)? {
             let known = self.reader.cached(key..=key);
             let known = known.as_deref().and_then(|rows| rows.first()).and_then(Version::of);
             if known == Some(version) {
@@ -235,6 +298,14 @@ impl<O: Origin> Cache<O> {
             }
         }
         Ok(different)
+    }
+
+    /// Keeps what was loaded while krl was asked, which is committed.
+    fn keep_all(&self, ahead: Ahead<O::Body>, loaded: &mut Loaded<O::Body>) {
+        for stored in ahead.bodies {
+            loaded.keep(&stored, ahead.filling);
+            self.keep(stored, ahead.filling);
+        }
     }
 
     /// Keeps a committed body in memory.

@@ -8,10 +8,12 @@ pub enum Step {
     Pinned,
     /// The database has locked all keys.
     Locked,
-    /// The changes are made in the database, and not committed.
-    Applied,
+    /// The changes are sent to the database, and may be made. Nothing is announced.
+    Announcing,
     /// So many keys are announced.
     Announced(usize),
+    /// All keys are announced, and the changes are made in the database, and not committed.
+    Applied,
     /// The database has committed.
     Committed,
     /// So many deleted rows are gone from krl.

@@ -2,7 +2,7 @@
 use crate::cache::Cache;
 use crate::error::CacheError;
 use crate::mark::LAST_KEY;
-use crate::origin::{Change, CommitError, Origin, Transaction};
+use crate::origin::{Change, CommitError, Origin, OriginError, Transaction};
 use crate::pinned::Pinned;
 use crate::repair::{remove, write_version};
 use crate::spans::{Width, spans};
@@ -19,6 +19,14 @@ type Failure = Box<dyn Error + Send + Sync>;
 pub(crate) struct Changes<B> {
     pub version: Version,
     pub changes: Vec<(u64, Change<B>)>,
+}
+
+/// Why changes were not made.
+enum NotMade {
+    /// Nothing is announced, or krl did not take an announcement. A reader takes back what was.
+    Unannounced(CacheError),
+    /// The database refused them, and they are announced.
+    Announced(OriginError),
 }
 
 impl<O: Origin> Cache<O> {
@@ -116,7 +124,7 @@ impl<O: Origin> Cache<O> {
         let _turn = self.turn()?;
         let pinned = Pinned::pin(&self.writer, spans(&keys, width))?;
         self.step(Step::Pinned);
-        let transaction = self.origin.begin(&keys)?;
+        let transaction = self.begin(&keys, &pinned)?;
         self.step(Step::Locked);
         let mut rows = Work::new(keys, transaction);
         let answer = work(&mut rows).map_err(CacheError::Work)?;
@@ -126,10 +134,22 @@ impl<O: Origin> Cache<O> {
         Ok(answer)
     }
 
-    /// Makes changes of pinned and locked keys.
+    /// Begins a transaction of pinned keys. If it is about one row, this takes the row out of every
+    /// cache while the database works: it will probably be announced.
     ///
-    /// The announcement goes first. It takes the keys out of every cache, and nobody has a body of
-    /// its version before the commit: so what is committed is never older than what others read.
+    /// What is taken stays as long as the pin of the update. If it is not taken, the announcement
+    /// asks for it again.
+    fn begin(&self, keys: &[u64], pinned: &Pinned<'_>) -> Result<O::Transaction<'_>, CacheError> {
+        let begun = match *keys {
+            [key] if pinned.has_row(key) => self.origin.begin_while(keys, || {
+                let _ = self.writer.pin_for_write(key..=key);
+            }),
+            _ => self.origin.begin(keys),
+        };
+        Ok(begun?)
+    }
+
+    /// Makes changes of pinned and locked keys.
     fn make(
         &self,
         mut transaction: O::Transaction<'_>,
@@ -140,13 +160,53 @@ impl<O: Origin> Cache<O> {
             // What the application did to other tables counts.
             return commit_unannounced(transaction);
         }
-        transaction.apply(changes.version, &changes.changes)?;
+        if let Err(error) = self.apply_and_announce(&mut transaction, pinned, changes) {
+            return Err(self.abort(transaction, pinned, changes, error));
+        }
         self.step(Step::Applied);
-        self.announce(pinned, changes)?;
-        let committed = self.commit(transaction, pinned, changes);
-        committed?;
+        self.commit(transaction, pinned, changes)?;
         self.finish(pinned, changes);
         Ok(())
+    }
+
+    /// Makes changes in the database, and announces them while it works.
+    ///
+    /// The announcement takes the keys out of every cache, and nobody has a body of its version
+    /// before the commit, which comes after it: so what is committed is never older than what
+    /// others read.
+    fn apply_and_announce(
+        &self,
+        transaction: &mut O::Transaction<'_>,
+        pinned: &Pinned<'_>,
+        changes: &Changes<O::Body>,
+    ) -> Result<(), NotMade> {
+        let mut announced = None;
+        let announce = || announced = Some(self.announce(pinned, changes));
+        let applied = transaction.apply_while(changes.version, &changes.changes, announce);
+        match (applied, announced) {
+            (Ok(()), Some(announced)) => announced.map_err(NotMade::Unannounced),
+            (Ok(()), None) => self.announce(pinned, changes).map_err(NotMade::Unannounced),
+            (Err(error), Some(_)) => Err(NotMade::Announced(error)),
+            (Err(error), None) => Err(NotMade::Unannounced(error.into())),
+        }
+    }
+
+    /// Rolls back, and takes back what was announced.
+    fn abort(
+        &self,
+        transaction: O::Transaction<'_>,
+        pinned: &Pinned<'_>,
+        changes: &Changes<O::Body>,
+        why: NotMade,
+    ) -> CacheError {
+        drop(transaction);
+        match why {
+            NotMade::Unannounced(error) => error,
+            NotMade::Announced(error) => {
+                self.take_back(pinned, changes);
+                error.into()
+            }
+        }
     }
 
     /// Writes the version to krl for each key, whether it gets a body or loses its row.
@@ -154,6 +214,7 @@ impl<O: Origin> Cache<O> {
     /// Keys with a row come first: a put takes the gap below the row too, so no insert asks for
     /// anything for which it could wait.
     fn announce(&self, pinned: &Pinned<'_>, changes: &Changes<O::Body>) -> Result<(), CacheError> {
+        self.step(Step::Announcing);
         let keys = changes.changes.iter().map(|(key, _)| *key);
         let (present, absent): (Vec<u64>, Vec<u64>) = keys.partition(|key| pinned.has_row(*key));
         for (count, key) in present.into_iter().chain(absent).enumerate() {

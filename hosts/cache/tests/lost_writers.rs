@@ -1,10 +1,11 @@
 //! Writers that are lost between two steps, and what readers answer then.
 mod site;
 
-use krl_cache::{Builder, CacheError, MemoryOrigin, Origin, Step};
+use krl_cache::{Builder, CacheError, MemoryOrigin, MemoryTransaction, Needed, Origin};
+use krl_cache::{OriginError, OriginIdentity, Step, Stored};
 use site::{Rows, Site, expected, persist, text, texts};
 use std::sync::atomic::{AtomicBool, Ordering};
-use std::sync::{Arc, Barrier};
+use std::sync::{Arc, Barrier, Mutex};
 use std::thread;
 use std::time::Duration;
 
@@ -40,7 +41,7 @@ fn dies_after(step: Step, is_committed: bool) {
 
 #[test]
 fn a_writer_that_dies_before_its_commit_has_changed_nothing() {
-    for step in [Step::Pinned, Step::Locked, Step::Applied] {
+    for step in [Step::Pinned, Step::Locked, Step::Announcing, Step::Applied] {
         dies_after(step, false);
     }
     (1..=3).for_each(|count| dies_after(Step::Announced(count), false));
@@ -196,4 +197,84 @@ fn a_repair_that_stood_still_writes_nothing_to_krl() {
     assert_eq!(site.table.committed(10).unwrap().as_str(), "new");
     assert_eq!(text(&other, 10).as_deref(), Some("new"));
     assert_eq!(text(&sleeper, 10).as_deref(), Some("new"));
+}
+
+/// A table in memory, of which a load ends after something else has happened.
+struct Overlapping {
+    table: MemoryOrigin<String>,
+    happens: Mutex<Option<Box<dyn FnOnce() + Send>>>,
+}
+
+impl Origin for Overlapping {
+    type Body = String;
+    type Transaction<'o> = MemoryTransaction<String>;
+    type Filling<'o> = MemoryTransaction<String>;
+
+    fn identity(&self) -> Result<OriginIdentity, OriginError> {
+        self.table.identity()
+    }
+
+    fn load(&self, keys: &[u64]) -> Result<Vec<Stored<String>>, OriginError> {
+        self.table.load(keys)
+    }
+
+    fn load_while(
+        &self,
+        keys: &[u64],
+        meanwhile: impl FnOnce() -> Needed,
+    ) -> Result<Vec<Stored<String>>, OriginError> {
+        let needed = meanwhile();
+        let happens = self.happens.lock().unwrap().take_if(|_| needed == Needed::Yes);
+        if let Some(happens) = happens {
+            happens();
+        }
+        self.table.load(keys)
+    }
+
+    fn begin(&self, keys: &[u64]) -> Result<MemoryTransaction<String>, OriginError> {
+        self.table.begin(keys)
+    }
+
+    fn begin_filling(&self) -> Result<MemoryTransaction<String>, OriginError> {
+        self.table.begin_filling()
+    }
+}
+
+/// A body that is committed while krl is scanned is of a later moment than the scan. The writer of
+/// one row commits late, after another row was changed: nobody may see the first change without the
+/// second one.
+#[test]
+fn a_body_that_was_loaded_during_the_scan_does_not_count() {
+    let site = Site::leased();
+    let other = site.cache(0);
+    persist(|| other.insert(10, "old".to_string()));
+    persist(|| other.insert(11, "old".to_string()));
+    let (builder, relay) = site.apart(1);
+    let halt = Halt::after(Step::Announced(1));
+    let writer = halt.open(builder);
+    let table = Overlapping { table: site.table.clone(), happens: Mutex::default() };
+    let reader = site.builder_of(table, 2).open().unwrap();
+    let read = || persist(|| reader.range(10..12));
+    assert_eq!(read().len(), 2);
+    let (table, other, halt) = (site.table.clone(), Arc::new(other), &halt);
+    let seen = thread::scope(|scope| {
+        let late = scope.spawn(|| halt.reach(|| writer.update(11, |_| Some("late".to_string()))));
+        halt.stops.wait();
+        relay.cut();
+        let (goes_on, changer) = (Arc::clone(halt), Arc::clone(&other));
+        *reader.origin().happens.lock().unwrap() = Some(Box::new(move || {
+            persist(|| changer.update(10, |_| Some("first".to_string())));
+            goes_on.goes_on.wait();
+            let is_late = || table.committed(11).unwrap().as_str() == "late";
+            while !is_late() {
+                thread::sleep(Duration::from_millis(1));
+            }
+        }));
+        // The lease of the writer ends, and krl has its announcement.
+        let seen: Vec<String> = read().iter().map(|row| row.body.to_string()).collect();
+        relay.mend();
+        let _ = late.join().unwrap();
+        seen
+    });
+    assert_eq!(seen, ["first", "late"]);
 }

@@ -222,7 +222,12 @@ fn a_write_that_is_not_committed_is_taken_back() {
     assert!(matches!(&refused, Err(CacheError::Origin(_))), "{refused:?}");
     assert!(refused.unwrap_err().to_string().contains("too dear"));
     assert_eq!(rows(&reader), before);
-    assert!(reader.statistics().repaired >= 3, "{:?}", reader.statistics());
+    // It refuses a change that is announced already.
+    database.connect().run("ALTER TABLE item ADD CONSTRAINT cheap CHECK (price < 1000)");
+    let refused = reader.update(10, |lamp| Some(Item { price: Some(1001), ..lamp.clone() }));
+    assert!(refused.unwrap_err().to_string().contains("cheap"));
+    assert_eq!(rows(&reader), before);
+    assert!(reader.statistics().repaired >= 4, "{:?}", reader.statistics());
 }
 
 #[test]

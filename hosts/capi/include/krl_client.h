@@ -26,8 +26,8 @@
  * it: no other call may use it during that call or after it. Calls that take rows or an error are made by one thread
  * at a time for each of these. Which thread makes a call never matters.
  *
- * Waiting. A call with a `timeout_ms` waits for an answer for at most so many milliseconds, and at most a year. 0 stands
- * for the client's timeout. `krlc_join`, `krlc_evict` and `krlc_free` wait as they describe. Every other call waits for
+ * Waiting. A call with a `timeout_ms` waits for an answer for at most so many milliseconds, and at most a year. 0 means
+ * the client's timeout. `krlc_join`, `krlc_evict` and `krlc_free` wait as they describe. Every other call waits for
  * at most one step of the client, which takes microseconds.
  *
  * Misuse. A null pointer where none may be, a handle that was freed, and text that is not UTF-8 return KRLC_MISUSE. A

@@ -3,15 +3,15 @@ use super::check;
 use super::row::PostgresRow;
 use super::session::{CacheSession, Session, Timeouts, reported, signed, stored};
 use super::sql;
-use super::transaction::{PostgresFilling, PostgresTransaction, begin};
-use crate::origin::{Origin, OriginError, OriginIdentity, Stored};
+use super::transaction::{PostgresFilling, PostgresTransaction, begin_while};
+use crate::origin::{Needed, Origin, OriginError, OriginIdentity, Stored};
 use crate::table::{Table, TableFault};
 use krl_postgres::{Connector, PostgresAddress};
 use std::fmt;
 use std::marker::PhantomData;
 use std::sync::{Mutex, MutexGuard, PoisonError};
 use std::time::Duration;
-use tokio_postgres::{Error, Row};
+use tokio_postgres::{Client, Error, Row};
 
 /// How long a process may stand still within a transaction, by default.
 const IDLE_IN_TRANSACTION: Duration = Duration::from_secs(5);
@@ -156,11 +156,13 @@ impl<T: PostgresRow> PostgresOrigin<T> {
     }
 
     fn session(&self) -> Result<CacheSession, OriginError> {
+        self.idle_session().map_or_else(|| self.connect(), Ok)
+    }
+
+    /// A connection that waits, if there is one.
+    fn idle_session(&self) -> Option<CacheSession> {
         let kept = self.pool.idle().pop();
-        match kept {
-            Some(kept) if !kept.session.is_closed() => Ok(kept),
-            _ => self.connect(),
-        }
+        kept.filter(|kept| !kept.session.is_closed())
     }
 
     fn connect(&self) -> Result<CacheSession, OriginError> {
@@ -257,9 +259,46 @@ impl<T: PostgresRow> Origin for PostgresOrigin<T> {
         stored(&rows)
     }
 
+    fn load_while(
+        &self,
+        keys: &[u64],
+        meanwhile: impl FnOnce() -> Needed,
+    ) -> Result<Vec<Stored<T>>, OriginError> {
+        // A new connection could keep `meanwhile` waiting for long.
+        let Some(used) = self.idle_session() else {
+            return if meanwhile() == Needed::Yes { self.load(keys) } else { Ok(Vec::new()) };
+        };
+        let keys = signed(keys);
+        let load = &used.statements.load;
+        let asked = async |client: &Client| client.query(load, &[&keys]).await;
+        let rows = used.session.ask_while(asked, meanwhile)?;
+        self.pool.give_back(used);
+        rows.map_or_else(|| Ok(Vec::new()), |rows| stored(&rows))
+    }
+
     fn begin(&self, keys: &[u64]) -> Result<PostgresTransaction<'_, T>, OriginError> {
-        let (rows, used) = self.ask(|used| begin(used, keys))?;
+        let (rows, used) = self.ask(|used| begin_while(used, keys, || ()))?;
         Ok(PostgresTransaction::new(&self.pool, used, keys, rows))
+    }
+
+    fn begin_while(
+        &self,
+        keys: &[u64],
+        meanwhile: impl FnOnce(),
+    ) -> Result<PostgresTransaction<'_, T>, OriginError> {
+        let Some(used) = self.idle_session() else {
+            let transaction = self.begin(keys)?;
+            meanwhile();
+            return Ok(transaction);
+        };
+        match begin_while(&used, keys, meanwhile) {
+            Ok(rows) => Ok(PostgresTransaction::new(&self.pool, used, keys, rows)),
+            Err(_) if used.session.is_closed() => {
+                self.pool.idle().clear();
+                self.begin(keys)
+            }
+            Err(error) => Err(error),
+        }
     }
 
     fn begin_filling(&self) -> Result<PostgresFilling, OriginError> {

@@ -1,11 +1,14 @@
 //! A connection to the database, with the statements that are used often.
 use super::sql;
-use crate::origin::{OriginError, Stored};
+use crate::origin::{Needed, OriginError, Stored};
 use crate::postgres::row::PostgresRow;
 use crate::table::Table;
 use crate::version::Version;
 use krl_postgres::{Carrier, Connector};
+use std::future::poll_fn;
+use std::pin::{Pin, pin};
 use std::sync::Arc;
+use std::task::Poll;
 use std::time::Duration;
 use tokio::runtime::{Builder, Runtime};
 use tokio_postgres::{Client, Error, Row, Statement};
@@ -78,9 +81,39 @@ impl Session {
         }
     }
 
+    /// Sends a question, calls `meanwhile`, and waits for the answer afterwards if that answers
+    /// `Needed::Yes`.
+    pub fn ask_while<T>(
+        &self,
+        what: impl AsyncFnOnce(&Client) -> Result<T, Error>,
+        meanwhile: impl FnOnce() -> Needed,
+    ) -> Result<Option<T>, AskError> {
+        let mut asking = pin!(what(&self.client));
+        let early = self.runtime.block_on(send(asking.as_mut()));
+        match (meanwhile(), early) {
+            // The connection drops the answer when it comes.
+            (Needed::No, _) => Ok(None),
+            (Needed::Yes, Some(answer)) => answer.map(Some).map_err(AskError::Reported),
+            (Needed::Yes, None) => self.ask(async |_| asking.await).map(Some),
+        }
+    }
+
     /// Whether the connection has ended.
     pub fn is_closed(&self) -> bool {
         self.client.is_closed()
+    }
+}
+
+/// Sends what a question asks, as far as the connection takes it at once.
+async fn send<T>(mut asking: Pin<&mut impl Future<Output = T>>) -> Option<T> {
+    let polled = poll_fn(|context| Poll::Ready(asking.as_mut().poll(context))).await;
+    if polled.is_pending() {
+        // The task of the connection runs, and writes it.
+        tokio::task::yield_now().await;
+    }
+    match polled {
+        Poll::Ready(answer) => Some(answer),
+        Poll::Pending => None,
     }
 }
 

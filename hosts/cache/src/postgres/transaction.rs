@@ -3,14 +3,14 @@ use super::origin::Pool;
 use super::row::PostgresRow;
 use super::session::{AskError, CacheSession, Session, key_and_version, reported, signed, stored};
 use super::sql;
-use crate::origin::{Change, CommitError, Filling, OriginError, Stored, Transaction};
+use crate::origin::{Change, CommitError, Filling, Needed, OriginError, Stored, Transaction};
 use crate::table::Table;
 use crate::version::Version;
 use futures_util::future::{join, try_join, try_join_all};
 use std::fmt;
 use tokio_postgres::error::SqlState;
 use tokio_postgres::types::ToSql;
-use tokio_postgres::{Error, Row};
+use tokio_postgres::{Client, Error, Row};
 
 /// A transaction of PostgreSQL that has its keys locked.
 pub struct PostgresTransaction<'o, T> {
@@ -71,21 +71,26 @@ impl<'o, T: PostgresRow> PostgresTransaction<'o, T> {
     }
 }
 
-/// Locks the keys, and then reads the rows. Both questions are sent at once; the second one sees
-/// what was committed while the first one waited.
-pub(super) fn begin<T: PostgresRow>(
+/// Locks the keys, then reads the rows, and calls `meanwhile` while the database works. Both
+/// questions are sent at once; the second one sees what was committed while the first one waited.
+pub(super) fn begin_while<T: PostgresRow>(
     session: &CacheSession,
     keys: &[u64],
+    meanwhile: impl FnOnce(),
 ) -> Result<Vec<Stored<T>>, OriginError> {
     let asked = sql::begin(keys, session.seed);
     let signed = signed(keys);
-    let rows = session.session.ask(async |client| {
+    let begin = async |client: &Client| {
         let values: [&(dyn ToSql + Sync); 1] = [&signed];
         let locking = client.batch_execute(&asked);
         let (begun, rows) = join(locking, client.query(&session.statements.lock, &values)).await;
         begun.and(rows)
+    };
+    let rows = session.session.ask_while(begin, || {
+        meanwhile();
+        Needed::Yes
     })?;
-    stored(&rows)
+    stored(&rows.unwrap_or_default())
 }
 
 impl<T: PostgresRow> Transaction for PostgresTransaction<'_, T> {
@@ -96,6 +101,15 @@ impl<T: PostgresRow> Transaction for PostgresTransaction<'_, T> {
     }
 
     fn apply(&mut self, version: Version, changes: &[(u64, Change<T>)]) -> Result<(), OriginError> {
+        self.apply_while(version, changes, || ())
+    }
+
+    fn apply_while(
+        &mut self,
+        version: Version,
+        changes: &[(u64, Change<T>)],
+        meanwhile: impl FnOnce(),
+    ) -> Result<(), OriginError> {
         let CacheSession { session, statements, .. } = self.session()?;
         let (name, version) = (version.to_string(), version.as_bytes().as_slice());
         let listed: Vec<String> = self.keys.iter().map(u64::to_string).collect();
@@ -107,15 +121,19 @@ impl<T: PostgresRow> Transaction for PostgresTransaction<'_, T> {
             Change::Delete => (&statements.delete, vec![key as _]),
         });
         let values: Vec<(_, Values<'_>)> = values.collect();
-        let counts = session.ask(async |client| {
+        let asked = async |client: &Client| {
             let admit: [&(dyn ToSql + Sync); 2] = [&name, &listed];
             let made = values.iter().map(|(statement, values)| client.execute(*statement, values));
             // All of them are sent at once, in this order.
             let (_, counts) =
                 try_join(client.query(&statements.admit, &admit), try_join_all(made)).await?;
             Ok(counts)
+        };
+        let counts = session.ask_while(asked, || {
+            meanwhile();
+            Needed::Yes
         })?;
-        if counts.iter().all(|count| *count == 1) {
+        if counts.is_some_and(|counts| counts.iter().all(|count| *count == 1)) {
             Ok(())
         } else {
             Err(OriginError::new("a trigger or a rule has kept a change from being made"))

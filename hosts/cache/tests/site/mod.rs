@@ -102,6 +102,11 @@ impl Site {
         self.krl.cache_of(self.table.clone(), number)
     }
 
+    /// A cache of another table on the same server.
+    pub fn builder_of<O: Origin>(&self, table: O, number: u8) -> Builder<O> {
+        self.krl.cache_of(table, number)
+    }
+
     pub fn cache(&self, number: u8) -> Rows {
         self.builder(number).open().unwrap()
     }
