@@ -164,7 +164,9 @@ typedef enum krlc_code {
     /* Memory was refused. */
     KRLC_OUT_OF_MEMORY = 63,
     /* The system has no thread for the client's connection. */
-    KRLC_NO_THREAD = 64
+    KRLC_NO_THREAD = 64,
+    /* Of krl_host.h: the connection has to end. No call of this header returns it. */
+    KRLC_DISCONNECT = 65
 } krlc_code;
 
 /* Why a server does not serve a client. The numbers are those of `docs/WIRE.md`. */

@@ -2,9 +2,11 @@
 //! the conditions under which each is safe. Each examines what C gives it, and hands on values.
 #![allow(clippy::missing_safety_doc, reason = "the header has it")]
 #![allow(missing_docs, reason = "the header has it")]
+mod host;
 mod pins;
 mod room;
 
+pub use host::*;
 pub use pins::*;
 use room::emptied;
 pub use room::*;

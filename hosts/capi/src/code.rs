@@ -59,6 +59,7 @@ codes! {
     PinIsVoid = 62, c"KRLC_PIN_IS_VOID";
     OutOfMemory = 63, c"KRLC_OUT_OF_MEMORY";
     NoThread = 64, c"KRLC_NO_THREAD";
+    Disconnect = 65, c"KRLC_DISCONNECT";
 }
 
 impl Code {

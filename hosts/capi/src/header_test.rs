@@ -1,8 +1,10 @@
-//! Compares `include/krl_client.h` with the calls, the structs and the codes of this library: a C
+//! Compares `include/krl_client.h` and `include/krl_host.h` with the calls, the structs and the codes of this library: a C
 //! compiler judges what the header declares by what stands here.
 use crate::calls::krlc_version;
 use crate::code::Code;
 use crate::fault::{ErrorRoom, MAX_SENTENCE_BYTES};
+use crate::host::{Answer, CallBack, NEVER, NO_PIN};
+use crate::host_options::HostOptions;
 use crate::input::GivenRow;
 use crate::options::{NUMBERS, Options};
 use crate::reason::Reason;
@@ -14,12 +16,22 @@ use std::mem::offset_of;
 use std::process::{Command, Stdio};
 
 const HEADER: &str = include_str!("../include/krl_client.h");
+const HOST_HEADER: &str = include_str!("../include/krl_host.h");
 
-const SOURCES: [&str; 3] =
-    [include_str!("calls.rs"), include_str!("calls/pins.rs"), include_str!("calls/room.rs")];
+const SOURCES: [&str; 4] = [
+    include_str!("calls.rs"),
+    include_str!("calls/host.rs"),
+    include_str!("calls/pins.rs"),
+    include_str!("calls/room.rs"),
+];
+
+/// Both headers as one.
+fn headers() -> String {
+    HEADER.to_string() + &HOST_HEADER.replace("#include \"krl_client.h\"", "")
+}
 
 /// What each type of a call is in C.
-const TYPES: [(&str, &str); 19] = [
+const TYPES: [(&str, &str); 25] = [
     ("bool", "bool"),
     ("u32", "uint32_t"),
     ("u64", "uint64_t"),
@@ -27,6 +39,7 @@ const TYPES: [(&str, &str); 19] = [
     ("*const c_char", "const char *"),
     ("*const c_void", "const void *"),
     ("*mut usize", "size_t *"),
+    ("*mut u64", "uint64_t *"),
     ("*const Options", "const krlc_options *"),
     ("*mut ErrorRoom", "krlc_error *"),
     ("*mut Status", "krlc_status *"),
@@ -39,6 +52,11 @@ const TYPES: [(&str, &str); 19] = [
     ("*mut Row", "krlc_row *"),
     ("*const Row", "const krlc_row *"),
     ("*const GivenRow", "const krlc_row *"),
+    ("*const HostOptions", "const krlh_options *"),
+    ("*mut HostHandle", "krlh_client *"),
+    ("*mut *mut HostHandle", "krlh_client **"),
+    ("CallBack", "krlh_asked"),
+    ("Clock", "uint64_t (*)(void)"),
 ];
 
 fn c_type(rust: &str) -> &'static str {
@@ -76,7 +94,8 @@ fn declared(header: &str) -> BTreeSet<String> {
     let before = code.split('(').map(|text| {
         text.rsplit(|c: char| !(c.is_ascii_alphanumeric() || c == '_')).next().unwrap_or("")
     });
-    before.filter(|name| name.starts_with("krlc_")).map(String::from).collect()
+    let is_call = |name: &&str| name.starts_with("krlc_") || name.starts_with("krlh_");
+    before.filter(is_call).map(String::from).collect()
 }
 
 /// Asserts on the layout of a struct.
@@ -129,6 +148,8 @@ fn program(header: &str) -> String {
         ("KRLC_MAX_SENTENCE_BYTES", MAX_SENTENCE_BYTES as u64),
         ("KRLC_FOR_EVER", u64::MAX),
         ("KRLC_NUMBERS", u64::from(NUMBERS)),
+        ("KRLH_NO_PIN", NO_PIN),
+        ("KRLH_NEVER", NEVER),
     ];
     for (name, number) in numbers {
         writeln!(program, "_Static_assert({name} == UINT64_C({number}), \"{name}\");").unwrap();
@@ -138,6 +159,9 @@ fn program(header: &str) -> String {
     layout!(program, Status, "krlc_status", shard epoch incarnation lease_left_ms is_connected);
     layout!(program, Options, "krlc_options", size servers map lock_file number numbers timeout_ms
         wait_if_in_use_ms tls_authority tls_certificate tls_key table lo hi);
+    layout!(program, HostOptions, "krlh_options", size lock_file shard number servers seed);
+    layout!(program, Answer, "krlh_answer", code pin rows count sentence);
+    layout!(program, CallBack, "krlh_asked", answered context deadline);
     program
 }
 
@@ -158,9 +182,9 @@ fn compiles(program: &str, is_expected: bool) -> bool {
 #[test]
 fn the_header_declares_what_the_library_exports() {
     let exported: BTreeSet<String> = exports().into_keys().collect();
-    assert_eq!(exported, declared(HEADER));
-    assert!(exported.len() > 20, "{exported:?}");
-    assert!(compiles(&program(HEADER), true), "the compiler shows what differs");
+    assert_eq!(exported, declared(&headers()));
+    assert!(exported.len() > 40, "{exported:?}");
+    assert!(compiles(&program(&headers()), true), "the compiler shows what differs");
 }
 
 #[test]
@@ -186,9 +210,11 @@ fn a_header_that_differs_is_found() {
         ("KRLC_REASON_FULL = 3", "KRLC_REASON_FULL = 4"),
         ("#define KRLC_VERSION_MINOR 1", "#define KRLC_VERSION_MINOR 2"),
         ("void krlc_rows_free(krlc_rows *rows);", ""),
+        ("uint64_t krlh_due(", "uint32_t krlh_due("),
+        ("    uint64_t pin;", "    uint32_t pin;"),
     ] {
-        let other = HEADER.replacen(old, new, 1);
-        assert_ne!(other, HEADER, "{old}");
+        let other = headers().replacen(old, new, 1);
+        assert_ne!(other, headers(), "{old}");
         assert!(!compiles(&program(&other), false), "{new}");
     }
 }

@@ -1,5 +1,5 @@
-//! The client of the crate `krl` as a library for C: `include/krl_client.h` says what each call
-//! does.
+//! The client of the crate `krl` as a library for C: `include/krl_client.h` describes each call, and
+//! `include/krl_host.h` those of a client without sockets.
 //!
 //! Whatever comes from C is examined here: pointers, lengths, texts, handles, and the process that
 //! makes the call. What is past these checks is Rust that needs no `unsafe`.
@@ -9,6 +9,8 @@ mod code;
 mod fault;
 mod fork;
 mod handle;
+mod host;
+mod host_options;
 mod input;
 mod options;
 mod pin;

@@ -70,26 +70,36 @@ enum Place {
 ///
 /// # Safety
 ///
-/// `at` is null, or points to a size and so many bytes altogether, of which none is written
-/// meanwhile.
+/// As for `bytes_at`.
 pub unsafe fn options_at(at: *const Options) -> Result<Options, Fault> {
+    // SAFETY: the caller vouches for the options. All bytes make them, since their members are
+    // numbers and pointers.
+    unsafe { bytes_at(at) }
+}
+
+/// Options that begin with their size. The members that the caller does not have are zero.
+///
+/// # Safety
+///
+/// `at` is null, or points to a size and so many bytes altogether, of which none is written
+/// meanwhile. `T` begins with the size, and all bytes make one.
+pub unsafe fn bytes_at<T>(at: *const T) -> Result<T, Fault> {
     if at.is_null() {
         return Err(Fault::misuse("the pointer to the options is null"));
     }
     // SAFETY: each version begins with the size.
-    let size = unsafe { (&raw const (*at).size).read() };
+    let size = unsafe { at.cast::<usize>().read() };
     if !(size_of::<usize>()..=MAX_SIZE).contains(&size) {
         return Err(Fault::misuse(format!("`size` of the options is {size}: it is not set")));
     }
     // SAFETY: the caller vouches for so many bytes.
     let bytes = unsafe { slice::from_raw_parts(at.cast::<u8>(), size) };
-    let known = size.min(size_of::<Options>());
+    let known = size.min(size_of::<T>());
     if bytes[known..].iter().any(|byte| *byte != 0) {
         return Err(Fault::misuse("the options have members that this library does not know"));
     }
-    let mut options = MaybeUninit::<Options>::zeroed();
-    // SAFETY: so many bytes are there, and there is room for them. All bytes make options, since
-    // their members are numbers and pointers.
+    let mut options = MaybeUninit::<T>::zeroed();
+    // SAFETY: so many bytes are there, and there is room for them. All bytes make options.
     unsafe {
         ptr::copy_nonoverlapping(at.cast::<u8>(), options.as_mut_ptr().cast(), known);
         Ok(options.assume_init())

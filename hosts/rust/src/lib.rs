@@ -27,6 +27,9 @@ mod log;
 mod model;
 mod net;
 mod proved;
+#[cfg(feature = "sans-io")]
+#[doc(hidden)]
+pub mod sans_io;
 mod server;
 mod shards;
 #[cfg(feature = "simulated")]

@@ -112,6 +112,12 @@ impl Session {
         self.servers.at(self.place)
     }
 
+    /// The place of that server.
+    #[cfg(feature = "sans-io")]
+    pub fn place(&self) -> usize {
+        self.place
+    }
+
     /// Whether the client needs a greater incarnation before it connects: it has dropped all, or its
     /// lease has ended.
     pub fn has_to_begin_anew(&mut self) -> bool {

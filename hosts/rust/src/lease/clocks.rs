@@ -36,6 +36,21 @@ impl Now {
     }
 }
 
+#[cfg(feature = "sans-io")]
+impl Now {
+    /// The clocks of a host at this moment by its clock of leases. A client decides nothing by the
+    /// clock that people set: its lock file reads that by itself.
+    pub fn of_host(moment: std::time::Duration) -> Now {
+        static BEGAN: std::sync::OnceLock<Instant> = std::sync::OnceLock::new();
+        let nanoseconds = u64::try_from(moment.as_nanos()).unwrap_or(u64::MAX);
+        Now {
+            monotonic: *BEGAN.get_or_init(Instant::now) + moment,
+            wall: SystemTime::UNIX_EPOCH,
+            boot: Some(Moment::of_nanoseconds(nanoseconds)),
+        }
+    }
+}
+
 #[cfg(feature = "simulated")]
 impl Now {
     /// The clocks of a machine that was started at such a moment, and runs for so long. Of the clock

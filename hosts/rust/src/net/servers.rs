@@ -36,6 +36,14 @@ impl Servers {
         Servers { shard: Some(shard), ..self }
     }
 
+    /// So many servers, and at least one, whose addresses only the host of a client knows.
+    #[cfg(feature = "sans-io")]
+    pub(crate) fn unnamed(count: usize) -> Servers {
+        let address = |place: usize| Address::Unix(format!("server {place}").into());
+        let others = (1..count).map(address).collect();
+        Servers { first: address(0), others, tls: None, shard: None }
+    }
+
     /// The shard that a client takes them for, if not for servers of all keys.
     pub(crate) fn shard(&self) -> Option<ShardBounds> {
         self.shard

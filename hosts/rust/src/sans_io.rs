@@ -1,0 +1,290 @@
+//! A client without sockets, threads and clocks, for hosts that have their own: bytes come in, bytes
+//! go out, and each call is told what time it is. The lock file of its number is inside.
+//!
+//! `hosts/capi` has it for C, by `krl_host.h`. Nothing here is a part of the interface in Rust, whose
+//! client is [`crate::Client`].
+use crate::client::jobs::{Asked, Jobs};
+use crate::client::lock_file::LockFile;
+use crate::client::session::Session;
+use crate::lease::boot_clock::Moment;
+use crate::lease::clocks::Now;
+use crate::model::change::{Outcome, Write};
+use crate::model::client_number::ClientNumber;
+use crate::model::refused::{JoinError, Refused};
+use crate::model::row::Row;
+use crate::net::servers::Servers;
+use crate::proved::client_handle::{Cache, ClientHandle, Scan};
+use crate::shards::bounds::ShardBounds;
+use crate::wire::frames::Frames;
+use std::fmt;
+use std::io;
+use std::ops::Range;
+use std::path::Path;
+use std::sync::mpsc::TryRecvError;
+use std::time::Duration;
+
+pub use crate::client::jobs::{Held, Purpose};
+
+/// A client. A moment is a time by a clock that goes on while the machine is suspended, and never
+/// back.
+pub struct Client {
+    session: Session,
+    lock_file: LockFile,
+    frames: Frames,
+    /// What is to be sent, as far as it was not yet.
+    output: Vec<u8>,
+    /// The moment of the last call.
+    now: Duration,
+}
+
+/// What a client begins with.
+#[derive(Clone, Copy, Debug)]
+pub struct Begin<'p> {
+    /// Its number.
+    pub number: u8,
+    /// The lock file of this number.
+    pub lock_file: &'p Path,
+    /// How many servers stand by over the store, of which it connects to one at a time.
+    pub servers: usize,
+    /// The shard that it takes them for, if not for servers of all keys.
+    pub shard: Option<ShardBounds>,
+    /// It draws its pauses between connections by this.
+    pub seed: u64,
+}
+
+/// Something that a client was asked.
+pub struct Call<T>(Asked<T>);
+
+/// What the cache knows, for any number of threads.
+pub struct CacheView(Cache);
+
+impl<T> Call<T> {
+    /// The answer, if it has come. It comes once.
+    #[must_use]
+    pub fn answer(&self) -> Option<Result<T, Refused>> {
+        match self.0.answer.try_recv() {
+            Ok(answer) => Some(answer),
+            Err(TryRecvError::Empty) => None,
+            Err(TryRecvError::Disconnected) => Some(Err(Refused::Stopped)),
+        }
+    }
+}
+
+impl CacheView {
+    /// Reads the range into `rows`, in place of what they are. It answers whether the cache has all
+    /// of it. The clock is read after the rows.
+    pub fn read(
+        &self,
+        keys: &Range<u64>,
+        rows: &mut Vec<Row>,
+        clock: impl FnOnce() -> Duration,
+    ) -> bool {
+        let scanned = self.0.scan(keys, rows, || Ok(moment(clock())));
+        matches!(scanned, Ok(Scan::Rows))
+    }
+}
+
+impl Client {
+    /// A client that is not connected.
+    ///
+    /// # Errors
+    ///
+    /// `BadNumber`; `LockFile` if another process has the lock file or it can't be used; `Refused`
+    /// if memory was refused.
+    pub fn open(begin: Begin<'_>, now: Duration) -> Result<Client, JoinError> {
+        let Begin { number, lock_file, servers, shard, seed } = begin;
+        if ClientNumber::of(number).is_none() {
+            return Err(JoinError::BadNumber);
+        }
+        let (lock_file, incarnation) = LockFile::take(lock_file, number)?;
+        let handle = ClientHandle::open_behind(number, incarnation, lock_file.older());
+        let jobs = Jobs::new(handle.map_err(Refused::from)?, Now::of_host(now));
+        let session = Session::new(unnamed(servers, shard), jobs, seed);
+        let (frames, output) = (Frames::to_client(), Vec::new());
+        Ok(Client { session, lock_file, frames, output, now })
+    }
+
+    /// The session at this moment, or at the last one if that is later.
+    fn at(&mut self, now: Duration) -> &mut Session {
+        self.now = self.now.max(now);
+        self.session.at(Now::of_host(self.now))
+    }
+
+    /// What the cache knows.
+    #[must_use]
+    pub fn cache(&mut self) -> CacheView {
+        CacheView(self.session.jobs().cache())
+    }
+
+    /// The client's number.
+    #[must_use]
+    pub fn number(&self) -> u8 {
+        self.lock_file.number()
+    }
+
+    /// The place of the server that it is connected to, or that the next connection goes to.
+    #[must_use]
+    pub fn place(&self) -> usize {
+        self.session.place()
+    }
+
+    /// A connection is made. If the client needs a greater incarnation, it has one from here on; and
+    /// its incarnation is on the disk before anything of it is to be sent.
+    ///
+    /// # Errors
+    ///
+    /// If the lock file can't be written, or memory was refused.
+    pub fn connected(&mut self, now: Duration) -> io::Result<()> {
+        if self.at(now).has_to_begin_anew() {
+            let incarnation = self.lock_file.renew();
+            let older = self.lock_file.older();
+            let handle = ClientHandle::open_behind(self.lock_file.number(), incarnation, older);
+            self.session.begin_anew(handle.map_err(io::Error::other)?);
+        }
+        self.lock_file.keep()?;
+        self.session.confirm_incarnation()?;
+        self.frames = Frames::to_client();
+        self.output = self.session.connected()?;
+        Ok(())
+    }
+
+    /// Bytes have come, cut anywhere.
+    ///
+    /// # Errors
+    ///
+    /// The connection has to end, for this reason.
+    pub fn received(&mut self, now: Duration, mut bytes: &[u8]) -> io::Result<()> {
+        self.at(now);
+        while !bytes.is_empty() {
+            self.frames.fill(&mut bytes)?;
+            self.session.receive(&mut self.frames)?;
+        }
+        Ok(())
+    }
+
+    /// Goes on with what it was asked.
+    ///
+    /// # Errors
+    ///
+    /// The connection has to end, for this reason.
+    pub fn proceed(&mut self, now: Duration) -> io::Result<()> {
+        self.at(now).proceed()
+    }
+
+    /// When it has to go on again if nothing comes.
+    #[must_use]
+    pub fn due(&self) -> Duration {
+        self.now + self.session.due_in()
+    }
+
+    /// What is to be sent. Nothing is added as long as a part of it was not sent.
+    pub fn output(&mut self, now: Duration) -> &[u8] {
+        self.at(now);
+        if self.output.is_empty() {
+            self.session.take(&mut self.output);
+        }
+        &self.output
+    }
+
+    /// So many bytes of that were sent, or all if they are fewer.
+    pub fn sent(&mut self, count: usize) {
+        self.output.drain(..count.min(self.output.len()));
+    }
+
+    /// The connection has ended, or was not made. It answers when to make the next one.
+    pub fn disconnected(&mut self, now: Duration, why: io::Error) -> Duration {
+        self.output.clear();
+        let pause = self.at(now).disconnected(why);
+        self.now + pause
+    }
+
+    /// Asks to join.
+    pub fn join(&mut self, now: Duration) -> Call<()> {
+        Call(self.at(now).jobs().join())
+    }
+
+    /// Asks for the rows of a range that is not empty.
+    pub fn read(&mut self, now: Duration, keys: Range<u64>) -> Call<Vec<Row>> {
+        Call(self.at(now).jobs().read(keys))
+    }
+
+    /// Asks for a write. With a pin, it is made while that holds, or never.
+    pub fn write(&mut self, now: Duration, write: Write, pin: Option<u64>) -> Call<Outcome> {
+        let jobs = self.at(now).jobs();
+        Call(match pin {
+            Some(pin) => jobs.write_under(pin, write),
+            None => jobs.write(write),
+        })
+    }
+
+    /// Gives back a range that is not empty.
+    pub fn forget(&mut self, now: Duration, keys: Range<u64>) -> Call<()> {
+        Call(self.at(now).jobs().forget(keys))
+    }
+
+    /// Asks for the rows of a range that is not empty, and pins it.
+    pub fn hold(&mut self, now: Duration, keys: Range<u64>, purpose: Purpose) -> Call<Held> {
+        Call(self.at(now).jobs().hold(keys, purpose))
+    }
+
+    /// Whether the pin holds.
+    pub fn holds_pin(&mut self, now: Duration, pin: u64) -> bool {
+        self.at(now).jobs().holds_pin(pin)
+    }
+
+    /// Drops a pin.
+    pub fn unpin(&mut self, now: Duration, pin: u64) {
+        self.at(now).jobs().unpin(pin);
+    }
+
+    /// Waits until what it knows of the range is no more these rows.
+    pub fn watch(&mut self, now: Duration, keys: Range<u64>, rows: Vec<Row>) -> Call<()> {
+        Call(self.at(now).jobs().watch(keys, rows))
+    }
+
+    /// Asks to leave.
+    pub fn leave(&mut self, now: Duration) -> Call<()> {
+        Call(self.at(now).jobs().leave())
+    }
+
+    /// Nobody waits for the call any more. It answers why that has no answer, if none has come.
+    ///
+    /// # Errors
+    ///
+    /// Why there is no answer; or those of the call.
+    pub fn give_up<T>(&mut self, now: Duration, call: &Call<T>) -> Result<T, Refused> {
+        let why = self.at(now).give_up(call.0.id);
+        call.0.answer.try_recv().unwrap_or(Err(why))
+    }
+}
+
+fn moment(now: Duration) -> Moment {
+    Moment::of_nanoseconds(u64::try_from(now.as_nanos()).unwrap_or(u64::MAX))
+}
+
+/// So many servers, whose addresses only the host knows.
+fn unnamed(count: usize, shard: Option<ShardBounds>) -> Servers {
+    let servers = Servers::unnamed(count);
+    match shard {
+        Some(shard) => servers.of_shard(shard),
+        None => servers,
+    }
+}
+
+impl<T> fmt::Debug for Call<T> {
+    fn fmt(&self, f: &mut fmt::Formatter<'_>) -> fmt::Result {
+        f.debug_tuple("Call").field(&self.0.id).finish()
+    }
+}
+
+impl fmt::Debug for Client {
+    fn fmt(&self, f: &mut fmt::Formatter<'_>) -> fmt::Result {
+        f.debug_struct("Client").field("number", &self.number()).finish_non_exhaustive()
+    }
+}
+
+impl fmt::Debug for CacheView {
+    fn fmt(&self, f: &mut fmt::Formatter<'_>) -> fmt::Result {
+        f.debug_struct("CacheView").finish_non_exhaustive()
+    }
+}
