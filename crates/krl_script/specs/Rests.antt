@@ -1,5 +1,5 @@
 -- Good rounds after a random run, and what is written of them.
-use Rattle.std.specs.Prelude.{◌≡◌, ℕ, Bool, true, false, List, [], ◌∷◌, ◌++◌, codes, Option, None, Some, Result, Ok, Err}
+use Rattle.std.specs.Prelude.{◌≡◌, ℕ, suc, ◌+◌, ◌-◌, ◌≤◌, Bool, true, false, List, [], ◌∷◌, ◌++◌, map, length, codes, Option, None, Some, Result, Ok, Err}
 use Rattle.std.specs.List.{flat_map, list_all}
 use Rattle.std.specs.Fmt.{decimal}
 use Rattle.krl_client.specs.declared.status.LockStatus.{LockStatus}
@@ -12,6 +12,7 @@ use Rattle.krl_steps.specs.declared.step.Step.{Step}
 use Rattle.krl_steps.specs.declared.step.Step.TheVariants as step
 use Rattle.krl_steps.specs.declared.answer.Answer.{Answer}
 use Rattle.krl_steps.specs.declared.refused.Refused.{Refused}
+use Rattle.krl_steps.specs.declared.refused.Refused.TheVariants as refused
 use Rattle.krl_world.specs.States.{State, client_of}
 use Rattle.krl_world.specs.Steps.{RunsWith, IsReachable}
 use Rattle.krl_world.specs.Promises.{IsCompatible}
@@ -23,7 +24,7 @@ use Rattle.krl_script.specs.declared.rest.Rest.TheVariants as rest
 use Rattle.krl_script.specs.declared.rest.Awaited.{Awaited}
 use Rattle.krl_script.specs.declared.rest.Awaited.TheVariants as awaited
 use Rattle.krl_script.specs.RandomRuns.{WroteLineOf}
-use Rattle.krl_script.specs.Soundness.{all_below}
+use Rattle.krl_script.specs.Soundness.{all_below, numbers_below}
 
 -- a step of a good round: nobody crashes or leaves, and nobody asks for more
 abbrev pub is_of_round : Step → Bool
@@ -39,6 +40,57 @@ pub record GoesByRounds (w w' : State) : Type 0 where
   pub outcomes : List (Result Answer Refused)
   pub all : list_all is_of_round steps ≡ true
   pub runs : RunsWith w steps outcomes w'
+
+--- Rounds
+
+-- it is no refusal for want of memory
+abbrev pub had_memory : Result Answer Refused → Bool
+had_memory (Err refused.OutOfMemory) = false
+had_memory other = true
+
+-- these steps, one after another, lead from a world to another one, and none of them lacked memory
+pub record Leads (w : State) (steps : List Step) (w' : State) : Type 0 where
+  pub outcomes : List (Result Answer Refused)
+  pub runs : RunsWith w steps outcomes w'
+  pub had : list_all had_memory outcomes ≡ true
+
+-- the server starts, and the clients below n
+abbrev pub starts_below : ℕ → List Step
+starts_below n = step.StartServer ∷ map step.StartClient (numbers_below n)
+
+-- the clients below n tick
+abbrev pub ticks_below : ℕ → List Step
+ticks_below n = map step.Tick (numbers_below n)
+
+-- the n messages after the first `past` are delivered
+abbrev pub deliveries : ℕ → ℕ → List Step
+deliveries past n = map (λ i. step.Deliver (past + i + 1)) (numbers_below n)
+
+-- A good round of the clients 0 to 3: each ticks, and what was sent in the round before is delivered. That is all after
+-- the first `past` messages.
+abbrev pub IsRound : ℕ → State → State → Type 0
+IsRound past w w' = Leads w (ticks_below 4 ++ deliveries past (length w.sent - past)) w'
+
+-- So many good rounds lead from a world to another one. The first of them delivers all after the first so many
+-- messages, and the next one would deliver all after the first so many more.
+pub data Rounds (start : State) (first : ℕ) : ℕ → ℕ → State → Type 0 where
+  begun : Rounds start first 0 first start
+  went : (n past : ℕ) (w w' : State) → Rounds start first n past w → IsRound past w w' →
+      Rounds start first (suc n) (length w.sent) w'
+
+-- how many rounds were made, if they ended so
+abbrev pub rounds_of : Rest → ℕ
+rounds_of (rest.Reached n) = n
+rounds_of rest.Missed = 1172
+rounds_of (rest.Unsound n) = n
+
+-- as many rounds as the ending tells, and not more than 1172, lead here
+abbrev pub GoesRound : ℕ → State → State → Rest → Type 0
+GoesRound past w w' r = (rounds_of r ≤ 1172) × (next : ℕ) × Rounds w past (rounds_of r) next w'
+
+-- first what does not run is started
+abbrev pub StartsAndGoesRound : State → State → Rest → Type 0
+StartsAndGoesRound w w' r = (v : State) × Leads w (starts_below 4) v × GoesRound (length w.sent) v w' r
 
 -- what the clients hold goes together, and some run leads here
 abbrev pub IsWhole : State → Type 0

@@ -1,5 +1,6 @@
 //! Good rounds after a run, until nobody waits.
-ghost use Rattle.std.specs.Prelude.{◌≡◌, ◌++◌, ℕ, true, IfOk, OnOk, IsErrOf};
+ghost use Rattle.std.specs.Prelude.{◌≡◌, ◌++◌, ◌∷◌, [], ◌-◌, ℕ, true, length, is_none};
+ghost use Rattle.std.specs.Prelude.{IfOk, OnOk, IsErrOf};
 ghost use Rattle.std.specs.List.{flat_map};
 ghost use Rattle.krl_world.specs.States.{client_of};
 ghost use Rattle.krl_world.specs.Fields.{meaning};
@@ -11,11 +12,15 @@ ghost use Rattle.krl_script.specs.Rests.{is_of_round, GoesByRounds, IsWhole};
 ghost use Rattle.krl_script.specs.Rests.{awaited_by, awaited_of, is_nothing, nobody_waits};
 ghost use Rattle.krl_script.specs.Rests.{awaited_text, waiter_text, rest_line};
 ghost use Rattle.krl_script.specs.Rests.{EndsAs, WroteRest};
+ghost use Rattle.krl_script.specs.Rests.{had_memory, Leads, starts_below, ticks_below};
+ghost use Rattle.krl_script.specs.Rests.{deliveries, IsRound, GoesRound, rounds_of};
+ghost use Rattle.krl_script.specs.Rests.{StartsAndGoesRound};
+ghost use Rattle.krl_script.specs.Soundness.{first_unsound, numbers_below};
 
 use crate::soundness::least_unsound;
 use krl_client::{LockStatus, WriteStatus};
 use krl_text::{ScriptFault, Sink, write_line};
-use krl_world::{Refused, Step, World};
+use krl_world::{Answer, Refused, Step, World};
 use std::alloc::{AllocError, Global};
 
 // How many clients a random run has.
@@ -107,19 +112,33 @@ fn nobody_waits(world: &World) -> bool
 
 // Whether what the clients hold goes together.
 fn is_sound(world: &World) -> bool
-    ensures { IsCompatible (meaning world.now) → result ≡ true }
+    ensures sound { IsCompatible (meaning world.now) → result ≡ true }
+    ensures looks { result ≡ is_none (first_unsound (meaning world.now) 4 (numbers_below 64)) }
 {
     least_unsound(world, CLIENTS, POINTS).is_none()
+}
+
+// Whether the step was not refused for want of memory.
+fn had_memory(outcome: &Result<Answer, Refused>) -> bool
+    ensures { result ≡ had_memory outcome.now }
+{
+    match outcome {
+        Err(Refused::OutOfMemory) => false,
+        _ => true,
+    }
 }
 
 // Takes a step. One that is refused, but for want of memory, has nothing to do.
 fn take(world: &mut World, step: Step) -> Result<(), AllocError>
     ensures goes { is_of_round step ≡ true → GoesByRounds (meaning world.old) (meaning world.new) }
     ensures whole { IsWhole (meaning world.new) }
+    ensures leads { OnOk result (Leads (meaning world.old) (step ∷ []) (meaning world.new)) }
 {
-    match world.step(step) {
-        Err(Refused::OutOfMemory) => Err(AllocError),
-        _ => Ok(()),
+    let outcome = world.step(step);
+    if had_memory(&outcome) {
+        Ok(())
+    } else {
+        Err(AllocError)
     }
 }
 
@@ -127,6 +146,7 @@ fn take(world: &mut World, step: Step) -> Result<(), AllocError>
 fn start_all(world: &mut World) -> Result<(), AllocError>
     ensures goes { GoesByRounds (meaning world.old) (meaning world.new) }
     ensures whole { IsWhole (meaning world.new) }
+    ensures leads { OnOk result (Leads (meaning world.old) (starts_below 4) (meaning world.new)) }
 {
     take(world, Step::StartServer)?;
     'clients: for client in 0..CLIENTS {
@@ -139,6 +159,7 @@ fn start_all(world: &mut World) -> Result<(), AllocError>
 fn tick_all(world: &mut World) -> Result<(), AllocError>
     ensures goes { GoesByRounds (meaning world.old) (meaning world.new) }
     ensures whole { IsWhole (meaning world.old) → IsWhole (meaning world.new) }
+    ensures leads { OnOk result (Leads (meaning world.old) (ticks_below 4) (meaning world.new)) }
 {
     'clients: for client in 0..CLIENTS {
         take(world, Step::Tick(client))?;
@@ -146,10 +167,12 @@ fn tick_all(world: &mut World) -> Result<(), AllocError>
     Ok(())
 }
 
-// Delivers the messages behind the first `past`, up to the one of number `last`.
+// Delivers the messages after the first `past`, up to the one of number `last`.
 fn deliver_all(world: &mut World, past: u64, last: u64) -> Result<(), AllocError>
     ensures goes { GoesByRounds (meaning world.old) (meaning world.new) }
     ensures whole { IsWhole (meaning world.old) → IsWhole (meaning world.new) }
+    ensures leads { OnOk result
+        (Leads (meaning world.old) (deliveries past (last - past)) (meaning world.new)) }
 {
     'messages: for before in past..last {
         take(world, Step::Deliver(before + 1))?;
@@ -162,6 +185,8 @@ fn deliver_all(world: &mut World, past: u64, last: u64) -> Result<(), AllocError
 fn go_round(world: &mut World, past: u64) -> Result<u64, AllocError>
     ensures goes { GoesByRounds (meaning world.old) (meaning world.new) }
     ensures whole { IsWhole (meaning world.old) → IsWhole (meaning world.new) }
+    ensures sent { IfOk result (λ last. last ≡ length (meaning world.old).sent) }
+    ensures round { OnOk result (IsRound past (meaning world.old) (meaning world.new)) }
 {
     let last = world.sent();
     tick_all(world)?;
@@ -169,12 +194,14 @@ fn go_round(world: &mut World, past: u64) -> Result<u64, AllocError>
     Ok(last)
 }
 
-// Goes round until nobody waits. Messages behind the first `past` are those of the round before.
+// Goes round until nobody waits. Messages after the first `past` are those of the round before.
 fn go_rounds(world: &mut World, past: u64) -> Result<Rest, AllocError>
     ensures goes { GoesByRounds (meaning world.old) (meaning world.new) }
     ensures whole { IsWhole (meaning world.old) → IsWhole (meaning world.new) }
     ensures ended { IsWhole (meaning world.old)
         → IfOk result (λ rest. EndsAs (meaning world.new) rest) }
+    ensures rounds { IfOk result
+        (λ rest. GoesRound past (meaning world.old) (meaning world.new) rest) }
 {
     let mut past = past;
     'rounds: for rounds in 0..MAX_ROUNDS {
@@ -191,7 +218,8 @@ fn go_rounds(world: &mut World, past: u64) -> Result<Rest, AllocError>
 
 // How the last round ended.
 fn last_of(world: &World) -> Rest
-    ensures { IsWhole (meaning world.now) → EndsAs (meaning world.now) result }
+    ensures ended { IsWhole (meaning world.now) → EndsAs (meaning world.now) result }
+    ensures last { rounds_of result ≡ 1172 }
 {
     if !is_sound(world) {
         return Rest::Unsound(MAX_ROUNDS);
@@ -207,6 +235,8 @@ fn brought_to_rest(world: &mut World) -> Result<Rest, AllocError>
     ensures goes { GoesByRounds (meaning world.old) (meaning world.new) }
     ensures whole { IsWhole (meaning world.new) }
     ensures ended { IfOk result (λ rest. EndsAs (meaning world.new) rest) }
+    ensures rounds { IfOk result
+        (λ rest. StartsAndGoesRound (meaning world.old) (meaning world.new) rest) }
 {
     let past = world.sent();
     start_all(world)?;
@@ -294,6 +324,8 @@ pub fn bring_to_rest<W: Sink>(
     ensures goes { GoesByRounds (meaning world.old) (meaning world.new) }
     ensures reachable { IsReachable (meaning world.new) }
     ensures ended { IfOk result (λ rest. EndsAs (meaning world.new) rest) }
+    ensures rounds { IfOk result
+        (λ rest. StartsAndGoesRound (meaning world.old) (meaning world.new) rest) }
     ensures wrote { WroteRest (W.contents writer.old) (W.contents writer.new)
         (meaning world.new) result }
     ensures steady { IsSteady (W.interruptions writer.old) →

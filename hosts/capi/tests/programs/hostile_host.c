@@ -1,6 +1,6 @@
 /* Calls of krl_host.h that no program should make: null pointers, freed handles, lengths and texts that are none, calls
- * out of order, bytes that no server sends, and a child of `fork`. Each has to be refused, and to leave the client as it
- * is.
+ * out of order, bytes that no server sends, and a child of `fork`. Each has to be refused, and to leave the client as
+ * it is.
  */
 #define _GNU_SOURCE
 #include "common.h"
