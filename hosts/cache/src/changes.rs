@@ -4,6 +4,7 @@ use crate::error::CacheError;
 use crate::mark::keys_of;
 use crate::origin::Origin;
 use crate::reads::Row;
+use krl::Waited;
 use std::fmt;
 use std::ops::{Range, RangeBounds};
 use std::time::{Duration, Instant};
@@ -46,8 +47,8 @@ impl<O: Origin> Changes<'_, O> {
             }
             let known: Vec<krl::Row> = rows.iter().map(in_krl).collect();
             let left = end.saturating_duration_since(Instant::now());
-            let has_changed = self.cache.reader.wait_for_change(self.keys.clone(), &known, left);
-            if !has_changed || Instant::now() >= end {
+            let waited = self.cache.reader.wait_for_change(self.keys.clone(), &known, left)?;
+            if waited == Waited::Unchanged || Instant::now() >= end {
                 return Ok(None);
             }
         }

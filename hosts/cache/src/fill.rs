@@ -95,7 +95,7 @@ impl<O: Origin> Cache<O> {
     /// Makes krl's rows of these keys those of the table.
     fn fill_part(
         &self,
-        pin: &Pin<'_>,
+        pin: &Pin,
         keys: Range<u64>,
         rows: &[(u64, Version)],
     ) -> Result<(), CacheError> {
@@ -108,7 +108,7 @@ impl<O: Origin> Cache<O> {
     }
 }
 
-fn correct(pin: &Pin<'_>, key: u64, difference: Difference) -> Result<(), CacheError> {
+fn correct(pin: &Pin, key: u64, difference: Difference) -> Result<(), CacheError> {
     let outcome = match difference {
         Difference::Insert(version) => pin.insert(key, version.value())?,
         Difference::Put(version) => pin.put(key, version.value())?,
@@ -123,7 +123,7 @@ fn correct(pin: &Pin<'_>, key: u64, difference: Difference) -> Result<(), CacheE
 }
 
 /// Inserts a row, unless it is there.
-fn insert(pin: &Pin<'_>, key: u64, value: Value) -> Result<(), CacheError> {
+fn insert(pin: &Pin, key: u64, value: Value) -> Result<(), CacheError> {
     match pin.insert(key, value)? {
         Outcome::Full => Err(CacheError::Full),
         _ => Ok(()),

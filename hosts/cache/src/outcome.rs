@@ -45,7 +45,7 @@ impl<O: Origin> Cache<O> {
     /// Asks the database what has become of the commit, until it answers.
     pub(crate) fn await_outcome(
         &self,
-        pinned: &Pinned<'_>,
+        pinned: &Pinned,
         changes: &Changes<O::Body>,
         why: OriginError,
     ) -> Result<(), CacheError> {
@@ -62,7 +62,7 @@ impl<O: Origin> Cache<O> {
 
     /// Takes back the announcement of a transaction that was rolled back. What fails, the next
     /// reader does.
-    pub(crate) fn take_back(&self, pinned: &Pinned<'_>, changes: &Changes<O::Body>) {
+    pub(crate) fn take_back(&self, pinned: &Pinned, changes: &Changes<O::Body>) {
         let _ = self.find_outcome(pinned, changes);
     }
 
@@ -70,7 +70,7 @@ impl<O: Origin> Cache<O> {
     /// whether it was committed. If it was not, its announcement is taken back.
     fn find_outcome(
         &self,
-        pinned: &Pinned<'_>,
+        pinned: &Pinned,
         changes: &Changes<O::Body>,
     ) -> Result<Look, CacheError> {
         let keys: Vec<u64> = changes.changes.iter().map(|(key, _)| *key).collect();

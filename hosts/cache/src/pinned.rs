@@ -5,14 +5,14 @@ use std::collections::BTreeSet;
 use std::ops::Range;
 
 /// Pinned spans, and the keys that have a row of krl there.
-pub(crate) struct Pinned<'c> {
-    pins: Vec<(Range<u64>, Pin<'c>)>,
+pub(crate) struct Pinned {
+    pins: Vec<(Range<u64>, Pin)>,
     rows: BTreeSet<u64>,
 }
 
-impl<'c> Pinned<'c> {
+impl Pinned {
     /// Pins spans, which ascend, for an update.
-    pub fn pin(writer: &'c Client, spans: Vec<Range<u64>>) -> Result<Pinned<'c>, Refused> {
+    pub fn pin(writer: &Client, spans: Vec<Range<u64>>) -> Result<Pinned, Refused> {
         let mut pinned = Pinned { pins: Vec::new(), rows: BTreeSet::new() };
         for span in spans {
             let (rows, pin) = writer.pin_for_update(span.clone())?;
@@ -23,7 +23,7 @@ impl<'c> Pinned<'c> {
     }
 
     /// The pin that has the key.
-    pub fn pin_of(&self, key: u64) -> Result<&Pin<'c>, CacheError> {
+    pub fn pin_of(&self, key: u64) -> Result<&Pin, CacheError> {
         let pin = self.pins.iter().find(|(span, _)| span.contains(&key));
         pin.map(|(_, pin)| pin).ok_or(CacheError::BadKey)
     }

@@ -49,7 +49,7 @@ impl<O: Origin> Cache<O> {
     /// Writes to krl what the database has of a key, which is pinned here and locked there.
     pub(crate) fn settle(
         &self,
-        pin: &Pin<'_>,
+        pin: &Pin,
         key: u64,
         known: Known,
         stored: Option<Version>,
@@ -67,7 +67,7 @@ impl<O: Origin> Cache<O> {
 
 /// Writes a version to krl while the pin holds, or never.
 pub(crate) fn write_version(
-    pin: &Pin<'_>,
+    pin: &Pin,
     key: u64,
     has_row: bool,
     version: Version,
@@ -77,7 +77,7 @@ pub(crate) fn write_version(
 }
 
 /// Deletes krl's row of a key while the pin holds, or never.
-pub(crate) fn remove(pin: &Pin<'_>, key: u64) -> Result<(), CacheError> {
+pub(crate) fn remove(pin: &Pin, key: u64) -> Result<(), CacheError> {
     applied(pin.delete(key)?)
 }
 

@@ -139,7 +139,7 @@ impl<O: Origin> Cache<O> {
     ///
     /// What is taken stays as long as the pin of the update. If it is not taken, the announcement
     /// asks for it again.
-    fn begin(&self, keys: &[u64], pinned: &Pinned<'_>) -> Result<O::Transaction<'_>, CacheError> {
+    fn begin(&self, keys: &[u64], pinned: &Pinned) -> Result<O::Transaction<'_>, CacheError> {
         let begun = match *keys {
             [key] if pinned.has_row(key) => self.origin.begin_while(keys, || {
                 let _ = self.writer.pin_for_write(key..=key);
@@ -153,7 +153,7 @@ impl<O: Origin> Cache<O> {
     fn make(
         &self,
         mut transaction: O::Transaction<'_>,
-        pinned: &Pinned<'_>,
+        pinned: &Pinned,
         changes: &Changes<O::Body>,
     ) -> Result<(), CacheError> {
         if changes.changes.is_empty() {
@@ -177,7 +177,7 @@ impl<O: Origin> Cache<O> {
     fn apply_and_announce(
         &self,
         transaction: &mut O::Transaction<'_>,
-        pinned: &Pinned<'_>,
+        pinned: &Pinned,
         changes: &Changes<O::Body>,
     ) -> Result<(), NotMade> {
         let mut announced = None;
@@ -195,7 +195,7 @@ impl<O: Origin> Cache<O> {
     fn abort(
         &self,
         transaction: O::Transaction<'_>,
-        pinned: &Pinned<'_>,
+        pinned: &Pinned,
         changes: &Changes<O::Body>,
         why: NotMade,
     ) -> CacheError {
@@ -213,7 +213,7 @@ impl<O: Origin> Cache<O> {
     ///
     /// Keys with a row come first: a put takes the gap below the row too, so no insert asks for
     /// anything for which it could wait.
-    fn announce(&self, pinned: &Pinned<'_>, changes: &Changes<O::Body>) -> Result<(), CacheError> {
+    fn announce(&self, pinned: &Pinned, changes: &Changes<O::Body>) -> Result<(), CacheError> {
         self.step(Step::Announcing);
         let keys = changes.changes.iter().map(|(key, _)| *key);
         let (present, absent): (Vec<u64>, Vec<u64>) = keys.partition(|key| pinned.has_row(*key));
@@ -228,7 +228,7 @@ impl<O: Origin> Cache<O> {
     fn commit(
         &self,
         transaction: O::Transaction<'_>,
-        pinned: &Pinned<'_>,
+        pinned: &Pinned,
         changes: &Changes<O::Body>,
     ) -> Result<(), CacheError> {
         match transaction.commit() {
@@ -247,7 +247,7 @@ impl<O: Origin> Cache<O> {
     ///
     /// The bodies that were written do not come into memory here: triggers, and the types of
     /// columns, may have made others of them.
-    fn finish(&self, pinned: &Pinned<'_>, changes: &Changes<O::Body>) {
+    fn finish(&self, pinned: &Pinned, changes: &Changes<O::Body>) {
         let is_delete = |(_, change): &&(u64, Change<_>)| matches!(change, Change::Delete);
         let deleted = changes.changes.iter().filter(is_delete).map(|(key, _)| *key);
         for (count, key) in deleted.enumerate() {

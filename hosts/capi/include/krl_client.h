@@ -355,7 +355,7 @@ KRLC_NODISCARD uint32_t krlc_read(krlc_client *client, uint64_t lo, uint64_t hi,
 /* Waits for at most so many milliseconds, with 0 not at all, until the client no longer knows that the range has just
  * these rows. KRLC_OK means that a read may have something new; KRLC_UNCHANGED that the time is over. It sends nothing.
  * For a range that the cache does not have, it is KRLC_OK at once. The rows are those of an earlier answer, in the
- * order of their keys. Errors: KRLC_MISUSE, KRLC_BAD_RANGE, KRLC_TOO_LONG. */
+ * order of their keys. Errors: KRLC_MISUSE, KRLC_BAD_RANGE, KRLC_TOO_LONG, KRLC_STOPPED. */
 KRLC_NODISCARD uint32_t krlc_wait_for_change(krlc_client *client, uint64_t lo, uint64_t hi, const krlc_row *rows,
                                              size_t count, uint64_t timeout_ms, krlc_error *error);
 

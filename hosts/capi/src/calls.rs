@@ -20,7 +20,7 @@ use crate::input::{self, GivenRow, range};
 use crate::options::{NUMBERS, Options, options_at};
 use crate::status::Status;
 use crate::table::{Table, Write};
-use krl::Row;
+use krl::{Row, Waited};
 use std::ffi::{c_char, c_void};
 use std::ptr;
 use std::time::Duration;
@@ -118,7 +118,7 @@ pub unsafe extern "C" fn krlc_leave(
     let leave = || {
         // SAFETY: the caller frees the client after this call.
         let table = unsafe { table(client) }?;
-        table.depart(table.timeout_of(timeout_ms))?;
+        table.leave(table.timeout_of(timeout_ms))?;
         Ok(Code::Ok)
     };
     // SAFETY: the caller vouches for the room of the error.
@@ -302,8 +302,10 @@ pub unsafe extern "C" fn krlc_wait_for_change(
         // SAFETY: the caller frees the client after this call, and vouches for so many rows.
         let (table, rows) = unsafe { (table(client)?, input::rows(rows, count)?) };
         let timeout = Duration::from_millis(timeout_ms);
-        let has_changed = table.wait_for_change(range(lo, hi)?, &rows, timeout);
-        Ok(if has_changed { Code::Ok } else { Code::Unchanged })
+        Ok(match table.wait_for_change(range(lo, hi)?, &rows, timeout)? {
+            Waited::Changed => Code::Ok,
+            Waited::Unchanged => Code::Unchanged,
+        })
     };
     // SAFETY: the caller vouches for the room of the error.
     unsafe { answer(error, wait) }

@@ -47,7 +47,7 @@ impl Joined {
     /// Leaves. While it has pins the table stays, so it is told to leave before.
     pub fn end(self) {
         if Arc::strong_count(&self.table) > 1 {
-            let _ = self.table.depart(FAREWELL);
+            let _ = self.table.leave(FAREWELL);
         }
     }
 }

@@ -1,4 +1,4 @@
-//! A pin that keeps its client.
+//! A pin as C has it.
 use crate::table::{Purpose, Table, TablePin, Write};
 use krl::{Outcome, Row, ShardRefused};
 use std::ops::Range;
@@ -8,8 +8,7 @@ use std::time::Duration;
 /// A pin, which C may free before its client or after it.
 #[derive(Debug)]
 pub struct OwnPin {
-    /// It borrows from the table, and ends first: members are dropped in this order.
-    pin: TablePin<'static>,
+    pin: TablePin,
     table: Arc<Table>,
 }
 
@@ -20,8 +19,7 @@ impl OwnPin {
         keys: Range<u64>,
         timeout: Duration,
     ) -> Result<OwnPin, ShardRefused> {
-        let pin = |table: &'static Table| table.pin(keys, timeout).map(|pin| ((), pin));
-        OwnPin::new(table, pin).map(|((), pin)| pin)
+        table.pin(keys, timeout).map(|pin| OwnPin { pin, table: Arc::clone(table) })
     }
 
     /// Reads the range and pins it.
@@ -31,18 +29,8 @@ impl OwnPin {
         purpose: Purpose,
         timeout: Duration,
     ) -> Result<(Vec<Row>, OwnPin), ShardRefused> {
-        OwnPin::new(table, |table| table.pin_for(keys, purpose, timeout))
-    }
-
-    fn new<T>(
-        table: &Arc<Table>,
-        pin: impl FnOnce(&'static Table) -> Result<(T, TablePin<'static>), ShardRefused>,
-    ) -> Result<(T, OwnPin), ShardRefused> {
-        // SAFETY: the table stays in its place as long as the `Arc` does, which is dropped after
-        // the pin. The functions above keep nothing else of it.
-        let lent: &'static Table = unsafe { &*Arc::as_ptr(table) };
-        let (found, pin) = pin(lent)?;
-        Ok((found, OwnPin { pin, table: Arc::clone(table) }))
+        let (rows, pin) = table.pin_for(keys, purpose, timeout)?;
+        Ok((rows, OwnPin { pin, table: Arc::clone(table) }))
     }
 
     pub fn holds(&self) -> bool {

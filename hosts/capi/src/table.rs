@@ -1,5 +1,5 @@
 //! The table that a client works on: that of one server, or that of all servers of a map.
-use krl::{Client, Outcome, Pin, Row, ShardRefused, ShardedClient, ShardedPin, Value};
+use krl::{Client, Outcome, Pin, Row, ShardRefused, ShardedClient, ShardedPin, Value, Waited};
 use std::ops::Range;
 use std::time::Duration;
 
@@ -12,9 +12,9 @@ pub enum Table {
 
 /// A pinned range, of one server or of several.
 #[derive(Debug)]
-pub enum TablePin<'t> {
-    One(Pin<'t>),
-    Sharded(ShardedPin<'t>),
+pub enum TablePin {
+    One(Pin),
+    Sharded(ShardedPin),
 }
 
 /// What a pin of a range is for.
@@ -96,7 +96,7 @@ impl Table {
     }
 
     /// Pins what is held. Over several servers it has to be read first.
-    pub fn pin(&self, keys: Range<u64>, timeout: Duration) -> Answer<TablePin<'_>> {
+    pub fn pin(&self, keys: Range<u64>, timeout: Duration) -> Answer<TablePin> {
         match self {
             Table::One(client) => Ok(client.pin(keys).map(TablePin::One)?),
             Table::Sharded(client) => {
@@ -111,7 +111,7 @@ impl Table {
         keys: Range<u64>,
         purpose: Purpose,
         timeout: Duration,
-    ) -> Answer<(Vec<Row>, TablePin<'_>)> {
+    ) -> Answer<(Vec<Row>, TablePin)> {
         match self {
             Table::One(client) => {
                 let (rows, pin) = pinned!(client.within(timeout), keys, purpose)?;
@@ -124,9 +124,14 @@ impl Table {
         }
     }
 
-    pub fn wait_for_change(&self, keys: Range<u64>, rows: &[Row], timeout: Duration) -> bool {
+    pub fn wait_for_change(
+        &self,
+        keys: Range<u64>,
+        rows: &[Row],
+        timeout: Duration,
+    ) -> Answer<Waited> {
         match self {
-            Table::One(client) => client.wait_for_change(keys, rows, timeout),
+            Table::One(client) => Ok(client.wait_for_change(keys, rows, timeout)?),
             Table::Sharded(client) => client.wait_for_change(keys, rows, timeout),
         }
     }
@@ -139,10 +144,10 @@ impl Table {
     }
 
     /// Leaves, and waits so long until each server has kept that.
-    pub fn depart(&self, timeout: Duration) -> Answer<()> {
+    pub fn leave(&self, timeout: Duration) -> Answer<()> {
         match self {
-            Table::One(client) => Ok(client.depart(timeout)?),
-            Table::Sharded(client) => client.depart(timeout),
+            Table::One(client) => Ok(client.within(timeout).leave()?),
+            Table::Sharded(client) => client.within(timeout).leave(),
         }
     }
 
@@ -166,7 +171,7 @@ impl Table {
     }
 }
 
-impl TablePin<'_> {
+impl TablePin {
     pub fn holds(&self) -> bool {
         match self {
             TablePin::One(pin) => pin.holds(),

@@ -79,7 +79,7 @@ impl Session {
     pub fn leave_all(sessions: Vec<Session>, timeout: Duration) {
         let unheard: Vec<String> = thread::scope(|scope| {
             let leave = |session: Session| {
-                let is_unheard = session.table.depart(timeout).is_err();
+                let is_unheard = session.table.leave(timeout).is_err();
                 is_unheard.then_some(session.number.to_string())
             };
             let leaving = sessions.into_iter().map(|it| scope.spawn(move || leave(it)));

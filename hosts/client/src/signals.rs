@@ -103,10 +103,10 @@ impl Signals {
         let tables: Vec<_> = lock(&self.0.tables).iter().filter_map(WeakTable::upgrade).collect();
         // All say Bye before one is waited for; and the process ends in any case.
         for table in &tables {
-            let _ = table.depart(Duration::ZERO);
+            let _ = table.leave(Duration::ZERO);
         }
         for table in &tables {
-            let _ = table.depart(end.saturating_duration_since(Instant::now()));
+            let _ = table.leave(end.saturating_duration_since(Instant::now()));
         }
         process::exit(i32::from(SIGNALLED) + signal)
     }

@@ -1,6 +1,7 @@
 //! The table that a client works on: that of one server, or that of all servers of a map.
 use krl::{
-    Client, Outcome, Pin, Refused, Row, ShardRefused, ShardStatus, ShardedClient, ShardedPin, Value,
+    Client, Outcome, Pin, Refused, Row, ShardRefused, ShardStatus, ShardedClient, ShardedPin,
+    Value, Waited,
 };
 use std::ops::Range;
 use std::sync::{Arc, Weak};
@@ -20,12 +21,12 @@ pub enum WeakTable {
 }
 
 /// A pinned range, of one server or of several.
-pub enum TablePin<'t> {
-    One(Pin<'t>),
-    Sharded(ShardedPin<'t>),
+pub enum TablePin {
+    One(Pin),
+    Sharded(ShardedPin),
 }
 
-impl TablePin<'_> {
+impl TablePin {
     /// Whether the range was pinned all the time until now.
     pub fn holds(&self) -> bool {
         match self {
@@ -112,7 +113,7 @@ impl Table {
     }
 
     /// Reads the range and pins it, for an update or to read it alone.
-    pub fn pin(&self, keys: Range<u64>, for_update: bool) -> Answer<TablePin<'_>> {
+    pub fn pin(&self, keys: Range<u64>, for_update: bool) -> Answer<TablePin> {
         Ok(match (self, for_update) {
             (Table::One(client), true) => TablePin::One(client.pin_for_update(keys)?.1),
             (Table::One(client), false) => TablePin::One(client.pin_for_read(keys)?.1),
@@ -121,9 +122,14 @@ impl Table {
         })
     }
 
-    pub fn wait_for_change(&self, keys: Range<u64>, rows: &[Row], timeout: Duration) -> bool {
+    pub fn wait_for_change(
+        &self,
+        keys: Range<u64>,
+        rows: &[Row],
+        timeout: Duration,
+    ) -> Answer<Waited> {
         match self {
-            Table::One(client) => client.wait_for_change(keys, rows, timeout),
+            Table::One(client) => Ok(client.wait_for_change(keys, rows, timeout)?),
             Table::Sharded(client) => client.wait_for_change(keys, rows, timeout),
         }
     }
@@ -142,10 +148,10 @@ impl Table {
         }
     }
 
-    pub fn depart(&self, timeout: Duration) -> Answer<()> {
+    pub fn leave(&self, timeout: Duration) -> Answer<()> {
         match self {
-            Table::One(client) => Ok(client.depart(timeout)?),
-            Table::Sharded(client) => client.depart(timeout),
+            Table::One(client) => Ok(client.within(timeout).leave()?),
+            Table::Sharded(client) => client.within(timeout).leave(),
         }
     }
 

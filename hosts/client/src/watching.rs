@@ -3,7 +3,7 @@ use crate::commands::Context;
 use crate::failure::Failure;
 use crate::signals::Taken;
 use crate::table::Table;
-use krl::{Refused, Row, ShardRefused};
+use krl::{Refused, Row, ShardRefused, Waited};
 use std::ops::Range;
 use std::time::Duration;
 
@@ -48,7 +48,7 @@ fn next_change(
     signals: &Taken<'_>,
 ) -> Result<Option<Vec<Row>>, ShardRefused> {
     while !signals.is_ended() {
-        if !table.wait_for_change(keys.clone(), rows, LOOK) {
+        if table.wait_for_change(keys.clone(), rows, LOOK)? == Waited::Unchanged {
             continue;
         }
         match table.read(keys.clone()) {

@@ -135,7 +135,7 @@ fn crowd(at: &Address, folder: &Path) -> Done {
             });
         }
     });
-    clients.into_iter().try_for_each(Client::leave)?;
+    clients.iter().try_for_each(Client::leave)?;
     Ok(())
 }
 
@@ -152,7 +152,7 @@ fn write_all(at: &Address, folder: &Path, writers: u8) -> Result<u64, Box<dyn Er
             .map(|thread| thread.join().unwrap_or(Err("a writer panicked".into())))
             .collect()
     });
-    clients.into_iter().try_for_each(Client::leave)?;
+    clients.iter().try_for_each(Client::leave)?;
     counts.into_iter().sum::<Result<u64, String>>().map_err(Into::into)
 }
 

@@ -168,7 +168,7 @@ fn crowd(server: &Server, folder: &Path) -> Done<()> {
         messages / READING.as_secs(),
         busy.as_nanos() / u128::from(messages.max(1))
     );
-    clients.into_iter().try_for_each(Client::leave)?;
+    clients.iter().try_for_each(Client::leave)?;
     Ok(())
 }
 

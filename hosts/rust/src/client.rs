@@ -1,54 +1,42 @@
 //! A client over a network.
 mod backoff;
 pub(crate) mod builder;
-pub(crate) mod cached;
 pub(crate) mod evict;
 pub(crate) mod jobs;
+pub(crate) mod joining;
 pub(crate) mod link;
 pub(crate) mod lock_file;
 pub(crate) mod numbers;
 pub(crate) mod pin;
 mod pins;
+pub(crate) mod scratch;
 pub(crate) mod session;
 pub(crate) mod set;
+pub(crate) mod shared;
 pub(crate) mod silence;
-pub(crate) mod standing;
 pub(crate) mod within;
 mod writer;
 
-use crate::client::builder::{ClientBuilder, Waits};
 use crate::client::jobs::Jobs;
 use crate::client::link::Link;
-use crate::client::lock_file::LockFile;
 use crate::client::pin::Pin;
+use crate::client::scratch::with_room;
+use crate::client::shared::{MAX_WAIT, Shared};
 use crate::client::within::Within;
-use crate::lease::clocks::Now;
-use crate::lease::terms::Older;
 use crate::model::change::Outcome;
-use crate::model::client_number::ClientNumber;
+use crate::model::code::Code;
 use crate::model::range::keys_of;
-use crate::model::refusal::Refusal;
-use crate::model::refused::{JoinError, Refused};
+use crate::model::refused::Refused;
 use crate::model::row::{Row, Value};
-use crate::net::connect_fault::{NotTaken, Rejection};
-use crate::net::servers::Servers;
-use crate::proved::client_handle::ClientHandle;
 use std::fmt;
 use std::ops::RangeBounds;
-use std::path::Path;
 use std::sync::Arc;
-use std::sync::atomic::{AtomicU64, Ordering};
-use std::thread::{self, JoinHandle};
 use std::time::{Duration, Instant};
-
-/// How long a client that is dropped waits until its Bye is kept.
-pub(crate) const FAREWELL: Duration = Duration::from_secs(1);
-
-/// A client waits no longer than this, a year.
-const MAX_TIMEOUT: Duration = Duration::from_secs(365 * 24 * 3600);
 
 /// A client of a number from 0 to 63. Its calls may come from several threads; a thread of its own
 /// keeps the connection, makes it again when it breaks, and says again what is not answered.
+///
+/// A clone is the same client: it has the same cache, the same pins and the same timeout.
 ///
 /// If the server's store went back, since an older copy of it was brought back, the client drops its
 /// cache as if it had crashed, and joins anew: [`Refused::StoreWentBack`] tells who waits just then.
@@ -63,121 +51,49 @@ const MAX_TIMEOUT: Duration = Duration::from_secs(365 * 24 * 3600);
 /// When its lease ends the client drops its cache and joins anew, as above: only a write that is on
 /// its way is told so, by [`Refused::LeaseEnded`], and all other calls go on.
 ///
-/// A client that is dropped says Bye, and waits a second at most until the server has kept that. A
-/// process that ends without a Bye leaves what it held: other clients wait for that until a client
-/// of its number joins again or it is evicted.
+/// When its last clone and its last pin are dropped, the client says Bye, and waits a second at most
+/// until the server has kept that. A process that ends without a Bye leaves what it held: other
+/// clients wait for that until a client of its number joins again or it is evicted.
+///
+/// [`Refusal::OtherStore`]: crate::Refusal::OtherStore
+#[derive(Clone)]
 pub struct Client {
-    number: u8,
-    pub(crate) link: Arc<Link>,
-    thread: Option<JoinHandle<()>>,
-    /// In nanoseconds.
-    timeout: AtomicU64,
+    shared: Arc<Shared>,
+}
+
+/// How a wait for a change ended.
+#[derive(Clone, Copy, Debug, PartialEq, Eq)]
+#[must_use]
+pub enum Waited {
+    /// The client no longer knows that the range has these rows: they are to be read again.
+    Changed,
+    /// The time is over, and the rows are as they were.
+    Unchanged,
 }
 
 impl Client {
-    /// Joins the server as the client of this number. `lock_file` is the file of this number on
-    /// this machine: it keeps a second process off the number. Two machines have to have different
-    /// numbers. It waits fifteen seconds for an answer.
-    ///
-    /// # Errors
-    ///
-    /// `BadNumber` above 63; `LockFile` if another process has the file, or it can't be used;
-    /// `NoThread`; `NoAnswer`, with the reason if the connection failed; `Unserved`, if the server
-    /// tells why it does not serve the client; `TurnedAway`, if this side has no right to the client;
-    /// `OtherShard`, if the server serves another shard than the client takes it for; `Refused` if memory is refused.
-    pub fn join(
-        servers: impl Into<Servers>,
-        number: u8,
-        lock_file: impl AsRef<Path>,
-    ) -> Result<Client, JoinError> {
-        let (waits, lock_file) = (Waits::by_default(), lock_file.as_ref());
-        Client::start(servers.into(), number, lock_file, waits, Errand::Work)
+    pub(crate) fn of(shared: Shared) -> Client {
+        Client { shared: Arc::new(shared) }
     }
 
-    /// Says more of a client before it joins: how long its calls wait.
-    ///
-    /// ```no_run
-    /// # use krl::{Address, Client};
-    /// # use std::time::Duration;
-    /// let address: Address = "127.0.0.1:7400".parse()?;
-    /// let client = Client::builder(address)
-    ///     .number(3)
-    ///     .lock_file("client-3.lock")
-    ///     .timeout(Duration::from_secs(2))
-    ///     .join()?;
-    /// # Ok::<(), Box<dyn std::error::Error>>(())
-    /// ```
-    pub fn builder(servers: impl Into<Servers>) -> ClientBuilder {
-        ClientBuilder::new(servers.into())
+    /// What its clones and its pins share.
+    pub(crate) fn shared(&self) -> &Arc<Shared> {
+        &self.shared
     }
 
-    pub(crate) fn start(
-        servers: Servers,
-        number: u8,
-        lock_file: &Path,
-        waits: Waits,
-        errand: Errand,
-    ) -> Result<Client, JoinError> {
-        if ClientNumber::of(number).is_none() {
-            return Err(JoinError::BadNumber);
-        }
-        let (mut lock_file, incarnation) = LockFile::take(lock_file, number)?;
-        let (incarnation, older) = match errand {
-            Errand::Work => (incarnation, lock_file.older()),
-            Errand::Evict { above } => (lock_file.rise_above(above), Older::Vouched),
-        };
-        let handle = ClientHandle::open_behind(number, incarnation, older);
-        let handle = handle.map_err(Refused::from)?;
-        let jobs = Jobs::new(handle, Now::read());
-        let (link, poller) =
-            Link::new(servers, jobs, Some(lock_file)).map_err(JoinError::NoThread)?;
-        let link = Arc::new(link);
-        let run = Arc::clone(&link);
-        let thread = thread::Builder::new().name(format!("krl-client-{number}"));
-        let thread = thread.spawn(move || run.run(poller)).map_err(JoinError::NoThread)?;
-        let timeout = AtomicU64::new(nanoseconds(waits.timeout));
-        let client = Client { number, link, thread: Some(thread), timeout };
-        let begun = Instant::now();
-        let gives_up = move |refusal, now: Instant| match errand {
-            Errand::Work => {
-                let waited = now.saturating_duration_since(begun);
-                waited >= waits.if_in_use && is_in_use(refusal)
-            }
-            // A greater incarnation is taken then.
-            Errand::Evict { .. } => matches!(refusal, Refusal::Incarnation { .. }),
-        };
-        match client.link.join(client.timeout(), gives_up) {
-            Ok(()) => Ok(client),
-            Err(refused) => Err(client.not_joined(refused)),
-        }
-    }
-
-    /// Ends a client that has not joined: it says Bye, and waits for nothing.
-    fn not_joined(mut self, refused: Refused) -> JoinError {
-        let fault = self.link.take_fault();
-        let rejection = self.link.rejection();
-        let _ = self.end(Duration::ZERO);
-        match refused {
-            Refused::TimedOut => JoinError::NoAnswer(fault),
-            Refused::Unserved(refusal) => JoinError::Unserved(refusal),
-            Refused::OtherShard(other) => JoinError::OtherShard(other),
-            Refused::TurnedAway => JoinError::TurnedAway(match rejection {
-                Some(Rejection::NotTaken(NotTaken(why))) => why,
-                _ => String::new(),
-            }),
-            refused => JoinError::Refused(refused),
-        }
+    fn link(&self) -> &Link {
+        self.shared.link()
     }
 
     /// From now on, each call waits so long for an answer, a year at most. A call that waits
     /// already goes on as it began.
     pub fn set_timeout(&self, timeout: Duration) {
-        self.timeout.store(nanoseconds(timeout), Ordering::Relaxed);
+        self.shared.set_timeout(timeout);
     }
 
     /// How long each call waits for an answer.
     pub fn timeout(&self) -> Duration {
-        Duration::from_nanos(self.timeout.load(Ordering::Relaxed))
+        self.shared.timeout()
     }
 
     /// The same calls, each of which waits so long for an answer, a year at most. Calls of other
@@ -191,13 +107,13 @@ impl Client {
     /// # }
     /// ```
     pub fn within(&self, timeout: Duration) -> Within<'_> {
-        Within::new(self, timeout)
+        Within::new(&self.shared, timeout)
     }
 
     /// The client's number, from 0 to 63.
     #[must_use]
     pub fn number(&self) -> u8 {
-        self.number
+        self.shared.number()
     }
 
     /// The rows of the range: from the cache, with no message and no waiting, if the client holds
@@ -210,6 +126,40 @@ impl Client {
     /// `TurnedAway` or `OtherShard`; `StoreWentBack`; `OutOfMemory`; `Stopped`.
     pub fn read(&self, keys: impl RangeBounds<u64>) -> Result<Vec<Row>, Refused> {
         self.within(self.timeout()).read(keys)
+    }
+
+    /// The rows of the range if the cache covers it, else `None`. It sends nothing, and waits for
+    /// nothing but one step of the client, some microseconds. The rows are that range of the
+    /// server's table at one moment of the call, also while the server is down. An empty range has
+    /// no rows; of a range that is none, as [`Client::read`] tells, the cache knows nothing.
+    ///
+    /// Threads that make this call, or one of the next two, do not wait for one another.
+    pub fn cached(&self, keys: impl RangeBounds<u64>) -> Option<Vec<Row>> {
+        with_room(|room| self.cached_into(keys, room).then(|| room.clone()))
+    }
+
+    /// The same, into `rows`, whose room is used again. If the answer is `false`, the rows say
+    /// nothing.
+    #[must_use]
+    pub fn cached_into(&self, keys: impl RangeBounds<u64>, rows: &mut Vec<Row>) -> bool {
+        rows.clear();
+        keys_of(&keys).is_ok_and(|keys| self.shared.scan(&keys, rows))
+    }
+
+    /// The same, and `visit` gets each row, in key order. It answers whether the cache covers the
+    /// range; if it does not, no row is visited.
+    ///
+    /// The rows are copied first, at one moment of the call, and visited after it. So `visit` may
+    /// take as long as it likes, and may call the client.
+    #[must_use]
+    pub fn for_each_cached(&self, keys: impl RangeBounds<u64>, visit: impl FnMut(&Row)) -> bool {
+        with_room(|room| {
+            let is_cached = self.cached_into(keys, room);
+            if is_cached {
+                room.iter().for_each(visit);
+            }
+            is_cached
+        })
     }
 
     /// Inserts a row. The outcome is `Applied`, `Exists` or `Full`.
@@ -267,28 +217,137 @@ impl Client {
     ///
     /// `BadRange` if the range is empty, begins above its end, or ends above 2^63; `TooManyPins`;
     /// `StoreWentBack`, `LeaseEnded` or `Unserved` while the client joins anew.
-    pub fn pin(&self, keys: impl RangeBounds<u64>) -> Result<Pin<'_>, Refused> {
+    pub fn pin(&self, keys: impl RangeBounds<u64>) -> Result<Pin, Refused> {
         let keys = keys_of(&keys)?;
-        let id = self.link.with_jobs(|jobs| jobs.pin(keys))?;
-        Ok(self.pin_of(id))
+        let id = self.link().with_jobs(|jobs| jobs.pin(keys))?;
+        Ok(Pin::new(Arc::clone(&self.shared), id))
     }
 
-    pub(crate) fn pin_of(&self, id: u64) -> Pin<'_> {
-        Pin::new(self, id)
+    /// Reads the range and pins it: the rows stay what they are while the pin lives. Other clients
+    /// may read the range too; writers wait until the pin is dropped. What the client holds of the
+    /// range to write it, since it has written there, is pinned as it is, and keeps readers out
+    /// too.
+    ///
+    /// It takes the range in ascending order and pins what it has got, so clients that pin one
+    /// range each do not wait for one another for ever. Who pins several should take them in
+    /// ascending order.
+    ///
+    /// # Errors
+    ///
+    /// `BadRange` if the range is empty, begins above its end, or ends above 2^63; `TooManyPins`:
+    /// it takes two of the eight until it has all; `TimedOut` or `Unserved`, `OutOfMemory`,
+    /// `Stopped`. Then nothing more is pinned than before.
+    pub fn pin_for_read(&self, keys: impl RangeBounds<u64>) -> Result<(Vec<Row>, Pin), Refused> {
+        self.within(self.timeout()).pin_for_read(keys)
+    }
+
+    /// The same, and no other client pins an overlapping range for an update while the pin lives:
+    /// the client holds the entries of the range, and the slot after them, in the mode U. So of
+    /// two clients that pin for an update and then write, one waits before it has pinned what both
+    /// want. That also holds if both have read the range before: what the client only reads, it
+    /// gives back before it asks to change it. Until the call returns, [`Client::cached`] may
+    /// therefore answer `None` for a range that it knew.
+    ///
+    /// Two ranges that meet the same gap between two rows count as overlapping. A client that has
+    /// pinned a part of the range by [`Client::pin_for_read`] or [`Client::pin`] keeps what it
+    /// reads there: if two such clients then pin it for an update, or write there, each may wait
+    /// for the other one until it times out.
+    ///
+    /// Who decides by these rows what to write writes by [`Pin::put`], [`Pin::insert`] and
+    /// [`Pin::delete`]. A client has one request for a lock at a time: if several threads pin and
+    /// write through one client, they should take turns or pin by [`Client::pin_for_write`], or two
+    /// such processes may wait for one another.
+    ///
+    /// # Errors
+    ///
+    /// Those of [`Client::pin_for_read`].
+    pub fn pin_for_update(&self, keys: impl RangeBounds<u64>) -> Result<(Vec<Row>, Pin), Refused> {
+        self.within(self.timeout()).pin_for_update(keys)
+    }
+
+    /// The same, and no other client reads the range either while the pin lives: the client holds
+    /// its entries and gaps, and the slot after them, in the mode `RangeX-X`. So a write in the
+    /// range asks for no lock any more. That is for several threads that pin and write through one
+    /// client: a write waits for no request of another thread, and no two such processes wait for
+    /// one another. Other clients that read the range wait from this call until the pin is dropped.
+    ///
+    /// A delete needs the gap after its key too: to delete the last key of a range without a
+    /// request, pin one key more.
+    ///
+    /// # Errors
+    ///
+    /// Those of [`Client::pin_for_read`].
+    pub fn pin_for_write(&self, keys: impl RangeBounds<u64>) -> Result<(Vec<Row>, Pin), Refused> {
+        self.within(self.timeout()).pin_for_write(keys)
+    }
+
+    /// Waits until the client no longer knows that the range has these rows: another client's write
+    /// has taken a part of it from the cache, or a call of this client has changed it. If the client
+    /// does not hold the range, that is so at once.
+    ///
+    /// It sends nothing. After [`Waited::Changed`], [`Client::read`] may have something new, or the
+    /// rows may be what they were. With the two, a range is watched without asking the server again
+    /// and again:
+    ///
+    /// ```no_run
+    /// # use std::time::Duration;
+    /// # use krl::Waited;
+    /// # fn watch(client: &krl::Client) -> Result<(), krl::Refused> {
+    /// let mut rows = client.read(10..20)?;
+    /// loop {
+    ///     println!("{rows:?}");
+    ///     let minute = Duration::from_secs(60);
+    ///     while client.wait_for_change(10..20, &rows, minute)? == Waited::Unchanged {}
+    ///     rows = client.read(10..20)?;
+    /// }
+    /// # }
+    /// ```
+    ///
+    /// # Errors
+    ///
+    /// `BadRange` if the range begins above its end, or ends above 2^63; `Stopped`.
+    pub fn wait_for_change(
+        &self,
+        keys: impl RangeBounds<u64>,
+        rows: &[Row],
+        timeout: Duration,
+    ) -> Result<Waited, Refused> {
+        let keys = keys_of(&keys)?;
+        let end = Instant::now() + timeout.min(MAX_WAIT);
+        match self.link().ask(end, |jobs| jobs.watch(keys, rows.to_vec())) {
+            Ok(()) => Ok(Waited::Changed),
+            Err(Refused::TimedOut | Refused::Unserved(_)) => Ok(Waited::Unchanged),
+            Err(refused) => Err(refused),
+        }
+    }
+
+    /// The epoch that the client has joined: how many times the server had started by then.
+    ///
+    /// # Errors
+    ///
+    /// `Other` if the client has left; `StoreWentBack` while it joins anew.
+    pub fn epoch(&self) -> Result<u64, Refused> {
+        self.link().with_jobs(Jobs::epoch).map_err(Code::into)
+    }
+
+    /// Whether the client has a connection to its server at this moment.
+    #[must_use]
+    pub fn is_connected(&self) -> bool {
+        self.link().is_connected()
     }
 
     /// The client's incarnation, of which the next one is greater: each end of a lease begins another
     /// one. Who acts on something outside may take it for a fence there.
     #[must_use]
     pub fn incarnation(&self) -> u64 {
-        self.link.with_jobs(|jobs| jobs.incarnation())
+        self.link().with_jobs(|jobs| jobs.incarnation())
     }
 
     /// How long the client may still answer from its cache if it hears nothing more of the server;
     /// or `None` if for ever, as from a server without leases.
     #[must_use]
     pub fn lease_left(&self) -> Option<Duration> {
-        self.link.with_jobs(|jobs| jobs.lease_left())
+        self.link().with_jobs(|jobs| jobs.lease_left())
     }
 
     /// Gives back what the client holds of the range. While a write is on its way it waits for the
@@ -303,63 +362,25 @@ impl Client {
         self.within(self.timeout()).forget(keys)
     }
 
-    /// Gives back all that the client holds, and waits until the server has kept that it left.
+    /// Gives back all that the client holds, and waits until the server has kept that it left. From
+    /// then on the calls of all clones are refused, and another process may take the number.
+    ///
+    /// A client that has left already is left: the answer is `Ok`. After an error it may be called
+    /// again.
     ///
     /// # Errors
     ///
     /// `TimedOut` or `Unserved`, `TurnedAway` or `OtherShard`, `Stopped`: other clients may wait for
     /// what this one held then, until it is evicted.
-    pub fn leave(mut self) -> Result<(), Refused> {
-        let timeout = self.timeout();
-        self.end(timeout)
-    }
-
-    /// Leaves. A thread that hangs at the deadline ends by itself later, and says nothing more.
-    pub(crate) fn end(&mut self, timeout: Duration) -> Result<(), Refused> {
-        let Some(thread) = self.thread.take() else { return Ok(()) };
-        let end = Instant::now() + timeout;
-        let left = self.link.ask(end, Jobs::leave);
-        self.link.end();
-        if self.link.has_ended(end) {
-            // A panic of that thread has been told by itself.
-            let _ = thread.join();
-        }
-        left
+    pub fn leave(&self) -> Result<(), Refused> {
+        self.within(self.timeout()).leave()
     }
 }
 
 impl fmt::Debug for Client {
     fn fmt(&self, f: &mut fmt::Formatter<'_>) -> fmt::Result {
         let mut shown = f.debug_struct("Client");
-        shown.field("number", &self.number).field("servers", self.link.servers());
+        shown.field("number", &self.number()).field("servers", self.link().servers());
         shown.field("timeout", &self.timeout()).finish_non_exhaustive()
     }
-}
-
-impl Drop for Client {
-    fn drop(&mut self) {
-        let _ = self.end(FAREWELL);
-        self.link.free_number();
-    }
-}
-
-/// Whether the server tells that another process has the client's number, or had it and may still
-/// answer.
-fn is_in_use(refusal: Refusal) -> bool {
-    matches!(refusal, Refusal::LeaseRuns { .. } | Refusal::Incarnation { .. })
-}
-
-/// What a client joins for.
-#[derive(Clone, Copy, Debug, PartialEq, Eq)]
-pub(crate) enum Errand {
-    Work,
-    /// To end an older incarnation of which the operator says that no process is left, by one that
-    /// is greater than this too.
-    Evict {
-        above: u64,
-    },
-}
-
-fn nanoseconds(timeout: Duration) -> u64 {
-    u64::try_from(timeout.min(MAX_TIMEOUT).as_nanos()).unwrap_or(u64::MAX)
 }

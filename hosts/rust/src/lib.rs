@@ -40,11 +40,11 @@ mod wire;
 
 pub use access::Access;
 pub use access::identity::{BadIdentity, BadTableName, Identity, TableName};
-pub use client::Client;
 pub use client::builder::ClientBuilder;
 pub use client::evict::evict;
 pub use client::lock_file::LockFileError;
 pub use client::pin::{Pin, PinWithin};
+pub use client::{Client, Waited};
 pub use lease::terms::{BadLeases, LeaseLeft, Leases};
 pub use model::change::{Change, Outcome, Record, Write};
 pub use model::client_set::ClientSet;
@@ -87,10 +87,11 @@ pub use server::shown::watch::{HeldSlots, Wait};
 #[doc(hidden)]
 pub use server::strangers::Strangers;
 pub use shards::builder::ShardedBuilder;
-pub use shards::client::{ShardStatus, ShardedClient, ShardedPin};
+pub use shards::client::{ShardStatus, ShardedClient};
 pub use shards::map::{BadShardMap, Shard, ShardMap};
+pub use shards::pin::{ShardedPin, ShardedPinWithin};
 pub use shards::refused::{ShardJoinError, ShardRefused};
-pub use shards::within::{ShardedPinWithin, ShardedWithin};
+pub use shards::within::ShardedWithin;
 #[cfg(feature = "sqlite")]
 pub use store::sqlite::SqliteStore;
 #[cfg(feature = "sqlite")]

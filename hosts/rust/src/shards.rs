@@ -1,12 +1,12 @@
 //! Several servers, each of which has a part of the keys, and a client of them all.
 pub(crate) mod builder;
-mod cached;
 pub(crate) mod client;
+pub(crate) mod joined;
 pub(crate) mod map;
 mod map_change;
 #[cfg(feature = "map-file")]
 pub(crate) mod map_file;
 pub(crate) mod one_moment;
+pub(crate) mod pin;
 pub(crate) mod refused;
-mod standing;
 pub(crate) mod within;

@@ -1,5 +1,5 @@
 //! Ranges that are read and pinned at once, and waiting for a change.
-use krl::{Client, Listener, MemoryStore, Outcome, Refused, Row, Server, Value};
+use krl::{Client, Listener, MemoryStore, Outcome, Refused, Row, Server, Value, Waited};
 use std::path::PathBuf;
 use std::sync::atomic::{AtomicUsize, Ordering};
 use std::thread;
@@ -232,7 +232,7 @@ fn a_wait_ends_when_the_range_changes_and_not_before() {
     let (watcher, writer) = (world.join(1), world.join(2));
     world.insert_rows([15, 25, 35]);
     let rows = watcher.read(10..20).unwrap();
-    assert!(!watcher.wait_for_change(10..20, &rows, SHORT), "nothing has changed");
+    assert_eq!(watcher.wait_for_change(10..20, &rows, SHORT), Ok(Waited::Unchanged));
     thread::scope(|scope| {
         let waiting = scope.spawn(|| {
             let begun = Instant::now();
@@ -244,7 +244,8 @@ fn a_wait_ends_when_the_range_changes_and_not_before() {
         assert!(!waiting.is_finished(), "what lies outside is no change");
         assert_eq!(writer.put(15, Value::from(1)), Ok(Outcome::Applied));
         let (changed, waited) = waiting.join().unwrap();
-        assert!(changed && waited < LONG / 2, "{waited:?}");
+        assert_eq!(changed, Ok(Waited::Changed));
+        assert!(waited < LONG / 2, "{waited:?}");
     });
     assert_eq!(watcher.read(10..20), Ok(vec![row(15, 1)]));
 }
@@ -253,8 +254,9 @@ fn a_wait_ends_when_the_range_changes_and_not_before() {
 fn a_wait_ends_by_what_the_client_does_itself() {
     let world = World::new("own");
     let client = world.join(1);
-    assert!(client.wait_for_change(10..20, &[], LONG), "it is not held yet");
-    assert!(client.wait_for_change(10..1 << 63 | 1, &[], LONG), "it is no range");
+    let not_held = client.wait_for_change(10..20, &[], LONG);
+    assert_eq!(not_held, Ok(Waited::Changed));
+    assert_eq!(client.wait_for_change(10..1 << 63 | 1, &[], LONG), Err(Refused::BadRange));
     let rows = client.read(10..20).unwrap();
     let ends_by = |what: &(dyn Fn() + Sync)| {
         let rows = client.read(10..20).unwrap();
@@ -264,14 +266,14 @@ fn a_wait_ends_by_what_the_client_does_itself() {
             thread::sleep(SHORT);
             assert!(!waiting.is_finished());
             what();
-            assert!(waiting.join().unwrap());
+            assert_eq!(waiting.join().unwrap(), Ok(Waited::Changed));
         });
         assert!(begun.elapsed() < LONG / 2, "{:?}", begun.elapsed());
     };
     assert_eq!(rows, []);
     ends_by(&|| assert_eq!(client.insert(15, Value::from(1)), Ok(Outcome::Applied)));
     ends_by(&|| assert_eq!(client.forget(10..20), Ok(())));
-    ends_by(&|| assert_eq!(client.depart(LONG), Ok(())));
+    ends_by(&|| assert_eq!(client.within(LONG).leave(), Ok(())));
     assert!(client.read(10..20).is_err(), "it has left");
 }
 
@@ -289,7 +291,7 @@ fn a_client_departs_while_another_thread_waits() {
         });
         thread::sleep(SHORT);
         let begun = Instant::now();
-        assert_eq!(waiter.depart(LONG), Ok(()));
+        assert_eq!(waiter.within(LONG).leave(), Ok(()));
         assert!(begun.elapsed() < LONG / 2, "{:?}", begun.elapsed());
     });
     assert_eq!(ended.load(Ordering::Relaxed), 1);

@@ -264,7 +264,7 @@ fn a_client_that_leaves_a_store_that_went_back() {
     server.stop().unwrap();
     place.bring_back();
     thread::scope(|scope| {
-        let leaves = scope.spawn(|| client.depart(Duration::from_secs(10)));
+        let leaves = scope.spawn(|| client.within(Duration::from_secs(10)).leave());
         thread::sleep(Duration::from_millis(100));
         let server = place.serve();
         assert_eq!(leaves.join().unwrap(), Ok(()));

@@ -1,32 +1,14 @@
-//! How a client is told to join.
+//! What a client is told before it joins.
+use crate::client::Client;
+use crate::client::joining::{self, Errand, Waits};
 use crate::client::lock_file::LockFileError;
 use crate::client::numbers;
-use crate::client::{Client, Errand};
 use crate::model::refused::JoinError;
 use crate::net::servers::Servers;
 #[cfg(feature = "tls")]
 use crate::net::tls::TlsConfig;
-use std::path::PathBuf;
+use std::path::{Path, PathBuf};
 use std::time::Duration;
-
-/// How long a client waits for an answer by default. It is longer than a server waits by default for
-/// a client that was killed: a lease of ten seconds and a quarter.
-pub(crate) const TIMEOUT: Duration = Duration::from_secs(15);
-
-/// How long a client waits.
-#[derive(Clone, Copy, Debug)]
-pub(crate) struct Waits {
-    /// For any answer.
-    pub timeout: Duration,
-    /// For its number, if the server tells that another process has it.
-    pub if_in_use: Duration,
-}
-
-impl Waits {
-    pub fn by_default() -> Waits {
-        Waits { timeout: TIMEOUT, if_in_use: Duration::MAX }
-    }
-}
 
 /// What a client is told before it joins: its servers, its number and its lock file, and how long
 /// its calls wait. The number and the lock file have to be said, or several numbers and a folder.
@@ -132,7 +114,7 @@ impl ClientBuilder {
         let place = self.lock_file.ok_or(JoinError::Incomplete("a lock file"))?;
         let (servers, waits) = (self.servers, self.waits);
         let join = |number, waits| {
-            Client::start(servers.clone(), number, &place.of(number), waits, Errand::Work)
+            joining::join(servers.clone(), number, &place.of(number), waits, Errand::Work)
         };
         match (&self.numbers[..], &place) {
             ([], _) => Err(JoinError::Incomplete("a number")),
@@ -143,5 +125,44 @@ impl ClientBuilder {
                 joined.unwrap_or(Err(JoinError::LockFile(LockFileError::Taken)))
             }
         }
+    }
+}
+
+impl Client {
+    /// Joins the server as the client of this number. `lock_file` is the file of this number on
+    /// this machine: it keeps a second process off the number. Two machines have to have different
+    /// numbers. It waits fifteen seconds for an answer.
+    ///
+    /// # Errors
+    ///
+    /// `BadNumber` above 63; `LockFile` if another process has the file, or it can't be used;
+    /// `NoThread`; `NoAnswer`, with the reason if the connection failed; `Unserved`, if the server
+    /// tells why it does not serve the client; `TurnedAway`, if this side has no right to the client;
+    /// `OtherShard`, if the server serves another shard than the client takes it for; `Refused` if
+    /// memory is refused.
+    pub fn join(
+        servers: impl Into<Servers>,
+        number: u8,
+        lock_file: impl AsRef<Path>,
+    ) -> Result<Client, JoinError> {
+        let (waits, lock_file) = (Waits::by_default(), lock_file.as_ref());
+        joining::join(servers.into(), number, lock_file, waits, Errand::Work)
+    }
+
+    /// Says more of a client before it joins: how long its calls wait.
+    ///
+    /// ```no_run
+    /// # use krl::{Address, Client};
+    /// # use std::time::Duration;
+    /// let address: Address = "127.0.0.1:7400".parse()?;
+    /// let client = Client::builder(address)
+    ///     .number(3)
+    ///     .lock_file("client-3.lock")
+    ///     .timeout(Duration::from_secs(2))
+    ///     .join()?;
+    /// # Ok::<(), Box<dyn std::error::Error>>(())
+    /// ```
+    pub fn builder(servers: impl Into<Servers>) -> ClientBuilder {
+        ClientBuilder::new(servers.into())
     }
 }

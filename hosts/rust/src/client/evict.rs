@@ -1,6 +1,5 @@
 //! The operator's eviction of a client.
-use crate::client::builder::Waits;
-use crate::client::{Client, Errand};
+use crate::client::joining::{self, Errand, Waits};
 use crate::model::refusal::Refusal;
 use crate::model::refused::JoinError;
 use crate::net::servers::Servers;
@@ -33,7 +32,7 @@ pub fn evict(
     let (servers, end) = (servers.into(), Instant::now() + LEASE_ENDS);
     let (waits, lock_file, mut above) = (Waits::by_default(), lock_file.as_ref(), 0);
     loop {
-        match Client::start(servers.clone(), number, lock_file, waits, Errand::Evict { above }) {
+        match joining::join(servers.clone(), number, lock_file, waits, Errand::Evict { above }) {
             Ok(client) => return client.leave().map_err(JoinError::Refused),
             Err(JoinError::Unserved(Refusal::Incarnation { registered, .. }))
                 if registered > above =>

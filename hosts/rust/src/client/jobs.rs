@@ -10,8 +10,8 @@ mod watched;
 mod writing;
 mod yielding;
 
-use crate::client::cached::{copied, kept};
 use crate::client::pins::Pins;
+use crate::client::scratch::{copied, kept};
 use crate::lease::clocks::Now;
 use crate::model::change::{Outcome, Write};
 use crate::model::code::Code;
@@ -106,7 +106,7 @@ enum Stage {
     Returning,
     /// It says Bye.
     Leaving,
-    /// The server has said that the Bye is kept.
+    /// The server has said that the Bye is kept. Nothing more is asked.
     Gone,
     /// Its thread has ended, and no job goes on.
     Ended,
@@ -241,9 +241,14 @@ impl Jobs {
         self.next += 1;
         self.end_lease_if_over();
         let (reply, answer) = sync_channel(1);
-        if self.stage != Stage::Ended {
-            self.open.push((self.next, job(Reply(reply))));
-            self.advance(Asking::Allowed);
+        let job = job(Reply(reply));
+        match self.stage {
+            Stage::Ended => {}
+            Stage::Gone => job.end_after_bye(),
+            Stage::Here | Stage::Returning | Stage::Leaving => {
+                self.open.push((self.next, job));
+                self.advance(Asking::Allowed);
+            }
         }
         Asked { id: self.next, is_urgent: true, answer }
     }
@@ -297,9 +302,12 @@ impl Jobs {
         }
     }
 
-    /// The client's thread has ended: no job goes on, and whoever waits for one hears that.
+    /// The client's thread has ended: no job goes on, and whoever waits for one hears that. A client
+    /// that has left stays so.
     pub fn end(&mut self) {
-        self.stage = Stage::Ended;
+        if self.stage != Stage::Gone {
+            self.stage = Stage::Ended;
+        }
         self.open.clear();
         self.written = None;
         self.watched.clear();

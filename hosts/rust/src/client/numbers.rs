@@ -1,5 +1,5 @@
 //! The first number of several that is free.
-use crate::client::builder::Waits;
+use crate::client::joining::Waits;
 use crate::client::lock_file::LockFileError;
 use crate::model::refusal::Refusal;
 use crate::model::refused::JoinError;

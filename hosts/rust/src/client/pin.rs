@@ -1,11 +1,12 @@
 //! A pinned range, and the writes that are bound to it.
-use crate::client::Client;
+use crate::client::jobs::Jobs;
 use crate::client::set;
-use crate::client::within::Within;
+use crate::client::shared::{MAX_WAIT, Shared};
 use crate::model::change::{Outcome, Write};
 use crate::model::refused::Refused;
 use crate::model::row::{Row, Value};
 use std::fmt;
+use std::sync::Arc;
 use std::time::{Duration, Instant};
 
 /// A pinned range: no other client takes away what the client holds of it, as long as this lives.
@@ -19,31 +20,36 @@ use std::time::{Duration, Instant};
 ///
 /// If such a write was sent and is not answered when the pin is dropped, other clients wait for the
 /// range until it is judged.
+///
+/// A pin borrows nothing: it may be kept in a struct, and be sent to another thread. It keeps its
+/// client, which does not end before it.
+///
+/// [`Client`]: crate::Client
 #[must_use = "the range is free again as soon as this is dropped"]
-pub struct Pin<'c> {
-    client: &'c Client,
+pub struct Pin {
+    shared: Arc<Shared>,
     id: u64,
 }
 
-impl<'c> Pin<'c> {
-    pub(crate) fn new(client: &'c Client, id: u64) -> Pin<'c> {
-        Pin { client, id }
+impl Pin {
+    pub(crate) fn new(shared: Arc<Shared>, id: u64) -> Pin {
+        Pin { shared, id }
     }
 
     /// Whether no other client has taken what was held of the range. Who has to know asks **after**
     /// the work: the answer is that of one moment of this call.
     #[must_use]
     pub fn holds(&self) -> bool {
-        self.client.link.with_jobs(|jobs| jobs.holds_pin(self.id))
+        self.shared.link().with_jobs(|jobs| jobs.holds_pin(self.id))
     }
 
     /// The same writes, each of which waits so long for an answer, a year at most.
     pub fn within(&self, timeout: Duration) -> PinWithin<'_> {
-        PinWithin { within: self.client.within(timeout), id: self.id }
+        PinWithin { pin: self, timeout: timeout.min(MAX_WAIT) }
     }
 
     fn by_default(&self) -> PinWithin<'_> {
-        self.within(self.client.timeout())
+        self.within(self.shared.timeout())
     }
 
     /// Inserts a row while the pin holds, or never. The outcome is that of [`Client::insert`]. The
@@ -55,6 +61,8 @@ impl<'c> Pin<'c> {
     /// nothing. Otherwise those of [`Client::insert`]. After an error for which
     /// [`Refused::is_unknown_outcome`] is true, the table may have changed; if it has, then before
     /// any other client changed what was pinned.
+    ///
+    /// [`Client::insert`]: crate::Client::insert
     pub fn insert(&self, key: u64, value: Value) -> Result<Outcome, Refused> {
         self.by_default().insert(key, value)
     }
@@ -65,6 +73,8 @@ impl<'c> Pin<'c> {
     /// # Errors
     ///
     /// Those of [`Pin::insert`].
+    ///
+    /// [`Client::put`]: crate::Client::put
     pub fn put(&self, key: u64, value: Value) -> Result<Outcome, Refused> {
         self.by_default().put(key, value)
     }
@@ -75,6 +85,8 @@ impl<'c> Pin<'c> {
     /// # Errors
     ///
     /// Those of [`Pin::insert`].
+    ///
+    /// [`Client::set`]: crate::Client::set
     pub fn set(&self, key: u64, value: Value) -> Result<Outcome, Refused> {
         self.by_default().set(key, value)
     }
@@ -85,6 +97,8 @@ impl<'c> Pin<'c> {
     /// # Errors
     ///
     /// Those of [`Pin::insert`].
+    ///
+    /// [`Client::delete`]: crate::Client::delete
     pub fn delete(&self, key: u64) -> Result<Outcome, Refused> {
         self.by_default().delete(key)
     }
@@ -96,8 +110,8 @@ impl<'c> Pin<'c> {
 #[derive(Clone, Copy, Debug)]
 #[must_use = "it does nothing before one of its calls"]
 pub struct PinWithin<'p> {
-    within: Within<'p>,
-    id: u64,
+    pin: &'p Pin,
+    timeout: Duration,
 }
 
 impl PinWithin<'_> {
@@ -107,7 +121,7 @@ impl PinWithin<'_> {
     ///
     /// Those of [`Pin::insert`].
     pub fn insert(self, key: u64, value: Value) -> Result<Outcome, Refused> {
-        self.write(self.within.end(), Write::Insert(Row { key, value }))
+        self.write(self.end(), Write::Insert(Row { key, value }))
     }
 
     /// Gives a row another value, as [`Pin::put`] does.
@@ -116,7 +130,7 @@ impl PinWithin<'_> {
     ///
     /// Those of [`Pin::insert`].
     pub fn put(self, key: u64, value: Value) -> Result<Outcome, Refused> {
-        self.write(self.within.end(), Write::Put(Row { key, value }))
+        self.write(self.end(), Write::Put(Row { key, value }))
     }
 
     /// Gives a key this value, as [`Pin::set`] does. The time is that of all its writes together.
@@ -125,7 +139,7 @@ impl PinWithin<'_> {
     ///
     /// Those of [`Pin::insert`].
     pub fn set(self, key: u64, value: Value) -> Result<Outcome, Refused> {
-        let (first, end) = (self.within.likely(Row { key, value }), self.within.end());
+        let (first, end) = (self.pin.shared.first_of_set(Row { key, value }), self.end());
         set::set(first, end, |write| self.write(end, write))
     }
 
@@ -135,23 +149,28 @@ impl PinWithin<'_> {
     ///
     /// Those of [`Pin::insert`].
     pub fn delete(self, key: u64) -> Result<Outcome, Refused> {
-        self.write(self.within.end(), Write::Delete(key))
+        self.write(self.end(), Write::Delete(key))
     }
 
     fn write(self, end: Instant, write: Write) -> Result<Outcome, Refused> {
-        self.within.write_by(end, write, |jobs, write| jobs.write_under(self.id, write))
+        let ask = |jobs: &mut Jobs, write| jobs.write_under(self.pin.id, write);
+        self.pin.shared.write(end, write, ask)
+    }
+
+    fn end(self) -> Instant {
+        Instant::now() + self.timeout
     }
 }
 
-impl fmt::Debug for Pin<'_> {
+impl fmt::Debug for Pin {
     fn fmt(&self, f: &mut fmt::Formatter<'_>) -> fmt::Result {
         f.debug_struct("Pin").field("id", &self.id).finish_non_exhaustive()
     }
 }
 
-impl Drop for Pin<'_> {
+impl Drop for Pin {
     fn drop(&mut self) {
-        self.client.link.with_jobs(|jobs| jobs.unpin(self.id));
-        self.client.link.flush();
+        self.shared.link().with_jobs(|jobs| jobs.unpin(self.id));
+        self.shared.link().flush();
     }
 }

@@ -1,31 +1,37 @@
 //! Calls of a client that wait for a time of their own.
-use crate::client::Client;
 use crate::client::jobs::{Asked, Held, Jobs, Purpose};
 use crate::client::pin::Pin;
+use crate::client::scratch::with_room;
 use crate::client::set;
-use crate::client::standing::MAX_WAIT;
+use crate::client::shared::{MAX_WAIT, Shared};
 use crate::model::change::{Outcome, Write};
 use crate::model::range::keys_of;
 use crate::model::refused::Refused;
-use crate::model::row::{END, Row, Value};
+use crate::model::row::{Row, Value};
+use std::fmt;
 use std::ops::RangeBounds;
+use std::sync::Arc;
 use std::time::{Duration, Instant};
 
 /// A client whose calls wait for another time than [`Client::timeout`]: see [`Client::within`].
 ///
 /// Each call is that of [`Client`] of the same name, with its outcomes and errors.
-#[derive(Clone, Copy, Debug)]
+///
+/// [`Client`]: crate::Client
+/// [`Client::timeout`]: crate::Client::timeout
+/// [`Client::within`]: crate::Client::within
+#[derive(Clone, Copy)]
 #[must_use = "it does nothing before one of its calls"]
 pub struct Within<'c> {
-    client: &'c Client,
+    shared: &'c Arc<Shared>,
     timeout: Duration,
 }
 
-type Pinned<'c> = Result<(Vec<Row>, Pin<'c>), Refused>;
+type Pinned = Result<(Vec<Row>, Pin), Refused>;
 
 impl<'c> Within<'c> {
-    pub(crate) fn new(client: &'c Client, timeout: Duration) -> Within<'c> {
-        Within { client, timeout: timeout.min(MAX_WAIT) }
+    pub(crate) fn new(shared: &'c Arc<Shared>, timeout: Duration) -> Within<'c> {
+        Within { shared, timeout: timeout.min(MAX_WAIT) }
     }
 
     /// How long each call waits for an answer.
@@ -39,9 +45,11 @@ impl<'c> Within<'c> {
     /// # Errors
     ///
     /// Those of [`Client::read`].
+    ///
+    /// [`Client::read`]: crate::Client::read
     pub fn read(self, keys: impl RangeBounds<u64>) -> Result<Vec<Row>, Refused> {
         let keys = keys_of(&keys)?;
-        match self.client.cached(keys.clone()) {
+        match with_room(|room| self.shared.scan(&keys, room).then(|| room.clone())) {
             Some(rows) => Ok(rows),
             None => self.ask(|jobs| jobs.read(keys)),
         }
@@ -52,6 +60,8 @@ impl<'c> Within<'c> {
     /// # Errors
     ///
     /// Those of [`Client::insert`].
+    ///
+    /// [`Client::insert`]: crate::Client::insert
     pub fn insert(self, key: u64, value: Value) -> Result<Outcome, Refused> {
         self.write(Write::Insert(Row { key, value }))
     }
@@ -61,6 +71,9 @@ impl<'c> Within<'c> {
     /// # Errors
     ///
     /// Those of [`Client::insert`].
+    ///
+    /// [`Client::put`]: crate::Client::put
+    /// [`Client::insert`]: crate::Client::insert
     pub fn put(self, key: u64, value: Value) -> Result<Outcome, Refused> {
         self.write(Write::Put(Row { key, value }))
     }
@@ -70,9 +83,12 @@ impl<'c> Within<'c> {
     /// # Errors
     ///
     /// Those of [`Client::set`].
+    ///
+    /// [`Client::set`]: crate::Client::set
     pub fn set(self, key: u64, value: Value) -> Result<Outcome, Refused> {
         let (row, end) = (Row { key, value }, self.end());
-        set::set(self.likely(row), end, |write| self.write_by(end, write, Jobs::write))
+        let first = self.shared.first_of_set(row);
+        set::set(first, end, |write| self.shared.write(end, write, Jobs::write))
     }
 
     /// Deletes a row, as [`Client::delete`] does.
@@ -80,6 +96,9 @@ impl<'c> Within<'c> {
     /// # Errors
     ///
     /// Those of [`Client::insert`].
+    ///
+    /// [`Client::delete`]: crate::Client::delete
+    /// [`Client::insert`]: crate::Client::insert
     pub fn delete(self, key: u64) -> Result<Outcome, Refused> {
         self.write(Write::Delete(key))
     }
@@ -89,6 +108,8 @@ impl<'c> Within<'c> {
     /// # Errors
     ///
     /// Those of [`Client::forget`].
+    ///
+    /// [`Client::forget`]: crate::Client::forget
     pub fn forget(self, keys: impl RangeBounds<u64>) -> Result<(), Refused> {
         let keys = keys_of(&keys)?;
         if keys.is_empty() { Ok(()) } else { self.ask(|jobs| jobs.forget(keys)) }
@@ -99,7 +120,9 @@ impl<'c> Within<'c> {
     /// # Errors
     ///
     /// Those of [`Client::pin_for_read`].
-    pub fn pin_for_read(self, keys: impl RangeBounds<u64>) -> Pinned<'c> {
+    ///
+    /// [`Client::pin_for_read`]: crate::Client::pin_for_read
+    pub fn pin_for_read(self, keys: impl RangeBounds<u64>) -> Pinned {
         self.hold(&keys, Purpose::Read)
     }
 
@@ -108,7 +131,10 @@ impl<'c> Within<'c> {
     /// # Errors
     ///
     /// Those of [`Client::pin_for_read`].
-    pub fn pin_for_update(self, keys: impl RangeBounds<u64>) -> Pinned<'c> {
+    ///
+    /// [`Client::pin_for_update`]: crate::Client::pin_for_update
+    /// [`Client::pin_for_read`]: crate::Client::pin_for_read
+    pub fn pin_for_update(self, keys: impl RangeBounds<u64>) -> Pinned {
         self.hold(&keys, Purpose::Update)
     }
 
@@ -117,48 +143,49 @@ impl<'c> Within<'c> {
     /// # Errors
     ///
     /// Those of [`Client::pin_for_read`].
-    pub fn pin_for_write(self, keys: impl RangeBounds<u64>) -> Pinned<'c> {
+    ///
+    /// [`Client::pin_for_write`]: crate::Client::pin_for_write
+    /// [`Client::pin_for_read`]: crate::Client::pin_for_read
+    pub fn pin_for_write(self, keys: impl RangeBounds<u64>) -> Pinned {
         self.hold(&keys, Purpose::Write)
     }
 
-    fn hold(self, keys: &impl RangeBounds<u64>, purpose: Purpose) -> Pinned<'c> {
+    fn hold(self, keys: &impl RangeBounds<u64>, purpose: Purpose) -> Pinned {
         let keys = keys_of(keys)?;
         if keys.is_empty() {
             return Err(Refused::BadRange);
         }
         let Held { rows, pin } = self.ask(|jobs| jobs.hold(keys, purpose))?;
-        Ok((rows, self.client.pin_of(pin)))
+        Ok((rows, Pin::new(Arc::clone(self.shared), pin)))
     }
 
-    /// The write of a set that is made first: if the client knows that the key has no row, an
-    /// insert, since a put would ask the server in vain.
-    pub(crate) fn likely(self, row: Row) -> Write {
-        let known = self.client.cached(row.key..=row.key);
-        if known.is_some_and(|rows| rows.is_empty()) { Write::Insert(row) } else { Write::Put(row) }
+    /// Leaves, as [`Client::leave`] does.
+    ///
+    /// # Errors
+    ///
+    /// Those of [`Client::leave`].
+    ///
+    /// [`Client::leave`]: crate::Client::leave
+    pub fn leave(self) -> Result<(), Refused> {
+        self.shared.finish_leaving(self.shared.begin_to_leave(), self.end())
     }
 
     fn write(self, write: Write) -> Result<Outcome, Refused> {
-        self.write_by(self.end(), write, Jobs::write)
-    }
-
-    /// Asks for a write until the deadline, if its key may be one.
-    pub(crate) fn write_by(
-        self,
-        end: Instant,
-        write: Write,
-        ask: impl FnOnce(&mut Jobs, Write) -> Asked<Outcome>,
-    ) -> Result<Outcome, Refused> {
-        if write.key() >= END {
-            return Err(Refused::BadKey);
-        }
-        self.client.link.ask(end, |jobs| ask(jobs, write))
+        self.shared.write(self.end(), write, Jobs::write)
     }
 
     fn ask<T>(self, ask: impl FnOnce(&mut Jobs) -> Asked<T>) -> Result<T, Refused> {
-        self.client.link.ask(self.end(), ask)
+        self.shared.link().ask(self.end(), ask)
     }
 
-    pub(crate) fn end(self) -> Instant {
+    fn end(self) -> Instant {
         Instant::now() + self.timeout
+    }
+}
+
+impl fmt::Debug for Within<'_> {
+    fn fmt(&self, f: &mut fmt::Formatter<'_>) -> fmt::Result {
+        let mut shown = f.debug_struct("Within");
+        shown.field("number", &self.shared.number()).field("timeout", &self.timeout).finish()
     }
 }

@@ -1,11 +1,12 @@
-//! How a sharded client is told to join.
-use crate::client::builder::Waits;
+//! What a sharded client is told before it joins, and how it joins.
+use crate::client::Client;
+use crate::client::joining::{self, Errand, Waits};
 use crate::client::lock_file::LockFileError;
 use crate::client::numbers;
-use crate::client::{Client, Errand};
 use crate::model::refused::JoinError;
 use crate::model::row::END;
 use crate::shards::client::ShardedClient;
+use crate::shards::joined::Joined;
 use crate::shards::map::{Shard, ShardMap};
 use crate::shards::refused::ShardJoinError;
 use std::ops::Range;
@@ -26,7 +27,7 @@ pub struct ShardedBuilder {
     waits: Waits,
 }
 
-type Joined = Result<Client, JoinError>;
+type JoinedShard = Result<Client, JoinError>;
 
 impl ShardedBuilder {
     pub(crate) fn new(map: ShardMap) -> ShardedBuilder {
@@ -110,12 +111,12 @@ impl ShardedBuilder {
         folder: &Path,
         places: Range<usize>,
     ) -> Result<ShardedClient, ShardJoinError> {
-        let joined: Vec<Joined> = thread::scope(|scope| {
+        let joined: Vec<JoinedShard> = thread::scope(|scope| {
             let joining = places.clone().map(|place| {
                 let shard = &self.map.shards()[place];
                 let lock_file = lock_file(folder, shard, number);
                 let servers = self.map.servers_of(place, shard);
-                let join = move || Client::start(servers, number, &lock_file, waits, Errand::Work);
+                let join = move || joining::join(servers, number, &lock_file, waits, Errand::Work);
                 thread::Builder::new().spawn_scoped(scope, join)
             });
             let joining: Vec<_> = joining.collect();
@@ -130,14 +131,35 @@ impl ShardedBuilder {
                 }
             }
         }
-        let client = ShardedClient::of(self.map.clone(), places.start, clients);
-        failed.map_or(Ok(client), Err)
+        let joined = Joined::new(self.map.clone(), places.start, clients);
+        failed.map_or_else(|| Ok(ShardedClient::of(joined)), Err)
     }
 
     /// The shards that have some of the keys. They lie next to one another.
     fn places(&self) -> Option<Range<usize>> {
         let parts = self.map.parts(self.keys.clone()).ok()?;
         Some(parts.first()?.shard..parts.last()?.shard + 1)
+    }
+}
+
+impl ShardedClient {
+    /// Joins all shards of the map as the client of this number. The lock files are in the folder,
+    /// one for each shard and number. It waits fifteen seconds for an answer.
+    ///
+    /// # Errors
+    ///
+    /// Those of [`Client::join`], with the first shard that was not joined. Then none is joined.
+    pub fn join(
+        map: ShardMap,
+        number: u8,
+        lock_folder: impl AsRef<Path>,
+    ) -> Result<ShardedClient, ShardJoinError> {
+        ShardedClient::builder(map).number(number).lock_folder(lock_folder.as_ref()).join()
+    }
+
+    /// Says more of a client before it joins: how long its calls wait, and for which keys it is.
+    pub fn builder(map: ShardMap) -> ShardedBuilder {
+        ShardedBuilder::new(map)
     }
 }
 
@@ -148,7 +170,7 @@ fn lock_file(folder: &Path, shard: &Shard, number: u8) -> PathBuf {
 }
 
 /// Waits until a shard's client has joined, or has not.
-fn wait(joining: std::io::Result<ScopedJoinHandle<'_, Joined>>) -> Joined {
+fn wait(joining: std::io::Result<ScopedJoinHandle<'_, JoinedShard>>) -> JoinedShard {
     let joining = joining.map_err(JoinError::NoThread)?;
     joining.join().unwrap_or_else(|panic| resume_unwind(panic))
 }

@@ -1,27 +1,35 @@
-//! Calls of a sharded client, and writes of its pins, that wait for a time of their own.
+//! Calls of a sharded client that wait for a time of their own.
 use crate::client::jobs::Purpose;
-use crate::client::standing::MAX_WAIT;
+use crate::client::shared::MAX_WAIT;
 use crate::model::change::Outcome;
 use crate::model::row::{Row, Value};
-use crate::shards::client::{Pinned, ShardedClient, ShardedPin};
+use crate::shards::joined::Joined;
+use crate::shards::pin::ShardedPin;
 use crate::shards::refused::ShardRefused;
 use std::ops::RangeBounds;
+use std::sync::Arc;
 use std::time::{Duration, Instant};
+
+/// Rows that were read, and their pin.
+pub(crate) type Pinned = Result<(Vec<Row>, ShardedPin), ShardRefused>;
 
 /// A sharded client whose calls wait for another time than [`ShardedClient::timeout`]: see
 /// [`ShardedClient::within`].
 ///
 /// Each call is that of [`ShardedClient`] of the same name, with its outcomes and errors.
+///
+/// [`ShardedClient::within`]: crate::ShardedClient::within
+/// [`ShardedClient`]: crate::ShardedClient
 #[derive(Clone, Copy, Debug)]
 #[must_use = "it does nothing before one of its calls"]
 pub struct ShardedWithin<'c> {
-    client: &'c ShardedClient,
+    joined: &'c Arc<Joined>,
     timeout: Duration,
 }
 
 impl<'c> ShardedWithin<'c> {
-    pub(crate) fn new(client: &'c ShardedClient, timeout: Duration) -> ShardedWithin<'c> {
-        ShardedWithin { client, timeout: timeout.min(MAX_WAIT) }
+    pub(crate) fn new(joined: &'c Arc<Joined>, timeout: Duration) -> ShardedWithin<'c> {
+        ShardedWithin { joined, timeout: timeout.min(MAX_WAIT) }
     }
 
     fn end(self) -> Instant {
@@ -33,8 +41,10 @@ impl<'c> ShardedWithin<'c> {
     /// # Errors
     ///
     /// Those of [`ShardedClient::read`].
+    ///
+    /// [`ShardedClient::read`]: crate::ShardedClient::read
     pub fn read(self, keys: impl RangeBounds<u64>) -> Result<Vec<Row>, ShardRefused> {
-        self.client.read_by(keys, self.end())
+        self.joined.read_by(keys, self.end())
     }
 
     /// Inserts a row, as [`ShardedClient::insert`] does.
@@ -42,8 +52,10 @@ impl<'c> ShardedWithin<'c> {
     /// # Errors
     ///
     /// Those of [`ShardedClient::insert`].
+    ///
+    /// [`ShardedClient::insert`]: crate::ShardedClient::insert
     pub fn insert(self, key: u64, value: Value) -> Result<Outcome, ShardRefused> {
-        self.client.at(key, |client| client.within(self.timeout).insert(key, value))
+        self.joined.at(key, |client| client.within(self.timeout).insert(key, value))
     }
 
     /// Gives a row another value, as [`ShardedClient::put`] does.
@@ -51,8 +63,11 @@ impl<'c> ShardedWithin<'c> {
     /// # Errors
     ///
     /// Those of [`ShardedClient::insert`].
+    ///
+    /// [`ShardedClient::put`]: crate::ShardedClient::put
+    /// [`ShardedClient::insert`]: crate::ShardedClient::insert
     pub fn put(self, key: u64, value: Value) -> Result<Outcome, ShardRefused> {
-        self.client.at(key, |client| client.within(self.timeout).put(key, value))
+        self.joined.at(key, |client| client.within(self.timeout).put(key, value))
     }
 
     /// Gives a key this value, as [`ShardedClient::set`] does. The time is that of all its writes
@@ -61,8 +76,11 @@ impl<'c> ShardedWithin<'c> {
     /// # Errors
     ///
     /// Those of [`ShardedClient::insert`].
+    ///
+    /// [`ShardedClient::set`]: crate::ShardedClient::set
+    /// [`ShardedClient::insert`]: crate::ShardedClient::insert
     pub fn set(self, key: u64, value: Value) -> Result<Outcome, ShardRefused> {
-        self.client.at(key, |client| client.within(self.timeout).set(key, value))
+        self.joined.at(key, |client| client.within(self.timeout).set(key, value))
     }
 
     /// Deletes a row, as [`ShardedClient::delete`] does.
@@ -70,8 +88,11 @@ impl<'c> ShardedWithin<'c> {
     /// # Errors
     ///
     /// Those of [`ShardedClient::insert`].
+    ///
+    /// [`ShardedClient::delete`]: crate::ShardedClient::delete
+    /// [`ShardedClient::insert`]: crate::ShardedClient::insert
     pub fn delete(self, key: u64) -> Result<Outcome, ShardRefused> {
-        self.client.at(key, |client| client.within(self.timeout).delete(key))
+        self.joined.at(key, |client| client.within(self.timeout).delete(key))
     }
 
     /// Gives back what the client holds of the range, as [`ShardedClient::forget`] does.
@@ -79,8 +100,10 @@ impl<'c> ShardedWithin<'c> {
     /// # Errors
     ///
     /// Those of [`ShardedClient::forget`].
+    ///
+    /// [`ShardedClient::forget`]: crate::ShardedClient::forget
     pub fn forget(self, keys: impl RangeBounds<u64>) -> Result<(), ShardRefused> {
-        self.client.forget_by(keys, self.end())
+        self.joined.forget_by(keys, self.end())
     }
 
     /// Reads the range and pins it, as [`ShardedClient::pin_for_read`] does.
@@ -88,8 +111,10 @@ impl<'c> ShardedWithin<'c> {
     /// # Errors
     ///
     /// Those of [`ShardedClient::pin_for_read`].
-    pub fn pin_for_read(self, keys: impl RangeBounds<u64>) -> Pinned<'c> {
-        self.client.pin_by(&keys, Purpose::Read, self.end())
+    ///
+    /// [`ShardedClient::pin_for_read`]: crate::ShardedClient::pin_for_read
+    pub fn pin_for_read(self, keys: impl RangeBounds<u64>) -> Pinned {
+        self.pin(&keys, Purpose::Read)
     }
 
     /// Reads the range and pins it, as [`ShardedClient::pin_for_update`] does.
@@ -97,8 +122,11 @@ impl<'c> ShardedWithin<'c> {
     /// # Errors
     ///
     /// Those of [`ShardedClient::pin_for_read`].
-    pub fn pin_for_update(self, keys: impl RangeBounds<u64>) -> Pinned<'c> {
-        self.client.pin_by(&keys, Purpose::Update, self.end())
+    ///
+    /// [`ShardedClient::pin_for_update`]: crate::ShardedClient::pin_for_update
+    /// [`ShardedClient::pin_for_read`]: crate::ShardedClient::pin_for_read
+    pub fn pin_for_update(self, keys: impl RangeBounds<u64>) -> Pinned {
+        self.pin(&keys, Purpose::Update)
     }
 
     /// Reads the range and pins it, as [`ShardedClient::pin_for_write`] does.
@@ -106,61 +134,26 @@ impl<'c> ShardedWithin<'c> {
     /// # Errors
     ///
     /// Those of [`ShardedClient::pin_for_read`].
-    pub fn pin_for_write(self, keys: impl RangeBounds<u64>) -> Pinned<'c> {
-        self.client.pin_by(&keys, Purpose::Write, self.end())
-    }
-}
-
-/// A pin of several shards whose writes wait for another time than [`ShardedClient::timeout`]: see
-/// [`ShardedPin::within`].
-///
-/// Each call is that of [`ShardedPin`] of the same name, with its outcomes and errors.
-#[derive(Clone, Copy, Debug)]
-#[must_use = "it does nothing before one of its calls"]
-pub struct ShardedPinWithin<'p> {
-    pin: &'p ShardedPin<'p>,
-    timeout: Duration,
-}
-
-impl<'p> ShardedPinWithin<'p> {
-    pub(crate) fn new(pin: &'p ShardedPin<'p>, timeout: Duration) -> ShardedPinWithin<'p> {
-        ShardedPinWithin { pin, timeout }
+    ///
+    /// [`ShardedClient::pin_for_write`]: crate::ShardedClient::pin_for_write
+    /// [`ShardedClient::pin_for_read`]: crate::ShardedClient::pin_for_read
+    pub fn pin_for_write(self, keys: impl RangeBounds<u64>) -> Pinned {
+        self.pin(&keys, Purpose::Write)
     }
 
-    /// Inserts a row, as [`ShardedPin::insert`] does.
+    fn pin(self, keys: &impl RangeBounds<u64>, purpose: Purpose) -> Pinned {
+        let (rows, pins) = self.joined.pin(keys, purpose, self.end())?;
+        Ok((rows, ShardedPin::new(pins, Arc::clone(self.joined))))
+    }
+
+    /// Leaves, as [`ShardedClient::leave`] does.
     ///
     /// # Errors
     ///
-    /// Those of [`ShardedPin::insert`].
-    pub fn insert(self, key: u64, value: Value) -> Result<Outcome, ShardRefused> {
-        self.pin.at(key, |pin| pin.within(self.timeout).insert(key, value))
-    }
-
-    /// Gives a row another value, as [`ShardedPin::put`] does.
+    /// Those of [`ShardedClient::leave`].
     ///
-    /// # Errors
-    ///
-    /// Those of [`ShardedPin::insert`].
-    pub fn put(self, key: u64, value: Value) -> Result<Outcome, ShardRefused> {
-        self.pin.at(key, |pin| pin.within(self.timeout).put(key, value))
-    }
-
-    /// Gives a key this value, as [`ShardedPin::set`] does. The time is that of all its writes
-    /// together.
-    ///
-    /// # Errors
-    ///
-    /// Those of [`ShardedPin::insert`].
-    pub fn set(self, key: u64, value: Value) -> Result<Outcome, ShardRefused> {
-        self.pin.at(key, |pin| pin.within(self.timeout).set(key, value))
-    }
-
-    /// Deletes a row, as [`ShardedPin::delete`] does.
-    ///
-    /// # Errors
-    ///
-    /// Those of [`ShardedPin::insert`].
-    pub fn delete(self, key: u64) -> Result<Outcome, ShardRefused> {
-        self.pin.at(key, |pin| pin.within(self.timeout).delete(key))
+    /// [`ShardedClient::leave`]: crate::ShardedClient::leave
+    pub fn leave(self) -> Result<(), ShardRefused> {
+        self.joined.leave(self.end())
     }
 }

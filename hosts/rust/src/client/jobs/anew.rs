@@ -5,6 +5,7 @@ use super::takings::Takings;
 use super::yielding::Narrowed;
 use super::{Asking, Job, Jobs, Stage};
 use crate::client::pins::Pins;
+use crate::model::code::Code;
 use crate::model::refusal::Refusal;
 use crate::model::refused::Refused;
 use crate::proved::client_handle::ClientHandle;
@@ -45,6 +46,14 @@ impl Job {
                 job.refuse(why.refused());
                 None
             }
+        }
+    }
+
+    /// Ends it as one of a client that has left: to leave again is done.
+    pub(super) fn end_after_bye(self) {
+        match self {
+            Job::Leave(reply) => reply.end(Ok(())),
+            job => job.refuse(Refused::Other(Code::Gone)),
         }
     }
 

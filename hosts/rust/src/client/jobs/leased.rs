@@ -128,10 +128,11 @@ impl Jobs {
         }
     }
 
-    /// Whether the pin is one of the client of now that its caller still has, and its lease holds.
+    /// Whether the pin is one of the client of now that its caller still has, and its lease holds. A
+    /// client that leaves gives back what it has pinned.
     pub fn holds_pin(&self, id: u64) -> bool {
         let is_there = self.pins.has(id) && !self.unpinned.contains(&id);
-        is_there && !self.is_void() && self.holds_lease()
+        is_there && self.stage == Stage::Here && !self.is_void() && self.holds_lease()
     }
 }
 

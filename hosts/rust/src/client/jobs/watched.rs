@@ -1,6 +1,6 @@
 //! Ranges whose changes a caller waits for.
 use super::{Asked, JobId, Jobs, Reply};
-use crate::client::cached::kept;
+use crate::client::scratch::kept;
 use crate::model::code::Code;
 use crate::model::refused::Refused;
 use crate::model::row::Row;

@@ -101,8 +101,15 @@ fn a_caller_learns_of_the_answer_that_the_thread_has_read() {
     let (sender, answer) = std::sync::mpsc::sync_channel(1);
     std::thread::scope(|scope| {
         let begun = Instant::now();
-        let reading = scope.spawn(move || link.read_until::<u8>(&answer, begun + LONG));
-        while link.turn.try_lock().is_ok() {
+        // The look at the turn below may take it from the caller, which then tries again.
+        let reading = scope.spawn(move || {
+            let mut answered = None;
+            while answered.is_none() && begun.elapsed() < LONG {
+                answered = link.read_until::<u8>(&answer, begun + LONG);
+            }
+            answered
+        });
+        while link.turn.try_lock().is_ok() && !reading.is_finished() {
             std::thread::yield_now();
         }
         sender.send(Ok(7)).unwrap();

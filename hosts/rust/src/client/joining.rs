@@ -1,0 +1,116 @@
+//! How a client joins.
+use crate::client::Client;
+use crate::client::jobs::Jobs;
+use crate::client::link::Link;
+use crate::client::lock_file::LockFile;
+use crate::client::shared::Shared;
+use crate::lease::clocks::Now;
+use crate::lease::terms::Older;
+use crate::model::client_number::ClientNumber;
+use crate::model::refusal::Refusal;
+use crate::model::refused::{JoinError, Refused};
+use crate::net::connect_fault::{NotTaken, Rejection};
+use crate::net::servers::Servers;
+use crate::proved::client_handle::ClientHandle;
+use std::path::Path;
+use std::time::{Duration, Instant};
+
+/// How long a client waits for an answer by default. It is longer than a server waits by default for
+/// a client that was killed: a lease of ten seconds and a quarter.
+pub(crate) const TIMEOUT: Duration = Duration::from_secs(15);
+
+/// How long a client waits.
+#[derive(Clone, Copy, Debug)]
+pub(crate) struct Waits {
+    /// For any answer.
+    pub timeout: Duration,
+    /// For its number, if the server tells that another process has it.
+    pub if_in_use: Duration,
+}
+
+impl Waits {
+    pub fn by_default() -> Waits {
+        Waits { timeout: TIMEOUT, if_in_use: Duration::MAX }
+    }
+}
+
+/// What a client joins for.
+#[derive(Clone, Copy, Debug, PartialEq, Eq)]
+pub(crate) enum Errand {
+    Work,
+    /// To end an older incarnation of which the operator says that no process is left, by one that
+    /// is greater than this too.
+    Evict {
+        above: u64,
+    },
+}
+
+/// Joins the servers as the client of this number.
+pub(crate) fn join(
+    servers: Servers,
+    number: u8,
+    lock_file: &Path,
+    waits: Waits,
+    errand: Errand,
+) -> Result<Client, JoinError> {
+    let shared = start(servers, number, lock_file, waits, errand)?;
+    let begun = Instant::now();
+    let gives_up = move |refusal, now: Instant| match errand {
+        Errand::Work => {
+            let waited = now.saturating_duration_since(begun);
+            waited >= waits.if_in_use && is_in_use(refusal)
+        }
+        // A greater incarnation is taken then.
+        Errand::Evict { .. } => matches!(refusal, Refusal::Incarnation { .. }),
+    };
+    match shared.link().join(shared.timeout(), gives_up) {
+        Ok(()) => Ok(Client::of(shared)),
+        Err(refused) => Err(not_joined(&shared, refused)),
+    }
+}
+
+/// A client that has not joined yet, with the thread of its connection.
+fn start(
+    servers: Servers,
+    number: u8,
+    lock_file: &Path,
+    waits: Waits,
+    errand: Errand,
+) -> Result<Shared, JoinError> {
+    if ClientNumber::of(number).is_none() {
+        return Err(JoinError::BadNumber);
+    }
+    let (mut lock_file, incarnation) = LockFile::take(lock_file, number)?;
+    let (incarnation, older) = match errand {
+        Errand::Work => (incarnation, lock_file.older()),
+        Errand::Evict { above } => (lock_file.rise_above(above), Older::Vouched),
+    };
+    let handle = ClientHandle::open_behind(number, incarnation, older);
+    let handle = handle.map_err(Refused::from)?;
+    let jobs = Jobs::new(handle, Now::read());
+    let (link, poller) = Link::new(servers, jobs, Some(lock_file)).map_err(JoinError::NoThread)?;
+    Shared::start(number, link, poller, waits.timeout).map_err(JoinError::NoThread)
+}
+
+/// Ends a client that has not joined: it says Bye, and waits for nothing.
+fn not_joined(shared: &Shared, refused: Refused) -> JoinError {
+    let fault = shared.link().take_fault();
+    let rejection = shared.link().rejection();
+    shared.end_by(Instant::now());
+    match refused {
+        Refused::TimedOut => JoinError::NoAnswer(fault),
+        Refused::Unserved(refusal) => JoinError::Unserved(refusal),
+        Refused::OtherShard(other) => JoinError::OtherShard(other),
+        Refused::TurnedAway => JoinError::TurnedAway(match rejection {
+            Some(Rejection::NotTaken(NotTaken(why))) => why,
+            _ => String::new(),
+        }),
+        refused => JoinError::Refused(refused),
+    }
+}
+
+/// Whether the server tells that another process has the client's number, or had it and may still
+/// answer.
+fn is_in_use(refusal: Refusal) -> bool {
+    matches!(refusal, Refusal::LeaseRuns { .. } | Refusal::Incarnation { .. })
+}

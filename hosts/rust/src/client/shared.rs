@@ -1,0 +1,137 @@
+//! What the clones of a client and its pins share.
+use crate::client::jobs::{Asked, Jobs};
+use crate::client::link::Link;
+use crate::lease::boot_clock::Moment;
+use crate::model::change::{Outcome, Write};
+use crate::model::refused::Refused;
+use crate::model::row::{END, Row};
+use crate::net::poller::Poller;
+use crate::proved::client_handle::Scan;
+use std::io;
+use std::ops::Range;
+use std::sync::atomic::{AtomicU64, Ordering};
+use std::sync::{Arc, Mutex, MutexGuard, PoisonError};
+use std::thread::{self, JoinHandle};
+use std::time::{Duration, Instant};
+
+/// No call waits longer than this, a year.
+pub(crate) const MAX_WAIT: Duration = Duration::from_secs(365 * 24 * 3600);
+
+/// How long a client that is dropped waits until its Bye is kept.
+pub(crate) const FAREWELL: Duration = Duration::from_secs(1);
+
+/// A client with the thread of its connection. It leaves when nobody has it any more.
+pub(crate) struct Shared {
+    number: u8,
+    link: Arc<Link>,
+    thread: Mutex<Option<JoinHandle<()>>>,
+    /// In nanoseconds.
+    timeout: AtomicU64,
+}
+
+impl Shared {
+    /// Starts the thread of the connection.
+    pub fn start(number: u8, link: Link, poller: Poller, timeout: Duration) -> io::Result<Shared> {
+        let link = Arc::new(link);
+        let run = Arc::clone(&link);
+        let thread = thread::Builder::new().name(format!("krl-client-{number}"));
+        let thread = thread.spawn(move || run.run(poller))?;
+        Ok(Shared {
+            number,
+            link,
+            thread: Mutex::new(Some(thread)),
+            timeout: AtomicU64::new(nanoseconds(timeout)),
+        })
+    }
+
+    pub fn number(&self) -> u8 {
+        self.number
+    }
+
+    pub fn link(&self) -> &Link {
+        &self.link
+    }
+
+    pub fn timeout(&self) -> Duration {
+        Duration::from_nanos(self.timeout.load(Ordering::Relaxed))
+    }
+
+    pub fn set_timeout(&self, timeout: Duration) {
+        self.timeout.store(nanoseconds(timeout), Ordering::Relaxed);
+    }
+
+    /// Puts the rows of the range into `rows` if the cache covers it, and answers whether it does.
+    pub fn scan(&self, keys: &Range<u64>, rows: &mut Vec<Row>) -> bool {
+        rows.clear();
+        keys.is_empty() || self.link.cache().scan(keys, rows, Moment::now) == Ok(Scan::Rows)
+    }
+
+    /// The write of a set that is made first: if the client knows that the key has no row, an
+    /// insert, since a put would ask the server in vain.
+    pub fn first_of_set(&self, row: Row) -> Write {
+        let mut known = Vec::new();
+        let has_none =
+            self.scan(&(row.key..row.key.saturating_add(1)), &mut known) && known.is_empty();
+        if has_none { Write::Insert(row) } else { Write::Put(row) }
+    }
+
+    /// Asks for a write until the deadline, if its key may be one.
+    pub fn write(
+        &self,
+        end: Instant,
+        write: Write,
+        ask: impl FnOnce(&mut Jobs, Write) -> Asked<Outcome>,
+    ) -> Result<Outcome, Refused> {
+        if write.key() >= END {
+            return Err(Refused::BadKey);
+        }
+        self.link.ask(end, |jobs| ask(jobs, write))
+    }
+
+    /// Begins to leave, and waits for nothing.
+    pub fn begin_to_leave(&self) -> Asked<()> {
+        self.link.begin(Jobs::leave)
+    }
+
+    /// Waits until the deadline for the server to keep that the client left. Then its thread has
+    /// ended, and its number is free.
+    pub fn finish_leaving(&self, leaving: Asked<()>, end: Instant) -> Result<(), Refused> {
+        self.link.finish(leaving, end)?;
+        self.end(end);
+        Ok(())
+    }
+
+    /// Leaves until the deadline, and ends then whether or not the server has answered.
+    pub fn end_by(&self, end: Instant) {
+        if self.thread().is_some() {
+            let _ = self.finish_leaving(self.begin_to_leave(), end);
+            self.end(end);
+        }
+    }
+
+    fn thread(&self) -> MutexGuard<'_, Option<JoinHandle<()>>> {
+        self.thread.lock().unwrap_or_else(PoisonError::into_inner)
+    }
+
+    /// Ends the thread, and gives the number free. A thread that hangs at the deadline ends by itself
+    /// later, and sends nothing more.
+    fn end(&self, end: Instant) {
+        self.link.end();
+        let thread = self.thread().take();
+        if let Some(thread) = thread.filter(|_| self.link.has_ended(end)) {
+            // A panic of that thread has been reported by itself.
+            let _ = thread.join();
+        }
+        self.link.free_number();
+    }
+}
+
+impl Drop for Shared {
+    fn drop(&mut self) {
+        self.end_by(Instant::now() + FAREWELL);
+    }
+}
+
+fn nanoseconds(timeout: Duration) -> u64 {
+    u64::try_from(timeout.min(MAX_WAIT).as_nanos()).unwrap_or(u64::MAX)
+}
