@@ -5,7 +5,8 @@ use crate::error::CacheError;
 use crate::origin::{Origin, OriginIdentity};
 use crate::statistics::{Counters, Statistics};
 use crate::steps::Step;
-use crate::turns::{Turn, Turns};
+use crate::turns::Turns;
+use crate::writing::Writing;
 use krl::Client;
 use std::fmt;
 use std::sync::atomic::AtomicU64;
@@ -76,7 +77,7 @@ impl<O: Origin> Cache<O> {
     /// Waits until no other thread of this process writes.
     pub(crate) fn turn(&self) -> Result<Writing<'_>, CacheError> {
         let turn = self.turns.take(self.end_of_call()).ok_or(CacheError::TimedOut)?;
-        Ok(Writing { writer: &self.writer, _turn: turn })
+        Ok(Writing::new(&self.writer, turn))
     }
 
     pub(crate) fn end_of_call(&self) -> Instant {
@@ -87,21 +88,6 @@ impl<O: Origin> Cache<O> {
         if let Some(on_step) = &self.on_step {
             on_step(step);
         }
-    }
-}
-
-/// The turn of a thread that writes. It outlives the pins of that thread.
-pub(crate) struct Writing<'c> {
-    writer: &'c Client,
-    _turn: Turn<'c>,
-}
-
-impl Drop for Writing<'_> {
-    /// Gives back what the writer holds. Otherwise the next reader of these keys, in this process
-    /// too, would wait until the server has called it back.
-    fn drop(&mut self) {
-        // If it fails, the server calls it back.
-        let _ = self.writer.forget(..);
     }
 }
 

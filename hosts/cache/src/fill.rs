@@ -69,10 +69,10 @@ impl<O: Origin> Cache<O> {
     /// `Krl`, `Origin`, `Full`, `TimedOut`: then no process answers a read until it is called again
     /// and succeeds.
     pub fn fill(&self, mut progress: impl FnMut(usize, usize)) -> Result<usize, CacheError> {
-        let turn = self.turn()?;
+        let writing = self.turn()?;
         // Each write is bound to this pin. So of two operators one waits, and none writes after its
         // lease has ended and another one has begun.
-        let (_, pin) = self.writer.pin_for_update(MARK..=MARK)?;
+        let (_, pin) = writing.pin_for_update(MARK..MARK + 1)?;
         // From here on nobody answers anything.
         pin.delete(MARK)?;
         self.step(Step::Unmarked);
@@ -87,7 +87,7 @@ impl<O: Origin> Cache<O> {
         insert(&pin, GUARD, Value::default())?;
         filling.confirm()?;
         insert(&pin, MARK, mark_of(&self.identity, fresh_filling()))?;
-        drop((filling, pin, turn));
+        drop((filling, pin, writing));
         self.confirm()?;
         Ok(all)
     }

@@ -68,6 +68,7 @@ mod transact;
 mod turns;
 mod version;
 mod work;
+mod writing;
 
 pub use builder::Builder;
 pub use cache::Cache;

@@ -1,6 +1,7 @@
 //! What a transaction has pinned in krl.
 use crate::error::CacheError;
-use krl::{Client, Pin, Refused};
+use crate::writing::Writing;
+use krl::{Pin, Refused};
 use std::collections::BTreeSet;
 use std::ops::Range;
 
@@ -12,10 +13,10 @@ pub(crate) struct Pinned {
 
 impl Pinned {
     /// Pins spans, which ascend, for an update.
-    pub fn pin(writer: &Client, spans: Vec<Range<u64>>) -> Result<Pinned, Refused> {
+    pub fn pin(writing: &Writing<'_>, spans: Vec<Range<u64>>) -> Result<Pinned, Refused> {
         let mut pinned = Pinned { pins: Vec::new(), rows: BTreeSet::new() };
         for span in spans {
-            let (rows, pin) = writer.pin_for_update(span.clone())?;
+            let (rows, pin) = writing.pin_for_update(span.clone())?;
             pinned.rows.extend(rows.iter().map(|row| row.key));
             pinned.pins.push((span, pin));
         }

@@ -31,10 +31,10 @@ impl<O: Origin> Cache<O> {
     /// it, waits for everybody who has changed the key there and has not ended. So what is
     /// committed now stays until the pin ends, and the write to krl is bound to the pin.
     pub(crate) fn repair(&self, key: u64) -> Result<(), CacheError> {
-        let _turn = self.turn()?;
+        let writing = self.turn()?;
         self.counters.repairs.add(1);
         // A delete takes the gap after the key.
-        let (rows, pin) = self.writer.pin_for_update(key..key + 2)?;
+        let (rows, pin) = writing.pin_for_update(key..key + 2)?;
         self.step(Step::RepairPinned);
         let known = Known::of(rows.iter().find(|row| row.key == key));
         let transaction = self.origin.begin(&[key])?;

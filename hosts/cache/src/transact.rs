@@ -121,8 +121,8 @@ impl<O: Origin> Cache<O> {
         width: Width,
         work: impl FnOnce(&mut Work<'_, O>) -> Result<T, Failure>,
     ) -> Result<T, CacheError> {
-        let _turn = self.turn()?;
-        let pinned = Pinned::pin(&self.writer, spans(&keys, width))?;
+        let writing = self.turn()?;
+        let pinned = Pinned::pin(&writing, spans(&keys, width))?;
         self.step(Step::Pinned);
         let transaction = self.begin(&keys, &pinned)?;
         self.step(Step::Locked);

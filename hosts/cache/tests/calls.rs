@@ -161,3 +161,24 @@ fn after_a_filling_nobody_answers_what_was_in_memory_before() {
     assert_eq!(text(&two, 10).unwrap(), "b");
     assert_eq!(text(&one, 10).unwrap(), "b");
 }
+
+#[test]
+fn a_writer_holds_nothing_between_two_writes() {
+    let site = Site::new();
+    let cache = site.cache(0);
+    let writes: [&dyn Fn() -> Result<bool, CacheError>; 7] = [
+        &|| cache.insert(10, "a".to_string()),
+        &|| cache.insert(1 << 40, "b".to_string()),
+        &|| cache.insert(LAST_KEY, "z".to_string()),
+        &|| cache.update(1 << 40, |_| Some("c".to_string())),
+        &|| cache.delete(1 << 40),
+        &|| cache.delete(LAST_KEY),
+        &|| cache.transact(&[0, 10, 20], |rows| Ok(rows.put(0, "d".to_string()).is_ok())),
+    ];
+    for write in writes {
+        assert!(persist(write));
+        site.wait_until_writer_holds_nothing(0);
+    }
+    site.fill();
+    site.wait_until_writer_holds_nothing(31);
+}

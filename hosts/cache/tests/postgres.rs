@@ -257,7 +257,7 @@ fn a_commit_whose_answer_was_lost_is_found() {
     let relay = Arc::new(DeafRelay::start(database.at()));
     let (deaf, is_lost) = (Arc::clone(&relay), AtomicBool::new(false));
     let builder = krl.cache_of(items(&address_at(relay.address())), 0).on_step(move |step| {
-        if step == Step::Announced(1) && !is_lost.swap(true, Ordering::SeqCst) {
+        if step == Step::Applied && !is_lost.swap(true, Ordering::SeqCst) {
             deaf.lose_next_answer();
         }
     });

@@ -3,11 +3,9 @@
     interrupted.py SERVERS LOCK_FILE
 """
 
-import os
 import signal
 import sys
 import threading
-import time
 from pathlib import Path
 
 sys.path.insert(0, str(Path(__file__).resolve().parent.parent))
@@ -22,18 +20,22 @@ def place() -> tuple[int, int]:
 
 
 def interrupt() -> None:
-    """Waits until the main thread stands still, which is while it waits."""
+    """Interrupts the main thread as soon as it stands still, which is while it waits. A signal that
+    comes just before the wait may be heard only after it, so it is sent until one is heard."""
     before = None
-    while (now := place()) != before:
+    while not is_heard.is_set():
+        if (now := place()) == before:
+            signal.pthread_kill(threading.main_thread().ident or 0, signal.SIGINT)
         before = now
-        time.sleep(0.3)
-    os.kill(os.getpid(), signal.SIGINT)
+        is_heard.wait(0.3)
 
 
+is_heard = threading.Event()
 with krl.join(sys.argv[1], 1, sys.argv[2], 3600) as client:
     try:
         threading.Thread(target=interrupt, daemon=True).start()
         client.read(0, 20)
     except KeyboardInterrupt:
-        print("interrupted")
+        is_heard.set()
+        print("interrupted", flush=True)
     client.timeout = 1

@@ -102,6 +102,20 @@ impl Site {
         self.krl.cache_of(self.table.clone(), number)
     }
 
+    /// Waits until the writer of the cache of this number holds nothing.
+    pub fn wait_until_writer_holds_nothing(&self, number: u8) {
+        let (end, monitor) = (Instant::now() + LONG, self.krl.server.monitor());
+        loop {
+            let held = monitor.locks(.., 10_000).unwrap().held;
+            let held: Vec<_> = held.iter().filter(|slot| slot.client == 2 * number + 1).collect();
+            if held.is_empty() {
+                return;
+            }
+            assert!(Instant::now() < end, "the writer still holds {held:?}");
+            thread::sleep(Duration::from_millis(1));
+        }
+    }
+
     /// A cache of another table on the same server.
     pub fn builder_of<O: Origin>(&self, table: O, number: u8) -> Builder<O> {
         self.krl.cache_of(table, number)
