@@ -58,10 +58,10 @@ fn known_around(span: &Range<u64>, knows: impl Fn(Range<u64>) -> bool) -> Range<
 }
 
 /// The greatest distance up to the limit that is known. With each distance all shorter ones are.
-fn farthest(limit: u64, knows: impl Fn(u64) -> bool) -> u64 {
+fn farthest(limit: u64, is_known: impl Fn(u64) -> bool) -> u64 {
     let (mut known, mut unknown) = (0, None);
     while let Some(distance) = next_distance(known, unknown, limit) {
-        if knows(distance) {
+        if is_known(distance) {
             known = distance;
         } else {
             unknown = Some(distance);

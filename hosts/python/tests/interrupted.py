@@ -31,6 +31,8 @@ def interrupt() -> None:
 
 
 is_heard = threading.Event()
+# A process of a job in the background begins with this signal ignored.
+signal.signal(signal.SIGINT, signal.default_int_handler)
 with krl.join(sys.argv[1], 1, sys.argv[2], 3600) as client:
     try:
         threading.Thread(target=interrupt, daemon=True).start()

@@ -92,6 +92,7 @@ impl Client {
     }
 
     /// How long each call waits for an answer.
+    #[must_use]
     pub fn timeout(&self) -> Duration {
         self.shared.timeout()
     }

@@ -107,6 +107,8 @@ impl Pin {
 /// A pin whose writes wait for another time than [`Client::timeout`]: see [`Pin::within`].
 ///
 /// Each call is that of [`Pin`] of the same name, with its outcomes and errors.
+///
+/// [`Client::timeout`]: crate::Client::timeout
 #[derive(Clone, Copy, Debug)]
 #[must_use = "it does nothing before one of its calls"]
 pub struct PinWithin<'p> {

@@ -85,6 +85,7 @@ impl ShardedClient {
     }
 
     /// How long each call waits for an answer.
+    #[must_use]
     pub fn timeout(&self) -> Duration {
         let first = self.joined.clients().next();
         first.map_or(Duration::ZERO, |(_, client)| client.timeout())

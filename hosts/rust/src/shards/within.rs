@@ -18,8 +18,9 @@ pub(crate) type Pinned = Result<(Vec<Row>, ShardedPin), ShardRefused>;
 ///
 /// Each call is that of [`ShardedClient`] of the same name, with its outcomes and errors.
 ///
-/// [`ShardedClient::within`]: crate::ShardedClient::within
 /// [`ShardedClient`]: crate::ShardedClient
+/// [`ShardedClient::timeout`]: crate::ShardedClient::timeout
+/// [`ShardedClient::within`]: crate::ShardedClient::within
 #[derive(Clone, Copy, Debug)]
 #[must_use = "it does nothing before one of its calls"]
 pub struct ShardedWithin<'c> {

@@ -1,6 +1,6 @@
 //! Writes that are bound to a pin.
 use super::writing::Kept;
-use super::{Asked, Job, Jobs, Reply};
+use super::{Asked, Job, Jobs, Reply, Stage};
 use crate::model::change::{Outcome, Write};
 use crate::model::refused::Refused;
 use std::sync::mpsc::sync_channel;
@@ -50,7 +50,8 @@ impl Jobs {
     pub fn write_under(&mut self, pin: u64, write: Write) -> Asked<Outcome> {
         self.end_lease_if_over();
         let bond = Bond::Pin(pin);
-        if self.may_write(bond) {
+        // A client that has left says so, of its pins too.
+        if self.may_write(bond) || self.stage == Stage::Gone {
             return self.add(|reply| Job::Write(Wanted { write, bond, kept: None }, reply));
         }
         self.next += 1;
