@@ -1,7 +1,7 @@
 /* krl_host: a client of a krl server without sockets, threads and clocks, for engines that have their own.
  *
- * The caller owns the connection and the time. Bytes that came go in, bytes to be sent come out, each call is told what
- * time it is, and the client tells when it has to be called next. All else is inside: the frames of the stream, locks,
+ * The caller owns the connection and the time. Bytes that came go in, bytes to be sent come out, each call receives
+ * the time, and the client returns when it has to be called next. All else is inside: the frames of the stream, locks,
  * callbacks of the server, what is repeated and what is given back, leases, the lock file of the client's number, and
  * how long the client pauses before it connects again. The library is libkrl_client; `examples/embedded_host.c` is a
  * whole host.
@@ -64,7 +64,7 @@ typedef struct krlh_options {
     uint64_t seed;
 } krlh_options;
 
-/* What is told to a callback, until that returns. */
+/* What a callback receives, until it returns. */
 typedef struct krlh_answer {
     /* A `krlc_code`: KRLC_OK, an answer, or an error. */
     uint32_t code;
