@@ -17,7 +17,7 @@ CARGO = cargo
 # The client for C is built by itself: together with the server it would need what only the server does.
 all:
 	cd hosts && export KRL_LIBRARY=$(LIBRARY) KRL_KIT_C=$(KIT) CARGO_TARGET_DIR=$(TARGET) && \
-	    $(CARGO) build --release $(CARGO_FLAGS) -p krl-server -p krl-client && \
+	    $(CARGO) build --release $(CARGO_FLAGS) -p krl-server -p krl-client -p krl-cache-admin && \
 	    $(CARGO) build --release $(CARGO_FLAGS) -p krl-client-c --lib
 
 install: all

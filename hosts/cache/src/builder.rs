@@ -76,6 +76,23 @@ impl<O: Origin> Builder<O> {
         Ok(cache)
     }
 
+    /// Opens the cache over a database that has another identity than the one from which krl was
+    /// filled, and has each commit that was answered: an operator's call after a replica was
+    /// promoted that lacks none. krl's versions stay as they are. Processes that have the cache open
+    /// have to open it again.
+    ///
+    /// **If the database lacks a commit that was answered, nothing that the cache promises holds**:
+    /// call [`Builder::fill_and_open`] then.
+    ///
+    /// # Errors
+    ///
+    /// `NotFilled` if krl was never filled, or a filling did not come to its end; `Krl`; `Origin`.
+    pub fn accept_and_open(self) -> Result<Cache<O>, CacheError> {
+        let cache = self.open_unfilled()?;
+        cache.accept()?;
+        Ok(cache)
+    }
+
     fn open_unfilled(self) -> Result<Cache<O>, CacheError> {
         let Builder { reader, writer, origin, memory, timeout, on_step } = self;
         let identity = origin.identity()?;

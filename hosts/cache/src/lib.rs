@@ -42,6 +42,7 @@
 //! the key: under a pin, and a lock in the database, it puts into krl what the database has.
 //!
 //! `docs/CACHE.md` has the promise, its premises, and what each failure does.
+mod accept;
 mod bodies;
 mod builder;
 mod cache;
@@ -62,6 +63,7 @@ mod spans;
 mod sqlite;
 mod statistics;
 mod steps;
+mod store_filling;
 #[cfg(any(feature = "postgres", feature = "sqlite"))]
 mod table;
 mod transact;
@@ -87,6 +89,7 @@ pub use sqlite::{SqliteFilling, SqliteOrigin, SqliteRow, SqliteTransaction};
 pub use statistics::Statistics;
 #[doc(hidden)]
 pub use steps::Step;
+pub use store_filling::StoreFilling;
 #[cfg(any(feature = "postgres", feature = "sqlite"))]
 pub use table::{Table, TableFault};
 pub use version::Version;

@@ -105,6 +105,13 @@ pub enum TableFault {
     Setting(String),
     /// The database is a replica.
     Replica,
+    /// A role of an application lacks a right on the table.
+    Right {
+        /// The role.
+        role: String,
+        /// The right, as `SELECT`; or `BYPASSRLS`, if a policy of row security may hide rows.
+        right: String,
+    },
 }
 
 impl fmt::Display for TableFault {
@@ -131,6 +138,9 @@ impl fmt::Display for TableFault {
                 write!(f, "the setting {name} lets a crash take back what was committed")
             }
             TableFault::Replica => f.write_str("the database is a replica"),
+            TableFault::Right { role, right } => {
+                write!(f, "the role {role} lacks the right {right}")
+            }
         }
     }
 }

@@ -2,6 +2,7 @@
 mod site;
 
 use krl_cache::{CacheError, LAST_KEY, OtherKey};
+use site::wrapped::Wrapped;
 use site::{LONG, Site, expected, persist, text, texts};
 use std::thread;
 use std::time::Duration;
@@ -160,6 +161,33 @@ fn after_a_filling_nobody_answers_what_was_in_memory_before() {
     assert_eq!(two.cached(10..11).unwrap(), None);
     assert_eq!(text(&two, 10).unwrap(), "b");
     assert_eq!(text(&one, 10).unwrap(), "b");
+}
+
+#[test]
+fn a_database_with_another_identity_is_accepted_only_by_an_operator() {
+    let site = Site::new();
+    let before = site.cache(0);
+    persist(|| before.insert(10, "a".to_string()));
+    let promoted = |number| {
+        let table = Wrapped::of(&site.table).with_identity("promoted");
+        site.builder_of(table, number)
+    };
+    assert!(matches!(promoted(1).open(), Err(CacheError::NotFilled)));
+    promoted(2).accept_and_open().unwrap().close().unwrap();
+    let after = promoted(3).open().unwrap();
+    assert_eq!(persist(|| after.get(10)).unwrap().body.as_str(), "a");
+    assert_eq!(after.statistics().repairs, 0);
+    // Processes of before have the old identity.
+    assert_eq!(before.cached(10..11).unwrap(), None);
+    assert!(matches!(before.get(10), Err(CacheError::NotFilled)));
+}
+
+#[test]
+fn what_was_never_filled_is_not_accepted() {
+    let site = Site::unfilled();
+    assert!(matches!(site.builder(0).accept_and_open(), Err(CacheError::NotFilled)));
+    site.fill();
+    assert_eq!(persist(|| site.cache(1).range(..)), []);
 }
 
 #[test]

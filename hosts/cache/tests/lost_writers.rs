@@ -1,11 +1,11 @@
 //! Writers that are lost between two steps, and what readers answer then.
 mod site;
 
-use krl_cache::{Builder, CacheError, MemoryOrigin, MemoryTransaction, Needed, Origin};
-use krl_cache::{OriginError, OriginIdentity, Step, Stored};
+use krl_cache::{Builder, CacheError, MemoryOrigin, Origin, Step};
+use site::wrapped::Wrapped;
 use site::{Rows, Site, expected, persist, text, texts};
 use std::sync::atomic::{AtomicBool, Ordering};
-use std::sync::{Arc, Barrier, Mutex};
+use std::sync::{Arc, Barrier};
 use std::thread;
 use std::time::Duration;
 
@@ -199,47 +199,6 @@ fn a_repair_that_stood_still_writes_nothing_to_krl() {
     assert_eq!(text(&sleeper, 10).as_deref(), Some("new"));
 }
 
-/// A table in memory, of which a load ends after something else has happened.
-struct Overlapping {
-    table: MemoryOrigin<String>,
-    happens: Mutex<Option<Box<dyn FnOnce() + Send>>>,
-}
-
-impl Origin for Overlapping {
-    type Body = String;
-    type Transaction<'o> = MemoryTransaction<String>;
-    type Filling<'o> = MemoryTransaction<String>;
-
-    fn identity(&self) -> Result<OriginIdentity, OriginError> {
-        self.table.identity()
-    }
-
-    fn load(&self, keys: &[u64]) -> Result<Vec<Stored<String>>, OriginError> {
-        self.table.load(keys)
-    }
-
-    fn load_while(
-        &self,
-        keys: &[u64],
-        meanwhile: impl FnOnce() -> Needed,
-    ) -> Result<Vec<Stored<String>>, OriginError> {
-        let needed = meanwhile();
-        let happens = self.happens.lock().unwrap().take_if(|_| needed == Needed::Yes);
-        if let Some(happens) = happens {
-            happens();
-        }
-        self.table.load(keys)
-    }
-
-    fn begin(&self, keys: &[u64]) -> Result<MemoryTransaction<String>, OriginError> {
-        self.table.begin(keys)
-    }
-
-    fn begin_filling(&self) -> Result<MemoryTransaction<String>, OriginError> {
-        self.table.begin_filling()
-    }
-}
-
 /// A body that is committed while krl is scanned is of a later moment than the scan. The writer of
 /// one row commits late, after another row was changed: nobody may see the first change without the
 /// second one.
@@ -252,7 +211,7 @@ fn a_body_that_was_loaded_during_the_scan_does_not_count() {
     let (builder, relay) = site.apart(1);
     let halt = Halt::after(Step::Announced(1));
     let writer = halt.open(builder);
-    let table = Overlapping { table: site.table.clone(), happens: Mutex::default() };
+    let table = Wrapped::of(&site.table);
     let reader = site.builder_of(table, 2).open().unwrap();
     let read = || persist(|| reader.range(10..12));
     assert_eq!(read().len(), 2);

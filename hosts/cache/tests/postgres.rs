@@ -257,6 +257,7 @@ fn a_commit_whose_answer_was_lost_is_found() {
     let relay = Arc::new(DeafRelay::start(database.at()));
     let (deaf, is_lost) = (Arc::clone(&relay), AtomicBool::new(false));
     let builder = krl.cache_of(items(&address_at(relay.address())), 0).on_step(move |step| {
+        // The next answer is that of the commit.
         if step == Step::Applied && !is_lost.swap(true, Ordering::SeqCst) {
             deaf.lose_next_answer();
         }
@@ -283,4 +284,27 @@ fn rows_in_memory_are_read_while_the_database_is_down() {
         assert!(Instant::now() < end, "the database does not answer");
     }
     assert_eq!(rows(&cache)[0], (10, item("lamp", 31)));
+}
+
+/// A replica is promoted that lacks nothing.
+#[test]
+fn a_promoted_replica_is_accepted_without_a_filling() {
+    let Some((mut database, krl)) = filled() else { return };
+    let before = krl.cache_of(items(&database.address()), 0).open().unwrap();
+    assert!(before.update(10, |lamp| Some(Item { price: Some(31), ..lamp.clone() })).unwrap());
+    let expected = rows(&before);
+    before.close().unwrap();
+    database.stop();
+    database.become_replica();
+    database.start_again();
+    database.promote();
+    let refused = krl.cache_of(items(&database.address()), 1).open();
+    assert!(matches!(refused, Err(CacheError::NotFilled)), "{refused:?}");
+    let accepting = krl.cache_of(items(&database.address()), 2).accept_and_open();
+    let accepting = accepting.unwrap();
+    assert_eq!(rows(&accepting), expected);
+    accepting.close().unwrap();
+    let after = krl.cache_of(items(&database.address()), 3).open().unwrap();
+    assert!(after.update(10, |lamp| Some(Item { price: Some(32), ..lamp.clone() })).unwrap());
+    assert_eq!(after.statistics().repairs, 0);
 }

@@ -64,3 +64,15 @@ pub(super) fn bad_rows(
     let count: i64 = row.get(0);
     Ok((count > 0).then_some(TableFault::Rows(count)))
 }
+
+/// The rights that a role lacks, which is the user who connects if none is named.
+pub(super) fn missing_rights(
+    session: &Session,
+    table: &Table,
+    role: Option<&str>,
+) -> Result<Vec<TableFault>, OriginError> {
+    let name = table.quoted();
+    let rows = session.ask(async |client| client.query(sql::RIGHTS, &[&name, &role]).await)?;
+    let missing = |row: &Row| TableFault::Right { role: row.get(0), right: row.get(1) };
+    Ok(rows.iter().map(missing).collect())
+}

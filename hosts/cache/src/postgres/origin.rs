@@ -125,7 +125,13 @@ impl<T: PostgresRow> PostgresOrigin<T> {
     /// whoever applies migrations. They may be run again.
     #[must_use]
     pub fn migration(&self) -> String {
-        sql::migration(&self.table)
+        PostgresOrigin::<T>::migration_of(&self.table)
+    }
+
+    /// The same for a table of this name in whatever database.
+    #[must_use]
+    pub fn migration_of(table: &Table) -> String {
+        sql::migration(table)
     }
 
     /// Runs [`PostgresOrigin::migration`]: an operator's call, by a user who owns the table. It waits
@@ -153,6 +159,16 @@ impl<T: PostgresRow> PostgresOrigin<T> {
             faults.extend(check::bad_rows(&session, &self.table)?);
         }
         Ok(faults)
+    }
+
+    /// Which rights on the table a role of an application lacks: by default the user who connects.
+    ///
+    /// # Errors
+    ///
+    /// If the database does not answer, or there is no such role.
+    pub fn check_rights(&self, role: Option<&str>) -> Result<Vec<TableFault>, OriginError> {
+        let session = Session::connect(&self.pool.connector, self.pool.timeouts)?;
+        check::missing_rights(&session, &self.table, role)
     }
 
     fn session(&self) -> Result<CacheSession, OriginError> {

@@ -205,3 +205,16 @@ pub(super) const TRIGGERS: &str = "
     SELECT tgname::text, prosrc, tgtype FROM pg_trigger JOIN pg_proc ON pg_proc.oid = tgfoid
     WHERE tgrelid = to_regclass($1::text) AND tgenabled = 'A' AND NOT tgisinternal
         AND tgqual IS NULL AND tgattr = ''";
+
+/// The rights on the table that a role lacks, and the right to see all rows if a policy hides some.
+pub(super) const RIGHTS: &str = "
+    WITH role AS (SELECT coalesce($2, current_user::text)::name AS name)
+    SELECT role.name::text, rights.name FROM role, (
+        VALUES ('SELECT'), ('INSERT'), ('UPDATE'), ('DELETE')) AS rights (name)
+    WHERE NOT has_table_privilege(role.name, to_regclass($1::text)::oid, rights.name)
+    UNION ALL
+    SELECT role.name::text, 'BYPASSRLS'
+    FROM role, pg_class AS class, pg_roles
+    WHERE class.oid = to_regclass($1::text) AND pg_roles.rolname = role.name
+        AND class.relrowsecurity AND NOT rolbypassrls AND NOT rolsuper
+        AND (class.relforcerowsecurity OR NOT pg_has_role(role.name, class.relowner, 'USAGE'))";

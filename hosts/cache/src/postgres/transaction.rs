@@ -6,8 +6,11 @@ use super::sql;
 use crate::origin::{Change, CommitError, Filling, Needed, OriginError, Stored, Transaction};
 use crate::table::Table;
 use crate::version::Version;
+use futures_util::Stream;
 use futures_util::future::{join, try_join, try_join_all};
 use std::fmt;
+use std::future::poll_fn;
+use std::pin::pin;
 use tokio_postgres::error::SqlState;
 use tokio_postgres::types::ToSql;
 use tokio_postgres::{Client, Error, Row};
@@ -206,8 +209,17 @@ impl PostgresFilling {
 impl Filling for PostgresFilling {
     fn versions(&mut self) -> Result<Vec<(u64, Version)>, OriginError> {
         let asked = sql::versions(&self.table);
-        let rows = self.session.ask(async |client| client.query(&asked, &[]).await)?;
-        rows.iter().map(key_and_version).collect()
+        let versions = self.session.ask(async |client| {
+            let none: [&(dyn ToSql + Sync); 0] = [];
+            // Row by row: whole answers would take more memory than the versions.
+            let mut rows = pin!(client.query_raw(&asked, none).await?);
+            let mut versions = Vec::new();
+            while let Some(row) = poll_fn(|context| rows.as_mut().poll_next(context)).await {
+                versions.push(key_and_version(&row?));
+            }
+            Ok(versions)
+        })?;
+        versions.into_iter().collect()
     }
 
     fn confirm(&mut self) -> Result<(), OriginError> {

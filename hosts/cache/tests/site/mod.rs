@@ -1,6 +1,7 @@
 //! A server of krl, a table in memory, and caches of it.
 #![allow(dead_code, reason = "each test uses a part of it")]
 mod relay;
+pub mod wrapped;
 
 use krl::{Client, Leases, MemoryStore, Server, ServerBuilder};
 use krl_cache::{Builder, Cache, CacheError, MemoryOrigin, Origin, Step};
@@ -92,6 +93,10 @@ impl Site {
         let site = Site { krl, table: MemoryOrigin::new() };
         site.fill();
         site
+    }
+
+    pub fn unfilled() -> Site {
+        Site { krl: Krl::start(), table: MemoryOrigin::new() }
     }
 
     pub fn fill(&self) {

@@ -75,13 +75,7 @@ impl Database {
     /// This server, once it answers, or none if it has ended.
     fn answers(mut self) -> Option<Database> {
         let end = Instant::now() + Duration::from_secs(60);
-        let runtime = tokio::runtime::Builder::new_current_thread().enable_all().build().unwrap();
-        let text = self.address().to_string();
-        let answers = || {
-            let connecting = tokio_postgres::connect(&text, tokio_postgres::NoTls);
-            runtime.block_on(connecting).is_ok()
-        };
-        while !answers() {
+        while !self.is_answering() {
             if self.server.try_wait().unwrap().is_some() {
                 return None;
             }
@@ -89,6 +83,13 @@ impl Database {
             thread::sleep(Duration::from_millis(20));
         }
         Some(self)
+    }
+
+    fn is_answering(&self) -> bool {
+        let runtime = tokio::runtime::Builder::new_current_thread().enable_all().build().unwrap();
+        let text = self.address().to_string();
+        let connecting = tokio_postgres::connect(&text, tokio_postgres::NoTls);
+        runtime.block_on(connecting).is_ok()
     }
 
     /// Where the table is.
@@ -133,6 +134,23 @@ impl Database {
     /// Waits until no statement waits for a lock.
     pub fn wait_for_none_waiting(&self) {
         self.connect().wait_until(WAITING, |found| found == 0);
+    }
+
+    /// The server is a replica when it is started again, and has nobody to follow.
+    pub fn become_replica(&self) {
+        std::fs::write(self.folder.join("data/standby.signal"), "").unwrap();
+    }
+
+    /// Promotes the replica as soon as it answers, and waits until it is the primary.
+    pub fn promote(&self) {
+        let end = Instant::now() + Duration::from_secs(60);
+        while !self.is_answering() {
+            assert!(Instant::now() < end, "PostgreSQL does not answer");
+            thread::sleep(Duration::from_millis(20));
+        }
+        let sql = self.connect();
+        sql.wait_until("SELECT pg_promote()::int::bigint", |promoted| promoted == 1);
+        sql.wait_until("SELECT pg_is_in_recovery()::int::bigint", |replica| replica == 0);
     }
 
     /// Ends the server as an operator does, and waits until it has ended.

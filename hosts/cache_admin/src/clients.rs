@@ -1,0 +1,48 @@
+//! The clients of krl by which this program fills a server.
+use crate::arguments::Clients;
+use crate::failure::{Failure, not_done};
+use krl::{Client, Servers, TlsConfig};
+use std::fs;
+use std::path::PathBuf;
+
+impl Clients {
+    /// Joins as a client that reads and one that writes.
+    pub fn join(&self, servers: Servers) -> Result<(Client, Client), Failure> {
+        let (servers, folder) = (self.with_tls(servers)?, lock_folder()?);
+        let join = |number: u8| {
+            let builder = Client::builder(servers.clone()).number(number);
+            builder.lock_folder(&folder).join().map_err(|error| not_done(&error))
+        };
+        Ok((join(self.number)?, join(self.number + 1)?))
+    }
+
+    fn with_tls(&self, servers: Servers) -> Result<Servers, Failure> {
+        let (Some(authority), Some(certificate), Some(key)) =
+            (&self.tls_authority, &self.tls_certificate, &self.tls_key)
+        else {
+            return Ok(servers);
+        };
+        let config = TlsConfig::from_files(authority, certificate, key);
+        Ok(servers.with_tls(config.map_err(|error| not_done(&error))?))
+    }
+}
+
+/// The folder of lock files of krl's clients, as `krl-client` has it.
+fn lock_folder() -> Result<PathBuf, Failure> {
+    let absolute = |name: &str| {
+        let path = std::env::var_os(name).map(PathBuf::from);
+        path.filter(|path| path.is_absolute())
+    };
+    let state = absolute("XDG_STATE_HOME")
+        .or_else(|| absolute("HOME").map(|home| home.join(".local/state")))
+        .ok_or_else(|| {
+            let why = "there is no folder for lock files: set HOME or XDG_STATE_HOME to an \
+                       absolute path";
+            Failure::NotDone(why.to_string())
+        })?;
+    let folder = state.join("krl");
+    fs::create_dir_all(&folder).map_err(|error| {
+        Failure::NotDone(format!("{} cannot be made: {error}", folder.display()))
+    })?;
+    Ok(folder)
+}

@@ -1,0 +1,81 @@
+//! Why a command failed, and its exit status.
+use krl_cache::{CacheError, OriginError};
+use std::error::Error;
+use std::fmt;
+use std::io::{self, ErrorKind, Write};
+use std::process::ExitCode;
+
+/// The exit status of a command whose output nobody reads any more, as of one that SIGPIPE ended.
+const BROKEN_PIPE: u8 = 128 + 13;
+
+/// The exit status of a command that could not do what it was asked to do.
+const NOT_DONE: u8 = 2;
+
+/// A command that failed.
+#[derive(Debug)]
+pub enum Failure {
+    /// It could not be done.
+    NotDone(String),
+    /// The output cannot be written.
+    Output(io::Error),
+}
+
+impl Failure {
+    /// The exit status.
+    pub fn status(&self) -> ExitCode {
+        ExitCode::from(if self.is_broken_pipe() { BROKEN_PIPE } else { NOT_DONE })
+    }
+
+    /// Reports the failure on standard error. That nobody reads the output is no news.
+    pub fn report(&self) {
+        if !self.is_broken_pipe() {
+            // If it cannot be written, the exit status has to do.
+            let _ = writeln!(io::stderr(), "krl-cache: {self}");
+        }
+    }
+
+    fn is_broken_pipe(&self) -> bool {
+        matches!(self, Failure::Output(error) if error.kind() == ErrorKind::BrokenPipe)
+    }
+}
+
+impl fmt::Display for Failure {
+    fn fmt(&self, f: &mut fmt::Formatter<'_>) -> fmt::Result {
+        match self {
+            Failure::NotDone(why) => f.write_str(why),
+            Failure::Output(error) => write!(f, "standard output cannot be written: {error}"),
+        }
+    }
+}
+
+impl From<io::Error> for Failure {
+    fn from(error: io::Error) -> Failure {
+        Failure::Output(error)
+    }
+}
+
+impl From<OriginError> for Failure {
+    fn from(error: OriginError) -> Failure {
+        Failure::NotDone(error.to_string())
+    }
+}
+
+impl From<CacheError> for Failure {
+    fn from(error: CacheError) -> Failure {
+        Failure::NotDone(error.to_string())
+    }
+}
+
+/// An error with its causes, as one sentence.
+pub fn not_done(error: &dyn Error) -> Failure {
+    let mut sentence = error.to_string();
+    let mut cause = error.source();
+    while let Some(error) = cause {
+        let why = error.to_string();
+        if !sentence.contains(&why) {
+            sentence = format!("{sentence}: {why}");
+        }
+        cause = error.source();
+    }
+    Failure::NotDone(sentence)
+}

@@ -1,0 +1,79 @@
+//! Copying the versions of a table to krl.
+use crate::arguments::{Destination, TableWords};
+use crate::database::Database;
+use crate::failure::{Failure, not_done};
+use krl::{Client, Snapshot, SqliteStore};
+use krl_cache::{Cache, Origin, StoreFilling};
+use krl_rows::Progress;
+use std::fs;
+use std::path::{Path, PathBuf};
+
+/// Fills krl, and answers how many rows the table has.
+pub fn fill(database: &Database, words: &TableWords, to: &Destination) -> Result<usize, Failure> {
+    let table = database.open(words.table())?;
+    match (&to.krl, &to.store) {
+        (_, Some(path)) => table.fill_store(path),
+        (Some(servers), None) => {
+            let (reader, writer) = to.clients.join(servers.clone())?;
+            table.fill_server(reader, writer)
+        }
+        (None, None) => Err(Failure::NotDone("give --krl ADDRESS or --store FILE".to_string())),
+    }
+}
+
+/// Fills a server, and reports how far it has come.
+pub fn server<O: Origin>(table: O, reader: Client, writer: Client) -> Result<usize, Failure> {
+    let (mut progress, mut filled) = (None, 0);
+    let report = |count: usize, all: usize| {
+        let bar = progress.get_or_insert_with(|| Progress::new("filling", Some(all as u64)));
+        (filled..count).for_each(|_| bar.step());
+        filled = count;
+    };
+    let cache = Cache::builder(reader, writer, table).fill_and_open(report)?;
+    cache.close()?;
+    Ok(filled)
+}
+
+/// Writes a new store of a table that is locked.
+///
+/// It has another name until the table is known to have been locked all the time: no server starts
+/// over a store that may lack a change.
+pub fn store<O: Origin>(filling: StoreFilling<'_, O>, path: &Path) -> Result<usize, Failure> {
+    let progress = Progress::new("writing the store", None);
+    if path.symlink_metadata().is_ok() {
+        return Err(Failure::NotDone(format!("there is a file {} already", path.display())));
+    }
+    let snapshot = Snapshot { rows: filling.rows().clone(), ..Snapshot::default() };
+    let judged = snapshot.judge();
+    judged.map_err(|code| Failure::NotDone(format!("no server could start on it: {code}")))?;
+    let unconfirmed = Unconfirmed(with_end(path, ".unconfirmed"));
+    SqliteStore::create(&unconfirmed.0, &snapshot).map_err(|error| not_done(&error))?;
+    let rows = filling.confirm()?;
+    fs::hard_link(&unconfirmed.0, path)
+        .map_err(|error| Failure::NotDone(format!("{} cannot be made: {error}", path.display())))?;
+    drop((unconfirmed, progress));
+    sync_folder_of(path).map_err(|error| not_done(&error))?;
+    Ok(rows)
+}
+
+/// A store that has not its own name yet. It is removed when this is dropped.
+struct Unconfirmed(PathBuf);
+
+impl Drop for Unconfirmed {
+    fn drop(&mut self) {
+        // A file that cannot be removed is a name too many, and no harm.
+        let _ = fs::remove_file(&self.0);
+    }
+}
+
+fn with_end(path: &Path, end: &str) -> PathBuf {
+    let mut name = path.as_os_str().to_os_string();
+    name.push(end);
+    name.into()
+}
+
+/// Has the names of the path's folder on the disk.
+fn sync_folder_of(path: &Path) -> std::io::Result<()> {
+    let folder = path.parent().filter(|folder| !folder.as_os_str().is_empty());
+    fs::File::open(folder.unwrap_or(Path::new(".")))?.sync_all()
+}
