@@ -12,9 +12,16 @@
  *         std::cout << key << '=' << value << '\n';
  *     auto [read, pin] = client.pin_for_update(10, 20);
  *
- * Clients, pins and rows free themselves, and can be moved but not copied. Each error is thrown as a krl::error, and
- * std::bad_alloc if memory was refused. A destructor throws nothing. A client and its pins may be used by many threads
- * at the same time, rows by one.
+ * Clients, pins and rows free themselves, and can be moved but not copied. A client and its pins may be used by many
+ * threads at the same time, rows by one.
+ *
+ * Errors. Each error is thrown as a krl::error, and std::bad_alloc if memory was refused. A destructor throws nothing.
+ * With KRL_EXPECTED defined before the header is included, and if the compiler has no exceptions, nothing is thrown:
+ * each `krl::answer<T>` below is then a `krl::expected<T>`, which has the value or the error, and not the value itself:
+ *
+ *     krl::expected<krl::client> client = krl::client::join(options);
+ *     if (!client)
+ *         std::cerr << client.error().what() << '\n';
  */
 #ifndef KRL_HPP
 #define KRL_HPP
@@ -27,13 +34,27 @@
 #include <iterator>
 #include <memory>
 #include <new>
+#include <optional>
 #include <stdexcept>
 #include <string>
 #include <string_view>
+#include <type_traits>
 #include <utility>
+#include <variant>
 #include <vector>
 
+#if !defined(KRL_EXPECTED) && !defined(__cpp_exceptions)
+#define KRL_EXPECTED
+#endif
+
 namespace krl {
+
+/* Files of one program may be compiled with different choices. */
+#ifdef KRL_EXPECTED
+inline namespace returning {
+#else
+inline namespace throwing {
+#endif
 
 /* One past the greatest key, and the greatest end of a range. */
 inline constexpr std::uint64_t end_of_keys = KRLC_END;
@@ -76,27 +97,83 @@ struct row {
     std::string_view value;
 };
 
+#ifdef KRL_EXPECTED
+
+/* A value, or the error that a call failed with. It is true if it has a value, whatever that is. */
+template <class T> class [[nodiscard]] expected {
+  public:
+    expected(T value) : content_(std::in_place_index<0>, std::move(value)) {}
+    expected(krl::error failed) : content_(std::in_place_index<1>, std::move(failed)) {}
+
+    bool has_value() const noexcept { return content_.index() == 0; }
+    explicit operator bool() const noexcept { return has_value(); }
+    /* The value, if there is one. */
+    T &operator*() & noexcept { return *std::get_if<0>(&content_); }
+    const T &operator*() const & noexcept { return *std::get_if<0>(&content_); }
+    T &&operator*() && noexcept { return std::move(*std::get_if<0>(&content_)); }
+    T *operator->() noexcept { return std::get_if<0>(&content_); }
+    const T *operator->() const noexcept { return std::get_if<0>(&content_); }
+    /* The error, if there is no value. */
+    const krl::error &error() const noexcept { return *std::get_if<1>(&content_); }
+
+  private:
+    std::variant<T, krl::error> content_;
+};
+
+template <> class [[nodiscard]] expected<void> {
+  public:
+    expected() = default;
+    expected(krl::error failed) : failed_(std::move(failed)) {}
+
+    bool has_value() const noexcept { return !failed_; }
+    explicit operator bool() const noexcept { return has_value(); }
+    const krl::error &error() const noexcept { return *failed_; }
+
+  private:
+    std::optional<krl::error> failed_;
+};
+
+template <class T> using answer = expected<T>;
+
+#else
+
+template <class T> using answer = T;
+
+#endif
+
 namespace detail {
 
-/* Returns the code of an answer, and throws an error. */
-inline std::uint32_t check(std::uint32_t code, const krlc_error &failed) {
-    if (code <= KRLC_ANSWERS)
-        return code;
-    if (code == KRLC_OUT_OF_MEMORY)
-        throw std::bad_alloc();
-    throw error(failed);
+/* What a call answers, or its error. */
+template <class Make>
+answer<std::invoke_result_t<Make>> answered(std::uint32_t code, const krlc_error &failed, Make make) {
+    if (code > KRLC_ANSWERS) {
+#ifdef KRL_EXPECTED
+        return error(failed);
+#else
+        if (code == KRLC_OUT_OF_MEMORY)
+            throw std::bad_alloc();
+        throw error(failed);
+#endif
+    }
+    if constexpr (std::is_void_v<std::invoke_result_t<Make>>) {
+        make();
+        return answer<void>();
+    } else {
+        return make();
+    }
 }
 
 /* The outcome of a write. */
-inline outcome judged(std::uint32_t code, const krlc_error &failed) {
-    return static_cast<outcome>(check(code, failed));
+inline answer<outcome> judged(std::uint32_t code, const krlc_error &failed) {
+    return answered(code, failed, [&] { return static_cast<outcome>(code); });
 }
 
-/* The same of a call that writes no sentence. */
-inline std::uint32_t check(std::uint32_t code) {
-    if (code > KRLC_ANSWERS)
-        throw error(static_cast<krlc_code>(code), krlc_code_name(code));
-    return code;
+/* The error of a call that writes no sentence. */
+inline krlc_error named(std::uint32_t code) {
+    krlc_error failed = {code, -1, KRLC_NO_REASON, {}};
+    std::string_view name = krlc_code_name(code);
+    name.copy(failed.sentence, sizeof failed.sentence - 1);
+    return failed;
 }
 
 inline std::uint64_t milliseconds(std::chrono::milliseconds time) {
@@ -147,9 +224,12 @@ class rows {
     using const_iterator = iterator;
     using value_type = row;
 
+    /* Rows for which memory was refused and nothing could be thrown are refused by KRLC_MISUSE. */
     rows() : room_(krlc_rows_new()) {
+#ifndef KRL_EXPECTED
         if (!room_)
             throw std::bad_alloc();
+#endif
     }
 
     const krlc_row *data() const noexcept { return krlc_rows_get(room_.get(), nullptr); }
@@ -183,25 +263,27 @@ class pin {
     explicit pin(krlc_pin *taken) noexcept : pin_(taken) {}
 
     /* Whether no other client has taken anything of the range since it was pinned. Ask after the work. */
-    [[nodiscard]] bool holds() const {
+    [[nodiscard]] answer<bool> holds() const {
         std::uint32_t code = krlc_pin_holds(pin_.get());
-        return code != KRLC_PIN_IS_VOID && detail::check(code) == KRLC_OK;
+        if (code == KRLC_PIN_IS_VOID)
+            return false;
+        return detail::answered(code, detail::named(code), [] { return true; });
     }
-    /* These writes are made while the pin holds, or never: otherwise KRLC_PIN_IS_VOID is thrown. */
-    [[nodiscard]] outcome insert(std::uint64_t key, std::string_view value, timeout time = {}) {
+    /* These writes are made while the pin holds, or never: otherwise the error is KRLC_PIN_IS_VOID. */
+    [[nodiscard]] answer<outcome> insert(std::uint64_t key, std::string_view value, timeout time = {}) {
         return written(krlc_pin_insert, key, value, time);
     }
-    [[nodiscard]] outcome put(std::uint64_t key, std::string_view value, timeout time = {}) {
+    [[nodiscard]] answer<outcome> put(std::uint64_t key, std::string_view value, timeout time = {}) {
         return written(krlc_pin_put, key, value, time);
     }
-    [[nodiscard]] outcome set(std::uint64_t key, std::string_view value, timeout time = {}) {
+    [[nodiscard]] answer<outcome> set(std::uint64_t key, std::string_view value, timeout time = {}) {
         return written(krlc_pin_set, key, value, time);
     }
-    [[nodiscard]] outcome erase(std::uint64_t key, timeout time = {}) {
+    [[nodiscard]] answer<outcome> erase(std::uint64_t key, timeout time = {}) {
         krlc_error failed;
         return detail::judged(krlc_pin_delete(pin_.get(), key, detail::milliseconds(time), &failed), failed);
     }
-    /* Ends the pin now. Later calls throw. */
+    /* Ends the pin now. Later calls are refused. */
     void release() noexcept { pin_.reset(); }
 
     krlc_pin *get() const noexcept { return pin_.get(); }
@@ -210,7 +292,7 @@ class pin {
     using write_call = std::uint32_t (*)(krlc_pin *, std::uint64_t, const void *, std::size_t, std::uint64_t,
                                          krlc_error *);
 
-    outcome written(write_call call, std::uint64_t key, std::string_view value, timeout time) {
+    answer<outcome> written(write_call call, std::uint64_t key, std::string_view value, timeout time) {
         krlc_error failed;
         std::uint64_t waits = detail::milliseconds(time);
         return detail::judged(call(pin_.get(), key, value.data(), value.size(), waits, &failed), failed);
@@ -267,109 +349,121 @@ inline krlc_options options_of(const options &wanted) {
 } // namespace detail
 
 /* Ends the client of a number for good, as `krlc_evict`: its process has to be dead. */
-inline void evict(const options &wanted) {
+inline answer<void> evict(const options &wanted) {
     krlc_options options = detail::options_of(wanted);
     krlc_error failed;
-    detail::check(krlc_evict(&options, &failed), failed);
+    return detail::answered(krlc_evict(&options, &failed), failed, [] {});
 }
 
 /* A client that has joined. Its destructor leaves, and waits at most a second for that. */
 class client {
   public:
-    explicit client(const options &wanted) {
+    static answer<client> join(const options &wanted) {
         krlc_options options = detail::options_of(wanted);
         krlc_client *joined = nullptr;
         krlc_error failed;
-        detail::check(krlc_join(&options, &joined, &failed), failed);
-        client_.reset(joined);
+        std::uint32_t code = krlc_join(&options, &joined, &failed);
+        return detail::answered(code, failed, [&] { return client(joined); });
     }
+#ifndef KRL_EXPECTED
+    explicit client(const options &wanted) : client(join(wanted)) {}
+#endif
 
     /* The rows of a range: from the cache if that has it, otherwise from the servers. */
-    [[nodiscard]] krl::rows read(std::uint64_t lo, std::uint64_t hi, timeout time = {}) {
+    [[nodiscard]] answer<krl::rows> read(std::uint64_t lo, std::uint64_t hi, timeout time = {}) {
         krl::rows found;
-        read(lo, hi, found, time);
-        return found;
+        krlc_error failed;
+        std::uint32_t code = krlc_read(client_.get(), lo, hi, found.get(), detail::milliseconds(time), &failed);
+        return detail::answered(code, failed, [&] { return std::move(found); });
     }
     /* The same, into rows that were there before. */
-    void read(std::uint64_t lo, std::uint64_t hi, krl::rows &into, timeout time = {}) {
+    answer<void> read(std::uint64_t lo, std::uint64_t hi, krl::rows &into, timeout time = {}) {
         krlc_error failed;
-        detail::check(krlc_read(client_.get(), lo, hi, into.get(), detail::milliseconds(time), &failed), failed);
+        std::uint32_t code = krlc_read(client_.get(), lo, hi, into.get(), detail::milliseconds(time), &failed);
+        return detail::answered(code, failed, [] {});
     }
     /* Reads from the cache only, without a message: false if that does not have the whole range. */
-    [[nodiscard]] bool cached(std::uint64_t lo, std::uint64_t hi, krl::rows &into) {
-        return detail::check(krlc_cached(client_.get(), lo, hi, into.get())) == KRLC_OK;
+    [[nodiscard]] answer<bool> cached(std::uint64_t lo, std::uint64_t hi, krl::rows &into) {
+        std::uint32_t code = krlc_cached(client_.get(), lo, hi, into.get());
+        if (code <= KRLC_ANSWERS)
+            return code == KRLC_OK;
+        return detail::answered(code, detail::named(code), [] { return false; });
     }
 
-    [[nodiscard]] outcome insert(std::uint64_t key, std::string_view value, timeout time = {}) {
+    [[nodiscard]] answer<outcome> insert(std::uint64_t key, std::string_view value, timeout time = {}) {
         return written(krlc_insert, key, value, time);
     }
-    [[nodiscard]] outcome put(std::uint64_t key, std::string_view value, timeout time = {}) {
+    [[nodiscard]] answer<outcome> put(std::uint64_t key, std::string_view value, timeout time = {}) {
         return written(krlc_put, key, value, time);
     }
     /* Gives a key this value, whether or not it has a row. */
-    [[nodiscard]] outcome set(std::uint64_t key, std::string_view value, timeout time = {}) {
+    [[nodiscard]] answer<outcome> set(std::uint64_t key, std::string_view value, timeout time = {}) {
         return written(krlc_set, key, value, time);
     }
-    [[nodiscard]] outcome erase(std::uint64_t key, timeout time = {}) {
+    [[nodiscard]] answer<outcome> erase(std::uint64_t key, timeout time = {}) {
         krlc_error failed;
         return detail::judged(krlc_delete(client_.get(), key, detail::milliseconds(time), &failed), failed);
     }
 
     /* Pins what the client holds of the range, without reading it. */
-    [[nodiscard]] krl::pin pin_held(std::uint64_t lo, std::uint64_t hi, timeout time = {}) {
+    [[nodiscard]] answer<krl::pin> pin_held(std::uint64_t lo, std::uint64_t hi, timeout time = {}) {
         krlc_pin *taken = nullptr;
         krlc_error failed;
-        detail::check(krlc_pin_held(client_.get(), lo, hi, &taken, detail::milliseconds(time), &failed), failed);
-        return krl::pin(taken);
+        std::uint32_t code = krlc_pin_held(client_.get(), lo, hi, &taken, detail::milliseconds(time), &failed);
+        return detail::answered(code, failed, [&] { return krl::pin(taken); });
     }
     /* Read a range and pin it: to read it only, to write there next, or so that nobody else reads it. */
-    [[nodiscard]] pinned pin_for_read(std::uint64_t lo, std::uint64_t hi, timeout time = {}) {
+    [[nodiscard]] answer<pinned> pin_for_read(std::uint64_t lo, std::uint64_t hi, timeout time = {}) {
         return pinned_by(krlc_pin_for_read, lo, hi, time);
     }
-    [[nodiscard]] pinned pin_for_update(std::uint64_t lo, std::uint64_t hi, timeout time = {}) {
+    [[nodiscard]] answer<pinned> pin_for_update(std::uint64_t lo, std::uint64_t hi, timeout time = {}) {
         return pinned_by(krlc_pin_for_update, lo, hi, time);
     }
-    [[nodiscard]] pinned pin_for_write(std::uint64_t lo, std::uint64_t hi, timeout time = {}) {
+    [[nodiscard]] answer<pinned> pin_for_write(std::uint64_t lo, std::uint64_t hi, timeout time = {}) {
         return pinned_by(krlc_pin_for_write, lo, hi, time);
     }
 
     /* Waits until the client no longer knows that the range has just these rows: false after the time. */
-    [[nodiscard]] bool wait_for_change(std::uint64_t lo, std::uint64_t hi, const krl::rows &known,
+    [[nodiscard]] answer<bool> wait_for_change(std::uint64_t lo, std::uint64_t hi, const krl::rows &known,
                                        std::chrono::milliseconds time) {
         krlc_error failed;
         std::uint32_t code = krlc_wait_for_change(client_.get(), lo, hi, known.data(), known.size(),
                                                   detail::milliseconds(time), &failed);
-        return detail::check(code, failed) == KRLC_OK;
+        return detail::answered(code, failed, [&] { return code == KRLC_OK; });
     }
     /* Gives back what the client holds of the range. */
-    void forget(std::uint64_t lo, std::uint64_t hi, timeout time = {}) {
+    answer<void> forget(std::uint64_t lo, std::uint64_t hi, timeout time = {}) {
         krlc_error failed;
-        detail::check(krlc_forget(client_.get(), lo, hi, detail::milliseconds(time), &failed), failed);
+        std::uint32_t code = krlc_forget(client_.get(), lo, hi, detail::milliseconds(time), &failed);
+        return detail::answered(code, failed, [] {});
     }
 
     /* The client's number: it tells which one of `numbers` was free. */
     [[nodiscard]] std::uint32_t number() const noexcept { return krlc_number(client_.get()); }
     /* What the client shows of each shard that it has joined, or of its one server. */
-    [[nodiscard]] std::vector<krlc_status> status() const {
+    [[nodiscard]] answer<std::vector<krlc_status>> status() const {
         std::vector<krlc_status> shown(krlc_joined(client_.get()));
         krlc_error failed;
-        for (std::size_t place = 0; place < shown.size(); place++)
-            detail::check(krlc_status_at(client_.get(), place, &shown[place], &failed), failed);
-        return shown;
+        std::uint32_t code = KRLC_OK;
+        for (std::size_t place = 0; place < shown.size() && code == KRLC_OK; place++)
+            code = krlc_status_at(client_.get(), place, &shown[place], &failed);
+        return detail::answered(code, failed, [&] { return std::move(shown); });
     }
     /* How long calls wait from now on that are given no timeout. */
-    void set_timeout(timeout time) {
+    answer<void> set_timeout(timeout time) {
         krlc_error failed;
-        detail::check(krlc_set_timeout(client_.get(), detail::milliseconds(time), &failed), failed);
+        std::uint32_t code = krlc_set_timeout(client_.get(), detail::milliseconds(time), &failed);
+        return detail::answered(code, failed, [] {});
     }
-    void reload_tls() {
+    answer<void> reload_tls() {
         krlc_error failed;
-        detail::check(krlc_reload_tls(client_.get(), &failed), failed);
+        return detail::answered(krlc_reload_tls(client_.get(), &failed), failed, [] {});
     }
     /* Gives back all that the client holds, and waits until each server has that on its disk. */
-    void leave(timeout time = {}) {
+    answer<void> leave(timeout time = {}) {
         krlc_error failed;
-        detail::check(krlc_leave(client_.get(), detail::milliseconds(time), &failed), failed);
+        std::uint32_t code = krlc_leave(client_.get(), detail::milliseconds(time), &failed);
+        return detail::answered(code, failed, [] {});
     }
 
     krlc_client *get() const noexcept { return client_.get(); }
@@ -378,7 +472,7 @@ class client {
     using write_call = std::uint32_t (*)(krlc_client *, std::uint64_t, const void *, std::size_t, std::uint64_t,
                                          krlc_error *);
 
-    outcome written(write_call call, std::uint64_t key, std::string_view value, timeout time) {
+    answer<outcome> written(write_call call, std::uint64_t key, std::string_view value, timeout time) {
         krlc_error failed;
         std::uint64_t waits = detail::milliseconds(time);
         return detail::judged(call(client_.get(), key, value.data(), value.size(), waits, &failed), failed);
@@ -387,18 +481,25 @@ class client {
     using pin_call = std::uint32_t (*)(krlc_client *, std::uint64_t, std::uint64_t, krlc_rows *, krlc_pin **,
                                        std::uint64_t, krlc_error *);
 
-    pinned pinned_by(pin_call call, std::uint64_t lo, std::uint64_t hi, timeout time) {
+    explicit client(krlc_client *joined) noexcept : client_(joined) {}
+
+    answer<pinned> pinned_by(pin_call call, std::uint64_t lo, std::uint64_t hi, timeout time) {
         krl::rows found;
         krlc_pin *taken = nullptr;
         krlc_error failed;
         std::uint64_t waits = detail::milliseconds(time);
-        detail::check(call(client_.get(), lo, hi, found.get(), &taken, waits, &failed), failed);
-        return {std::move(found), krl::pin(taken)};
+        std::uint32_t code = call(client_.get(), lo, hi, found.get(), &taken, waits, &failed);
+        return detail::answered(code, failed, [&] { return pinned{std::move(found), krl::pin(taken)}; });
     }
 
     std::unique_ptr<krlc_client, detail::free_client> client_;
 };
 
+#ifdef KRL_EXPECTED
+} // namespace returning
+#else
+} // namespace throwing
+#endif
 } // namespace krl
 
 #endif

@@ -303,9 +303,9 @@ KRLC_NODISCARD uint32_t krlc_join(const krlc_options *options, krlc_client **cli
  * KRLC_REASON_LEASE_RUNS, if the lease does not end in time. */
 KRLC_NODISCARD uint32_t krlc_evict(const krlc_options *options, krlc_error *error);
 
-/* Gives back all that the client holds, and waits until each server has that on its disk. From then on calls return
- * KRLC_LEFT, and the cache has nothing. Errors: KRLC_TIMED_OUT, KRLC_UNSERVED, KRLC_TURNED_AWAY, KRLC_OTHER_SHARD,
- * KRLC_STOPPED: other clients may wait for what this client held. */
+/* Gives back all that the client holds, and waits until each server has that on its disk. From then on its calls and
+ * writes by its pins return KRLC_LEFT, and its cache has nothing. To leave again is KRLC_OK. Errors: KRLC_TIMED_OUT,
+ * KRLC_UNSERVED, KRLC_TURNED_AWAY, KRLC_OTHER_SHARD, KRLC_STOPPED: other clients may wait for what this client held. */
 KRLC_NODISCARD uint32_t krlc_leave(krlc_client *client, uint64_t timeout_ms, krlc_error *error);
 
 /* Frees a client. One that has not left leaves, and this call waits at most a second for that. Pins may be freed before

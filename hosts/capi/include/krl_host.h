@@ -173,8 +173,8 @@ void krlh_unpin(krlh_client *client, uint64_t now, uint64_t pin);
  * applied. A call that was answered stays so. */
 void krlh_cancel(krlh_client *client, uint64_t now, uint64_t call);
 
-/* Reads the cache only, as `krlc_cached_into`: KRLC_OK, KRLC_MISS or KRLC_TOO_SHORT. `clock` gives the moment, and is
- * called after the rows were read: what the lease no longer covers is KRLC_MISS. */
+/* Reads the cache only, as `krlc_cached_into`: KRLC_OK, KRLC_MISS or KRLC_TOO_SHORT. `clock` gives the moment; it is
+ * called after the rows were read, and makes no call of the client. What the lease no longer covers is KRLC_MISS. */
 KRLC_NODISCARD uint32_t krlh_cached(krlh_client *client, uint64_t lo, uint64_t hi, uint64_t (*clock)(void),
                                     krlc_row *at, size_t room, size_t *count);
 

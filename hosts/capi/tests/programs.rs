@@ -312,6 +312,14 @@ fn the_classes_for_cpp() {
 }
 
 #[test]
+fn the_classes_for_cpp_without_exceptions() {
+    for compiler in compilers() {
+        let world = World::new(&format!("expected-{compiler}"));
+        world.runs(compiler, "tests/programs/expected.cpp", &["-fno-exceptions"]);
+    }
+}
+
+#[test]
 fn the_classes_for_cpp_with_sanitizers_of_memory() {
     for compiler in compilers().into_iter().take(1) {
         World::new("cpp-memory").runs(compiler, "tests/programs/wrapper.cpp", MEMORY);
