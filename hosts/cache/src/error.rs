@@ -1,6 +1,5 @@
 //! Why a call of the cache failed.
 use crate::origin::OriginError;
-use krl::Refused;
 use std::error::Error;
 use std::fmt;
 
@@ -10,7 +9,7 @@ use std::fmt;
 #[non_exhaustive]
 pub enum CacheError {
     /// krl refused the call or did not answer in time.
-    Krl(Refused),
+    Krl(krl::Error),
     /// The database refused the call or did not answer in time.
     Origin(OriginError),
     /// The function that was given to `transact` returned this error.
@@ -71,8 +70,8 @@ impl Error for CacheError {
     }
 }
 
-impl From<Refused> for CacheError {
-    fn from(refused: Refused) -> CacheError {
+impl From<krl::Error> for CacheError {
+    fn from(refused: krl::Error) -> CacheError {
         CacheError::Krl(refused)
     }
 }

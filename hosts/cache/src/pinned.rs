@@ -1,7 +1,7 @@
 //! What a transaction has pinned in krl.
 use crate::error::CacheError;
 use crate::writing::Writing;
-use krl::{Pin, Refused};
+use krl::{Error, Pin};
 use std::collections::BTreeSet;
 use std::ops::Range;
 
@@ -13,7 +13,7 @@ pub(crate) struct Pinned {
 
 impl Pinned {
     /// Pins spans, which ascend, for an update.
-    pub fn pin(writing: &Writing<'_>, spans: Vec<Range<u64>>) -> Result<Pinned, Refused> {
+    pub fn pin(writing: &Writing<'_>, spans: Vec<Range<u64>>) -> Result<Pinned, Error> {
         let mut pinned = Pinned { pins: Vec::new(), rows: BTreeSet::new() };
         for span in spans {
             let (rows, pin) = writing.pin_for_update(span.clone())?;

@@ -1,6 +1,6 @@
 //! The turn of a thread that writes, and what it gives back to krl at its end.
 use crate::turns::Turn;
-use krl::{Client, END, Pin, Refused, Row};
+use krl::{Client, END, Error, Pin, Row};
 use std::cell::RefCell;
 use std::ops::Range;
 
@@ -24,7 +24,7 @@ impl<'c> Writing<'c> {
     }
 
     /// Pins a span for an update.
-    pub fn pin_for_update(&self, span: Range<u64>) -> Result<(Vec<Row>, Pin), Refused> {
+    pub fn pin_for_update(&self, span: Range<u64>) -> Result<(Vec<Row>, Pin), Error> {
         self.spans.borrow_mut().push(span.clone());
         self.writer.pin_for_update(span)
     }

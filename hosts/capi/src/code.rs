@@ -1,5 +1,5 @@
 //! What a call returns.
-use krl::{Code as LibraryCode, JoinError, LockFileError, Outcome, Refused};
+use krl::{Code as LibraryCode, Error, JoinError, LockFileError, Outcome};
 use std::ffi::CStr;
 
 macro_rules! codes {
@@ -94,23 +94,23 @@ impl From<Outcome> for Code {
     }
 }
 
-impl From<&Refused> for Code {
-    fn from(refused: &Refused) -> Code {
+impl From<&Error> for Code {
+    fn from(refused: &Error) -> Code {
         match refused {
-            Refused::TimedOut => Code::TimedOut,
-            Refused::Unserved(_) => Code::Unserved,
-            Refused::TurnedAway => Code::TurnedAway,
-            Refused::OtherShard(_) => Code::OtherShard,
-            Refused::StoreWentBack => Code::StoreWentBack,
-            Refused::LeaseEnded => Code::LeaseEnded,
-            Refused::PinIsVoid => Code::PinIsVoid,
-            Refused::Stopped => Code::Stopped,
-            Refused::BadRange => Code::BadRange,
-            Refused::BadKey => Code::BadKey,
-            Refused::Pinned => Code::Pinned,
-            Refused::TooManyPins => Code::TooManyPins,
-            Refused::OutOfMemory => Code::OutOfMemory,
-            Refused::Other(LibraryCode::Gone) => Code::Left,
+            Error::TimedOut => Code::TimedOut,
+            Error::Unserved(_) => Code::Unserved,
+            Error::TurnedAway => Code::TurnedAway,
+            Error::OtherShard(_) => Code::OtherShard,
+            Error::StoreWentBack => Code::StoreWentBack,
+            Error::LeaseEnded => Code::LeaseEnded,
+            Error::PinIsVoid => Code::PinIsVoid,
+            Error::Stopped => Code::Stopped,
+            Error::BadRange => Code::BadRange,
+            Error::BadKey => Code::BadKey,
+            Error::Pinned => Code::Pinned,
+            Error::TooManyPins => Code::TooManyPins,
+            Error::OutOfMemory => Code::OutOfMemory,
+            Error::Other(LibraryCode::Gone) => Code::Left,
             _ => Code::Internal,
         }
     }
@@ -141,26 +141,26 @@ mod tests {
     #[test]
     fn a_write_is_unknown_exactly_where_the_crate_calls_it_so() {
         let errors = [
-            Refused::TimedOut,
-            Refused::Unserved(krl::Refusal::Denied),
-            Refused::TurnedAway,
-            Refused::StoreWentBack,
-            Refused::LeaseEnded,
-            Refused::PinIsVoid,
-            Refused::Stopped,
-            Refused::BadRange,
-            Refused::BadKey,
-            Refused::Pinned,
-            Refused::TooManyPins,
-            Refused::OutOfMemory,
-            Refused::Other(LibraryCode::Gone),
+            Error::TimedOut,
+            Error::Unserved(krl::Refusal::Denied),
+            Error::TurnedAway,
+            Error::StoreWentBack,
+            Error::LeaseEnded,
+            Error::PinIsVoid,
+            Error::Stopped,
+            Error::BadRange,
+            Error::BadKey,
+            Error::Pinned,
+            Error::TooManyPins,
+            Error::OutOfMemory,
+            Error::Other(LibraryCode::Gone),
         ];
         for refused in errors {
             let code = Code::from(&refused);
             assert_eq!(code.is_unknown_outcome(), refused.is_unknown_outcome(), "{refused:?}");
         }
         // What no call should return is taken for the worst.
-        assert!(Code::from(&Refused::Other(LibraryCode::Busy)).is_unknown_outcome());
+        assert!(Code::from(&Error::Other(LibraryCode::Busy)).is_unknown_outcome());
     }
 
     #[test]

@@ -1,7 +1,7 @@
 //! Why a call failed, and how C learns it.
 use crate::code::Code;
 use crate::reason::Reason;
-use krl::{JoinError, Refused, ShardJoinError, ShardRefused};
+use krl::{Error, JoinError, ShardError, ShardJoinError};
 use std::borrow::Cow;
 use std::fmt::Display;
 use std::mem;
@@ -64,20 +64,20 @@ impl FloorOf for str {
     }
 }
 
-impl From<Refused> for Fault {
-    fn from(refused: Refused) -> Fault {
-        ShardRefused::from(refused).into()
+impl From<Error> for Fault {
+    fn from(refused: Error) -> Fault {
+        ShardError::from(refused).into()
     }
 }
 
-impl From<ShardRefused> for Fault {
-    fn from(refused: ShardRefused) -> Fault {
-        let code = Code::from(&refused.refused);
+impl From<ShardError> for Fault {
+    fn from(refused: ShardError) -> Fault {
+        let code = Code::from(&refused.error);
         let sentence = match code {
             Code::Left => Cow::Borrowed("the client has left"),
             _ => Cow::Owned(refused.to_string()),
         };
-        Fault { code, shard: refused.shard, reason: Reason::of_call(&refused.refused), sentence }
+        Fault { code, shard: refused.shard, reason: Reason::of_call(&refused.error), sentence }
     }
 }
 
@@ -150,7 +150,7 @@ mod tests {
 
     #[test]
     fn a_fault_names_its_shard() {
-        let refused = ShardRefused::from(Refused::TimedOut);
+        let refused = ShardError::from(Error::TimedOut);
         assert_eq!(Fault::from(refused).written().shard, -1);
         let fault = Fault { shard: Some(3), ..Fault::from(refused) };
         assert_eq!(fault.written().shard, 3);
@@ -158,12 +158,12 @@ mod tests {
 
     #[test]
     fn a_fault_has_the_reason_of_the_server() {
-        let unserved = Refused::Unserved(krl::Refusal::Denied);
+        let unserved = Error::Unserved(krl::Refusal::Denied);
         assert_eq!(Fault::from(unserved).written().reason, 6);
         assert_eq!(Fault::from(JoinError::Refused(unserved)).written().reason, 6);
         let full = krl::Refusal::Full { connections: 2 };
         assert_eq!(Fault::from(JoinError::Unserved(full)).written().reason, 3);
-        assert_eq!(Fault::from(Refused::TimedOut).written().reason, -1);
+        assert_eq!(Fault::from(Error::TimedOut).written().reason, -1);
         assert_eq!(Fault::misuse("").written().reason, -1);
     }
 }

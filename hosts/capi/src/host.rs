@@ -2,7 +2,7 @@
 use crate::code::Code;
 use crate::fault::Fault;
 use krl::sans_io::{CacheView, Call, Client, Held, Purpose};
-use krl::{Outcome, Refused, Row, Write};
+use krl::{Error, Outcome, Row, Write};
 use std::ffi::{CString, c_char, c_void};
 use std::io::{self, ErrorKind};
 use std::ops::Range;
@@ -95,7 +95,7 @@ impl Answered {
         Answered { code, rows: Vec::new(), pin: NO_PIN, sentence: String::new() }
     }
 
-    fn refused(refused: Refused) -> Answered {
+    fn refused(refused: Error) -> Answered {
         Answered { sentence: refused.to_string(), ..Answered::of(Code::from(&refused)) }
     }
 }
@@ -127,7 +127,7 @@ impl From<Held> for Answered {
     }
 }
 
-fn told<T: Into<Answered>>(answer: Result<T, Refused>) -> Answered {
+fn told<T: Into<Answered>>(answer: Result<T, Error>) -> Answered {
     answer.map_or_else(Answered::refused, T::into)
 }
 

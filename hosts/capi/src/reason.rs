@@ -1,5 +1,5 @@
 //! Why a server does not serve a client, as a number.
-use krl::{JoinError, Refusal, Refused};
+use krl::{Error, JoinError, Refusal};
 
 /// A `krlc_reason` of the header: a server's reason has the number that it has on the wire.
 #[derive(Clone, Copy, Debug, PartialEq, Eq)]
@@ -20,9 +20,9 @@ pub enum Reason {
 
 impl Reason {
     /// That of a call that was refused.
-    pub fn of_call(refused: &Refused) -> Reason {
+    pub fn of_call(refused: &Error) -> Reason {
         match refused {
-            Refused::Unserved(refusal) => (*refusal).into(),
+            Error::Unserved(refusal) => (*refusal).into(),
             _ => Reason::None,
         }
     }

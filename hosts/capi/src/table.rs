@@ -1,5 +1,5 @@
 //! The table that a client works on: that of one server, or that of all servers of a map.
-use krl::{Client, Outcome, Pin, Row, ShardRefused, ShardedClient, ShardedPin, Value, Waited};
+use krl::{Client, Outcome, Pin, Row, ShardError, ShardedClient, ShardedPin, Value, Waited};
 use std::ops::Range;
 use std::time::Duration;
 
@@ -34,7 +34,7 @@ pub enum Write {
     Delete(u64),
 }
 
-type Answer<T> = Result<T, ShardRefused>;
+type Answer<T> = Result<T, ShardError>;
 
 /// Makes a write by what has the calls for it: clients and pins, of one server or of several.
 macro_rules! written {

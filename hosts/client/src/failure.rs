@@ -1,6 +1,6 @@
 //! Why a command did not do what it should, and the exit status that tells it.
 use crate::output;
-use krl::{JoinError, LockFileError, Refusal, Refused, ShardRefused};
+use krl::{Error, JoinError, LockFileError, Refusal, ShardError};
 use krl_rows::{BadFile, BadValue};
 use std::fmt;
 use std::io;
@@ -81,25 +81,25 @@ impl From<io::Error> for Failure {
     }
 }
 
-impl From<Refused> for Failure {
-    fn from(refused: Refused) -> Failure {
+impl From<Error> for Failure {
+    fn from(refused: Error) -> Failure {
         match refused {
-            Refused::TimedOut => Failure::NoAnswer(
+            Error::TimedOut => Failure::NoAnswer(
                 "the server did not answer in time: it is away, or another client holds what \
                  this command needs (its status page says who waits for whom)"
                     .into(),
             ),
-            Refused::Unserved(why) => Failure::NoAnswer(why.to_string()),
-            Refused::StoreWentBack | Refused::LeaseEnded | Refused::Stopped => {
+            Error::Unserved(why) => Failure::NoAnswer(why.to_string()),
+            Error::StoreWentBack | Error::LeaseEnded | Error::Stopped => {
                 Failure::NoAnswer(refused.to_string())
             }
-            Refused::TurnedAway | Refused::OtherShard(_) => Failure::NotJoined(refused.to_string()),
-            Refused::BadRange | Refused::BadKey => Failure::Usage(refused.to_string()),
-            Refused::Pinned
-            | Refused::PinIsVoid
-            | Refused::TooManyPins
-            | Refused::OutOfMemory
-            | Refused::Other(_) => Failure::Refused(refused.to_string()),
+            Error::TurnedAway | Error::OtherShard(_) => Failure::NotJoined(refused.to_string()),
+            Error::BadRange | Error::BadKey => Failure::Usage(refused.to_string()),
+            Error::Pinned
+            | Error::PinIsVoid
+            | Error::TooManyPins
+            | Error::OutOfMemory
+            | Error::Other(_) => Failure::Refused(refused.to_string()),
             // One that a later release of the library adds.
             unknown if unknown.is_unknown_outcome() => Failure::NoAnswer(unknown.to_string()),
             unknown => Failure::Refused(unknown.to_string()),
@@ -119,16 +119,16 @@ impl From<BadValue> for Failure {
     }
 }
 
-impl From<ShardRefused> for Failure {
-    fn from(ShardRefused { shard, refused, .. }: ShardRefused) -> Failure {
-        Failure::from(refused).at_shard(shard)
+impl From<ShardError> for Failure {
+    fn from(ShardError { shard, error, .. }: ShardError) -> Failure {
+        Failure::from(error).at_shard(shard)
     }
 }
 
 impl Failure {
     /// A write of this key that was not answered by an outcome.
-    pub fn of_write(refused: ShardRefused, key: u64) -> Failure {
-        let is_unknown = refused.refused.is_unknown_outcome();
+    pub fn of_write(refused: ShardError, key: u64) -> Failure {
+        let is_unknown = refused.error.is_unknown_outcome();
         match Failure::from(refused) {
             Failure::NoAnswer(why) if is_unknown => Failure::NoAnswer(format!(
                 "{why}; the write may have been applied: read the key {key}"
@@ -214,7 +214,7 @@ mod tests {
         let of_kind = |kind: io::ErrorKind| Failure::Output(kind.into()).status();
         assert_eq!(Failure::Refused(String::new()).status(), 1);
         assert_eq!(Failure::Usage(String::new()).status(), 2);
-        assert_eq!(Failure::from(Refused::TimedOut).status(), 3);
+        assert_eq!(Failure::from(Error::TimedOut).status(), 3);
         assert_eq!(of_kind(io::ErrorKind::BrokenPipe), 141);
         assert_eq!(of_kind(io::ErrorKind::StorageFull), 1);
         let server = "127.0.0.1:1".parse().unwrap();
@@ -222,7 +222,7 @@ mod tests {
         let full = Refusal::Full { connections: 256 };
         let refused = Failure::of_join(JoinError::Unserved(full), 1, &server);
         assert_eq!((refused.status(), refused.to_string()), (3, full.to_string()));
-        assert_eq!(Failure::from(Refused::Unserved(full)).status(), 3);
+        assert_eq!(Failure::from(Error::Unserved(full)).status(), 3);
         assert_eq!(Failure::of_join(JoinError::BadNumber, 64, &server).status(), 4);
         let taken = JoinError::LockFile(LockFileError::Taken);
         assert_eq!(Failure::of_join(taken, 1, &server).status(), 4);
@@ -232,18 +232,18 @@ mod tests {
     fn each_reason_has_its_status_and_a_write_is_told_if_it_may_be_applied() {
         let full = Refusal::Full { connections: 256 };
         for (refused, status) in [
-            (Refused::TimedOut, 3),
-            (Refused::Unserved(full), 3),
-            (Refused::StoreWentBack, 3),
-            (Refused::LeaseEnded, 3),
-            (Refused::Stopped, 3),
-            (Refused::TurnedAway, 4),
-            (Refused::BadRange, 2),
-            (Refused::BadKey, 2),
-            (Refused::Pinned, 1),
-            (Refused::PinIsVoid, 1),
-            (Refused::TooManyPins, 1),
-            (Refused::OutOfMemory, 1),
+            (Error::TimedOut, 3),
+            (Error::Unserved(full), 3),
+            (Error::StoreWentBack, 3),
+            (Error::LeaseEnded, 3),
+            (Error::Stopped, 3),
+            (Error::TurnedAway, 4),
+            (Error::BadRange, 2),
+            (Error::BadKey, 2),
+            (Error::Pinned, 1),
+            (Error::PinIsVoid, 1),
+            (Error::TooManyPins, 1),
+            (Error::OutOfMemory, 1),
         ] {
             assert_eq!(Failure::from(refused).status(), status, "{refused:?}");
             let written = Failure::of_write(refused.into(), 15);

@@ -1,7 +1,7 @@
 //! The client of the Rust host, as `hosts/conformance/README.md` wants a client: it does what each
 //! line of its input says, and prints a line for each.
 use crate::Found;
-use krl::{Address, Client, Outcome, Refused, Row, Value};
+use krl::{Address, Client, Outcome, Row, Value};
 use std::error::Error;
 use std::io::{BufRead, Write};
 use std::num::ParseIntError;
@@ -9,7 +9,7 @@ use std::ops::Range;
 use std::time::Duration;
 
 /// What is printed of a call.
-type Told = Result<String, Refused>;
+type Told = Result<String, krl::Error>;
 
 /// Joins, and does what the lines of standard input say until it is to leave.
 pub fn run(address: &str, number: &str, lock_file: &str, seconds: &str) -> Found {

@@ -92,7 +92,7 @@ impl Run {
         &self,
         client: &Client,
         range: Range<u64>,
-        then: impl Fn(Range<u64>) -> Result<(), krl::Refused>,
+        then: impl Fn(Range<u64>) -> Result<(), krl::Error>,
     ) -> Result<(), String> {
         while !self.is_over() {
             client.read(range.clone()).map_err(|refused| refused.to_string())?;

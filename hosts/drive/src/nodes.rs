@@ -4,8 +4,8 @@ use crate::certificates;
 use crate::log::{Log, Note, now};
 use crate::unsynced::UnsyncedStore;
 use krl::{
-    Access, Address, Client, Leases, Listener, Outcome, Refused, Row, Server, Servers, SqliteStore,
-    Store, Value,
+    Access, Address, Client, Leases, Listener, Outcome, Row, Server, Servers, SqliteStore, Store,
+    Value,
 };
 use std::error::Error;
 use std::ops::Range;
@@ -105,7 +105,7 @@ fn read_again(
     ranges: &[Range<u64>],
     folder: &Path,
     log: &Mutex<Log>,
-    read: impl Fn(Range<u64>) -> Result<Option<Vec<Row>>, Refused>,
+    read: impl Fn(Range<u64>) -> Result<Option<Vec<Row>>, krl::Error>,
 ) -> Result<(), String> {
     for keys in ranges.iter().cycle() {
         if end_file(folder).exists() {
@@ -123,10 +123,10 @@ fn read_again(
 }
 
 /// What was answered, if anything was.
-fn answered<T>(result: Result<T, Refused>) -> Result<Option<T>, Refused> {
+fn answered<T>(result: Result<T, krl::Error>) -> Result<Option<T>, krl::Error> {
     match result {
         Ok(found) => Ok(Some(found)),
-        Err(Refused::TimedOut | Refused::Unserved(_) | Refused::LeaseEnded) => Ok(None),
+        Err(krl::Error::TimedOut | krl::Error::Unserved(_) | krl::Error::LeaseEnded) => Ok(None),
         Err(refused) => Err(refused),
     }
 }
@@ -207,7 +207,7 @@ fn insert(client: &Client, key: u64, log: &mut Log) -> Result<Option<Outcome>, B
 
 fn note_outcome(
     key: u64,
-    outcome: Result<Outcome, Refused>,
+    outcome: Result<Outcome, krl::Error>,
     log: &mut Log,
 ) -> Result<Option<Outcome>, Box<dyn Error>> {
     // A write that is not answered may have changed the table, or may still do so.

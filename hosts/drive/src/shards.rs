@@ -7,7 +7,7 @@ use crate::Found;
 use crate::clients::Process;
 use crate::kill::start_server;
 use crate::ports::free_address;
-use krl::{Outcome, Refused, Row, Shard, ShardMap, ShardRefused, ShardedClient, Value};
+use krl::{Outcome, Row, Shard, ShardError, ShardMap, ShardedClient, Value};
 use std::error::Error;
 use std::net::SocketAddr;
 use std::ops::Range;
@@ -101,8 +101,8 @@ pub fn run(folder: &Path, seconds: u64, kills: u64) -> Found {
 }
 
 /// What a thread that panicked comes to.
-fn refused() -> ShardRefused {
-    Refused::Stopped.into()
+fn refused() -> ShardError {
+    krl::Error::Stopped.into()
 }
 
 fn start(folder: &Path) -> Result<ShardServer, Box<dyn Error>> {
@@ -136,7 +136,7 @@ impl Run {
 
     /// Gives both rows the next number, again and again. A write that is not answered is made once
     /// more.
-    fn write_again(&self, client: &ShardedClient) -> Result<(), ShardRefused> {
+    fn write_again(&self, client: &ShardedClient) -> Result<(), ShardError> {
         client.set_timeout(TIMEOUT);
         let mut number = 0;
         while self.goes_on() {
@@ -170,7 +170,7 @@ impl Run {
         count
     }
 
-    fn read_again(&self, client: &ShardedClient) -> Result<Count, ShardRefused> {
+    fn read_again(&self, client: &ShardedClient) -> Result<Count, ShardError> {
         let (mut count, mut last) = (Count::default(), [0, 0]);
         while self.goes_on() {
             let before = self.answered.load(Ordering::SeqCst);
@@ -222,10 +222,10 @@ impl Run {
 }
 
 /// What was answered, if anything was.
-fn answered<T>(result: Result<T, ShardRefused>) -> Result<Option<T>, ShardRefused> {
+fn answered<T>(result: Result<T, ShardError>) -> Result<Option<T>, ShardError> {
     match result {
         Ok(found) => Ok(Some(found)),
-        Err(ShardRefused { refused: Refused::TimedOut | Refused::Unserved(_), .. }) => Ok(None),
+        Err(ShardError { error: krl::Error::TimedOut | krl::Error::Unserved(_), .. }) => Ok(None),
         Err(refused) => Err(refused),
     }
 }

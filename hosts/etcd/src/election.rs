@@ -129,7 +129,8 @@ impl Election {
             tell(Standing::StandsBy(&leader));
             return Ok(None);
         }
-        let lease = match kept.take().filter(|lease| lease.is_fresh(self.lease)) {
+        let now = Instant::now();
+        let lease = match kept.take().filter(|lease| lease.is_fresh(self.lease, now)) {
             Some(lease) => lease,
             None => self.grant(etcd)?,
         };
@@ -199,10 +200,10 @@ struct Lease {
 impl Lease {
     /// The lease, kept alive if that is due: none if it has run out.
     fn kept_alive(mut self, etcd: &mut Etcd, length: Duration) -> Result<Option<Lease>, Failure> {
-        if self.is_fresh(length) {
+        let asked = Instant::now();
+        if self.is_fresh(length, asked) {
             return Ok(Some(self));
         }
-        let asked = Instant::now();
         let answer = etcd.call("lease/keepalive", &json!({"ID": self.id}), asked + length / 3);
         let runs = match answer {
             // A node that has just learned who leads says so.
@@ -213,10 +214,15 @@ impl Lease {
         Ok(runs.then_some(self))
     }
 
-    /// Whether the lease need not be kept alive yet.
-    fn is_fresh(&self, length: Duration) -> bool {
-        self.alive.elapsed() < length / 3
+    /// Whether the lease need not be kept alive yet, at this moment.
+    fn is_fresh(&self, length: Duration, now: Instant) -> bool {
+        now.saturating_duration_since(self.alive) < length / 3
     }
+}
+
+/// Whether a lease that was granted for this long has run out by now, unless the cluster knows better.
+fn may_have_run_out(alive: Instant, length: Duration, now: Instant) -> bool {
+    now.saturating_duration_since(alive) > length
 }
 
 /// Keeps the lease alive until it is told to stop, and gives it back then, or until it has run out.
@@ -228,7 +234,7 @@ fn keep(mut etcd: Etcd, mut lease: Lease, length: Duration, stopped: &Receiver<(
             Ok(Some(kept)) => lease = kept,
             Ok(None) | Err(Failure::Refused(_)) => return,
             // Nobody knows, and another server may have the place by now.
-            Err(Failure::Unknown(_)) if alive.elapsed() > length => return,
+            Err(Failure::Unknown(_)) if may_have_run_out(alive, length, Instant::now()) => return,
             Err(Failure::Unknown(_)) => lease = Lease { id: id.clone(), alive },
         }
     }
@@ -371,6 +377,16 @@ mod tests {
             set(&cluster, &request::delete(&key(&address)));
             assert!(other.join().unwrap().unwrap().is_some(), "it has the place at last");
         });
+    }
+
+    #[test]
+    fn a_lease_is_fresh_for_a_third_of_its_length_and_has_run_out_after_it() {
+        let (alive, ms) = (Instant::now(), Duration::from_millis);
+        let lease = Lease { id: "4711".to_string(), alive };
+        let is_fresh = |after| lease.is_fresh(ms(3000), alive + ms(after));
+        assert_eq!([is_fresh(0), is_fresh(999), is_fresh(1000)], [true, true, false]);
+        let has_run_out = |after| may_have_run_out(alive, ms(3000), alive + ms(after));
+        assert_eq!([has_run_out(0), has_run_out(3000), has_run_out(3001)], [false, false, true]);
     }
 
     #[test]

@@ -21,7 +21,7 @@
 //! no answer is stale: the writer can't write then. While a node is dead, the writer waits for it
 //! only if it held what the writer changes. With leases (`leased`, or `leased for 10`) a node that is
 //! stopped, and not killed, keeps the writer waiting no longer than its lease.
-use krl::{Address, Client, Leases, Listener, Outcome, Refused, Row, Server, SqliteStore, Value};
+use krl::{Address, Client, Leases, Listener, Outcome, Row, Server, SqliteStore, Value};
 use std::error::Error;
 use std::ops::Range;
 use std::path::{Path, PathBuf};
@@ -110,7 +110,7 @@ fn node(number: u8, folder: &Path) -> Done {
             match client.read(keys.clone()) {
                 Ok(rows) => rows,
                 // The server is down, and what the node lacks nobody can tell just now.
-                Err(Refused::TimedOut | Refused::Unserved(_)) => continue,
+                Err(krl::Error::TimedOut | krl::Error::Unserved(_)) => continue,
                 Err(refused) => return Err(refused.into()),
             }
         };
@@ -141,7 +141,7 @@ fn write(folder: &Path) -> Done {
     for key in KEYS.into_iter().cycle() {
         match add_one(&client, key) {
             Ok(Outcome::Applied)
-            | Err(Refused::TimedOut | Refused::Unserved(_) | Refused::LeaseEnded) => {}
+            | Err(krl::Error::TimedOut | krl::Error::Unserved(_) | krl::Error::LeaseEnded) => {}
             Ok(outcome) => println!("writer: {key} was not written: {outcome}"),
             Err(refused) => return Err(refused.into()),
         }
@@ -150,7 +150,7 @@ fn write(folder: &Path) -> Done {
     Ok(())
 }
 
-fn add_one(client: &Client, key: u64) -> Result<Outcome, Refused> {
+fn add_one(client: &Client, key: u64) -> Result<Outcome, krl::Error> {
     let rows = client.read(key..=key)?;
     let number = rows.first().and_then(|row| row.value.to_u64()).unwrap_or(0);
     client.put(key, Value::from(number + 1))

@@ -25,8 +25,8 @@ use crate::client::shared::{MAX_WAIT, Shared};
 use crate::client::within::Within;
 use crate::model::change::Outcome;
 use crate::model::code::Code;
+use crate::model::error::Error;
 use crate::model::range::keys_of;
-use crate::model::refused::Refused;
 use crate::model::row::{Row, Value};
 use std::fmt;
 use std::ops::RangeBounds;
@@ -39,7 +39,7 @@ use std::time::{Duration, Instant};
 /// A clone is the same client: it has the same cache, the same pins and the same timeout.
 ///
 /// If the server's store went back, since an older copy of it was brought back, the client drops its
-/// cache as if it had crashed, and joins anew: [`Refused::StoreWentBack`] tells who waits just then.
+/// cache as if it had crashed, and joins anew: [`Error::StoreWentBack`] tells who waits just then.
 /// Until it has joined, `cached` answers `None`, and other calls wait. A store without a history
 /// tells nothing of it.
 ///
@@ -49,7 +49,7 @@ use std::time::{Duration, Instant};
 ///
 /// A server with leases lets the client answer from its cache only for so long after its last word.
 /// When its lease ends the client drops its cache and joins anew, as above: only a write that is on
-/// its way is told so, by [`Refused::LeaseEnded`], and all other calls go on.
+/// its way is told so, by [`Error::LeaseEnded`], and all other calls go on.
 ///
 /// When its last clone and its last pin are dropped, the client says Bye, and waits a second at most
 /// until the server has kept that. A process that ends without a Bye leaves what it held: other
@@ -102,7 +102,7 @@ impl Client {
     ///
     /// ```no_run
     /// # use std::time::Duration;
-    /// # fn read(client: &krl::Client) -> Result<(), krl::Refused> {
+    /// # fn read(client: &krl::Client) -> Result<(), krl::Error> {
     /// let rows = client.within(Duration::from_millis(50)).read(10..20)?;
     /// # Ok(())
     /// # }
@@ -125,7 +125,7 @@ impl Client {
     ///
     /// `BadRange` if the range begins above its end, or ends above 2^63; `TimedOut` or `Unserved`;
     /// `TurnedAway` or `OtherShard`; `StoreWentBack`; `OutOfMemory`; `Stopped`.
-    pub fn read(&self, keys: impl RangeBounds<u64>) -> Result<Vec<Row>, Refused> {
+    pub fn read(&self, keys: impl RangeBounds<u64>) -> Result<Vec<Row>, Error> {
         self.within(self.timeout()).read(keys)
     }
 
@@ -170,7 +170,7 @@ impl Client {
     /// `BadKey` for a key of 2^63 - 1 or more; `TimedOut`, `Unserved`, `StoreWentBack` or `Stopped`:
     /// then the table may have changed or may still change; `LeaseEnded`: then it may have changed;
     /// `TurnedAway` or `OtherShard`: the write was not sent and changes nothing; `OutOfMemory`.
-    pub fn insert(&self, key: u64, value: Value) -> Result<Outcome, Refused> {
+    pub fn insert(&self, key: u64, value: Value) -> Result<Outcome, Error> {
         self.within(self.timeout()).insert(key, value)
     }
 
@@ -179,7 +179,7 @@ impl Client {
     /// # Errors
     ///
     /// Those of `insert`.
-    pub fn put(&self, key: u64, value: Value) -> Result<Outcome, Refused> {
+    pub fn put(&self, key: u64, value: Value) -> Result<Outcome, Error> {
         self.within(self.timeout()).put(key, value)
     }
 
@@ -193,7 +193,7 @@ impl Client {
     /// # Errors
     ///
     /// Those of `insert`.
-    pub fn set(&self, key: u64, value: Value) -> Result<Outcome, Refused> {
+    pub fn set(&self, key: u64, value: Value) -> Result<Outcome, Error> {
         self.within(self.timeout()).set(key, value)
     }
 
@@ -202,7 +202,7 @@ impl Client {
     /// # Errors
     ///
     /// Those of `insert`.
-    pub fn delete(&self, key: u64) -> Result<Outcome, Refused> {
+    pub fn delete(&self, key: u64) -> Result<Outcome, Error> {
         self.within(self.timeout()).delete(key)
     }
 
@@ -218,7 +218,7 @@ impl Client {
     ///
     /// `BadRange` if the range is empty, begins above its end, or ends above 2^63; `TooManyPins`;
     /// `StoreWentBack`, `LeaseEnded` or `Unserved` while the client joins anew.
-    pub fn pin(&self, keys: impl RangeBounds<u64>) -> Result<Pin, Refused> {
+    pub fn pin(&self, keys: impl RangeBounds<u64>) -> Result<Pin, Error> {
         let keys = keys_of(&keys)?;
         let id = self.link().with_jobs(|jobs| jobs.pin(keys))?;
         Ok(Pin::new(Arc::clone(&self.shared), id))
@@ -238,7 +238,7 @@ impl Client {
     /// `BadRange` if the range is empty, begins above its end, or ends above 2^63; `TooManyPins`:
     /// it takes two of the eight until it has all; `TimedOut` or `Unserved`, `OutOfMemory`,
     /// `Stopped`. Then nothing more is pinned than before.
-    pub fn pin_for_read(&self, keys: impl RangeBounds<u64>) -> Result<(Vec<Row>, Pin), Refused> {
+    pub fn pin_for_read(&self, keys: impl RangeBounds<u64>) -> Result<(Vec<Row>, Pin), Error> {
         self.within(self.timeout()).pin_for_read(keys)
     }
 
@@ -262,7 +262,7 @@ impl Client {
     /// # Errors
     ///
     /// Those of [`Client::pin_for_read`].
-    pub fn pin_for_update(&self, keys: impl RangeBounds<u64>) -> Result<(Vec<Row>, Pin), Refused> {
+    pub fn pin_for_update(&self, keys: impl RangeBounds<u64>) -> Result<(Vec<Row>, Pin), Error> {
         self.within(self.timeout()).pin_for_update(keys)
     }
 
@@ -278,7 +278,7 @@ impl Client {
     /// # Errors
     ///
     /// Those of [`Client::pin_for_read`].
-    pub fn pin_for_write(&self, keys: impl RangeBounds<u64>) -> Result<(Vec<Row>, Pin), Refused> {
+    pub fn pin_for_write(&self, keys: impl RangeBounds<u64>) -> Result<(Vec<Row>, Pin), Error> {
         self.within(self.timeout()).pin_for_write(keys)
     }
 
@@ -293,7 +293,7 @@ impl Client {
     /// ```no_run
     /// # use std::time::Duration;
     /// # use krl::Waited;
-    /// # fn watch(client: &krl::Client) -> Result<(), krl::Refused> {
+    /// # fn watch(client: &krl::Client) -> Result<(), krl::Error> {
     /// let mut rows = client.read(10..20)?;
     /// loop {
     ///     println!("{rows:?}");
@@ -312,12 +312,12 @@ impl Client {
         keys: impl RangeBounds<u64>,
         rows: &[Row],
         timeout: Duration,
-    ) -> Result<Waited, Refused> {
+    ) -> Result<Waited, Error> {
         let keys = keys_of(&keys)?;
         let end = Instant::now() + timeout.min(MAX_WAIT);
         match self.link().ask(end, |jobs| jobs.watch(keys, rows.to_vec())) {
             Ok(()) => Ok(Waited::Changed),
-            Err(Refused::TimedOut | Refused::Unserved(_)) => Ok(Waited::Unchanged),
+            Err(Error::TimedOut | Error::Unserved(_)) => Ok(Waited::Unchanged),
             Err(refused) => Err(refused),
         }
     }
@@ -327,7 +327,7 @@ impl Client {
     /// # Errors
     ///
     /// `Other` if the client has left; `StoreWentBack` while it joins anew.
-    pub fn epoch(&self) -> Result<u64, Refused> {
+    pub fn epoch(&self) -> Result<u64, Error> {
         self.link().with_jobs(Jobs::epoch).map_err(Code::into)
     }
 
@@ -359,7 +359,7 @@ impl Client {
     /// `BadRange` if the range begins above its end, or ends above 2^63; `Pinned` if it meets a
     /// pin; `TimedOut` or `Unserved`; `TurnedAway` or `OtherShard`; `StoreWentBack`; `OutOfMemory`;
     /// `Stopped`.
-    pub fn forget(&self, keys: impl RangeBounds<u64>) -> Result<(), Refused> {
+    pub fn forget(&self, keys: impl RangeBounds<u64>) -> Result<(), Error> {
         self.within(self.timeout()).forget(keys)
     }
 
@@ -373,7 +373,7 @@ impl Client {
     ///
     /// `TimedOut` or `Unserved`, `TurnedAway` or `OtherShard`, `Stopped`: other clients may wait for
     /// what this one held then, until it is evicted.
-    pub fn leave(&self) -> Result<(), Refused> {
+    pub fn leave(&self) -> Result<(), Error> {
         self.within(self.timeout()).leave()
     }
 }

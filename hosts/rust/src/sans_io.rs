@@ -10,7 +10,7 @@ use crate::lease::boot_clock::Moment;
 use crate::lease::clocks::Now;
 use crate::model::change::{Outcome, Write};
 use crate::model::client_number::ClientNumber;
-use crate::model::refused::{JoinError, Refused};
+use crate::model::error::{Error, JoinError};
 use crate::model::row::Row;
 use crate::model::shard_bounds::ShardBounds;
 use crate::net::servers::Servers;
@@ -61,11 +61,11 @@ pub struct CacheView(Cache);
 impl<T> Call<T> {
     /// The answer, if it has come. It comes once.
     #[must_use]
-    pub fn answer(&self) -> Option<Result<T, Refused>> {
+    pub fn answer(&self) -> Option<Result<T, Error>> {
         match self.0.answer.try_recv() {
             Ok(answer) => Some(answer),
             Err(TryRecvError::Empty) => None,
-            Err(TryRecvError::Disconnected) => Some(Err(Refused::Stopped)),
+            Err(TryRecvError::Disconnected) => Some(Err(Error::Stopped)),
         }
     }
 }
@@ -89,7 +89,7 @@ impl Client {
     ///
     /// # Errors
     ///
-    /// `BadNumber`; `LockFile` if another process has the lock file or it can't be used; `Refused`
+    /// `BadNumber`; `LockFile` if another process has the lock file or it can't be used; `Error`
     /// if memory was refused.
     pub fn open(begin: Begin<'_>, now: Duration) -> Result<Client, JoinError> {
         let Begin { number, lock_file, servers, shard, seed } = begin;
@@ -98,7 +98,7 @@ impl Client {
         }
         let (lock_file, incarnation) = LockFile::take(lock_file, number)?;
         let handle = ClientHandle::open_behind(number, incarnation, lock_file.older());
-        let jobs = Jobs::new(handle.map_err(Refused::from)?, Now::of_host(now));
+        let jobs = Jobs::new(handle.map_err(Error::from)?, Now::of_host(now));
         let session = Session::new(unnamed(servers, shard), jobs, seed);
         let (frames, output) = (Frames::to_client(), Vec::new());
         Ok(Client { session, lock_file, frames, output, now })
@@ -252,7 +252,7 @@ impl Client {
     /// # Errors
     ///
     /// Why there is no answer; or those of the call.
-    pub fn give_up<T>(&mut self, now: Duration, call: &Call<T>) -> Result<T, Refused> {
+    pub fn give_up<T>(&mut self, now: Duration, call: &Call<T>) -> Result<T, Error> {
         let why = self.at(now).give_up(call.0.id);
         call.0.answer.try_recv().unwrap_or(Err(why))
     }

@@ -1,6 +1,7 @@
 //! Several servers, each of which has a part of the keys, and a client of them all.
 pub(crate) mod builder;
 pub(crate) mod client;
+pub(crate) mod error;
 pub(crate) mod joined;
 pub(crate) mod map;
 mod map_change;
@@ -8,5 +9,4 @@ mod map_change;
 pub(crate) mod map_file;
 pub(crate) mod one_moment;
 pub(crate) mod pin;
-pub(crate) mod refused;
 pub(crate) mod within;

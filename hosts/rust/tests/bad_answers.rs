@@ -4,7 +4,7 @@ mod certificates;
 mod relay;
 mod secure;
 
-use krl::{Address, Client, ClientBuilder, JoinError, Outcome, Refused, Server, TlsConfig, Value};
+use krl::{Address, Client, ClientBuilder, Error, JoinError, Outcome, Server, TlsConfig, Value};
 use relay::{Plan, Relay};
 use secure::{Setup, at, serve};
 use std::path::Path;
@@ -119,11 +119,11 @@ fn who_is_rejected_hears_it_soon_but_for_a_write_that_was_sent() {
         config.reload().unwrap();
         relay.end();
         let rejected = Instant::now();
-        assert_eq!(client.read(20..30), Err(Refused::TurnedAway));
-        assert_eq!(client.insert(8, Value::from(1)), Err(Refused::TurnedAway), "it was not sent");
+        assert_eq!(client.read(20..30), Err(Error::TurnedAway));
+        assert_eq!(client.insert(8, Value::from(1)), Err(Error::TurnedAway), "it was not sent");
         assert!(rejected.elapsed() < SOON, "{:?}", rejected.elapsed());
         let (outcome, took) = sent.join().unwrap();
-        assert_eq!(outcome, Err(Refused::TimedOut), "it may be applied, and it is");
+        assert_eq!(outcome, Err(Error::TimedOut), "it may be applied, and it is");
         assert!(took >= short, "{took:?}");
     });
     assert_eq!(server.status().rows, 1);

@@ -1,6 +1,6 @@
 //! Each call of a client, over TCP and over a Unix socket.
 use krl::{Address, Client, JoinError, Leases, Listener, LockFileError, MemoryStore, Outcome};
-use krl::{Refused, Row, Server, Value, evict};
+use krl::{Error, Row, Server, Value, evict};
 use std::path::{Path, PathBuf};
 use std::thread;
 use std::time::{Duration, Instant};
@@ -107,7 +107,7 @@ fn a_key_is_set_whether_or_not_it_has_a_row() {
     assert_eq!(other.delete(10), Ok(Outcome::Applied));
     assert_eq!(client.read(..), Ok(vec![]), "it knows that there is no row");
     assert_eq!(client.set(10, value("c")), Ok(Outcome::Applied));
-    assert_eq!(client.set(krl::END, value("c")), Err(Refused::BadKey));
+    assert_eq!(client.set(krl::END, value("c")), Err(Error::BadKey));
     let (_, pin) = client.pin_for_update(10..21).unwrap();
     assert_eq!(pin.set(10, value("d")), Ok(Outcome::Applied));
     assert_eq!(pin.set(20, value("e")), Ok(Outcome::Applied));
@@ -135,12 +135,12 @@ fn a_call_waits_for_a_time_of_its_own() {
     let (_, pin) = client.pin_for_write(10..11).unwrap();
     let (begun, short) = (Instant::now(), Duration::from_millis(50));
     assert_eq!(other.within(short).timeout(), short);
-    assert_eq!(other.within(short).read(10..11), Err(Refused::TimedOut));
-    assert_eq!(other.within(short).set(10, value("b")), Err(Refused::TimedOut));
+    assert_eq!(other.within(short).read(10..11), Err(Error::TimedOut));
+    assert_eq!(other.within(short).set(10, value("b")), Err(Error::TimedOut));
     assert!(other.within(short).pin_for_read(10..11).is_err());
     let own = other.pin(50..60).unwrap();
-    assert_eq!(own.within(short).put(10, value("b")), Err(Refused::TimedOut));
-    assert_eq!(own.within(short).set(10, value("b")), Err(Refused::TimedOut));
+    assert_eq!(own.within(short).put(10, value("b")), Err(Error::TimedOut));
+    assert_eq!(own.within(short).set(10, value("b")), Err(Error::TimedOut));
     drop(own);
     assert!(begun.elapsed() < other.timeout(), "it waited as its other calls do");
     drop(pin);
@@ -208,12 +208,12 @@ fn what_is_refused() {
     let folder = Folder::new("refused");
     let server = server("127.0.0.1:0");
     let client = folder.join(&server, 1);
-    assert_eq!(client.read(0..u64::MAX), Err(Refused::BadRange));
-    assert_eq!(client.read(0..=1 << 63), Err(Refused::BadRange));
-    assert_eq!(client.forget(0..=1 << 63), Err(Refused::BadRange));
+    assert_eq!(client.read(0..u64::MAX), Err(Error::BadRange));
+    assert_eq!(client.read(0..=1 << 63), Err(Error::BadRange));
+    assert_eq!(client.forget(0..=1 << 63), Err(Error::BadRange));
     assert_eq!(client.cached(0..=1 << 63), None);
-    assert_eq!(client.pin(5..5).err(), Some(Refused::BadRange));
-    assert_eq!(client.insert(krl::END, Value::default()), Err(Refused::BadKey));
+    assert_eq!(client.pin(5..5).err(), Some(Error::BadRange));
+    assert_eq!(client.insert(krl::END, Value::default()), Err(Error::BadKey));
     assert_eq!(client.read(0..1 << 63), Ok(vec![]));
     let join = |number, lock: &Path| {
         let wait = Duration::from_millis(300);
@@ -226,14 +226,14 @@ fn what_is_refused() {
     assert!(matches!(strange, Some(JoinError::LockFile(LockFileError::File(_)))));
     assert!(matches!(join(64, &folder.lock(2)), Some(JoinError::BadNumber)));
     let pins: Vec<_> = (0..8).map(|lo| client.pin(lo..=lo).unwrap()).collect();
-    assert_eq!(client.pin(0..1).err(), Some(Refused::TooManyPins));
-    assert_eq!(client.forget(0..4), Err(Refused::Pinned));
+    assert_eq!(client.pin(0..1).err(), Some(Error::TooManyPins));
+    assert_eq!(client.forget(0..4), Err(Error::Pinned));
     drop(pins);
     assert_eq!(client.forget(0..4), Ok(()));
     server.stop().unwrap();
     client.set_timeout(Duration::from_millis(200));
-    assert_eq!(client.read(0..9), Err(Refused::TimedOut));
-    assert_eq!(client.leave(), Err(Refused::TimedOut));
+    assert_eq!(client.read(0..9), Err(Error::TimedOut));
+    assert_eq!(client.leave(), Err(Error::TimedOut));
 }
 
 #[test]

@@ -1,7 +1,7 @@
 //! The fence between maps: a server of a shard serves clients of that shard by the same map alone.
 mod peer;
 
-use krl::{Change, Client, JoinError, MemoryStore, Outcome, Refused, ServeError, Server};
+use krl::{Change, Client, Error, JoinError, MemoryStore, Outcome, ServeError, Server};
 use krl::{OtherShard, Refusal, Row, Shard, ShardBounds, ShardMap, ShardedClient, Value, evict};
 use peer::{HELLO, HOST_ANSWER, HOST_HELLO, Peer, frame};
 use std::io::{Read, Write};
@@ -202,9 +202,9 @@ fn who_has_an_old_map_behind_a_split_writes_to_no_side_of_it() {
     // The client holds what it needs for this one, and so it may have reached the server before.
     let unknown = old.insert(10, Value::from(2)).unwrap_err();
     let reason = Refusal::OtherShard(Some(bounds("0..40@2")));
-    assert_eq!((unknown.shard, unknown.refused), (Some(0), Refused::Unserved(reason)));
+    assert_eq!((unknown.shard, unknown.error), (Some(0), Error::Unserved(reason)));
     let refused = old.insert(60, Value::from(2)).unwrap_err();
-    let Refused::OtherShard(other) = refused.refused else { panic!("{refused:?}") };
+    let Error::OtherShard(other) = refused.error else { panic!("{refused:?}") };
     assert_eq!((refused.shard, other.served), (Some(0), Some(bounds("0..40@2"))));
     assert!(refused.to_string().contains("has to be loaded anew"), "{refused}");
     let new = join(&new_map, 2).unwrap();
@@ -233,7 +233,7 @@ fn a_client_goes_on_when_its_server_is_started_as_its_shard_again() {
         let found = loop {
             match client.read(0..9) {
                 Ok(rows) => break Some(rows),
-                Err(Refused::OtherShard(_)) if shard == "0..9@2" => break None,
+                Err(Error::OtherShard(_)) if shard == "0..9@2" => break None,
                 Err(refused) => assert!(Instant::now() < end, "{refused:?}"),
             }
         };

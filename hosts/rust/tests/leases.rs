@@ -2,7 +2,7 @@
 mod network;
 mod peer;
 
-use krl::{Address, Change, Client, Leases, Listener, MemoryStore, Outcome, Refused, Row, Server};
+use krl::{Address, Change, Client, Error, Leases, Listener, MemoryStore, Outcome, Row, Server};
 use krl::{JoinError, Refusal, Snapshot, Store, StoreError, Value, evict};
 use network::Network;
 use peer::{HELLO, Peer, frame};
@@ -133,7 +133,7 @@ fn a_write_that_was_on_its_way_is_told_as_such() {
     client.insert(10, Value::from(1)).unwrap();
     network.cut(true);
     // It holds the entry, so this is a write and no request.
-    assert_eq!(client.put(10, Value::from(2)), Err(Refused::LeaseEnded));
+    assert_eq!(client.put(10, Value::from(2)), Err(Error::LeaseEnded));
     network.cut(false);
     let rows = client.read(0..100).unwrap();
     assert!(rows == [row(10, 1)] || rows == [row(10, 2)], "{rows:?}");
@@ -173,7 +173,7 @@ fn a_pin_ends_with_the_lease() {
     assert!(!pin.holds() && next.holds());
     // It is a pin of the older incarnation, whatever its number is.
     drop(pin);
-    assert!(cut.forget(0..100) == Err(Refused::Pinned) && next.holds());
+    assert!(cut.forget(0..100) == Err(Error::Pinned) && next.holds());
 }
 
 #[test]

@@ -1,7 +1,5 @@
 //! Clones of a client, pins that outlive it, and the one way to leave.
-use krl::{
-    Client, Code, JoinError, LockFileError, MemoryStore, Outcome, Pin, Refused, Row, Server,
-};
+use krl::{Client, Code, Error, JoinError, LockFileError, MemoryStore, Outcome, Pin, Row, Server};
 use krl::{Value, Waited};
 use std::net::TcpListener;
 use std::path::PathBuf;
@@ -100,8 +98,8 @@ fn one_that_has_left_stays_so_for_all_its_clones() {
     for again in [&client, &clone] {
         assert_eq!(again.leave(), Ok(()));
         assert_eq!(again.within(LONG).leave(), Ok(()));
-        assert_eq!(again.read(0..9), Err(Refused::Other(Code::Gone)));
-        assert_eq!(again.insert(2, Value::from(5)), Err(Refused::Other(Code::Gone)));
+        assert_eq!(again.read(0..9), Err(Error::Other(Code::Gone)));
+        assert_eq!(again.insert(2, Value::from(5)), Err(Error::Other(Code::Gone)));
         assert_eq!(again.cached(0..9), None);
         assert_eq!(again.wait_for_change(0..9, &[], LONG), Ok(Waited::Changed));
     }
@@ -135,7 +133,7 @@ fn one_whose_server_is_away_may_leave_again() {
     let address = world.server.address().clone();
     let snapshot = world.server.monitor().snapshot().unwrap();
     world.server.stop().unwrap();
-    assert_eq!(client.within(Duration::from_millis(50)).leave(), Err(Refused::TimedOut));
+    assert_eq!(client.within(Duration::from_millis(50)).leave(), Err(Error::TimedOut));
     let listener = TcpListener::bind(address.to_string()).unwrap();
     let _server = Server::start(listener, MemoryStore { snapshot }).unwrap();
     assert_eq!(client.within(LONG).leave(), Ok(()));

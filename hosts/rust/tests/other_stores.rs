@@ -2,7 +2,7 @@
 mod certificates;
 mod secure;
 
-use krl::{Access, Address, Client, Listener, Outcome, Refusal, Refused, Row, Server};
+use krl::{Access, Address, Client, Error, Listener, Outcome, Refusal, Row, Server};
 use krl::{SqliteStore, TlsConfig, Value};
 use secure::Setup;
 use std::thread;
@@ -56,11 +56,11 @@ fn drops_its_cache(client: &Client) -> bool {
 }
 
 /// How a read ends once the server has answered or refused the client, within half a minute.
-fn read(client: &Client) -> Result<Vec<Row>, Refused> {
+fn read(client: &Client) -> Result<Vec<Row>, Error> {
     let end = Instant::now() + Duration::from_secs(30);
     loop {
         match client.read(0..100) {
-            Err(Refused::TimedOut) if Instant::now() < end => {}
+            Err(Error::TimedOut) if Instant::now() < end => {}
             read => return read,
         }
     }
@@ -76,7 +76,7 @@ fn a_server_goes_on_and_a_client_of_another_store_waits_for_its_own() {
     server.stop().unwrap();
 
     let server = place.serve("other.db");
-    let is_refused = Err(Refused::Unserved(Refusal::OtherStore));
+    let is_refused = Err(Error::Unserved(Refusal::OtherStore));
     client.set_timeout(Duration::from_millis(500));
     assert!(drops_its_cache(&client));
     assert_eq!(read(&client), is_refused);

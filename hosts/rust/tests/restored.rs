@@ -2,7 +2,7 @@
 mod peer;
 
 use krl::{
-    Address, Client, Listener, MemoryStore, Outcome, Refused, Row, Server, SqliteStore, Value,
+    Address, Client, Error, Listener, MemoryStore, Outcome, Row, Server, SqliteStore, Value,
 };
 use peer::{HELLO, Peer, frame};
 use std::path::PathBuf;
@@ -112,8 +112,8 @@ fn notices(place: &Place, client: &Client) {
         asked.wait();
         thread::sleep(Duration::from_millis(500));
         let server = place.serve();
-        assert_eq!(writes.join().unwrap(), Err(Refused::StoreWentBack));
-        assert_eq!(reads.join().unwrap(), Err(Refused::StoreWentBack));
+        assert_eq!(writes.join().unwrap(), Err(Error::StoreWentBack));
+        assert_eq!(reads.join().unwrap(), Err(Error::StoreWentBack));
         assert_eq!(client.read(1..2), Ok(vec![row(1, 1)]), "it has joined anew");
         drop(over);
         let looked = looks.join().unwrap();
@@ -296,7 +296,7 @@ fn nothing_is_taken_of_a_connection_whose_host_has_seen_more() {
     assert_eq!(server.status().taken, 0, "the library's Hello is lost");
 }
 
-/// A Refused by the reason 9, which has no numbers.
+/// A Error by the reason 9, which has no numbers.
 const OTHER_STORE: [u8; 11] = [19, 0, 0, 0, 0, 0, 0, 0, 0, 17, 9];
 
 #[test]

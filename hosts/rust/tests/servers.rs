@@ -1,6 +1,6 @@
 //! Servers that are full, and servers that fail.
 use krl::{Address, Change, Client, History, JoinError, Listener, Mark, MemoryStore, Refusal};
-use krl::{Refused, ServeError, Server, Snapshot, Store, StoreError, Value};
+use krl::{Error, ServeError, Server, Snapshot, Store, StoreError, Value};
 use std::io::{Read, Write};
 use std::net::{TcpListener, TcpStream};
 use std::path::PathBuf;
@@ -79,7 +79,7 @@ fn fails(name: &str, fail: fn() -> StoreError) -> (String, ServeError) {
     let client = Client::join(server.address(), 1, &lock).unwrap();
     assert!(server.is_running() && server.status().failure.is_none());
     client.set_timeout(Duration::from_millis(300));
-    assert_eq!(client.insert(1, Value::from(1)), Err(Refused::TimedOut));
+    assert_eq!(client.insert(1, Value::from(1)), Err(Error::TimedOut));
     assert!(wait_until(|| !server.is_running()));
     let status = server.status();
     assert!(!status.is_serving);

@@ -1,6 +1,6 @@
 //! A client of two servers, each with a part of the keys.
-use krl::{Client, JoinError, Listener, LockFileError, MemoryStore, Outcome, Refused, Row, Server};
-use krl::{Shard, ShardMap, ShardRefused, ShardedClient, Value};
+use krl::{Client, Error, JoinError, Listener, LockFileError, MemoryStore, Outcome, Row, Server};
+use krl::{Shard, ShardError, ShardMap, ShardedClient, Value};
 use std::path::PathBuf;
 use std::thread;
 use std::time::{Duration, Instant};
@@ -109,16 +109,16 @@ fn errors_tell_the_shard() {
     let mut world = World::new("errors");
     world.insert_rows([10, 300]);
     let client = world.join(1);
-    let of = |refused: Refused| Err(ShardRefused::from(refused));
-    assert_eq!(client.read(..=u64::MAX), Err(Refused::BadRange.into()));
-    assert_eq!(client.put(u64::MAX, Value::from(1)), of(Refused::BadKey));
-    assert_eq!(client.pin(5..5).map(drop), Err(Refused::BadRange.into()));
+    let of = |refused: Error| Err(ShardError::from(refused));
+    assert_eq!(client.read(..=u64::MAX), Err(Error::BadRange.into()));
+    assert_eq!(client.put(u64::MAX, Value::from(1)), of(Error::BadKey));
+    assert_eq!(client.pin(5..5).map(drop), Err(Error::BadRange.into()));
     assert_eq!(client.read(0..50).unwrap().len(), 1);
     assert!(client.status().iter().all(|shard| shard.epoch == Ok(1) && shard.is_connected));
     world.servers.pop().unwrap().stop().unwrap();
     client.set_timeout(SHORT);
     let refused = client.read(0..400).unwrap_err();
-    assert_eq!((refused.shard, refused.refused), (Some(1), Refused::TimedOut));
+    assert_eq!((refused.shard, refused.error), (Some(1), Error::TimedOut));
     assert_eq!(refused.to_string(), "shard 1: no answer came in time");
     // The other shard goes on, and so do the caches.
     assert_eq!(client.cached(0..50), Some(vec![row(10, 10)]));
@@ -141,11 +141,11 @@ fn a_client_of_some_keys_joins_their_shards_alone() {
     assert_eq!(client.cached(200..), Some(vec![row(300, 300)]));
     assert_eq!(client.put(300, Value::from(1)), Ok(Outcome::Applied));
     assert_eq!(client.status().len(), 1);
-    assert_eq!(client.read(99..), Err(Refused::BadRange.into()));
-    assert_eq!(client.forget(..), Err(Refused::BadRange.into()));
-    assert_eq!(client.pin(0..5).map(drop), Err(Refused::BadRange.into()));
+    assert_eq!(client.read(99..), Err(Error::BadRange.into()));
+    assert_eq!(client.forget(..), Err(Error::BadRange.into()));
+    assert_eq!(client.pin(0..5).map(drop), Err(Error::BadRange.into()));
     assert_eq!(client.cached(0..5), None);
-    assert_eq!(client.put(99, Value::from(1)), Err(Refused::BadKey.into()));
+    assert_eq!(client.put(99, Value::from(1)), Err(Error::BadKey.into()));
     client.leave().unwrap();
     let builder = ShardedClient::builder(world.map.clone()).number(1);
     let error = builder.lock_folder(&world.folder).keys(5..5).join().unwrap_err();
@@ -175,7 +175,7 @@ fn a_range_that_is_pinned_does_not_change_at_any_shard() {
     assert_eq!(rows, [row(10, 10), row(300, 300)]);
     writer.set_timeout(SHORT);
     for key in [10, 300] {
-        assert_eq!(writer.put(key, Value::from(1)).unwrap_err().refused, Refused::TimedOut);
+        assert_eq!(writer.put(key, Value::from(1)).unwrap_err().error, Error::TimedOut);
     }
     drop(pin);
     writer.set_timeout(LONG);
@@ -184,7 +184,7 @@ fn a_range_that_is_pinned_does_not_change_at_any_shard() {
     }
     let pin = client.pin(0..400).unwrap();
     assert_eq!(client.cached(..), Some(vec![row(10, 1), row(300, 1)]));
-    assert_eq!(client.forget(..).unwrap_err().refused, Refused::Pinned);
+    assert_eq!(client.forget(..).unwrap_err().error, Error::Pinned);
     drop(pin);
 }
 
@@ -200,7 +200,7 @@ fn a_write_is_bound_to_the_pin_at_the_shard_of_its_key() {
     drop(pin);
     let (rows, pin) = client.pin_for_update(0..50).unwrap();
     assert_eq!(rows, [row(10, 1)]);
-    assert_eq!(pin.put(200, Value::from(3)).unwrap_err().refused, Refused::PinIsVoid);
+    assert_eq!(pin.put(200, Value::from(3)).unwrap_err().error, Error::PinIsVoid);
     assert_eq!(client.read(0..400), Ok(vec![row(10, 1), row(200, 2)]));
 }
 
@@ -216,17 +216,14 @@ fn a_call_waits_for_a_time_of_its_own() {
     let (_, pin) = client.pin_for_write(90..110).unwrap();
     let (_, pinned) = other.pin_for_read(200..210).unwrap();
     let (begun, short) = (Instant::now(), Duration::from_millis(50));
-    let why = |refused: ShardRefused| (refused.refused, refused.shard);
+    let why = |refused: ShardError| (refused.error, refused.shard);
     let within = other.within(short);
-    assert_eq!(within.read(100..101).map_err(why), Err((Refused::TimedOut, Some(1))));
-    assert_eq!(within.set(99, Value::from(1)).map_err(why), Err((Refused::TimedOut, Some(0))));
-    assert_eq!(
-        within.pin_for_update(99..101).map_err(why).err(),
-        Some((Refused::TimedOut, Some(0)))
-    );
+    assert_eq!(within.read(100..101).map_err(why), Err((Error::TimedOut, Some(1))));
+    assert_eq!(within.set(99, Value::from(1)).map_err(why), Err((Error::TimedOut, Some(0))));
+    assert_eq!(within.pin_for_update(99..101).map_err(why).err(), Some((Error::TimedOut, Some(0))));
     let (own, value) = (pinned.within(short), Value::from(1));
-    assert_eq!(own.insert(100, value).map_err(why), Err((Refused::TimedOut, Some(1))));
-    assert_eq!(own.put(99, value).map_err(why), Err((Refused::PinIsVoid, Some(0))));
+    assert_eq!(own.insert(100, value).map_err(why), Err((Error::TimedOut, Some(1))));
+    assert_eq!(own.put(99, value).map_err(why), Err((Error::PinIsVoid, Some(0))));
     assert!(begun.elapsed() < other.timeout(), "it waited as its other calls do");
     drop(pin);
     assert_eq!(other.within(Duration::MAX).set(100, Value::from(2)), Ok(Outcome::Applied));

@@ -1,5 +1,5 @@
 //! Clients of servers that do not answer, take nothing, or end each connection.
-use krl::{Client, JoinError, MemoryStore, Outcome, Refused, Server, Value};
+use krl::{Client, Error, JoinError, MemoryStore, Outcome, Server, Value};
 use std::io::{Read, Write};
 use std::net::{Shutdown, SocketAddr, TcpListener, TcpStream};
 use std::path::PathBuf;
@@ -166,8 +166,8 @@ fn reads_of_the_cache_go_on_while_a_write_hangs() {
         }
         assert!(begun.elapsed() < LATE, "{:?}", begun.elapsed());
         client.set_timeout(Duration::from_millis(300));
-        assert_eq!(client.read(40..50), Err(Refused::TimedOut), "the cache lacks that");
-        assert_eq!(written.join().unwrap(), Err(Refused::TimedOut));
+        assert_eq!(client.read(40..50), Err(Error::TimedOut), "the cache lacks that");
+        assert_eq!(written.join().unwrap(), Err(Error::TimedOut));
     });
     frozen.store(false, Ordering::Release);
     client.set_timeout(Duration::from_secs(20));

@@ -2,7 +2,7 @@
 mod certificates;
 mod secure;
 
-use krl::{Access, Address, Client, Identity, JoinError, Listener, MemoryStore, Outcome, Refused};
+use krl::{Access, Address, Client, Error, Identity, JoinError, Listener, MemoryStore, Outcome};
 use krl::{Server, TlsConfig, Value, evict};
 use openssl::ssl::SslVersion;
 use openssl::ssl::{SslConnector, SslConnectorBuilder, SslFiletype, SslMethod, SslVerifyMode};
@@ -87,7 +87,7 @@ fn an_operator_ends_clients_and_does_no_more() {
     // A client that is gone without a Bye.
     std::mem::forget(setup.join(&server, &setup.config(&["krl:client:3"]), 3).unwrap());
     let working = setup.join(&server, &operator, 9).unwrap();
-    assert_eq!(working.read(0..10), Err(Refused::TurnedAway));
+    assert_eq!(working.read(0..10), Err(Error::TurnedAway));
     drop(working);
     evict(servers(&server, &operator), 3, setup.folder.join("3-elsewhere.lock")).unwrap();
     let five = servers(&server, &setup.config(&["krl:client:5"]));

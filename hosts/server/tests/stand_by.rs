@@ -5,7 +5,7 @@ mod common;
 
 use cluster::{Cluster, free_address};
 use common::{ServiceManager, Serving, errors, lock_file, program, until};
-use krl::{Client, Outcome, Refused, Servers, Value};
+use krl::{Client, Outcome, Error, Servers, Value};
 use std::io::{BufRead, BufReader};
 use std::net::TcpListener;
 use std::process::{Command, Stdio};
@@ -127,7 +127,7 @@ fn a_server_that_wakes_up_behind_another_one_serves_no_more() {
     first.signal(&["STOP"]);
     until("the second one starts", || second.get("/status").1.contains("epoch"));
     first.signal(&["CONT"]);
-    assert_eq!(client.insert(2, Value::from(2)), Err(Refused::TimedOut), "the store refuses it");
+    assert_eq!(client.insert(2, Value::from(2)), Err(Error::TimedOut), "the store refuses it");
     until("the first one stands by", || first.get("/status").1.contains("stands by"));
     assert_eq!(second.get("/readyz").0, 503, "the client that it misses has not found it");
 }

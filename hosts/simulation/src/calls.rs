@@ -1,7 +1,7 @@
 //! The calls of a client that wait for their answers.
 use crate::judge::Version;
 use krl::simulated::{Call, Client, Held};
-use krl::{Outcome, Refused, Row, Write};
+use krl::{Error, Outcome, Row, Write};
 use std::ops::Range;
 use std::time::Duration;
 
@@ -32,7 +32,7 @@ pub struct Ended<Asked, Answer> {
     /// When it was made.
     pub made: Made,
     /// The answer, or why there is none.
-    pub answer: Result<Answer, Refused>,
+    pub answer: Result<Answer, Error>,
 }
 
 /// A range that is pinned, and its rows.

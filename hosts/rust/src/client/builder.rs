@@ -3,7 +3,7 @@ use crate::client::Client;
 use crate::client::joining::{self, Errand, Waits};
 use crate::client::lock_file::LockFileError;
 use crate::client::numbers;
-use crate::model::refused::JoinError;
+use crate::model::error::JoinError;
 use crate::net::servers::Servers;
 #[cfg(feature = "tls")]
 use crate::net::tls::TlsConfig;

@@ -1,7 +1,7 @@
 //! The operator's eviction of a client.
 use crate::client::joining::{self, Errand, Waits};
+use crate::model::error::JoinError;
 use crate::model::refusal::Refusal;
-use crate::model::refused::JoinError;
 use crate::net::servers::Servers;
 use std::path::Path;
 use std::time::{Duration, Instant};

@@ -15,7 +15,7 @@ use crate::client::scratch::{copied, kept};
 use crate::lease::clocks::Now;
 use crate::model::change::{Outcome, Write};
 use crate::model::code::Code;
-use crate::model::refused::Refused;
+use crate::model::error::Error;
 use crate::model::row::Row;
 use crate::proved::client_handle::{Cache, ClientHandle, Mode, Scan};
 use crate::wire::message::Message;
@@ -46,14 +46,14 @@ pub(crate) struct Asked<T> {
     pub id: JobId,
     /// The client says it again until it is answered.
     pub is_urgent: bool,
-    pub answer: Receiver<Result<T, Refused>>,
+    pub answer: Receiver<Result<T, Error>>,
 }
 
 /// Where the answer to a job goes, once.
-struct Reply<T>(SyncSender<Result<T, Refused>>);
+struct Reply<T>(SyncSender<Result<T, Error>>);
 
 impl<T> Reply<T> {
-    fn end(self, answer: Result<T, Refused>) {
+    fn end(self, answer: Result<T, Error>) {
         // One who waits no longer hears nothing.
         let _ = self.0.send(answer);
     }
@@ -62,7 +62,7 @@ impl<T> Reply<T> {
     fn give(self, found: Result<Option<T>, Code>) -> Option<Reply<T>> {
         match found.transpose() {
             Some(answer) => {
-                self.end(answer.map_err(Refused::from));
+                self.end(answer.map_err(Error::from));
                 None
             }
             None => Some(self),
@@ -265,7 +265,7 @@ impl Jobs {
     }
 
     /// Ends this job for this reason, if it is open.
-    pub fn refuse(&mut self, job: JobId, why: Refused) {
+    pub fn refuse(&mut self, job: JobId, why: Error) {
         if let Some(place) = self.open.iter().position(|(id, _)| *id == job) {
             let (id, job) = self.open.remove(place);
             self.refuse_one(id, job, why);
@@ -274,7 +274,7 @@ impl Jobs {
 
     /// Ends each job for this reason; but a write that was sent for the other one, if there is one,
     /// and otherwise it goes on.
-    pub fn refuse_all(&mut self, why: Refused, of_sent: Option<Refused>) {
+    pub fn refuse_all(&mut self, why: Error, of_sent: Option<Error>) {
         for (id, job) in std::mem::take(&mut self.open) {
             self.refuse_one(id, job, why);
         }
@@ -288,7 +288,7 @@ impl Jobs {
         }
     }
 
-    fn refuse_one(&mut self, id: JobId, mut job: Job, why: Refused) {
+    fn refuse_one(&mut self, id: JobId, mut job: Job, why: Error) {
         self.free_pins_of(id, &mut job);
         job.refuse(why);
     }

@@ -7,8 +7,8 @@ use crate::client::shared::Shared;
 use crate::lease::clocks::Now;
 use crate::lease::terms::Older;
 use crate::model::client_number::ClientNumber;
+use crate::model::error::{Error, JoinError};
 use crate::model::refusal::Refusal;
-use crate::model::refused::{JoinError, Refused};
 use crate::net::connect_fault::{NotTaken, Rejection};
 use crate::net::servers::Servers;
 use crate::proved::client_handle::ClientHandle;
@@ -86,22 +86,22 @@ fn start(
         Errand::Evict { above } => (lock_file.rise_above(above), Older::Vouched),
     };
     let handle = ClientHandle::open_behind(number, incarnation, older);
-    let handle = handle.map_err(Refused::from)?;
+    let handle = handle.map_err(Error::from)?;
     let jobs = Jobs::new(handle, Now::read());
     let (link, poller) = Link::new(servers, jobs, Some(lock_file)).map_err(JoinError::NoThread)?;
     Shared::start(number, link, poller, waits.timeout).map_err(JoinError::NoThread)
 }
 
 /// Ends a client that has not joined: it says Bye, and waits for nothing.
-fn not_joined(shared: &Shared, refused: Refused) -> JoinError {
+fn not_joined(shared: &Shared, refused: Error) -> JoinError {
     let fault = shared.link().take_fault();
     let rejection = shared.link().rejection();
     shared.end_by(Instant::now());
     match refused {
-        Refused::TimedOut => JoinError::NoAnswer(fault),
-        Refused::Unserved(refusal) => JoinError::Unserved(refusal),
-        Refused::OtherShard(other) => JoinError::OtherShard(other),
-        Refused::TurnedAway => JoinError::TurnedAway(match rejection {
+        Error::TimedOut => JoinError::NoAnswer(fault),
+        Error::Unserved(refusal) => JoinError::Unserved(refusal),
+        Error::OtherShard(other) => JoinError::OtherShard(other),
+        Error::TurnedAway => JoinError::TurnedAway(match rejection {
             Some(Rejection::NotTaken(NotTaken(why))) => why,
             _ => String::new(),
         }),

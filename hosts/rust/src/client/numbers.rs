@@ -1,8 +1,8 @@
 //! The first number of several that is free.
 use crate::client::joining::Waits;
 use crate::client::lock_file::LockFileError;
+use crate::model::error::JoinError;
 use crate::model::refusal::Refusal;
-use crate::model::refused::JoinError;
 use std::time::Duration;
 
 /// How long a number is tried of which the server tells that another process has it.

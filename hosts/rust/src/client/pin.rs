@@ -3,7 +3,7 @@ use crate::client::jobs::Jobs;
 use crate::client::set;
 use crate::client::shared::{MAX_WAIT, Shared};
 use crate::model::change::{Outcome, Write};
-use crate::model::refused::Refused;
+use crate::model::error::Error;
 use crate::model::row::{Row, Value};
 use std::fmt;
 use std::sync::Arc;
@@ -59,11 +59,11 @@ impl Pin {
     ///
     /// `PinIsVoid` if the pin no longer held when the write could be sent: the write changes
     /// nothing. Otherwise those of [`Client::insert`]. After an error for which
-    /// [`Refused::is_unknown_outcome`] is true, the table may have changed; if it has, then before
+    /// [`Error::is_unknown_outcome`] is true, the table may have changed; if it has, then before
     /// any other client changed what was pinned.
     ///
     /// [`Client::insert`]: crate::Client::insert
-    pub fn insert(&self, key: u64, value: Value) -> Result<Outcome, Refused> {
+    pub fn insert(&self, key: u64, value: Value) -> Result<Outcome, Error> {
         self.by_default().insert(key, value)
     }
 
@@ -75,7 +75,7 @@ impl Pin {
     /// Those of [`Pin::insert`].
     ///
     /// [`Client::put`]: crate::Client::put
-    pub fn put(&self, key: u64, value: Value) -> Result<Outcome, Refused> {
+    pub fn put(&self, key: u64, value: Value) -> Result<Outcome, Error> {
         self.by_default().put(key, value)
     }
 
@@ -87,7 +87,7 @@ impl Pin {
     /// Those of [`Pin::insert`].
     ///
     /// [`Client::set`]: crate::Client::set
-    pub fn set(&self, key: u64, value: Value) -> Result<Outcome, Refused> {
+    pub fn set(&self, key: u64, value: Value) -> Result<Outcome, Error> {
         self.by_default().set(key, value)
     }
 
@@ -99,7 +99,7 @@ impl Pin {
     /// Those of [`Pin::insert`].
     ///
     /// [`Client::delete`]: crate::Client::delete
-    pub fn delete(&self, key: u64) -> Result<Outcome, Refused> {
+    pub fn delete(&self, key: u64) -> Result<Outcome, Error> {
         self.by_default().delete(key)
     }
 }
@@ -122,7 +122,7 @@ impl PinWithin<'_> {
     /// # Errors
     ///
     /// Those of [`Pin::insert`].
-    pub fn insert(self, key: u64, value: Value) -> Result<Outcome, Refused> {
+    pub fn insert(self, key: u64, value: Value) -> Result<Outcome, Error> {
         self.write(self.end(), Write::Insert(Row { key, value }))
     }
 
@@ -131,7 +131,7 @@ impl PinWithin<'_> {
     /// # Errors
     ///
     /// Those of [`Pin::insert`].
-    pub fn put(self, key: u64, value: Value) -> Result<Outcome, Refused> {
+    pub fn put(self, key: u64, value: Value) -> Result<Outcome, Error> {
         self.write(self.end(), Write::Put(Row { key, value }))
     }
 
@@ -140,7 +140,7 @@ impl PinWithin<'_> {
     /// # Errors
     ///
     /// Those of [`Pin::insert`].
-    pub fn set(self, key: u64, value: Value) -> Result<Outcome, Refused> {
+    pub fn set(self, key: u64, value: Value) -> Result<Outcome, Error> {
         let (first, end) = (self.pin.shared.first_of_set(Row { key, value }), self.end());
         set::set(first, end, |write| self.write(end, write))
     }
@@ -150,11 +150,11 @@ impl PinWithin<'_> {
     /// # Errors
     ///
     /// Those of [`Pin::insert`].
-    pub fn delete(self, key: u64) -> Result<Outcome, Refused> {
+    pub fn delete(self, key: u64) -> Result<Outcome, Error> {
         self.write(self.end(), Write::Delete(key))
     }
 
-    fn write(self, end: Instant, write: Write) -> Result<Outcome, Refused> {
+    fn write(self, end: Instant, write: Write) -> Result<Outcome, Error> {
         let ask = |jobs: &mut Jobs, write| jobs.write_under(self.pin.id, write);
         self.pin.shared.write(end, write, ask)
     }

@@ -6,9 +6,9 @@ use crate::client::silence::{Silence, Silent};
 use crate::lease::clocks::Now;
 use crate::log::event_log;
 use crate::model::code::Code;
+use crate::model::error::Error;
 use crate::model::history::Seen;
 use crate::model::refusal::Refusal;
-use crate::model::refused::Refused;
 use crate::model::shard_fence::Fence;
 use crate::net::address::Address;
 use crate::net::connect_fault::{ConnectFault, Rejection, Rejections};
@@ -222,7 +222,7 @@ impl Session {
         self.look_at_silence()?;
         self.jobs.end_lease_if_over();
         if self.jobs.is_void() {
-            return Err(io::Error::other(Refused::LeaseEnded));
+            return Err(io::Error::other(Error::LeaseEnded));
         }
         self.jobs.advance(Asking::Allowed);
         self.jobs.tick_if_due();
@@ -274,7 +274,7 @@ impl Session {
     }
 
     /// Nobody waits for the job any more. It answers why it has no answer.
-    pub fn give_up(&mut self, job: JobId) -> Refused {
+    pub fn give_up(&mut self, job: JobId) -> Error {
         let was_sent = self.jobs.abandon(job);
         self.unanswered(was_sent)
     }
@@ -303,21 +303,21 @@ impl Session {
 
     /// Why a job has no answer by now, as far as the server has told. Of a write that was sent nothing
     /// more is known.
-    fn unanswered(&self, was_sent: WasSent) -> Refused {
+    fn unanswered(&self, was_sent: WasSent) -> Error {
         match (self.rejections.last(), was_sent) {
-            (Some(Rejection::NotTaken(_)), WasSent::No) => return Refused::TurnedAway,
+            (Some(Rejection::NotTaken(_)), WasSent::No) => return Error::TurnedAway,
             (Some(Rejection::OtherShard(other)), WasSent::No) => {
-                return Refused::OtherShard(*other);
+                return Error::OtherShard(*other);
             }
             (Some(Rejection::OtherVersion(other)), _) => {
-                return Refused::Unserved(other.refusal());
+                return Error::Unserved(other.refusal());
             }
             (Some(Rejection::OtherShard(other)), WasSent::Yes) => {
-                return Refused::Unserved(Refusal::OtherShard(other.served));
+                return Error::Unserved(Refusal::OtherShard(other.served));
             }
             _ => {}
         }
-        self.hint().map_or(Refused::TimedOut, Refused::Unserved)
+        self.hint().map_or(Error::TimedOut, Error::Unserved)
     }
 
     /// Why the server does not serve the client, if it has told so just before.

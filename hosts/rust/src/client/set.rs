@@ -1,12 +1,12 @@
 //! A write of a key of which it does not matter whether it has a row.
 use crate::model::change::{Outcome, Write};
-use crate::model::refused::Refused;
+use crate::model::error::Error;
 use std::time::Instant;
 
 /// Makes the write; if it is a put and there is no row, an insert in its place, and if it is an
 /// insert and there is a row, a put. Other clients may make and delete the row in between: then it
 /// goes on by turns, until the deadline. So the outcome is `Applied` or `Full`.
-pub(crate) fn set<E: From<Refused>>(
+pub(crate) fn set<E: From<Error>>(
     first: Write,
     end: Instant,
     mut write: impl FnMut(Write) -> Result<Outcome, E>,
@@ -19,7 +19,7 @@ pub(crate) fn set<E: From<Refused>>(
             (_, outcome) => return Ok(outcome),
         };
         if Instant::now() >= end {
-            return Err(Refused::TimedOut.into());
+            return Err(Error::TimedOut.into());
         }
     }
 }
@@ -45,8 +45,8 @@ mod tests {
     /// What comes of a set whose writes are answered so, and which writes it makes.
     fn run(
         first: Write,
-        answers: &[Result<Outcome, Refused>],
-    ) -> (Result<Outcome, Refused>, Vec<Write>) {
+        answers: &[Result<Outcome, Error>],
+    ) -> (Result<Outcome, Error>, Vec<Write>) {
         let (mut answers, mut made) = (answers.iter(), Vec::new());
         let end = Instant::now() + Duration::from_secs(3600);
         let ended = set(first, end, |write| {
@@ -71,7 +71,7 @@ mod tests {
 
     #[test]
     fn no_write_follows_one_that_may_have_been_applied() {
-        let lost = Err(Refused::LeaseEnded);
+        let lost = Err(Error::LeaseEnded);
         assert_eq!(run(put(), &[lost]), (lost, vec![put()]));
         assert_eq!(run(put(), &[Ok(Outcome::Absent), lost]), (lost, vec![put(), insert()]));
     }
@@ -80,11 +80,11 @@ mod tests {
     fn it_ends_at_its_deadline_though_other_clients_go_on() {
         let mut count = 0;
         let end = Instant::now() + Duration::from_millis(20);
-        let ended = set(put(), end, |write| -> Result<Outcome, Refused> {
+        let ended = set(put(), end, |write| -> Result<Outcome, Error> {
             count += 1;
             Ok(if write == put() { Outcome::Absent } else { Outcome::Exists })
         });
-        assert_eq!(ended, Err(Refused::TimedOut));
+        assert_eq!(ended, Err(Error::TimedOut));
         assert!(count > 1 && Instant::now() >= end);
     }
 }

@@ -3,7 +3,7 @@ use crate::client::jobs::{Asked, Jobs};
 use crate::client::link::Link;
 use crate::lease::boot_clock::Moment;
 use crate::model::change::{Outcome, Write};
-use crate::model::refused::Refused;
+use crate::model::error::Error;
 use crate::model::row::{END, Row};
 use crate::net::poller::Poller;
 use crate::proved::client_handle::Scan;
@@ -81,9 +81,9 @@ impl Shared {
         end: Instant,
         write: Write,
         ask: impl FnOnce(&mut Jobs, Write) -> Asked<Outcome>,
-    ) -> Result<Outcome, Refused> {
+    ) -> Result<Outcome, Error> {
         if write.key() >= END {
-            return Err(Refused::BadKey);
+            return Err(Error::BadKey);
         }
         self.link.ask(end, |jobs| ask(jobs, write))
     }
@@ -95,7 +95,7 @@ impl Shared {
 
     /// Waits until the deadline for the server to keep that the client left. Then its thread has
     /// ended, and its number is free.
-    pub fn finish_leaving(&self, leaving: Asked<()>, end: Instant) -> Result<(), Refused> {
+    pub fn finish_leaving(&self, leaving: Asked<()>, end: Instant) -> Result<(), Error> {
         self.link.finish(leaving, end)?;
         self.end(end);
         Ok(())

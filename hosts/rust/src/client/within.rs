@@ -5,8 +5,8 @@ use crate::client::scratch::with_room;
 use crate::client::set;
 use crate::client::shared::{MAX_WAIT, Shared};
 use crate::model::change::{Outcome, Write};
+use crate::model::error::Error;
 use crate::model::range::keys_of;
-use crate::model::refused::Refused;
 use crate::model::row::{Row, Value};
 use std::fmt;
 use std::ops::RangeBounds;
@@ -27,7 +27,7 @@ pub struct Within<'c> {
     timeout: Duration,
 }
 
-type Pinned = Result<(Vec<Row>, Pin), Refused>;
+type Pinned = Result<(Vec<Row>, Pin), Error>;
 
 impl<'c> Within<'c> {
     pub(crate) fn new(shared: &'c Arc<Shared>, timeout: Duration) -> Within<'c> {
@@ -47,7 +47,7 @@ impl<'c> Within<'c> {
     /// Those of [`Client::read`].
     ///
     /// [`Client::read`]: crate::Client::read
-    pub fn read(self, keys: impl RangeBounds<u64>) -> Result<Vec<Row>, Refused> {
+    pub fn read(self, keys: impl RangeBounds<u64>) -> Result<Vec<Row>, Error> {
         let keys = keys_of(&keys)?;
         match with_room(|room| self.shared.scan(&keys, room).then(|| room.clone())) {
             Some(rows) => Ok(rows),
@@ -62,7 +62,7 @@ impl<'c> Within<'c> {
     /// Those of [`Client::insert`].
     ///
     /// [`Client::insert`]: crate::Client::insert
-    pub fn insert(self, key: u64, value: Value) -> Result<Outcome, Refused> {
+    pub fn insert(self, key: u64, value: Value) -> Result<Outcome, Error> {
         self.write(Write::Insert(Row { key, value }))
     }
 
@@ -74,7 +74,7 @@ impl<'c> Within<'c> {
     ///
     /// [`Client::put`]: crate::Client::put
     /// [`Client::insert`]: crate::Client::insert
-    pub fn put(self, key: u64, value: Value) -> Result<Outcome, Refused> {
+    pub fn put(self, key: u64, value: Value) -> Result<Outcome, Error> {
         self.write(Write::Put(Row { key, value }))
     }
 
@@ -85,7 +85,7 @@ impl<'c> Within<'c> {
     /// Those of [`Client::set`].
     ///
     /// [`Client::set`]: crate::Client::set
-    pub fn set(self, key: u64, value: Value) -> Result<Outcome, Refused> {
+    pub fn set(self, key: u64, value: Value) -> Result<Outcome, Error> {
         let (row, end) = (Row { key, value }, self.end());
         let first = self.shared.first_of_set(row);
         set::set(first, end, |write| self.shared.write(end, write, Jobs::write))
@@ -99,7 +99,7 @@ impl<'c> Within<'c> {
     ///
     /// [`Client::delete`]: crate::Client::delete
     /// [`Client::insert`]: crate::Client::insert
-    pub fn delete(self, key: u64) -> Result<Outcome, Refused> {
+    pub fn delete(self, key: u64) -> Result<Outcome, Error> {
         self.write(Write::Delete(key))
     }
 
@@ -110,7 +110,7 @@ impl<'c> Within<'c> {
     /// Those of [`Client::forget`].
     ///
     /// [`Client::forget`]: crate::Client::forget
-    pub fn forget(self, keys: impl RangeBounds<u64>) -> Result<(), Refused> {
+    pub fn forget(self, keys: impl RangeBounds<u64>) -> Result<(), Error> {
         let keys = keys_of(&keys)?;
         if keys.is_empty() { Ok(()) } else { self.ask(|jobs| jobs.forget(keys)) }
     }
@@ -153,7 +153,7 @@ impl<'c> Within<'c> {
     fn hold(self, keys: &impl RangeBounds<u64>, purpose: Purpose) -> Pinned {
         let keys = keys_of(keys)?;
         if keys.is_empty() {
-            return Err(Refused::BadRange);
+            return Err(Error::BadRange);
         }
         let Held { rows, pin } = self.ask(|jobs| jobs.hold(keys, purpose))?;
         Ok((rows, Pin::new(Arc::clone(self.shared), pin)))
@@ -166,15 +166,15 @@ impl<'c> Within<'c> {
     /// Those of [`Client::leave`].
     ///
     /// [`Client::leave`]: crate::Client::leave
-    pub fn leave(self) -> Result<(), Refused> {
+    pub fn leave(self) -> Result<(), Error> {
         self.shared.finish_leaving(self.shared.begin_to_leave(), self.end())
     }
 
-    fn write(self, write: Write) -> Result<Outcome, Refused> {
+    fn write(self, write: Write) -> Result<Outcome, Error> {
         self.shared.write(self.end(), write, Jobs::write)
     }
 
-    fn ask<T>(self, ask: impl FnOnce(&mut Jobs) -> Asked<T>) -> Result<T, Refused> {
+    fn ask<T>(self, ask: impl FnOnce(&mut Jobs) -> Asked<T>) -> Result<T, Error> {
         self.shared.link().ask(self.end(), ask)
     }
 

@@ -67,6 +67,20 @@ impl Refusal {
     /// How many reasons there are.
     pub(crate) const REASONS: usize = 10;
 
+    /// Whether the reason may pass while nobody does anything about it.
+    pub(crate) fn may_pass(self) -> bool {
+        match self {
+            Refusal::Full { .. } | Refusal::Missing(_) | Refusal::LeaseRuns { .. } => true,
+            Refusal::Version { .. }
+            | Refusal::ClientNumber { .. }
+            | Refusal::Incarnation { .. }
+            | Refusal::Denied
+            | Refusal::OtherShard(_)
+            | Refusal::FarAhead { .. }
+            | Refusal::OtherStore => false,
+        }
+    }
+
     /// The number of the reason, below [`Refusal::REASONS`].
     pub(crate) fn reason(self) -> usize {
         match self {

@@ -1,6 +1,5 @@
 //! How many rows a server has room for.
 use crate::proved::ffi;
-use crate::wire::frames;
 use std::fmt;
 use std::str::FromStr;
 
@@ -37,11 +36,6 @@ impl Room {
     #[must_use]
     pub fn rows(self) -> usize {
         self.0
-    }
-
-    /// The longest message to a server of this room: a client's report grows with the rows.
-    pub(crate) fn longest_message(self) -> usize {
-        frames::LONGEST_TO_SERVER * self.0.div_ceil(ffi::DEFAULT_ROOM)
     }
 }
 
@@ -87,16 +81,5 @@ mod tests {
             assert_eq!(text.parse::<Room>(), Err(BadRoom), "{text}");
         }
         assert_eq!(Room::of(1_048_576), Ok(Room::MAX));
-    }
-
-    /// A report has 34 bytes, 17 for each range and 9 for each key; a client holds at most one of
-    /// each for each row, and one for the end of the index.
-    #[test]
-    fn a_report_of_the_whole_table_is_no_longer_than_the_longest_message() {
-        for rows in [1, 65_536, 65_537, 131_072, 1_048_576] {
-            let report = 34 + (17 + 9) * (rows + 1);
-            let longest = Room::of(rows).unwrap().longest_message();
-            assert!((report..=8 * report.max(1 << 19)).contains(&longest), "{rows}: {longest}");
-        }
     }
 }

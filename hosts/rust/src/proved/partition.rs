@@ -24,7 +24,7 @@ pub(crate) struct Partition {
 }
 
 impl Partition {
-    /// Refused by `BadShards` if the bounds make no shards.
+    /// Error by `BadShards` if the bounds make no shards.
     pub fn new(bounds: Vec<u64>) -> Result<Partition, Code> {
         let partition = Partition { bounds };
         partition.shard_of(0)?;

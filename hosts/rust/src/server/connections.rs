@@ -11,7 +11,7 @@ use crate::server::connection::{Connection, Looked};
 use crate::server::routing::Routes;
 use crate::server::shown::client_status::ClientConnection;
 use crate::server::strangers::Strangers;
-use crate::wire::frames::{Frames, HEAD};
+use crate::wire::frames::{self, Frames, HEAD};
 use crate::wire::host_frame::FromServer;
 use closing::Closings;
 use std::collections::{BTreeMap, VecDeque};
@@ -85,7 +85,7 @@ impl Connections {
     pub fn new(most: usize, room: Room, now: Now) -> Connections {
         Connections {
             most,
-            longest: room.longest_message(),
+            longest: frames::longest_to_server(room),
             open: BTreeMap::new(),
             strangers: Strangers::default(),
             routes: Routes::default(),

@@ -81,6 +81,17 @@ pub(crate) struct EventLoop {
     shard: Option<ShardBounds>,
 }
 
+/// A server whose epoch is committed, and what it begins with.
+pub(crate) struct Started {
+    pub server: ServerHandle,
+    pub epoch: u64,
+    pub history: Option<History>,
+    pub leases: LeaseTable,
+    pub connections: Connections,
+    pub timings: Arc<Timings>,
+    pub log: EventLog,
+}
+
 /// What the next connection had.
 #[derive(Clone, Copy, Debug, PartialEq, Eq)]
 pub(crate) enum Heard {
@@ -93,16 +104,8 @@ pub(crate) enum Heard {
 }
 
 impl EventLoop {
-    /// A server whose epoch is committed, and that takes these connections.
-    pub fn new(
-        server: ServerHandle,
-        history: Option<History>,
-        connections: Connections,
-        leases: LeaseTable,
-        timings: Arc<Timings>,
-        epoch: u64,
-        log: EventLog,
-    ) -> EventLoop {
+    pub fn new(started: Started) -> EventLoop {
+        let Started { server, history, connections, leases, timings, epoch, log } = started;
         let now = connections.now().monotonic;
         EventLoop {
             server,

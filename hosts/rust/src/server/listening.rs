@@ -24,7 +24,7 @@ pub(crate) struct Listening {
     has_some: bool,
     /// None is taken before that.
     not_before: Option<Instant>,
-    turned_away: Arc<AtomicUsize>,
+    being_refused: Arc<AtomicUsize>,
     full: Seldom,
     failed: Seldom,
 }
@@ -37,7 +37,7 @@ impl Listening {
             max_connections,
             has_some: false,
             not_before: None,
-            turned_away: Arc::default(),
+            being_refused: Arc::default(),
             full: Seldom::default(),
             failed: Seldom::default(),
         })
@@ -63,10 +63,10 @@ impl Listening {
     }
 
     /// Closes a connection, since so many are open. One by TLS is told nothing.
-    pub fn turn_away(&mut self, accepted: Accepted, open: usize) {
+    pub fn refuse_full(&mut self, accepted: Accepted, open: usize) {
         event_log::full(&mut self.full, open);
         if !accepted.is_tls {
-            turn_away(accepted.stream, self.max_connections, &self.turned_away);
+            refuse_full(accepted.stream, self.max_connections, &self.being_refused);
         }
     }
 
@@ -106,7 +106,7 @@ impl Drop for Permit {
 }
 
 /// Tells a peer why it is closed, in a thread of its own. Without one it is closed at once.
-fn turn_away(stream: Stream, max_connections: usize, count: &Arc<AtomicUsize>) {
+fn refuse_full(stream: Stream, max_connections: usize, count: &Arc<AtomicUsize>) {
     if count.load(Ordering::Acquire) < MAX_TURNED_AWAY {
         let permit = Permit::take(count);
         let _ = thread::Builder::new().name("krl-full".into()).spawn(move || {

@@ -12,7 +12,7 @@ use crate::net::address::Address;
 use crate::proved::server_handle::ServerHandle;
 use crate::server::connections::Connections;
 use crate::server::error::ServeError;
-use crate::server::event_loop::EventLoop;
+use crate::server::event_loop::{EventLoop, Started};
 use crate::server::room_at_start::RoomAtStart;
 use crate::server::shown::timings::Timings;
 use crate::store::Store;
@@ -67,7 +67,9 @@ impl Decided {
         let (rows, records) = (snapshot.rows.len(), &snapshot.records);
         let log = EventLog::started(epoch, address, rows, records);
         EventLog::has_room(room, at_start.greatest);
-        let events = EventLoop::new(server, history, connections, table, timings, epoch, log);
+        let leases = table;
+        let started = Started { server, epoch, history, leases, connections, timings, log };
+        let events = EventLoop::new(started);
         let events = events.of_shard(shard).of_table(rows, room, reach);
         Ok(Opened { events, epoch, room })
     }

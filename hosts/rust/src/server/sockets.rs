@@ -85,7 +85,7 @@ impl Sockets {
     /// Takes a new connection, if there is room for it.
     fn enter(&mut self, accepted: Accepted, connections: &mut Connections) {
         if !connections.make_room() {
-            self.listening.turn_away(accepted, connections.count());
+            self.listening.refuse_full(accepted, connections.count());
         } else if let Err(error) = self.open(accepted, connections) {
             // The system has no room for it: it is closed.
             self.listening.not_taken(&error);

@@ -2,12 +2,12 @@
 use crate::client::scratch::with_room;
 use crate::client::{Client, Waited};
 use crate::model::change::Outcome;
-use crate::model::refused::Refused;
+use crate::model::error::Error;
 use crate::model::row::{Row, Value};
+use crate::shards::error::ShardError;
 use crate::shards::joined::Joined;
 use crate::shards::map::ShardMap;
 use crate::shards::pin::ShardedPin;
-use crate::shards::refused::ShardRefused;
 use crate::shards::within::{Pinned, ShardedWithin};
 use std::ops::RangeBounds;
 use std::sync::Arc;
@@ -39,8 +39,8 @@ pub struct ShardStatus {
     /// The shard's place in the map, from 0.
     pub shard: usize,
     /// The epoch that the shard's client has joined: how many times its server had started by then.
-    /// Refused as [`Client::epoch`] is.
-    pub epoch: Result<u64, Refused>,
+    /// Error as [`Client::epoch`] is.
+    pub epoch: Result<u64, Error>,
     /// Whether there is a connection just now.
     pub is_connected: bool,
     /// The incarnation of the shard's client, as [`Client::incarnation`] gives it.
@@ -105,7 +105,7 @@ impl ShardedClient {
     /// # Errors
     ///
     /// Those of [`Client::read`], with the shard.
-    pub fn read(&self, keys: impl RangeBounds<u64>) -> Result<Vec<Row>, ShardRefused> {
+    pub fn read(&self, keys: impl RangeBounds<u64>) -> Result<Vec<Row>, ShardError> {
         self.within(self.timeout()).read(keys)
     }
 
@@ -145,7 +145,7 @@ impl ShardedClient {
     /// # Errors
     ///
     /// Those of [`ShardedClient::pin_for_read`].
-    pub fn pin(&self, keys: impl RangeBounds<u64>) -> Result<ShardedPin, ShardRefused> {
+    pub fn pin(&self, keys: impl RangeBounds<u64>) -> Result<ShardedPin, ShardError> {
         self.pin_for_read(keys).map(|(_, pin)| pin)
     }
 
@@ -154,7 +154,7 @@ impl ShardedClient {
     /// # Errors
     ///
     /// Those of [`Client::insert`], with the shard.
-    pub fn insert(&self, key: u64, value: Value) -> Result<Outcome, ShardRefused> {
+    pub fn insert(&self, key: u64, value: Value) -> Result<Outcome, ShardError> {
         self.joined.at(key, |client| client.insert(key, value))
     }
 
@@ -163,7 +163,7 @@ impl ShardedClient {
     /// # Errors
     ///
     /// Those of [`ShardedClient::insert`].
-    pub fn put(&self, key: u64, value: Value) -> Result<Outcome, ShardRefused> {
+    pub fn put(&self, key: u64, value: Value) -> Result<Outcome, ShardError> {
         self.joined.at(key, |client| client.put(key, value))
     }
 
@@ -173,7 +173,7 @@ impl ShardedClient {
     /// # Errors
     ///
     /// Those of [`ShardedClient::insert`].
-    pub fn set(&self, key: u64, value: Value) -> Result<Outcome, ShardRefused> {
+    pub fn set(&self, key: u64, value: Value) -> Result<Outcome, ShardError> {
         self.joined.at(key, |client| client.set(key, value))
     }
 
@@ -182,7 +182,7 @@ impl ShardedClient {
     /// # Errors
     ///
     /// Those of [`ShardedClient::insert`].
-    pub fn delete(&self, key: u64) -> Result<Outcome, ShardRefused> {
+    pub fn delete(&self, key: u64) -> Result<Outcome, ShardError> {
         self.joined.at(key, |client| client.delete(key))
     }
 
@@ -191,7 +191,7 @@ impl ShardedClient {
     /// # Errors
     ///
     /// Those of [`Client::forget`], with the first shard that refused. The others have done it.
-    pub fn forget(&self, keys: impl RangeBounds<u64>) -> Result<(), ShardRefused> {
+    pub fn forget(&self, keys: impl RangeBounds<u64>) -> Result<(), ShardError> {
         self.within(self.timeout()).forget(keys)
     }
 
@@ -237,7 +237,7 @@ impl ShardedClient {
         keys: impl RangeBounds<u64>,
         rows: &[Row],
         timeout: Duration,
-    ) -> Result<Waited, ShardRefused> {
+    ) -> Result<Waited, ShardError> {
         self.joined.wait_for_change(keys, rows, timeout)
     }
 
@@ -246,7 +246,7 @@ impl ShardedClient {
     /// # Errors
     ///
     /// Those of [`Client::leave`], with the first shard that did not answer. The others are left.
-    pub fn leave(&self) -> Result<(), ShardRefused> {
+    pub fn leave(&self) -> Result<(), ShardError> {
         self.within(self.timeout()).leave()
     }
 }

@@ -5,13 +5,13 @@ use crate::client::pin::Pin;
 use crate::client::shared::{FAREWELL, MAX_WAIT, Shared};
 use crate::client::{Client, Waited};
 use crate::model::change::Outcome;
+use crate::model::error::Error;
 use crate::model::range::keys_of;
-use crate::model::refused::Refused;
 use crate::model::row::Row;
 use crate::proved::partition::Part;
+use crate::shards::error::ShardError;
 use crate::shards::map::ShardMap;
 use crate::shards::one_moment::{self, Known};
-use crate::shards::refused::ShardRefused;
 use std::ops::{Range, RangeBounds};
 use std::sync::Arc;
 use std::sync::mpsc::{RecvTimeoutError, sync_channel};
@@ -35,7 +35,7 @@ pub(crate) struct PinOfShard {
 }
 
 /// The rows of a range, and the pins of its parts.
-type Pinned = Result<(Vec<Row>, Vec<PinOfShard>), ShardRefused>;
+type Pinned = Result<(Vec<Row>, Vec<PinOfShard>), ShardError>;
 
 impl Joined {
     /// So many shards of the map, from this one on.
@@ -65,10 +65,10 @@ impl Joined {
     }
 
     /// What each shard has of the range, if all these shards are joined.
-    pub fn parts(&self, keys: impl RangeBounds<u64>) -> Result<Vec<Part>, Refused> {
+    pub fn parts(&self, keys: impl RangeBounds<u64>) -> Result<Vec<Part>, Error> {
         let parts = self.map.parts(keys)?;
         let are_joined = parts.iter().all(|part| self.has(part.shard));
-        are_joined.then_some(parts).ok_or(Refused::BadRange)
+        are_joined.then_some(parts).ok_or(Error::BadRange)
     }
 
     /// Reads until the deadline.
@@ -76,7 +76,7 @@ impl Joined {
         &self,
         keys: impl RangeBounds<u64>,
         end: Instant,
-    ) -> Result<Vec<Row>, ShardRefused> {
+    ) -> Result<Vec<Row>, ShardError> {
         let parts = self.parts(keys)?;
         let mut rows = Vec::new();
         while !self.is_known(&parts, &mut rows) {
@@ -89,9 +89,9 @@ impl Joined {
             match self.take(&parts, Purpose::Read, end) {
                 Ok((taken, _pin)) => return Ok(taken),
                 // The caller's own pins leave no room for others, so it goes on without.
-                Err(ShardRefused { refused: Refused::TooManyPins, shard }) => {
+                Err(ShardError { error: Error::TooManyPins, shard }) => {
                     if Instant::now() >= end {
-                        return Err(ShardRefused { refused: Refused::TimedOut, shard });
+                        return Err(ShardError { error: Error::TimedOut, shard });
                     }
                 }
                 Err(refused) => return Err(refused),
@@ -111,7 +111,7 @@ impl Joined {
     }
 
     /// Asks for all parts at once, and waits until each was known at some moment.
-    fn fetch(&self, parts: &[Part], end: Instant) -> Result<(), ShardRefused> {
+    fn fetch(&self, parts: &[Part], end: Instant) -> Result<(), ShardError> {
         let read = |jobs: &mut Jobs, keys: &Range<u64>| jobs.read(keys.clone());
         self.ask_all(parts, end, read).map(drop)
     }
@@ -123,12 +123,12 @@ impl Joined {
         parts: &[Part],
         end: Instant,
         ask: impl Fn(&mut Jobs, &Range<u64>) -> Asked<T>,
-    ) -> Result<Vec<T>, ShardRefused> {
+    ) -> Result<Vec<T>, ShardError> {
         let begin =
             |part: &Part| (part.shard, self.link(part.shard).begin(|jobs| ask(jobs, &part.keys)));
         let asked: Vec<_> = parts.iter().map(begin).collect();
         let finish = |(shard, asked): (usize, Asked<T>)| {
-            self.link(shard).finish(asked, end).map_err(ShardRefused::at(shard))
+            self.link(shard).finish(asked, end).map_err(ShardError::at(shard))
         };
         let answered: Vec<_> = asked.into_iter().map(finish).collect();
         answered.into_iter().collect()
@@ -150,7 +150,7 @@ impl Joined {
             // Another thread of this client writes there, or a server's store went back.
             drop(pins);
             if Instant::now() >= end {
-                return Err(Refused::TimedOut.into());
+                return Err(Error::TimedOut.into());
             }
         }
     }
@@ -160,10 +160,10 @@ impl Joined {
         Part { shard, keys }: &Part,
         purpose: Purpose,
         end: Instant,
-    ) -> Result<PinOfShard, ShardRefused> {
+    ) -> Result<PinOfShard, ShardError> {
         let shared = self.client(*shard).shared();
         let held = shared.link().ask(end, |jobs| jobs.hold(keys.clone(), purpose));
-        let Held { pin, .. } = held.map_err(ShardRefused::at(*shard))?;
+        let Held { pin, .. } = held.map_err(ShardError::at(*shard))?;
         Ok(PinOfShard { shard: *shard, pin: Pin::new(Arc::clone(shared), pin) })
     }
 
@@ -171,7 +171,7 @@ impl Joined {
     pub fn pin(&self, keys: &impl RangeBounds<u64>, purpose: Purpose, end: Instant) -> Pinned {
         let keys = keys_of(keys)?;
         if keys.is_empty() {
-            return Err(Refused::BadRange.into());
+            return Err(Error::BadRange.into());
         }
         let parts = self.parts(keys)?;
         if purpose == Purpose::Read {
@@ -184,17 +184,17 @@ impl Joined {
     pub fn at(
         &self,
         key: u64,
-        call: impl FnOnce(&Client) -> Result<Outcome, Refused>,
-    ) -> Result<Outcome, ShardRefused> {
+        call: impl FnOnce(&Client) -> Result<Outcome, Error>,
+    ) -> Result<Outcome, ShardError> {
         let shard = self.map.shard_of(key)?;
         if !self.has(shard) {
-            return Err(Refused::BadKey.into());
+            return Err(Error::BadKey.into());
         }
-        call(self.client(shard)).map_err(ShardRefused::at(shard))
+        call(self.client(shard)).map_err(ShardError::at(shard))
     }
 
     /// Gives back what the client holds of the range, until the deadline.
-    pub fn forget_by(&self, keys: impl RangeBounds<u64>, end: Instant) -> Result<(), ShardRefused> {
+    pub fn forget_by(&self, keys: impl RangeBounds<u64>, end: Instant) -> Result<(), ShardError> {
         let forget = |jobs: &mut Jobs, keys: &Range<u64>| jobs.forget(keys.clone());
         self.ask_all(&self.parts(keys)?, end, forget).map(drop)
     }
@@ -205,7 +205,7 @@ impl Joined {
         keys: impl RangeBounds<u64>,
         rows: &[Row],
         timeout: Duration,
-    ) -> Result<Waited, ShardRefused> {
+    ) -> Result<Waited, ShardError> {
         let parts = self.parts(keys)?;
         if parts.is_empty() {
             return Ok(Waited::Changed);
@@ -227,12 +227,12 @@ impl Joined {
     }
 
     /// Leaves all shards at once, and waits for each until the deadline.
-    pub fn leave(&self, end: Instant) -> Result<(), ShardRefused> {
+    pub fn leave(&self, end: Instant) -> Result<(), ShardError> {
         let begin = |(shard, client): (usize, &Client)| (shard, client.shared().begin_to_leave());
         let leaving: Vec<_> = self.clients().map(begin).collect();
         let finish = |(shard, leaving): (usize, Asked<()>)| {
             let left = self.client(shard).shared().finish_leaving(leaving, end);
-            left.map_err(ShardRefused::at(shard))
+            left.map_err(ShardError::at(shard))
         };
         leaving.into_iter().map(finish).fold(Ok(()), Result::and)
     }

@@ -1,7 +1,7 @@
 //! Which servers have which keys.
 use crate::model::code::Code;
+use crate::model::error::Error;
 use crate::model::range::keys_of;
-use crate::model::refused::Refused;
 use crate::model::row::END;
 use crate::model::shard_bounds::ShardBounds;
 use crate::net::servers::Servers;
@@ -106,9 +106,9 @@ impl ShardMap {
     /// # Errors
     ///
     /// `BadKey` for a key of 2^63 - 1 or more.
-    pub fn shard_of(&self, key: u64) -> Result<usize, Refused> {
+    pub fn shard_of(&self, key: u64) -> Result<usize, Error> {
         if key >= END {
-            return Err(Refused::BadKey);
+            return Err(Error::BadKey);
         }
         Ok(self.partition.shard_of(key)?)
     }
@@ -118,7 +118,7 @@ impl ShardMap {
     /// # Errors
     ///
     /// `BadRange` if the range begins above its end, or ends above 2^63.
-    pub fn parts(&self, keys: impl RangeBounds<u64>) -> Result<Vec<Part>, Refused> {
+    pub fn parts(&self, keys: impl RangeBounds<u64>) -> Result<Vec<Part>, Error> {
         let keys = keys_of(&keys)?;
         if keys.is_empty() { Ok(Vec::new()) } else { Ok(self.parts_of(&keys)?) }
     }
@@ -162,11 +162,11 @@ mod tests {
     fn keys_and_ranges_have_their_shards() {
         let map = map(&[0, 10]).unwrap();
         assert_eq!([9, 10, END - 1].map(|key| map.shard_of(key)), [Ok(0), Ok(1), Ok(1)]);
-        assert_eq!(map.shard_of(END), Err(Refused::BadKey));
+        assert_eq!(map.shard_of(END), Err(Error::BadKey));
         let whole = [Part { shard: 0, keys: 0..10 }, Part { shard: 1, keys: 10..END + 1 }];
         assert_eq!(map.parts(..).unwrap(), whole);
         assert_eq!(map.parts(5..5), Ok(Vec::new()));
-        assert_eq!(map.parts(..=u64::MAX), Err(Refused::BadRange));
+        assert_eq!(map.parts(..=u64::MAX), Err(Error::BadRange));
     }
 
     #[test]

@@ -1,10 +1,10 @@
 //! A pinned range of several shards, and the writes that are bound to it.
 use crate::client::pin::Pin;
 use crate::model::change::Outcome;
-use crate::model::refused::Refused;
+use crate::model::error::Error;
 use crate::model::row::Value;
+use crate::shards::error::ShardError;
 use crate::shards::joined::{Joined, PinOfShard};
-use crate::shards::refused::ShardRefused;
 use std::sync::Arc;
 use std::time::Duration;
 
@@ -45,7 +45,7 @@ impl ShardedPin {
     ///
     /// Those of [`Pin::insert`], with the shard; `PinIsVoid` also if no part of the pinned range is
     /// at the shard of the key.
-    pub fn insert(&self, key: u64, value: Value) -> Result<Outcome, ShardRefused> {
+    pub fn insert(&self, key: u64, value: Value) -> Result<Outcome, ShardError> {
         self.at(key, |pin| pin.insert(key, value))
     }
 
@@ -55,7 +55,7 @@ impl ShardedPin {
     /// # Errors
     ///
     /// Those of [`ShardedPin::insert`].
-    pub fn put(&self, key: u64, value: Value) -> Result<Outcome, ShardRefused> {
+    pub fn put(&self, key: u64, value: Value) -> Result<Outcome, ShardError> {
         self.at(key, |pin| pin.put(key, value))
     }
 
@@ -65,7 +65,7 @@ impl ShardedPin {
     /// # Errors
     ///
     /// Those of [`ShardedPin::insert`].
-    pub fn set(&self, key: u64, value: Value) -> Result<Outcome, ShardRefused> {
+    pub fn set(&self, key: u64, value: Value) -> Result<Outcome, ShardError> {
         self.at(key, |pin| pin.set(key, value))
     }
 
@@ -74,7 +74,7 @@ impl ShardedPin {
     /// # Errors
     ///
     /// Those of [`ShardedPin::insert`].
-    pub fn delete(&self, key: u64) -> Result<Outcome, ShardRefused> {
+    pub fn delete(&self, key: u64) -> Result<Outcome, ShardError> {
         self.at(key, |pin| pin.delete(key))
     }
 
@@ -82,12 +82,12 @@ impl ShardedPin {
     fn at(
         &self,
         key: u64,
-        call: impl FnOnce(&Pin) -> Result<Outcome, Refused>,
-    ) -> Result<Outcome, ShardRefused> {
+        call: impl FnOnce(&Pin) -> Result<Outcome, Error>,
+    ) -> Result<Outcome, ShardError> {
         let shard = self.joined.map().shard_of(key)?;
         let part = self.pins.iter().find(|part| part.shard == shard);
-        let part = part.ok_or(ShardRefused::at(shard)(Refused::PinIsVoid))?;
-        call(&part.pin).map_err(ShardRefused::at(shard))
+        let part = part.ok_or(ShardError::at(shard)(Error::PinIsVoid))?;
+        call(&part.pin).map_err(ShardError::at(shard))
     }
 }
 
@@ -112,7 +112,7 @@ impl<'p> ShardedPinWithin<'p> {
     /// # Errors
     ///
     /// Those of [`ShardedPin::insert`].
-    pub fn insert(self, key: u64, value: Value) -> Result<Outcome, ShardRefused> {
+    pub fn insert(self, key: u64, value: Value) -> Result<Outcome, ShardError> {
         self.pin.at(key, |pin| pin.within(self.timeout).insert(key, value))
     }
 
@@ -121,7 +121,7 @@ impl<'p> ShardedPinWithin<'p> {
     /// # Errors
     ///
     /// Those of [`ShardedPin::insert`].
-    pub fn put(self, key: u64, value: Value) -> Result<Outcome, ShardRefused> {
+    pub fn put(self, key: u64, value: Value) -> Result<Outcome, ShardError> {
         self.pin.at(key, |pin| pin.within(self.timeout).put(key, value))
     }
 
@@ -131,7 +131,7 @@ impl<'p> ShardedPinWithin<'p> {
     /// # Errors
     ///
     /// Those of [`ShardedPin::insert`].
-    pub fn set(self, key: u64, value: Value) -> Result<Outcome, ShardRefused> {
+    pub fn set(self, key: u64, value: Value) -> Result<Outcome, ShardError> {
         self.pin.at(key, |pin| pin.within(self.timeout).set(key, value))
     }
 
@@ -140,7 +140,7 @@ impl<'p> ShardedPinWithin<'p> {
     /// # Errors
     ///
     /// Those of [`ShardedPin::insert`].
-    pub fn delete(self, key: u64) -> Result<Outcome, ShardRefused> {
+    pub fn delete(self, key: u64) -> Result<Outcome, ShardError> {
         self.pin.at(key, |pin| pin.within(self.timeout).delete(key))
     }
 }

@@ -3,15 +3,15 @@ use crate::client::jobs::Purpose;
 use crate::client::shared::MAX_WAIT;
 use crate::model::change::Outcome;
 use crate::model::row::{Row, Value};
+use crate::shards::error::ShardError;
 use crate::shards::joined::Joined;
 use crate::shards::pin::ShardedPin;
-use crate::shards::refused::ShardRefused;
 use std::ops::RangeBounds;
 use std::sync::Arc;
 use std::time::{Duration, Instant};
 
 /// Rows that were read, and their pin.
-pub(crate) type Pinned = Result<(Vec<Row>, ShardedPin), ShardRefused>;
+pub(crate) type Pinned = Result<(Vec<Row>, ShardedPin), ShardError>;
 
 /// A sharded client whose calls wait for another time than [`ShardedClient::timeout`]: see
 /// [`ShardedClient::within`].
@@ -44,7 +44,7 @@ impl<'c> ShardedWithin<'c> {
     /// Those of [`ShardedClient::read`].
     ///
     /// [`ShardedClient::read`]: crate::ShardedClient::read
-    pub fn read(self, keys: impl RangeBounds<u64>) -> Result<Vec<Row>, ShardRefused> {
+    pub fn read(self, keys: impl RangeBounds<u64>) -> Result<Vec<Row>, ShardError> {
         self.joined.read_by(keys, self.end())
     }
 
@@ -55,7 +55,7 @@ impl<'c> ShardedWithin<'c> {
     /// Those of [`ShardedClient::insert`].
     ///
     /// [`ShardedClient::insert`]: crate::ShardedClient::insert
-    pub fn insert(self, key: u64, value: Value) -> Result<Outcome, ShardRefused> {
+    pub fn insert(self, key: u64, value: Value) -> Result<Outcome, ShardError> {
         self.joined.at(key, |client| client.within(self.timeout).insert(key, value))
     }
 
@@ -67,7 +67,7 @@ impl<'c> ShardedWithin<'c> {
     ///
     /// [`ShardedClient::put`]: crate::ShardedClient::put
     /// [`ShardedClient::insert`]: crate::ShardedClient::insert
-    pub fn put(self, key: u64, value: Value) -> Result<Outcome, ShardRefused> {
+    pub fn put(self, key: u64, value: Value) -> Result<Outcome, ShardError> {
         self.joined.at(key, |client| client.within(self.timeout).put(key, value))
     }
 
@@ -80,7 +80,7 @@ impl<'c> ShardedWithin<'c> {
     ///
     /// [`ShardedClient::set`]: crate::ShardedClient::set
     /// [`ShardedClient::insert`]: crate::ShardedClient::insert
-    pub fn set(self, key: u64, value: Value) -> Result<Outcome, ShardRefused> {
+    pub fn set(self, key: u64, value: Value) -> Result<Outcome, ShardError> {
         self.joined.at(key, |client| client.within(self.timeout).set(key, value))
     }
 
@@ -92,7 +92,7 @@ impl<'c> ShardedWithin<'c> {
     ///
     /// [`ShardedClient::delete`]: crate::ShardedClient::delete
     /// [`ShardedClient::insert`]: crate::ShardedClient::insert
-    pub fn delete(self, key: u64) -> Result<Outcome, ShardRefused> {
+    pub fn delete(self, key: u64) -> Result<Outcome, ShardError> {
         self.joined.at(key, |client| client.within(self.timeout).delete(key))
     }
 
@@ -103,7 +103,7 @@ impl<'c> ShardedWithin<'c> {
     /// Those of [`ShardedClient::forget`].
     ///
     /// [`ShardedClient::forget`]: crate::ShardedClient::forget
-    pub fn forget(self, keys: impl RangeBounds<u64>) -> Result<(), ShardRefused> {
+    pub fn forget(self, keys: impl RangeBounds<u64>) -> Result<(), ShardError> {
         self.joined.forget_by(keys, self.end())
     }
 
@@ -154,7 +154,7 @@ impl<'c> ShardedWithin<'c> {
     /// Those of [`ShardedClient::leave`].
     ///
     /// [`ShardedClient::leave`]: crate::ShardedClient::leave
-    pub fn leave(self) -> Result<(), ShardRefused> {
+    pub fn leave(self) -> Result<(), ShardError> {
         self.joined.leave(self.end())
     }
 }

@@ -4,7 +4,7 @@ use crate::client::session::Session;
 use crate::lease::clocks::Now;
 use crate::lease::terms::{Older, Sign};
 use crate::model::change::{Outcome, Write};
-use crate::model::refused::Refused;
+use crate::model::error::Error;
 use crate::model::row::Row;
 use crate::net::address::Address;
 use crate::net::servers::Servers;
@@ -71,7 +71,7 @@ pub enum Cached {
 impl<T> Call<T> {
     /// The answer, if it has come.
     #[must_use]
-    pub fn answer(&self) -> Option<Result<T, Refused>> {
+    pub fn answer(&self) -> Option<Result<T, Error>> {
         self.0.answer.try_recv().ok()
     }
 }
@@ -217,7 +217,7 @@ impl Client {
     }
 
     /// Nobody waits for the call any more.
-    pub fn give_up<T>(&mut self, call: &Call<T>, time: Duration) -> Refused {
+    pub fn give_up<T>(&mut self, call: &Call<T>, time: Duration) -> Error {
         self.at(time).give_up(call.0.id)
     }
 

@@ -1,12 +1,18 @@
 //! Messages on a stream: each has its length before it, in eight bytes, the lowest first.
 //!
 //! A frame of no bytes is no message: by it a server's host says that a Bye is kept.
+use crate::model::room::Room;
 use crate::proved::ffi;
 use std::io::{self, Read};
 use std::ops::Range;
 
 /// The longest message to a server: a report of 65,537 ranges and 65,537 keys has 1,703,996 bytes.
 pub(crate) const LONGEST_TO_SERVER: usize = 1 << 21;
+
+/// The longest message to a server of this room: a client's report grows with the rows.
+pub(crate) fn longest_to_server(room: Room) -> usize {
+    LONGEST_TO_SERVER * room.rows().div_ceil(ffi::DEFAULT_ROOM)
+}
 
 /// The longest message to a server that is no report, and the longest frame of a host: an insert
 /// has 83 bytes. Only a report that the server admits may be longer.
@@ -247,5 +253,16 @@ mod tests {
         let found: Vec<_> = split(&sent).map(|(message, _)| message).collect();
         assert_eq!(found, [&b"ab"[..], b"c"]);
         assert_eq!(split(&sent).map(|(_, whole)| whole.len()).sum::<usize>(), sent.len());
+    }
+
+    /// A report has 34 bytes, 17 for each range and 9 for each key; a client holds at most one of
+    /// each for each row, and one for the end of the index.
+    #[test]
+    fn a_report_of_the_whole_table_is_no_longer_than_the_longest_message() {
+        for rows in [1, 65_536, 65_537, 131_072, 1_048_576] {
+            let report = 34 + (17 + 9) * (rows + 1);
+            let longest = longest_to_server(Room::of(rows).unwrap());
+            assert!((report..=8 * report.max(1 << 19)).contains(&longest), "{rows}: {longest}");
+        }
     }
 }

@@ -5,7 +5,7 @@ use crate::judge::{Version, Window};
 use crate::record::Node;
 use crate::weather::Ask;
 use krl::simulated::{Cached, Held, Purpose};
-use krl::{ClientSet, Outcome, Refusal, Refused, Row, Value, Write};
+use krl::{ClientSet, Error, Outcome, Refusal, Row, Value, Write};
 use std::ops::Range;
 use std::time::Duration;
 
@@ -262,7 +262,7 @@ impl World {
         &mut self,
         client: usize,
         write: Write,
-        answer: Result<Outcome, Refused>,
+        answer: Result<Outcome, Error>,
         when: &Window,
     ) {
         let who = format_client(client);
@@ -397,15 +397,15 @@ impl World {
     }
 
     /// Whether a call may be refused so.
-    fn judge_refusal(&mut self, client: usize, why: Refused) {
+    fn judge_refusal(&mut self, client: usize, why: Error) {
         let machine = &self.machines[client];
         let is_so = match why {
-            Refused::TimedOut | Refused::PinIsVoid | Refused::Pinned | Refused::LeaseEnded => true,
-            Refused::Unserved(refusal) => may_be_refused(refusal),
-            Refused::TurnedAway => machine.rejections > 0,
-            Refused::StoreWentBack => self.judge.went_back() || machine.calls.leaving.is_some(),
+            Error::TimedOut | Error::PinIsVoid | Error::Pinned | Error::LeaseEnded => true,
+            Error::Unserved(refusal) => may_be_refused(refusal),
+            Error::TurnedAway => machine.rejections > 0,
+            Error::StoreWentBack => self.judge.went_back() || machine.calls.leaving.is_some(),
             // One that has left answers nothing.
-            Refused::Other(_) => machine.calls.leaving.is_some(),
+            Error::Other(_) => machine.calls.leaving.is_some(),
             _ => false,
         };
         if !is_so {

@@ -6,8 +6,8 @@ use super::yielding::Narrowed;
 use super::{Asking, Job, Jobs, Stage};
 use crate::client::pins::Pins;
 use crate::model::code::Code;
+use crate::model::error::Error;
 use crate::model::refusal::Refusal;
-use crate::model::refused::Refused;
 use crate::proved::client_handle::ClientHandle;
 
 /// Why a client has dropped all.
@@ -20,11 +20,11 @@ pub(crate) enum Dropped {
 
 impl Dropped {
     /// What is told to who waits and can't go on.
-    pub fn refused(self) -> Refused {
+    pub fn refused(self) -> Error {
         match self {
-            Dropped::StoreWentBack => Refused::StoreWentBack,
-            Dropped::OtherStore => Refused::Unserved(Refusal::OtherStore),
-            Dropped::LeaseEnded => Refused::LeaseEnded,
+            Dropped::StoreWentBack => Error::StoreWentBack,
+            Dropped::OtherStore => Error::Unserved(Refusal::OtherStore),
+            Dropped::LeaseEnded => Error::LeaseEnded,
         }
     }
 }
@@ -53,11 +53,11 @@ impl Job {
     pub(super) fn end_after_bye(self) {
         match self {
             Job::Leave(reply) => reply.end(Ok(())),
-            job => job.refuse(Refused::Other(Code::Gone)),
+            job => job.refuse(Error::Other(Code::Gone)),
         }
     }
 
-    pub(super) fn refuse(self, why: Refused) {
+    pub(super) fn refuse(self, why: Error) {
         match self {
             Job::Join(reply) | Job::Forget(_, reply) | Job::Leave(reply) => reply.end(Err(why)),
             Job::Read(_, reply) => reply.end(Err(why)),

@@ -2,7 +2,7 @@
 use super::writing::Kept;
 use super::{Asked, Job, Jobs, Reply, Stage};
 use crate::model::change::{Outcome, Write};
-use crate::model::refused::Refused;
+use crate::model::error::Error;
 use std::sync::mpsc::sync_channel;
 
 /// What has to hold for a write to be made.
@@ -56,7 +56,7 @@ impl Jobs {
         }
         self.next += 1;
         let (reply, answer) = sync_channel(1);
-        Reply(reply).end(Err(Refused::PinIsVoid));
+        Reply(reply).end(Err(Error::PinIsVoid));
         Asked { id: self.next, is_urgent: true, answer }
     }
 
@@ -87,7 +87,7 @@ impl Jobs {
         for (id, job) in std::mem::take(&mut self.open) {
             match job {
                 Job::Write(Wanted { bond, .. }, reply) if !self.may_write(bond) => {
-                    reply.end(Err(Refused::PinIsVoid));
+                    reply.end(Err(Error::PinIsVoid));
                 }
                 job => self.open.push((id, job)),
             }

@@ -235,8 +235,8 @@ fn a_client_that_drops_all_answers_says_and_hears_nothing_until_it_begins_anew()
     let late = world.said_by_server();
     assert!(!late.is_empty());
     world.clients[0].drop_all(Dropped::StoreWentBack);
-    assert_eq!(read.answer.try_recv(), Ok(Err(Refused::StoreWentBack)));
-    assert_eq!(write.answer.try_recv(), Ok(Err(Refused::StoreWentBack)));
+    assert_eq!(read.answer.try_recv(), Ok(Err(Error::StoreWentBack)));
+    assert_eq!(write.answer.try_recv(), Ok(Err(Error::StoreWentBack)));
     let later = world.clients[0].read(0..11);
     for message in &late {
         world.clients[0].hear(message).unwrap();

@@ -2,7 +2,7 @@
 use super::{Asked, JobId, Jobs, Reply};
 use crate::client::scratch::kept;
 use crate::model::code::Code;
-use crate::model::refused::Refused;
+use crate::model::error::Error;
 use crate::model::row::Row;
 use crate::proved::client_handle::Scan;
 use std::ops::Range;
@@ -17,7 +17,7 @@ pub(super) struct Watched {
 }
 
 impl Watched {
-    pub fn refuse(self, why: Refused) {
+    pub fn refuse(self, why: Error) {
         self.reply.end(Err(why));
     }
 }
@@ -34,12 +34,12 @@ impl Jobs {
         &mut self,
         keys: Range<u64>,
         rows: Vec<Row>,
-        told: SyncSender<Result<(), Refused>>,
+        told: SyncSender<Result<(), Error>>,
     ) -> JobId {
         self.next += 1;
         let reply = Reply(told);
         if self.stage == super::Stage::Ended {
-            reply.end(Err(Refused::Stopped));
+            reply.end(Err(Error::Stopped));
         } else {
             self.watched.push(Watched { id: self.next, keys, rows, reply });
             self.is_changed = true;

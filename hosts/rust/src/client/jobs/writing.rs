@@ -3,7 +3,7 @@ use super::bound::Wanted;
 use super::{Job, JobId, Jobs, Reply};
 use crate::model::change::{Outcome, Write};
 use crate::model::code::Code;
-use crate::model::refused::Refused;
+use crate::model::error::Error;
 use crate::proved::client_handle::{Mode, Scan, Shown};
 use std::time::{Duration, Instant};
 
@@ -20,7 +20,7 @@ pub(super) struct Written {
 }
 
 impl Written {
-    pub fn refuse(self, why: Refused) {
+    pub fn refuse(self, why: Error) {
         self.reply.end(Err(why));
     }
 }
@@ -67,7 +67,7 @@ impl Jobs {
     ) -> Option<Job> {
         if !self.may_write(wanted.bond) {
             self.let_go(id, &mut wanted);
-            reply.end(Err(Refused::PinIsVoid));
+            reply.end(Err(Error::PinIsVoid));
             return None;
         }
         let step = self.try_write(id, &mut wanted);

@@ -3,8 +3,8 @@ use super::{Link, lock};
 use crate::client::jobs::{Asked, BUSY_TICK, Jobs};
 use crate::client::session::Session;
 use crate::client::writer::Written;
+use crate::model::error::Error;
 use crate::model::refusal::Refusal;
-use crate::model::refused::Refused;
 use std::sync::MutexGuard;
 use std::sync::mpsc::{Receiver, RecvTimeoutError, TryRecvError};
 use std::time::{Duration, Instant};
@@ -15,7 +15,7 @@ impl Link {
         &self,
         end: Instant,
         ask: impl FnOnce(&mut Jobs) -> Asked<T>,
-    ) -> Result<T, Refused> {
+    ) -> Result<T, Error> {
         let asked = self.begin(ask);
         self.finish(asked, end)
     }
@@ -26,7 +26,7 @@ impl Link {
         &self,
         timeout: Duration,
         gives_up: impl Fn(Refusal, Instant) -> bool + Send + 'static,
-    ) -> Result<(), Refused> {
+    ) -> Result<(), Error> {
         let end = Instant::now() + timeout;
         let asked = self.call(|session| session.join(Box::new(gives_up)));
         self.finish(asked, end)
@@ -42,7 +42,7 @@ impl Link {
     /// The caller reads the connection itself until the first tick. The thread of the connection sends
     /// again what is not answered. It may sleep until a tick of a client that was asked nothing: so
     /// one who waits for longer than until the first tick wakes it once.
-    pub fn finish<T>(&self, asked: Asked<T>, end: Instant) -> Result<T, Refused> {
+    pub fn finish<T>(&self, asked: Asked<T>, end: Instant) -> Result<T, Error> {
         let Asked { id, is_urgent, answer } = asked;
         if is_urgent
             && let Some(answered) = self.read_until(&answer, end.min(Instant::now() + BUSY_TICK))
@@ -57,7 +57,7 @@ impl Link {
             answered = answer.recv_timeout(until(end));
         }
         answered.unwrap_or_else(|why| match why {
-            RecvTimeoutError::Disconnected => Err(Refused::Stopped),
+            RecvTimeoutError::Disconnected => Err(Error::Stopped),
             RecvTimeoutError::Timeout => {
                 let why = self.session().give_up(id);
                 // It may have come meanwhile.
@@ -70,9 +70,9 @@ impl Link {
     /// to wake another one. It answers nothing if there is no answer by the end.
     pub(super) fn read_until<T>(
         &self,
-        answer: &Receiver<Result<T, Refused>>,
+        answer: &Receiver<Result<T, Error>>,
         end: Instant,
-    ) -> Option<Result<T, Refused>> {
+    ) -> Option<Result<T, Error>> {
         let _turn = self.turn.try_lock().ok()?;
         let mut goes_on = true;
         loop {
@@ -83,7 +83,7 @@ impl Link {
                     return match answered {
                         Ok(answered) => Some(answered),
                         Err(TryRecvError::Empty) => None,
-                        Err(TryRecvError::Disconnected) => Some(Err(Refused::Stopped)),
+                        Err(TryRecvError::Disconnected) => Some(Err(Error::Stopped)),
                     };
                 }
             }

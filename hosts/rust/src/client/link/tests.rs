@@ -2,7 +2,7 @@
 use super::*;
 use crate::client::writer::STALL;
 use crate::lease::boot_clock::Moment;
-use crate::model::refused::Refused;
+use crate::model::error::Error;
 use crate::net::stream::{Listener, Stream};
 use crate::proved::client_handle::Scan;
 use crate::server::Server;
@@ -50,7 +50,7 @@ fn a_peer_that_takes_nothing_holds_no_call_beyond_its_deadline() {
             scope.spawn(|| {
                 let begun = Instant::now();
                 let read = link.ask(begun + SHORT, |jobs| jobs.read(0..9));
-                assert_eq!(read, Err(Refused::TimedOut));
+                assert_eq!(read, Err(Error::TimedOut));
                 assert!(begun.elapsed() < STALL / 2, "{:?}", begun.elapsed());
             });
         }
@@ -74,11 +74,11 @@ fn callers_hear_that_the_thread_has_panicked() {
             panic!("the test's");
         });
         assert!(panicked.join().is_err());
-        assert_eq!(read.join().unwrap(), Err(Refused::Stopped));
+        assert_eq!(read.join().unwrap(), Err(Error::Stopped));
     });
     assert!(link.has_ended(Instant::now()));
     let later = link.ask(Instant::now() + 50 * SHORT, |jobs| jobs.read(0..9));
-    assert_eq!(later, Err(Refused::Stopped));
+    assert_eq!(later, Err(Error::Stopped));
 }
 
 #[test]

@@ -112,7 +112,7 @@ fn a_client_that_is_asked_nothing_sleeps_until_a_sign_or_a_tick_is_due() {
     let read = session.jobs().read(0..9);
     session.proceed().unwrap();
     assert_eq!(session.due_in(), crate::client::jobs::BUSY_TICK);
-    assert_eq!(session.give_up(read.id), Refused::TimedOut);
+    assert_eq!(session.give_up(read.id), Error::TimedOut);
     assert_eq!(session.due_in(), IDLE_TICK);
 }
 
@@ -160,7 +160,7 @@ fn the_hello_of_another_version_ends_the_connection() {
     for _ in 0..2 {
         session.disconnected(OtherVersion(3).into());
     }
-    let expected = Refused::Unserved(Refusal::Version { read: 3 });
+    let expected = Error::Unserved(Refusal::Version { read: 3 });
     assert_eq!(read.answer.try_recv(), Ok(Err(expected)));
 }
 
@@ -174,10 +174,10 @@ fn all_jobs_end_when_the_only_server_has_rejected_this_side_twice() {
     reject(&mut alone);
     assert!(read.answer.try_recv().is_err(), "one may be a proxy's mistake");
     reject(&mut alone);
-    assert_eq!(read.answer.try_recv(), Ok(Err(Refused::TurnedAway)));
+    assert_eq!(read.answer.try_recv(), Ok(Err(Error::TurnedAway)));
     let later = alone.jobs().read(0..9);
     alone.end_hopeless();
-    assert_eq!(later.answer.try_recv(), Ok(Err(Refused::TurnedAway)));
+    assert_eq!(later.answer.try_recv(), Ok(Err(Error::TurnedAway)));
     let mut among_two = session("unix:one,unix:two");
     let read = among_two.jobs().read(0..9);
     for _ in 0..5 {
@@ -187,7 +187,7 @@ fn all_jobs_end_when_the_only_server_has_rejected_this_side_twice() {
 }
 
 /// Why a job ends that was sent or not, if the last connection ended with this.
-fn ended(fault: io::Error, was_sent: WasSent) -> Refused {
+fn ended(fault: io::Error, was_sent: WasSent) -> Error {
     let mut session = session("unix:nowhere");
     session.disconnected(fault);
     session.unanswered(was_sent)
@@ -197,9 +197,9 @@ fn ended(fault: io::Error, was_sent: WasSent) -> Refused {
 fn a_write_that_was_sent_may_be_applied_whatever_rejects_the_client() {
     let not_taken = || NotTaken("the certificate has expired".into()).into();
     let other = OtherShard { expected: None, served: None };
-    assert_eq!(ended(not_taken(), WasSent::No), Refused::TurnedAway);
-    assert_eq!(ended(other.into(), WasSent::No), Refused::OtherShard(other));
-    let version = Refused::Unserved(Refusal::Version { read: 1 });
+    assert_eq!(ended(not_taken(), WasSent::No), Error::TurnedAway);
+    assert_eq!(ended(other.into(), WasSent::No), Error::OtherShard(other));
+    let version = Error::Unserved(Refusal::Version { read: 1 });
     assert_eq!(ended(OtherVersion(1).into(), WasSent::No), version);
     for fault in [not_taken(), other.into(), OtherVersion(1).into()] {
         let refused = ended(fault, WasSent::Yes);
@@ -220,7 +220,7 @@ fn who_joins_gives_up_for_a_reason_as_soon_as_it_may() {
     assert!(asked.answer.try_recv().is_err(), "too early");
     pass(&mut session, Duration::from_millis(999));
     session.proceed().unwrap();
-    assert_eq!(asked.answer.try_recv(), Ok(Err(Refused::Unserved(runs))));
+    assert_eq!(asked.answer.try_recv(), Ok(Err(Error::Unserved(runs))));
 }
 
 #[test]
@@ -231,9 +231,9 @@ fn what_a_server_told_long_ago_is_no_reason() {
     let full = Refusal::Full { connections: 9 };
     hear(&mut session, &refused(full)).unwrap();
     let next = session.jobs().read(0..9);
-    assert_eq!(session.give_up(read.id), Refused::Unserved(full));
+    assert_eq!(session.give_up(read.id), Error::Unserved(full));
     pass(&mut session, HINT);
-    assert_eq!(session.give_up(next.id), Refused::TimedOut);
+    assert_eq!(session.give_up(next.id), Error::TimedOut);
 }
 
 #[test]

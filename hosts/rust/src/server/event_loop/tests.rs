@@ -84,7 +84,9 @@ fn event_loop() -> (ServerThread<Watching>, TcpStream, Arc<Mutex<Vec<usize>>>) {
     let terms = Leases::of(Duration::from_millis(LEASE)).unwrap().with_drift(0).unwrap();
     let leases = LeaseTable::start(KEPT, &[], Some(terms), now);
     let timings = Arc::new(Timings::new());
-    let events = EventLoop::new(server, None, connections, leases, timings, epoch, log);
+    let history = None;
+    let started = Started { server, epoch, history, leases, connections, timings, log };
+    let events = EventLoop::new(started);
     (ServerThread::new(events, store, sockets, asked), peer, heard)
 }
 

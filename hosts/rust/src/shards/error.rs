@@ -1,17 +1,17 @@
 //! Why a call over shards was refused.
 use crate::model::code::Code;
-use crate::model::refused::{JoinError, Refused};
+use crate::model::error::{Error, JoinError};
 use std::fmt;
 
 /// Why a call of a sharded client did not do what it should.
 #[derive(Clone, Copy, Debug, PartialEq, Eq)]
 #[non_exhaustive]
-pub struct ShardRefused {
+pub struct ShardError {
     /// The shard whose client refused, from 0. `None` if no shard did: the range or the key is none,
     /// or no moment came at which all shards were known together.
     pub shard: Option<usize>,
     /// Why.
-    pub refused: Refused,
+    pub error: Error,
 }
 
 /// Why a sharded client did not join.
@@ -24,29 +24,29 @@ pub struct ShardJoinError {
     pub error: JoinError,
 }
 
-impl ShardRefused {
+impl ShardError {
     /// Makes an error of this shard.
-    pub(crate) fn at(shard: usize) -> impl Fn(Refused) -> ShardRefused {
-        move |refused| ShardRefused { shard: Some(shard), refused }
+    pub(crate) fn at(shard: usize) -> impl Fn(Error) -> ShardError {
+        move |error| ShardError { shard: Some(shard), error }
     }
 }
 
-impl From<Refused> for ShardRefused {
-    fn from(refused: Refused) -> ShardRefused {
-        ShardRefused { shard: None, refused }
+impl From<Error> for ShardError {
+    fn from(error: Error) -> ShardError {
+        ShardError { shard: None, error }
     }
 }
 
-impl From<Code> for ShardRefused {
-    fn from(code: Code) -> ShardRefused {
-        Refused::from(code).into()
+impl From<Code> for ShardError {
+    fn from(code: Code) -> ShardError {
+        Error::from(code).into()
     }
 }
 
-impl fmt::Display for ShardRefused {
+impl fmt::Display for ShardError {
     fn fmt(&self, f: &mut fmt::Formatter<'_>) -> fmt::Result {
         write_shard(self.shard, f)?;
-        self.refused.fmt(f)
+        self.error.fmt(f)
     }
 }
 
@@ -61,9 +61,9 @@ fn write_shard(shard: Option<usize>, f: &mut fmt::Formatter<'_>) -> fmt::Result 
     shard.map_or(Ok(()), |shard| write!(f, "shard {shard}: "))
 }
 
-impl std::error::Error for ShardRefused {
+impl std::error::Error for ShardError {
     fn source(&self) -> Option<&(dyn std::error::Error + 'static)> {
-        Some(&self.refused)
+        Some(&self.error)
     }
 }
 

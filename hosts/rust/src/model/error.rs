@@ -9,7 +9,7 @@ use std::io;
 /// Why a call of a client did not do what it should.
 #[derive(Clone, Copy, Debug, PartialEq, Eq)]
 #[non_exhaustive]
-pub enum Refused {
+pub enum Error {
     /// No answer came within the client's timeout. A read or a forget has changed nothing that is
     /// seen. A write may have changed the table or may still change it: the client goes on to ask
     /// for it, until it is answered or the client is gone.
@@ -84,79 +84,101 @@ pub enum JoinError {
     /// The system has no thread for the client's connection, or no file for it to wait by.
     NoThread(io::Error),
     /// The client refused to start.
-    Refused(Refused),
+    Refused(Error),
 }
 
-impl Refused {
+impl Error {
+    /// Whether the same call may be made again as it is, and may do then what it should: a server that
+    /// is down comes back, and a client that has dropped its cache joins anew.
+    ///
+    /// A write whose outcome is unknown is another write if it is made again: after an error for which
+    /// [`Error::is_unknown_outcome`] is true, a read of the key comes first.
+    #[must_use]
+    pub fn is_retryable(&self) -> bool {
+        match self {
+            Error::TimedOut | Error::StoreWentBack | Error::LeaseEnded | Error::OutOfMemory => true,
+            Error::Unserved(refusal) => refusal.may_pass(),
+            Error::TurnedAway
+            | Error::OtherShard(_)
+            | Error::PinIsVoid
+            | Error::Stopped
+            | Error::BadRange
+            | Error::BadKey
+            | Error::Pinned
+            | Error::TooManyPins
+            | Error::Other(_) => false,
+        }
+    }
+
     /// Whether a write that ended so may have been applied, or may still be: a read of the key tells.
     /// After any other error the write changes nothing.
     #[must_use]
     pub fn is_unknown_outcome(&self) -> bool {
         match self {
-            Refused::TimedOut
-            | Refused::Unserved(_)
-            | Refused::StoreWentBack
-            | Refused::LeaseEnded
-            | Refused::Stopped => true,
-            Refused::TurnedAway
-            | Refused::OtherShard(_)
-            | Refused::BadRange
-            | Refused::BadKey
-            | Refused::Pinned
-            | Refused::PinIsVoid
-            | Refused::TooManyPins
-            | Refused::OutOfMemory
-            | Refused::Other(_) => false,
+            Error::TimedOut
+            | Error::Unserved(_)
+            | Error::StoreWentBack
+            | Error::LeaseEnded
+            | Error::Stopped => true,
+            Error::TurnedAway
+            | Error::OtherShard(_)
+            | Error::BadRange
+            | Error::BadKey
+            | Error::Pinned
+            | Error::PinIsVoid
+            | Error::TooManyPins
+            | Error::OutOfMemory
+            | Error::Other(_) => false,
         }
     }
 }
 
-impl From<Code> for Refused {
-    fn from(code: Code) -> Refused {
+impl From<Code> for Error {
+    fn from(code: Code) -> Error {
         match code {
-            Code::BadSpan => Refused::BadRange,
-            Code::BadPoint => Refused::BadKey,
-            Code::Pinned => Refused::Pinned,
-            Code::TooManyPins => Refused::TooManyPins,
-            Code::OutOfMemory => Refused::OutOfMemory,
+            Code::BadSpan => Error::BadRange,
+            Code::BadPoint => Error::BadKey,
+            Code::Pinned => Error::Pinned,
+            Code::TooManyPins => Error::TooManyPins,
+            Code::OutOfMemory => Error::OutOfMemory,
             // The client is about to join anew.
-            Code::Closed => Refused::StoreWentBack,
-            code => Refused::Other(code),
+            Code::Closed => Error::StoreWentBack,
+            code => Error::Other(code),
         }
     }
 }
 
-impl fmt::Display for Refused {
+impl fmt::Display for Error {
     fn fmt(&self, f: &mut fmt::Formatter<'_>) -> fmt::Result {
         match self {
-            Refused::TimedOut => f.write_str("no answer came in time"),
-            Refused::Unserved(refusal) => write!(f, "no answer came in time: {refusal}"),
-            Refused::TurnedAway => f.write_str(
+            Error::TimedOut => f.write_str("no answer came in time"),
+            Error::Unserved(refusal) => write!(f, "no answer came in time: {refusal}"),
+            Error::TurnedAway => f.write_str(
                 "the connection was turned away: the certificate or the user gives no right to the \
                  client",
             ),
-            Refused::OtherShard(other) => other.fmt(f),
-            Refused::StoreWentBack => f.write_str(
+            Error::OtherShard(other) => other.fmt(f),
+            Error::StoreWentBack => f.write_str(
                 "the server's store went back, and lacks what this client has seen of it: the \
                  client has dropped its cache and its pins, and joins anew",
             ),
-            Refused::LeaseEnded => f.write_str(
+            Error::LeaseEnded => f.write_str(
                 "the client's lease has ended, since no terms of the server came in time: the client \
                  has dropped its cache and its pins, and joins anew",
             ),
-            Refused::PinIsVoid => f.write_str(
+            Error::PinIsVoid => f.write_str(
                 "the pin that the write is bound to is void: the write was not made",
             ),
-            Refused::Stopped => f.write_str("the client's thread has panicked"),
-            Refused::BadRange => f.write_str(
+            Error::Stopped => f.write_str("the client's thread has panicked"),
+            Error::BadRange => f.write_str(
                 "a range of keys begins at its end or below, and ends at 2^63 or below; \
                  a pin's is not empty",
             ),
-            Refused::BadKey => f.write_str("the key is 2^63 - 1 or more"),
-            Refused::Pinned => f.write_str("the range meets a pin"),
-            Refused::TooManyPins => f.write_str("the client has eight pins"),
-            Refused::OutOfMemory => f.write_str("memory was refused"),
-            Refused::Other(code) => code.fmt(f),
+            Error::BadKey => f.write_str("the key is 2^63 - 1 or more"),
+            Error::Pinned => f.write_str("the range meets a pin"),
+            Error::TooManyPins => f.write_str("the client has eight pins"),
+            Error::OutOfMemory => f.write_str("memory was refused"),
+            Error::Other(code) => code.fmt(f),
         }
     }
 }
@@ -180,11 +202,11 @@ impl fmt::Display for JoinError {
     }
 }
 
-impl std::error::Error for Refused {
+impl std::error::Error for Error {
     fn source(&self) -> Option<&(dyn std::error::Error + 'static)> {
         match self {
-            Refused::Other(code) => Some(code),
-            Refused::OtherShard(other) => Some(other),
+            Error::Other(code) => Some(code),
+            Error::OtherShard(other) => Some(other),
             _ => None,
         }
     }
@@ -206,8 +228,8 @@ impl std::error::Error for JoinError {
     }
 }
 
-impl From<Refused> for JoinError {
-    fn from(refused: Refused) -> JoinError {
+impl From<Error> for JoinError {
+    fn from(refused: Error) -> JoinError {
         JoinError::Refused(refused)
     }
 }
@@ -215,5 +237,37 @@ impl From<Refused> for JoinError {
 impl From<LockFileError> for JoinError {
     fn from(error: LockFileError) -> JoinError {
         JoinError::LockFile(error)
+    }
+}
+
+#[cfg(test)]
+mod tests {
+    use super::*;
+    use crate::model::client_set::ClientSet;
+
+    #[test]
+    fn what_passes_by_itself_may_be_tried_again() {
+        let missing = Refusal::Missing(ClientSet::default());
+        let running = Refusal::LeaseRuns { client: 3, registered: 7 };
+        for refusal in [missing, running, Refusal::Full { connections: 256 }] {
+            assert!(Error::Unserved(refusal).is_retryable(), "{refusal}");
+        }
+        for error in [Error::TimedOut, Error::StoreWentBack, Error::LeaseEnded, Error::OutOfMemory]
+        {
+            assert!(error.is_retryable(), "{error}");
+        }
+        let greater = Refusal::Incarnation { client: 3, registered: 7 };
+        for refusal in [Refusal::Denied, Refusal::OtherStore, Refusal::Version { read: 1 }, greater]
+        {
+            assert!(!Error::Unserved(refusal).is_retryable(), "{refusal}");
+        }
+        let other = OtherShard { expected: None, served: None };
+        for error in [Error::TurnedAway, Error::OtherShard(other), Error::PinIsVoid, Error::Stopped]
+        {
+            assert!(!error.is_retryable(), "{error}");
+        }
+        for error in [Error::BadRange, Error::BadKey, Error::Pinned, Error::TooManyPins] {
+            assert!(!error.is_retryable() && !error.is_unknown_outcome(), "{error}");
+        }
     }
 }
