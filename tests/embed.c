@@ -163,6 +163,17 @@ static void keep_waiting(krl_handle *other, krl_handle *server) {
     want(krl_server_held(server, 64).code == KRL_BAD_CLIENT, "a number that is no client's");
 }
 
+/* Client 3 holds RangeX-X from 11 to 15. It gives back a part of that at 15, and nothing of any other point. */
+static void give_back_a_part(krl_handle *client) {
+    krl_reply reply;
+    want(krl_client_lower(client, 15, 16, KRL_RANGE_X_X + 1).code == KRL_BAD_MODE, "a mode that is none");
+    want(krl_client_lower(client, 16, 16, KRL_N).code == KRL_BAD_SPAN, "a span of no point");
+    AGAIN(reply, krl_client_lower(client, 15, 16, KRL_RANGE_S_S));
+    krl_held held = krl_client_held(client, 15), next = krl_client_held(client, 16);
+    want(held.range == KRL_RANGE_PART_S && held.key == KRL_KEY_PART_S, "the part that it keeps");
+    want(krl_client_held(client, 14).range == KRL_RANGE_PART_X && next.range == KRL_RANGE_PART_X, "all else");
+}
+
 /* A client's lease of 1,000, and of 2,000 later. */
 static void lease_runs_from_the_sign(void) {
     krl_lease lease = krl_lease_new();
@@ -301,6 +312,7 @@ int main(int count, char **words) {
     want(reply.detail == 3 && rows[1].key == 15 && rows[1].length == 3 && !memcmp(rows[1].bytes, "abc", 4), "the scan");
     want(krl_client_scan(&client, 0, 21, rows, 2).code == KRL_TOO_SHORT, "a room that is too short");
     keep_waiting(&other, &server);
+    give_back_a_part(&client);
     AGAIN(reply, krl_client_leave(&client));
     want(krl_client_tick(&client).code == KRL_GONE, "a client that has left");
     AGAIN(reply, krl_client_leave(&client));

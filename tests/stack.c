@@ -34,6 +34,7 @@ static void reader_status(void) {
     krl_reader_status(&reader);
 }
 static void client_forget(void) { krl_client_forget(&client, 0, KRL_TOP); }
+static void client_lower(void) { krl_client_lower(&client, 0, KRL_TOP, KRL_RANGE_S_S); }
 static void client_tick(void) { krl_client_tick(&client); }
 static void client_status(void) { krl_client_status(&client); }
 static void server_nudge(void) { krl_server_nudge(&server, 0); }
@@ -119,7 +120,7 @@ int main(void) {
     void (*const calls[])(void) = {server_open, client_open, client_lock, client_scan, client_put, client_delete,
                                    client_tick, server_nudge, server_held, server_next_held, client_status,
                                     reader_scan, reader_status, leases, shard_of, all_parts,
-                                    client_forget, client_leave, client_close, server_close};
+                                    client_lower, client_forget, client_leave, client_close, server_close};
     for (size_t i = 0; i < sizeof calls / sizeof calls[0]; i++) {
         measure(calls[i]);
         settle();

@@ -71,8 +71,15 @@ krl_reply krl_client_scan(krl_handle *handle, uint64_t lo, uint64_t hi, krl_row 
  * KRL_NOT_JOINED, KRL_WRITING, KRL_PINNED, KRL_OUT_OF_MEMORY. */
 krl_reply krl_client_forget(krl_handle *handle, uint64_t lo, uint64_t hi);
 
-/* Pins the points from `lo` on below `hi`: no callback and no forget takes what is held of them. The detail is the
- * pin, from 0 to 7. Refused, in this order, by KRL_BAD_SPAN, KRL_TOO_MANY_PINS. */
+/* Gives back, of what the client holds of the points from `lo` on below `hi`, all that is above the mode `keep`: at
+ * each of these points the client goes on to hold the meet of what it held and `keep`. With KRL_N that is
+ * `krl_client_forget`. A pin keeps all that is held of its points, so a span that meets one is refused whatever `keep`
+ * is. Refused, in this order, by KRL_BAD_MODE, KRL_BAD_SPAN, KRL_NOT_JOINED, KRL_WRITING, KRL_PINNED,
+ * KRL_OUT_OF_MEMORY; then nothing has changed. */
+krl_reply krl_client_lower(krl_handle *handle, uint64_t lo, uint64_t hi, uint32_t keep);
+
+/* Pins the points from `lo` on below `hi`: no callback, no forget and no lower takes what is held of them. The detail
+ * is the pin, from 0 to 7. Refused, in this order, by KRL_BAD_SPAN, KRL_TOO_MANY_PINS. */
 krl_reply krl_client_pin(krl_handle *handle, uint64_t lo, uint64_t hi);
 
 /* Frees a pin. Refused by KRL_NOT_HELD. */

@@ -301,6 +301,11 @@ class client : public handle {
     code forget(std::uint64_t lo, std::uint64_t hi) {
         return detail::ordinary("krl_client_forget", krl_client_forget(get(), lo, hi));
     }
+    /* Gives back what the client holds of the range above this mode. */
+    code lower(std::uint64_t lo, std::uint64_t hi, mode keep) {
+        auto number = static_cast<std::uint32_t>(keep);
+        return detail::ordinary("krl_client_lower", krl_client_lower(get(), lo, hi, number));
+    }
     /* Pins the range as the client holds it. */
     std::variant<pin, code> pin_range(std::uint64_t lo, std::uint64_t hi) {
         krl_reply reply = krl_client_pin(get(), lo, hi);

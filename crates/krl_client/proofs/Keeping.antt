@@ -4,7 +4,6 @@ use Rattle.std.proofs.lemmas.Bool.Decides.{eqb_tells}
 use Rattle.std.proofs.lemmas.Bool.{and_parts}
 use Rattle.krl_modes.specs.declared.point.TheConstants.{END}
 use Rattle.krl_modes.specs.declared.mode.Mode.{Mode}
-use Rattle.krl_modes.specs.declared.mode.Mode.TheVariants as mode
 use Rattle.krl_modes.specs.Spans.{Bounds}
 use Rattle.krl_messages.specs.declared.outcome.Outcome.{Outcome}
 use Rattle.krl_messages.specs.declared.write_op.WriteOp.{WriteOp}
@@ -268,7 +267,7 @@ client_keeps = record {
   start = start_keeps;
   lock = lock_keeps;
   write = write_keeps;
-  forget = λ k s. lower_keeps k s mode.N;
+  lower = lower_keeps;
   pin = λ k s id e. pin_keeps k s id (spanned k s e);
   unpin = unpin_keeps;
   message = message_keeps;

@@ -2,7 +2,6 @@
 use Rattle.std.specs.Prelude.{◌≡◌, ℕ, suc, Bool, true, false, ◌&&◌, ◌||◌, not, Option, Some, None, is_some, List, [], ◌∷◌, if◌then◌else◌, nat_lt, nat_le}
 use Rattle.krl_modes.specs.declared.point.TheConstants.{END}
 use Rattle.krl_modes.specs.declared.mode.Mode.{Mode}
-use Rattle.krl_modes.specs.declared.mode.Mode.TheVariants as mode
 use Rattle.krl_modes.specs.Parts.{lets_insert, is_range_X, is_key_X}
 use Rattle.krl_modes.specs.Spans.{Bounds, contains}
 use Rattle.krl_modes.specs.declared.limits.TheConstants.{MAX_CLIENTS}
@@ -73,8 +72,8 @@ write_refusal k change =
 abbrev pub scan_refusal : Bounds → Option CommandRefused
 scan_refusal s = first_reason (due command_refused.BadSpan (not (is_span s)) ∷ [])
 
-abbrev pub forget_refusal : Client → Bounds → Option CommandRefused
-forget_refusal k s =
+abbrev pub lower_refusal : Client → Bounds → Option CommandRefused
+lower_refusal k s =
     first_reason (
     due command_refused.BadSpan (not (is_span s))
     ∷ due command_refused.NotJoined (not (has_joined k))
@@ -119,14 +118,12 @@ wrote k change = record k { writes = suc k.writes; written = Outstanding change 
 abbrev pub says_write : Client → WriteOp → ToServer
 says_write k change = requests k (asked.Write k.writes change)
 
+-- of each point of the span it keeps the meet of what it holds and this mode
 abbrev pub lowered : Client → Bounds → Mode → Client
 lowered k s keep = record k { belief = lower s keep k.belief }
 
 abbrev pub says_release : Client → Bounds → Mode → ToServer
 says_release k s keep = requests k (asked.Release s keep)
-
-abbrev pub forgot : Client → Bounds → Client
-forgot k s = lowered k s mode.N
 
 abbrev pub pinned : Client → Bounds → ℕ → Client
 pinned k s id = record k { pins = with_pin k.pins id (Some s) }

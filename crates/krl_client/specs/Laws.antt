@@ -9,7 +9,7 @@ use Rattle.krl_messages.specs.declared.to_client.ToClientBody.TheVariants as tol
 use Rattle.krl_messages.specs.declared.to_client.PushBody.{PushBody}
 use Rattle.krl_cache.specs.Beliefs.{Belief}
 use Rattle.krl_client.specs.Clients.{Client, is_writing_in, meets_pin}
-use Rattle.krl_client.specs.Commands.{forget_refusal, forgot}
+use Rattle.krl_client.specs.Commands.{lower_refusal, lowered}
 use Rattle.krl_client.specs.Messages.{Case, Accepts, Lowers, case_of, after, sends}
 use Rattle.krl_client.specs.Ticks.{tick}
 
@@ -32,16 +32,17 @@ pub record RisesByPushes : Type 0 where
       (k : Client) (m : ToClient)
       → ((what : PushBody) × (case_of k m ≡ Accepts what) × IsNextPush k m what)
       ⊎ IsNoMore k.belief (after k (case_of k m)).belief
-  pub forget : (k : Client) (s : Bounds) → IsNoMore k.belief (forgot k s).belief
+  pub lower :
+      (k : Client) (s : Bounds) (keep : Mode) → IsNoMore k.belief (lowered k s keep).belief
 
--- no callback and no forget lowers a span that has the outstanding write's key in it, or meets a
--- pin
+-- no callback and no command lowers a span that has the outstanding write's key in it, or meets a
+-- pin, whatever mode is kept
 pub record KeepsWhatItNeeds : Type 0 where
   pub callback :
       (k : Client) (m : ToClient) (s : Bounds) (keep : Mode) → case_of k m ≡ Lowers s keep
       → (is_writing_in k s ≡ false) × (meets_pin k s ≡ false)
-  pub forget :
-      (k : Client) (s : Bounds) → forget_refusal k s ≡ None
+  pub lower :
+      (k : Client) (s : Bounds) → lower_refusal k s ≡ None
       → (is_writing_in k s ≡ false) × (meets_pin k s ≡ false)
 
 -- no call gives more than three messages

@@ -50,7 +50,7 @@ impl Client {
     }
 
     // Lowers the span, and says so.
-    pub(crate) fn lower(&mut self, span: Span, keep: Mode) -> Result<Vec<ToServer>, AllocError>
+    pub(crate) fn lower_span(&mut self, span: Span, keep: Mode) -> Result<Vec<ToServer>, AllocError>
         ensures unchanged { OnErr result (self.new ≡ self.old) }
         ensures follows { IfOk result
             (λ list. Follows (meaning self.old) (Lowers span keep) (meaning self.new) list.items) }
@@ -228,7 +228,7 @@ impl Client {
         if self.meets_pin(span) {
             return Ok(Vec::new(self.alloc));
         }
-        self.lower(span, keep)
+        self.lower_span(span, keep)
     }
 
     /// Does what the message asks for, and gives what it says to that: at most one message. A

@@ -153,9 +153,9 @@ impl Client {
         Ok(list)
     }
 
-    // Why it refuses to forget the points of the span.
+    // Why it refuses to lower the span.
     fn span_refusal(&self, span: Span) -> Option<CommandRefused>
-        ensures { result ≡ commands.forget_refusal (meaning self.now) span }
+        ensures { result ≡ commands.lower_refusal (meaning self.now) span }
     {
         if !self.has_joined() {
             return Some(CommandRefused::NotJoined);
@@ -169,10 +169,11 @@ impl Client {
         None
     }
 
-    /// Why it refuses to forget the points from `lo` on below `hi`, memory aside: the first of
-    /// `BadSpan`, `NotJoined`, `Writing`, `Pinned`. `forget` judges by the same tests.
-    pub fn forget_refusal(&self, lo: u64, hi: u64) -> Option<CommandRefused>
-        ensures { result ≡ commands.forget_refusal (meaning self.now)
+    /// Why it refuses to give back anything of the points from `lo` on below `hi`, memory aside:
+    /// the first of `BadSpan`, `NotJoined`, `Writing`, `Pinned`. `lower` and `forget` judge by the
+    /// same tests.
+    pub fn lower_refusal(&self, lo: u64, hi: u64) -> Option<CommandRefused>
+        ensures { result ≡ commands.lower_refusal (meaning self.now)
             (record { lo = lo; hi = hi }) }
     {
         match Span::new(lo, hi) {
@@ -181,25 +182,31 @@ impl Client {
         }
     }
 
-    /// Gives back what it holds of the points from `lo` on below `hi`.
+    /// Gives back, of what it holds of the points from `lo` on below `hi`, all that is above
+    /// `keep`: at each of them it goes on to hold the meet of what it held and `keep`. Outside
+    /// these points it holds what it held. The one message that it gives is the Release that says
+    /// so.
+    ///
+    /// A pin keeps all that is held of its points, so `keep` makes no difference to a refusal.
     ///
     /// # Errors
     ///
     /// In this order: `BadSpan` if `lo` is not below `hi`, or `hi` is above TOP; `NotJoined`
     /// before the client was told an epoch; `Writing` if the outstanding write's key is one of
     /// the points; `Pinned` if a pin has one of them; `OutOfMemory`. The client is as it was.
-    pub fn forget(&mut self, lo: u64, hi: u64) -> Result<Vec<ToServer>, CommandRefused>
+    pub fn lower(&mut self, lo: u64, hi: u64, keep: Mode) -> Result<Vec<ToServer>, CommandRefused>
         ensures due { IfErr result
-            (λ r. IsDue (commands.forget_refusal (meaning self.old)
+            (λ r. IsDue (commands.lower_refusal (meaning self.old)
             (record { lo = lo; hi = hi })) r) }
         ensures unchanged { OnErr result (self.new ≡ self.old) }
         ensures none_due { OnOk result
-            (commands.forget_refusal (meaning self.old) (record { lo = lo; hi = hi }) ≡ None) }
+            (commands.lower_refusal (meaning self.old) (record { lo = lo; hi = hi }) ≡ None) }
         ensures client { OnOk result
-            (meaning self.new ≡ commands.forgot (meaning self.old) (record { lo = lo; hi = hi })) }
+            (meaning self.new
+            ≡ commands.lowered (meaning self.old) (record { lo = lo; hi = hi }) keep) }
         ensures says { IfOk result
             (λ list. list.items ≡ commands.says_release (meaning self.old)
-            (record { lo = lo; hi = hi }) N ∷ []) }
+            (record { lo = lo; hi = hi }) keep ∷ []) }
     {
         let Ok(span) = Span::new(lo, hi) else {
             return Err(CommandRefused::BadSpan);
@@ -207,8 +214,30 @@ impl Client {
         if let Some(refusal) = self.span_refusal(span) {
             return Err(refusal);
         }
-        let list = self.lower(span, Mode::N)?;
+        let list = self.lower_span(span, keep)?;
         Ok(list)
+    }
+
+    /// Gives back all that it holds of the points from `lo` on below `hi`: it is `lower` to N.
+    ///
+    /// # Errors
+    ///
+    /// Those of `lower`, in the same order. The client is as it was.
+    pub fn forget(&mut self, lo: u64, hi: u64) -> Result<Vec<ToServer>, CommandRefused>
+        ensures due { IfErr result
+            (λ r. IsDue (commands.lower_refusal (meaning self.old)
+            (record { lo = lo; hi = hi })) r) }
+        ensures unchanged { OnErr result (self.new ≡ self.old) }
+        ensures none_due { OnOk result
+            (commands.lower_refusal (meaning self.old) (record { lo = lo; hi = hi }) ≡ None) }
+        ensures client { OnOk result
+            (meaning self.new
+            ≡ commands.lowered (meaning self.old) (record { lo = lo; hi = hi }) N) }
+        ensures says { IfOk result
+            (λ list. list.items ≡ commands.says_release (meaning self.old)
+            (record { lo = lo; hi = hi }) N ∷ []) }
+    {
+        self.lower(lo, hi, Mode::N)
     }
 
     /// Leaves: says Bye, which gives back all that it holds, and is gone.

@@ -33,6 +33,7 @@ pub enum Act {
     Lock(u64, Mode),
     LockTo(u64, u64, Mode),
     Write(Change),
+    Lower(u64, u64, Mode),
     Forget(u64, u64),
     Pin(u64, u64),
     Unpin(u64),
@@ -250,6 +251,7 @@ fn command(client: &mut Client, act: Act) -> Result<Vec<ToServer>, CommandRefuse
         Act::Lock(point, mode) => client.lock(point, point.saturating_add(1), mode),
         Act::LockTo(point, hi, mode) => client.lock(point, hi, mode),
         Act::Write(change) => client.write(op_of(change)),
+        Act::Lower(lo, hi, keep) => client.lower(lo, hi, keep),
         Act::Forget(lo, hi) => client.forget(lo, hi),
         _ => match client.tick() {
             Ok(list) => Ok(list),

@@ -3,8 +3,9 @@ use crate::acts::{Act, Gives, Held, Says};
 use krl_client::{CommandRefused, LockStatus, WriteStatus};
 use krl_modes::{KeyPart, Mode, RangePart};
 
-// A lock, its grant, the same again, one that is too late and one that is too early.
-pub static LOCKS: [(Act, Gives); 22] = [
+// A lock, its grant, the same again, one that is too late and one that is too early. What is
+// granted is given back in part, and then whole.
+pub static LOCKS: [(Act, Gives); 28] = [
     (Act::Epoch(1), Gives::One(Says::Report(1, &[], &[]))),
     (
         Act::Lock(5, Mode::RangeXX),
@@ -68,13 +69,25 @@ pub static LOCKS: [(Act, Gives); 22] = [
         Gives::Shows(1, 3, LockStatus::Absent, WriteStatus::NotWritten),
     ),
     (
+        Act::Lower(0, 11, Mode::RangeSS),
+        Gives::One(Says::Release(1, 3, 0, 11, Mode::RangeSS)),
+    ),
+    (Act::At(10), Gives::Here(RangePart::S, KeyPart::S)),
+    (Act::Scan(0, 21), Gives::Rows(&[(10, 1), (20, 2)])),
+    (
+        Act::Lower(0, 21, Mode::RangeIX),
+        Gives::One(Says::Release(1, 3, 0, 21, Mode::RangeIX)),
+    ),
+    (Act::At(10), Gives::Here(RangePart::N, KeyPart::S)),
+    (Act::At(20), Gives::Here(RangePart::N, KeyPart::S)),
+    (
         Act::Forget(0, 21),
         Gives::One(Says::Release(1, 3, 0, 21, Mode::N)),
     ),
 ];
 
 // Eight pins, each under the least id that is free; nothing is given back that meets one.
-pub static PINS: [(Act, Gives); 19] = [
+pub static PINS: [(Act, Gives); 20] = [
     (Act::Epoch(1), Gives::One(Says::Report(1, &[], &[]))),
     (
         Act::Grant(1, 1, 1, Held(0, 11, Mode::RangeXX, Some(1))),
@@ -92,6 +105,10 @@ pub static PINS: [(Act, Gives); 19] = [
     (Act::Pin(9, 8), Gives::Refused(CommandRefused::BadSpan)),
     (Act::Callback(1, 7, 11, Mode::N), Gives::Nothing),
     (Act::Forget(3, 4), Gives::Refused(CommandRefused::Pinned)),
+    (
+        Act::Lower(3, 4, Mode::RangeXX),
+        Gives::Refused(CommandRefused::Pinned),
+    ),
     (Act::Unpin(3), Gives::Nothing),
     (Act::Unpin(3), Gives::Refused(CommandRefused::NotHeld)),
     (

@@ -71,7 +71,8 @@ is passed over.
   delete C K        client C asks for the end of the entry with key K
   scan C LO HI      client C reads its cache from LO on below HI: rows, or the first point it
                     misses, or the key of its write that is pending there
-  forget C LO HI    client C gives back what it holds from LO on below HI
+  forget C LO HI    client C gives back what it holds from LO on below HI; lower C LO HI MODE
+                    gives back only what is above this mode
   pin C LO HI       client C keeps it, and prints the pin's number; unpin C ID frees that pin
   leave C           client C gives everything back and ends
   tick C            client C repeats what is not answered; nudge C asks the server to

@@ -79,7 +79,7 @@ abbrev pub scan : Draw Step
 scan = of_client (span >>= λ s. always (command.Scan s.0 s.1))
 
 abbrev pub forget : Draw Step
-forget = of_client (span >>= λ s. always (command.Forget s.0 s.1))
+forget = of_client (span >>= λ s. always (command.Lower s.0 s.1 mode.N))
 
 -- the oldest message that was never delivered; if there is none, a client ticks
 abbrev pub oldest : Option ℕ → Draw Step

@@ -167,7 +167,14 @@ impl Generator {
     {
         let client = self.client();
         let (lo, hi) = self.span();
-        Step::Command(client, Command::Forget { lo, hi })
+        Step::Command(
+            client,
+            Command::Lower {
+                lo,
+                hi,
+                keep: Mode::N,
+            },
+        )
     }
 
     // A client crashes, or else ticks.

@@ -4,7 +4,6 @@ use Rattle.std.specs.Prelude.{Result, Ok, Err}
 use Rattle.std.specs.Global.{Vec}
 use Rattle.krl_modes.specs.Names.{all_modes}
 use Rattle.krl_modes.specs.declared.mode.Mode.{Mode}
-use Rattle.krl_modes.specs.declared.mode.Mode.TheVariants.{N}
 use Rattle.krl_modes.specs.Spans.{Bounds}
 use Rattle.krl_messages.specs.Values.{Value}
 use Rattle.krl_messages.specs.declared.write_op.WriteOp.{WriteOp}
@@ -132,11 +131,13 @@ insert_of key bytes = if nat_le (length bytes) max_value_bytes then Some (write.
 abbrev pub put_of : ℕ → List ℕ → Option WriteOp
 put_of key bytes = if nat_le (length bytes) max_value_bytes then Some (write.Put key bytes) else None
 
-abbrev pub Forgets : Bounds → Fields → List ℕ → Fields → List ℕ → Reply → Type 0
-Forgets s k old l new r =
+-- what is held of a span above a mode is given back; there is no mode if its place is not among all modes
+abbrev pub Lowers : Bounds → Option Mode → Fields → List ℕ → Fields → List ℕ → Reply → Type 0
+Lowers s None k old l new r = (r.detail ≡ 0) × Refused code.BadMode k old l new (code_of r)
+Lowers s (Some keep) k old l new r =
     (r.detail ≡ 0)
-    × Commanded (commands.forget_refusal (meaning k) s) (commands.forgot (meaning k) s)
-    (commands.says_release (meaning k) s N) k old l new (code_of r)
+    × Commanded (commands.lower_refusal (meaning k) s) (commands.lowered (meaning k) s keep)
+    (commands.says_release (meaning k) s keep) k old l new (code_of r)
 
 -- a pin is refused for what is due; else the detail is the pin
 abbrev pub PinsAs : Option CommandRefused → Bounds → Fields → List ℕ → Fields → List ℕ → Reply → Type 0

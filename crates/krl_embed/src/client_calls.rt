@@ -107,8 +107,8 @@ pub(crate) fn tick(alloc: Global, endpoint: &mut Endpoint) -> Reply
     }
 }
 
-// The mode at this place among all modes.
-fn mode_at(place: u32) -> Option<Mode>
+/// The mode at this place among all modes.
+pub(crate) fn mode_at(place: u32) -> Option<Mode>
     ensures { result ≡ slice_get all_modes place }
 {
     match Mode::ALL.get(place as usize) {
@@ -173,22 +173,38 @@ pub(crate) fn write(alloc: Global, endpoint: &mut Endpoint, op: Option<WriteOp>)
     }
 }
 
-fn give_back(alloc: Global, client: &mut Client, outgoing: &mut Frames, lo: u64, hi: u64) -> Reply
-    ensures { calls.Forgets (record { lo = lo; hi = hi }) client.old outgoing.old
+fn give_back(
+    alloc: Global,
+    client: &mut Client,
+    outgoing: &mut Frames,
+    lo: u64,
+    hi: u64,
+    keep: Option<Mode>,
+) -> Reply
+    ensures { calls.Lowers (record { lo = lo; hi = hi }) keep client.old outgoing.old
         client.new outgoing.new result }
 {
-    let messages = client.forget(lo, hi);
+    let Some(mode) = keep else {
+        return Reply::of(Code::BadMode);
+    };
+    let messages = client.lower(lo, hi, mode);
     said(alloc, outgoing, messages)
 }
 
-/// Gives back what the client holds of a span.
-pub(crate) fn forget(alloc: Global, endpoint: &mut Endpoint, lo: u64, hi: u64) -> Reply
-    ensures does { OnClient (calls.Forgets (record { lo = lo; hi = hi })) endpoint.old endpoint.new
-        result }
+/// Gives back what the client holds of a span above a mode.
+pub(crate) fn lower(
+    alloc: Global,
+    endpoint: &mut Endpoint,
+    lo: u64,
+    hi: u64,
+    keep: Option<Mode>,
+) -> Reply
+    ensures does { OnClient (calls.Lowers (record { lo = lo; hi = hi }) keep) endpoint.old
+        endpoint.new result }
     ensures notes { endpoint.new.notes ≡ endpoint.old.notes }
 {
     match &mut endpoint.role {
-        Role::Client(client) => give_back(alloc, client, &mut endpoint.outgoing, lo, hi),
+        Role::Client(client) => give_back(alloc, client, &mut endpoint.outgoing, lo, hi, keep),
         Role::Left(_) => Reply::of(Code::Gone),
         Role::Server(_) => Reply::of(Code::NoClient),
     }

@@ -1,5 +1,7 @@
 //! Exports on clients.
-ghost use Rattle.std.specs.Prelude.{◌≡◌, Some, None, OnOk, IfOk, IfErr, unwrap_or};
+ghost use Rattle.std.specs.Prelude.{◌≡◌, Some, None, OnOk, IfOk, IfErr, unwrap_or, slice_get};
+ghost use Rattle.krl_modes.specs.Names.{all_modes};
+ghost use Rattle.krl_modes.specs.declared.mode.Mode.TheVariants.{N};
 ghost use Rattle.krl_client.specs.Fields.{meaning};
 ghost use Rattle.krl_embed.specs.Opening as opening;
 ghost use Rattle.krl_embed.specs.declared.code.Code.TheVariants as code;
@@ -21,7 +23,7 @@ use crate::reply::Reply;
 use crate::rows::Row;
 use krl_client::{Client, StartRefused};
 use krl_messages::{Value, WriteOp};
-use krl_modes::MAX_CLIENTS;
+use krl_modes::{MAX_CLIENTS, Mode};
 use std::alloc::Global;
 
 // A client that starts, and its Hello. The library's own start takes an incarnation of 0, of which
@@ -226,19 +228,46 @@ pub extern "C" fn krl_client_scan(
     reply
 }
 
-/// Gives back what the client holds of a span.
-#[unsafe(no_mangle)]
-pub extern "C" fn krl_client_forget(alloc: Global, handle: &mut Handle, lo: u64, hi: u64) -> Reply
-    ensures does { OnHandle IsCode (OnClient (calls.Forgets (record { lo = lo; hi = hi })))
+fn lower(alloc: Global, handle: &mut Handle, lo: u64, hi: u64, keep: Option<Mode>) -> Reply
+    ensures does { OnHandle IsCode (OnClient (calls.Lowers (record { lo = lo; hi = hi }) keep))
         handle.old.owned.value handle.new.owned.value result }
     ensures notes { notes_of handle.new.owned.value ≡ notes_of handle.old.owned.value }
 {
     let Some(mut endpoint) = take(alloc, handle) else {
         return Reply::of(Code::Closed);
     };
-    let reply = client_calls::forget(alloc, &mut endpoint, lo, hi);
+    let reply = client_calls::lower(alloc, &mut endpoint, lo, hi, keep);
     put(handle, endpoint);
     reply
+}
+
+/// Gives back what the client holds of a span.
+#[unsafe(no_mangle)]
+pub extern "C" fn krl_client_forget(alloc: Global, handle: &mut Handle, lo: u64, hi: u64) -> Reply
+    ensures does { OnHandle IsCode
+        (OnClient (calls.Lowers (record { lo = lo; hi = hi }) (Some N)))
+        handle.old.owned.value handle.new.owned.value result }
+    ensures notes { notes_of handle.new.owned.value ≡ notes_of handle.old.owned.value }
+{
+    lower(alloc, handle, lo, hi, Some(Mode::N))
+}
+
+/// Gives back what the client holds of a span above a mode. The mode is given by its place among
+/// all modes.
+#[unsafe(no_mangle)]
+pub extern "C" fn krl_client_lower(
+    alloc: Global,
+    handle: &mut Handle,
+    lo: u64,
+    hi: u64,
+    keep: u32,
+) -> Reply
+    ensures does { OnHandle IsCode
+        (OnClient (calls.Lowers (record { lo = lo; hi = hi }) (slice_get all_modes keep)))
+        handle.old.owned.value handle.new.owned.value result }
+    ensures notes { notes_of handle.new.owned.value ≡ notes_of handle.old.owned.value }
+{
+    lower(alloc, handle, lo, hi, client_calls::mode_at(keep))
 }
 
 /// Pins a span.

@@ -40,7 +40,7 @@ module _ (w : FencedWorld) (h : Shown w) where
   on_command v c k (command.Lock point hi m) answer i e d = on_client v c _ _ (commands_show.lock k point hi m e (shared_of w.world.server) (h.of c) c (w.world.places c).last_incarnation (place_at c (Some k) i)) d.1
   on_command v c k (command.Write op) answer i e d = on_client v c _ _ (commands_show.write k op e (shared_of w.world.server) (h.of c) c (w.world.places c).last_incarnation (place_at c (Some k) i)) d.1
   on_command v c k (command.Scan lo hi) answer i e d = subst To (sym d.1) h
-  on_command v c k (command.Forget lo hi) answer i e d = on_client v c _ _ (commands_show.forget k (span lo hi) e (shared_of w.world.server) (h.of c) c (w.world.places c).last_incarnation (place_at c (Some k) i)) d.1
+  on_command v c k (command.Lower lo hi keep) answer i e d = on_client v c _ _ (commands_show.lower k (span lo hi) keep e (shared_of w.world.server) (h.of c) c (w.world.places c).last_incarnation (place_at c (Some k) i)) d.1
   on_command v c k (command.Pin lo hi) answer i e d = on_client v c _ _ (commands_show.pin k (span lo hi) d.0 (shared_of w.world.server) (h.of c) c (w.world.places c).last_incarnation (place_at c (Some k) i)) d.3
   on_command v c k (command.Unpin id) answer i e d = on_client v c _ _ (commands_show.unpin k id (shared_of w.world.server) (h.of c) c (w.world.places c).last_incarnation (place_at c (Some k) i)) d.1
   on_command v c k command.Leave answer i e d = on_client v c _ _ (commands_show.leave k (shared_of w.world.server) (h.of c) c (w.world.places c).last_incarnation (place_at c (Some k) i)) d.1

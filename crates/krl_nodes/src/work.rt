@@ -82,7 +82,11 @@ impl Writing {
                 key: 15,
                 value: Value::from_u64(5),
             })),
-            Writing::Forget => ClientOrder::Command(Command::Forget { lo: 11, hi: 21 }),
+            Writing::Forget => ClientOrder::Command(Command::Lower {
+                lo: 11,
+                hi: 21,
+                keep: Mode::N,
+            }),
             Writing::Leave => ClientOrder::Command(Command::Leave),
             Writing::End => ClientOrder::Letter,
         }

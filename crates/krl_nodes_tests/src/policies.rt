@@ -49,7 +49,11 @@ fn order_of(who: Who, round: u64) -> ClientOrder {
             key: 15,
             value: Value::from_u64(5),
         })),
-        (9, _) => ClientOrder::Command(Command::Forget { lo: 0, hi: 64 }),
+        (9, _) => ClientOrder::Command(Command::Lower {
+            lo: 0,
+            hi: 64,
+            keep: Mode::N,
+        }),
         _ => ClientOrder::Letter,
     }
 }

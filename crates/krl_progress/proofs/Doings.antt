@@ -3,7 +3,7 @@ use Rattle.krl_progress.proofs.Names.{◌≡◌, ℕ, suc, ◌≤◌, ◌<◌, �
 use Rattle.krl_progress.proofs.Names.{ToServer, ToClient, Client, Message, AppliedWrite, Step, Command, Answer, ServerPlace, Up, Down, State, Server, Durable, client_of, with_client, seated, served, message_at, ServerReads, ClientReads, ServerStep, Delivers, Obeys, nudged, started, crashed, Takes, refused_by_client, Pieces, start, nudge, span, applies, case_of, command_refusal}
 use Rattle.krl_client.specs.Clients.{begun, is_waiting, outstanding, LockRequest, NotAsked, Granted, Absent, Dropped, Waiting, has_joined, LastWrite, Unwritten, Outstanding, Judged}
 use Rattle.krl_messages.specs.declared.outcome.Outcome.{Outcome}
-use Rattle.krl_client.specs.Commands.{says_lock, locked, says_write, wrote, says_release, says_bye, forgot, pinned, unpinned, lock_refusal}
+use Rattle.krl_client.specs.Commands.{says_lock, locked, says_write, wrote, says_release, says_bye, lowered, pinned, unpinned, lock_refusal}
 use Rattle.krl_client.specs.declared.refused.CommandRefused.TheVariants as refused
 use Rattle.krl_client.specs.Ticks.{tick, says_hello, lock_again, write_again}
 use Rattle.krl_client.specs.Messages as receiver
@@ -18,7 +18,6 @@ use Rattle.krl_messages.specs.declared.to_client.ToClientBody.TheVariants as tol
 use Rattle.krl_messages.specs.declared.to_client.PushBody.{PushBody}
 use Rattle.krl_messages.specs.declared.to_client.PushBody.TheVariants as push
 use Rattle.krl_modes.specs.declared.mode.Mode.{Mode}
-use Rattle.krl_modes.specs.declared.mode.Mode.TheVariants as mode
 use Rattle.krl_steps.specs.declared.step.Step.TheVariants as step
 use Rattle.krl_steps.specs.declared.step.Command.TheVariants as command
 use Rattle.krl_world.specs.declared.message.Message.TheVariants as message
@@ -274,7 +273,7 @@ obeys_does : (u v : State) (c : ℕ) (k : Client) (what : Command) (answer : Ans
 obeys_does u v c k (command.Lock point hi g) answer r i d = place_does u v c k _ _ i (locks point hi g (not_waiting k point hi r) (reaches k point hi r)) (unwritten k (locked k point hi g) _ refl refl refl (one_silent (says_lock (locked k point hi g) point hi g) refl)) d.1
 obeys_does u v c k (command.Write op) answer r i d = place_does u v c k _ _ i (same (wrote k op) (says_write (wrote k op) op ∷ []) refl refl refl refl refl (one_asks k.number k.req (says_write (wrote k op) op) refl (omega arith))) (writes_now k op (write_free k op r).0) d.1
 obeys_does u v c k (command.Scan lo hi) answer r i d = rests_at u v d.1
-obeys_does u v c k (command.Forget lo hi) answer r i d = place_does u v c k _ _ i (same (forgot k (span lo hi)) (says_release k (span lo hi) mode.N ∷ []) refl refl refl refl refl (one_asks k.number k.req (says_release k (span lo hi) mode.N) refl (omega arith))) (unwritten k (forgot k (span lo hi)) _ refl refl refl (one_silent (says_release k (span lo hi) mode.N) refl)) d.1
+obeys_does u v c k (command.Lower lo hi keep) answer r i d = place_does u v c k _ _ i (same (lowered k (span lo hi) keep) (says_release k (span lo hi) keep ∷ []) refl refl refl refl refl (one_asks k.number k.req (says_release k (span lo hi) keep) refl (omega arith))) (unwritten k (lowered k (span lo hi) keep) _ refl refl refl (one_silent (says_release k (span lo hi) keep) refl)) d.1
 obeys_does u v c k (command.Pin lo hi) answer r i d = place_does u v c k _ _ i (same (pinned k (span lo hi) d.0) [] refl refl refl refl refl (none_asks k.number k.req)) (unwritten k (pinned k (span lo hi) d.0) [] refl refl refl none_silent) d.3
 obeys_does u v c k (command.Unpin id) answer r i d = place_does u v c k _ _ i (same (unpinned k id) [] refl refl refl refl refl (none_asks k.number k.req)) (unwritten k (unpinned k id) [] refl refl refl none_silent) d.1
 obeys_does u v c k command.Leave answer r i d = subst (Does u) (sym d.1) (ends c k.number (says_bye k ∷ []) (one_asks k.number 0 (says_bye k) refl (omega arith)) (one_silent (says_bye k) refl))

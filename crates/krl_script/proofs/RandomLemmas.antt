@@ -77,7 +77,7 @@ command_same w v c (command.Lock p hi m) (Ok answer) t h = tt
 command_same w v c (command.Write op) (Ok answer) t h = tt
 command_same w v c (command.Scan lo hi) (Ok answer) t h =
     subst (λ (u : State). CommandIsRange (index_of u) (command.Scan lo hi) answer) (sym (scan_stays w v c lo hi (Ok answer) t)) h
-command_same w v c (command.Forget lo hi) (Ok answer) t h = tt
+command_same w v c (command.Lower lo hi keep) (Ok answer) t h = tt
 command_same w v c (command.Pin lo hi) (Ok answer) t h = tt
 command_same w v c (command.Unpin id) (Ok answer) t h = tt
 command_same w v c command.Leave (Ok answer) t h = tt

@@ -136,7 +136,7 @@ some_command : (w : State) (c : ℕ) (what : Command) (k : Client) → client_of
 some_command w c (command.Lock p hi m) k is may e = starved w (step.Command c (command.Lock p hi m)) e (k, is, tt)
 some_command w c (command.Write op) k is may e = starved w (step.Command c (command.Write op)) e (k, is, tt)
 some_command w c (command.Scan lo hi) k is may e = some_scan w c lo hi k is e
-some_command w c (command.Forget lo hi) k is may e = starved w (step.Command c (command.Forget lo hi)) e (k, is, tt)
+some_command w c (command.Lower lo hi keep) k is may e = starved w (step.Command c (command.Lower lo hi keep)) e (k, is, tt)
 some_command w c (command.Pin lo hi) k is may e =
     let id = free (is_span (span lo hi)) (free_pin k) may in
     taken w _ (step.Command c (command.Pin lo hi)) (told.Pinned id.0) e (k, is, (id.0, id.1, refl, refl))

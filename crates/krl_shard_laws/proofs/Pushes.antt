@@ -5,7 +5,6 @@ use Rattle.krl_modes.specs.declared.point.TheConstants.{END, TOP}
 use Rattle.krl_modes.specs.declared.part.RangePart.{RangePart}
 use Rattle.krl_modes.specs.declared.part.KeyPart.{KeyPart}
 use Rattle.krl_modes.specs.declared.mode.Mode.{Mode}
-use Rattle.krl_modes.specs.declared.mode.Mode.TheVariants as mode
 use Rattle.krl_modes.specs.Modes.{range_of, key_of}
 use Rattle.krl_modes.specs.Parts.{range_meet, key_meet, reads_key, reads_gap}
 use Rattle.krl_messages.specs.Values.{Value}
@@ -215,7 +214,7 @@ obeys : (v w : State) (c d : ℕ) (k : Client) (what : Command) (answer : Answer
 obeys v w c d k (command.Lock point hi m) answer none up ok h = becomes v w c d _ k _ (says_lock (locked k point hi m) point hi m ∷ []) h.1 up (λ i. changes k (locked k point hi m) refl (λ op x. x))
 obeys v w c d k (command.Write op) answer none up ok h = becomes v w c d _ k _ (says_write (wrote k op) op ∷ []) h.1 up (λ i. changes k (wrote k op) refl (writes_first k op ok))
 obeys v w c d k (command.Scan lo hi) answer none up ok h = still v w c (ap (λ x. client_of x c) (sym h.1))
-obeys v w c d k (command.Forget lo hi) answer none up ok h = becomes v w c d _ k _ (says_release k (span lo hi) mode.N ∷ []) h.1 up (λ i. lowers k (span lo hi) mode.N none)
+obeys v w c d k (command.Lower lo hi keep) answer none up ok h = becomes v w c d _ k _ (says_release k (span lo hi) keep ∷ []) h.1 up (λ i. lowers k (span lo hi) keep none)
 obeys v w c d k (command.Pin lo hi) answer none up ok h = becomes v w c d _ k _ [] h.3 up (λ i. changes k _ refl (λ op x. x))
 obeys v w c d k (command.Unpin id) answer none up ok h = becomes v w c d _ k _ [] h.1 up (λ i. changes k _ refl (λ op x. x))
 obeys v w c d k command.Leave answer none up ok h = becomes v w c d _ k None (says_bye k ∷ []) h.1 up (λ i. gone (Some k))

@@ -25,12 +25,14 @@ pub enum Command {
         /// One past the last point.
         hi: u64,
     },
-    /// Give back all that is held of the points from `lo` on below `hi`.
-    Forget {
+    /// Give back, of what is held of the points from `lo` on below `hi`, all that is above `keep`.
+    Lower {
         /// The first point.
         lo: u64,
         /// One past the last point.
         hi: u64,
+        /// The greatest mode that the client goes on to hold there.
+        keep: Mode,
     },
     /// Keep what is held of the points from `lo` on below `hi`.
     Pin {

@@ -6,6 +6,7 @@ use Rattle.std.specs.Str.{bytes_eq, all_ascii_digits}
 use Rattle.std.specs.Str.Parse.{digits_value}
 use Rattle.krl_modes.specs.declared.point.TheConstants.{END, TOP}
 use Rattle.krl_modes.specs.declared.mode.Mode.{Mode}
+use Rattle.krl_modes.specs.declared.mode.Mode.TheVariants as mode
 use Rattle.krl_modes.specs.Names.{mode_named}
 use Rattle.krl_steps.specs.declared.step.Step.TheVariants as step
 use Rattle.krl_steps.specs.declared.step.Command.TheVariants as command
@@ -159,6 +160,7 @@ triple_text triple.Pin = codes "pin"
 abbrev pub word_text : Word → List ℕ
 word_text word.Seed = codes "seed"
 word_text word.Lock = codes "lock"
+word_text word.Lower = codes "lower"
 word_text word.Crash = codes "crash"
 word_text word.Start = codes "start"
 word_text (word.Alone w) = alone_text w
@@ -170,7 +172,7 @@ word_text (word.Triple w) = triple_text w
 -- every word
 abbrev pub all_words : List Word
 all_words =
-    word.Seed ∷ word.Lock ∷ word.Crash ∷ word.Start
+    word.Seed ∷ word.Lock ∷ word.Lower ∷ word.Crash ∷ word.Start
     ∷ word.Alone alone.Settle ∷ word.Alone alone.Drop ∷ word.Alone alone.Missing
     ∷ word.Alone alone.Index ∷ word.Alone alone.Writes ∷ word.Alone alone.Check
     ∷ word.Alone alone.Modes
@@ -223,7 +225,7 @@ valued_request w c k v = request.Step (step.Command c (command.Write (valued_cha
 -- what a word tells a client to do, with two numbers
 abbrev pub triple_command : Triple → ℕ → ℕ → Command
 triple_command triple.Scan lo hi = command.Scan lo hi
-triple_command triple.Forget lo hi = command.Forget lo hi
+triple_command triple.Forget lo hi = command.Lower lo hi mode.N
 triple_command triple.Pin lo hi = command.Pin lo hi
 
 abbrev pub triple_request : Triple → ℕ → ℕ → ℕ → Request
@@ -290,6 +292,13 @@ lock_of arguments =
     number_at arguments 1 >>= λ p. mode_of (argument arguments 2) >>= λ m. reach_of p arguments >>= λ hi.
     Ok (request.Step (step.Command c (command.Lock p hi m)))
 
+-- a client, the two ends of a span, and the greatest mode that the client keeps of it
+abbrev pub lower_of : List (List ℕ) → Result Request SyntaxFault
+lower_of arguments =
+    argument_count 4 arguments >>= λ _. number_at arguments 0 >>= λ c.
+    number_at arguments 1 >>= λ lo. number_at arguments 2 >>= λ hi. mode_of (argument arguments 3) >>= λ keep.
+    Ok (request.Step (step.Command c (command.Lower lo hi keep)))
+
 -- the argument is the word 'server'
 abbrev pub is_server : List (List ℕ) → Bool
 is_server arguments = bytes_eq (argument arguments 0) (codes "server")
@@ -312,6 +321,7 @@ start_of arguments =
 unfoldable pub request_of : Word → List (List ℕ) → Result Request SyntaxFault
 request_of word.Seed arguments = seed_of arguments
 request_of word.Lock arguments = lock_of arguments
+request_of word.Lower arguments = lower_of arguments
 request_of word.Crash arguments = crash_of arguments
 request_of word.Start arguments = start_of arguments
 request_of (word.Alone w) arguments = argument_count 0 arguments >>= λ _. Ok (alone_request w)

@@ -6,8 +6,8 @@ ghost use Rattle.std.specs.Str.{bytes_eq};
 ghost use Rattle.krl_text.specs.Words.{Gives, words_of, digits_of, number_of, bytes_of, value_of};
 ghost use Rattle.krl_text.specs.Words.{pair_of, pairs_of, mode_of, argument_count, argument};
 ghost use Rattle.krl_text.specs.Words.{or_fault, single_of, double_of, triple_of, valued_of};
-ghost use Rattle.krl_text.specs.Words.{seed_of, argument_count_within, reach_of, lock_of, crash_of};
-ghost use Rattle.krl_text.specs.Words.{start_of, request_of, meaning_of_words, meaning_of};
+ghost use Rattle.krl_text.specs.Words.{seed_of, argument_count_within, reach_of, lock_of, lower_of};
+ghost use Rattle.krl_text.specs.Words.{crash_of, start_of, request_of, meaning_of_words, meaning_of};
 
 use crate::fault::{LineFault, SyntaxFault};
 use crate::request::{Entries, Request};
@@ -235,6 +235,17 @@ fn lock(arguments: &[&[u8]]) -> Result<Request, LineFault>
     Ok(Request::Step(Step::Command(client, Command::Lock { point, hi, mode })))
 }
 
+fn lower(arguments: &[&[u8]]) -> Result<Request, LineFault>
+    ensures { Gives result (lower_of (map (λ word. word.now) arguments.now)) }
+{
+    count(4, arguments)?;
+    let client = number_at(arguments, 0)?;
+    let lo = number_at(arguments, 1)?;
+    let hi = number_at(arguments, 2)?;
+    let keep = mode_at(arguments, 3)?;
+    Ok(Request::Step(Step::Command(client, Command::Lower { lo, hi, keep })))
+}
+
 fn crash(arguments: &[&[u8]]) -> Result<Request, LineFault>
     ensures { Gives result (crash_of (map (λ word. word.now) arguments.now)) }
 {
@@ -264,6 +275,7 @@ fn request(alloc: Global, word: Word, arguments: &[&[u8]]) -> Result<Request, Li
     match word {
         Word::Seed => seed(alloc, arguments),
         Word::Lock => lock(arguments),
+        Word::Lower => lower(arguments),
         Word::Crash => crash(arguments),
         Word::Start => start(arguments),
         Word::Alone(word) => {

@@ -7,6 +7,7 @@ ghost use Rattle.krl_text.specs.Words.{triple_command, triple_request};
 
 use crate::request::{Query, Request};
 use krl_messages::{Value, WriteOp};
+use krl_modes::Mode;
 use krl_steps::{Command, Step};
 
 /// The words that stand alone.
@@ -201,7 +202,11 @@ impl Triple {
         let (lo, hi) = (second, third);
         match self {
             Triple::Scan => Command::Scan { lo, hi },
-            Triple::Forget => Command::Forget { lo, hi },
+            Triple::Forget => Command::Lower {
+                lo,
+                hi,
+                keep: Mode::N,
+            },
             Triple::Pin => Command::Pin { lo, hi },
         }
     }
@@ -221,6 +226,8 @@ pub enum Word {
     Seed,
     /// `lock`, a client, a point and a mode.
     Lock,
+    /// `lower`, a client, two numbers and a mode.
+    Lower,
     /// `crash`, and a client or the word `server`.
     Crash,
     /// `start`, and the word `server`.
@@ -238,9 +245,10 @@ pub enum Word {
 }
 
 // Every word.
-static WORDS: [Word; 27] = [
+static WORDS: [Word; 28] = [
     Word::Seed,
     Word::Lock,
+    Word::Lower,
     Word::Crash,
     Word::Start,
     Word::Alone(Alone::Settle),
@@ -276,6 +284,7 @@ impl Word {
         match self {
             Word::Seed => "seed",
             Word::Lock => "lock",
+            Word::Lower => "lower",
             Word::Crash => "crash",
             Word::Start => "start",
             Word::Alone(word) => word.text(),

@@ -1,14 +1,13 @@
 -- What a client that runs does with the list of all that was sent, and what a server does, before a world is put
 -- together of them.
 use Rattle.std.specs.Prelude.{◌≡◌, ℕ, suc, ◌⊎◌, is_some, Bool, true, false, ◌&&◌, nat_lt, nat_eq, if◌then◌else◌, List, [], ◌∷◌, ◌++◌, Option, Some, None, Result, Ok, Err}
-use Rattle.krl_modes.specs.declared.mode.Mode.TheVariants as mode
 use Rattle.krl_messages.specs.declared.to_server.ToServer.{ToServer}
 use Rattle.krl_messages.specs.declared.to_client.ToClient.{ToClient}
 use Rattle.krl_durable.specs.declared.change.Change.{Change}
 use Rattle.krl_durable.specs.declared.change.Change.TheVariants as change
 use Rattle.krl_client.specs.Clients.{Client, begun, free_pin}
 use Rattle.krl_client.specs.Commands
-use Rattle.krl_client.specs.Commands.{wrote, says_lock, says_write, says_release, forgot, pinned, unpinned, says_bye, start_refusal}
+use Rattle.krl_client.specs.Commands.{wrote, says_lock, says_write, says_release, lowered, pinned, unpinned, says_bye, start_refusal}
 use Rattle.krl_client.specs.FieldSteps.{Follows, IsTick}
 use Rattle.krl_client.specs.Messages as receiver
 use Rattle.krl_client.specs.Ticks.{says_hello}
@@ -44,9 +43,9 @@ Does k (command.Write op) answer next old new =
     (answer ≡ answered.Done) × (next ≡ Some (wrote k op))
     × (new ≡ old ++ from_clients (says_write (wrote k op) op ∷ []))
 Does k (command.Scan lo hi) answer next old new = ScanAnswers k (span lo hi) answer × (next ≡ Some k) × (new ≡ old)
-Does k (command.Forget lo hi) answer next old new =
-    (answer ≡ answered.Done) × (next ≡ Some (forgot k (span lo hi)))
-    × (new ≡ old ++ from_clients (says_release k (span lo hi) mode.N ∷ []))
+Does k (command.Lower lo hi keep) answer next old new =
+    (answer ≡ answered.Done) × (next ≡ Some (lowered k (span lo hi) keep))
+    × (new ≡ old ++ from_clients (says_release k (span lo hi) keep ∷ []))
 Does k (command.Pin lo hi) answer next old new =
     (id : ℕ) × (free_pin k ≡ Some id) × (answer ≡ answered.Pinned id) × (next ≡ Some (pinned k (span lo hi) id))
     × (new ≡ old)

@@ -25,10 +25,9 @@ use Rattle.krl_client.specs.declared.refused.CommandRefused.{CommandRefused}
 use Rattle.krl_client.specs.declared.scan_answer.ScanAnswer.TheVariants as scan_answer
 use Rattle.krl_client.specs.Clients.{Client, begun, is_writing_in, free_pin}
 use Rattle.krl_client.specs.Commands
-use Rattle.krl_client.specs.Commands.{lock_refusal, write_refusal, scan_refusal, forget_refusal, pin_refusal, unpin_refusal, start_refusal, says_lock, wrote, says_write, says_release, forgot, pinned, unpinned, says_bye}
+use Rattle.krl_client.specs.Commands.{lock_refusal, write_refusal, scan_refusal, lower_refusal, pin_refusal, unpin_refusal, start_refusal, says_lock, wrote, says_write, says_release, lowered, pinned, unpinned, says_bye}
 use Rattle.krl_client.specs.Messages as receiver
 use Rattle.krl_client.specs.Ticks.{tick, says_hello}
-use Rattle.krl_modes.specs.declared.mode.Mode.TheVariants as mode
 use Rattle.krl_modes.specs.declared.limits.TheConstants.{MAX_CLIENTS}
 use Rattle.krl_modes.specs.Limits.{max_entries}
 use Rattle.krl_messages.specs.Values.{Value}
@@ -88,7 +87,7 @@ abbrev pub command_refusal : Client → Command → Option CommandRefused
 command_refusal k (command.Lock point hi m) = lock_refusal k point hi
 command_refusal k (command.Write op) = write_refusal k op
 command_refusal k (command.Scan lo hi) = scan_refusal (span lo hi)
-command_refusal k (command.Forget lo hi) = forget_refusal k (span lo hi)
+command_refusal k (command.Lower lo hi keep) = lower_refusal k (span lo hi)
 command_refusal k (command.Pin lo hi) = pin_refusal k (span lo hi)
 command_refusal k (command.Unpin id) = unpin_refusal k id
 command_refusal k command.Leave = None
@@ -178,9 +177,9 @@ Obeys w c k (command.Lock point hi m) answer w' =
 Obeys w c k (command.Write op) answer w' =
     (answer ≡ answered.Done) × (w' ≡ with_client w c (Some (wrote k op)) (says_write (wrote k op) op ∷ []))
 Obeys w c k (command.Scan lo hi) answer w' = ScanAnswers k (span lo hi) answer × (w' ≡ w)
-Obeys w c k (command.Forget lo hi) answer w' =
+Obeys w c k (command.Lower lo hi keep) answer w' =
     (answer ≡ answered.Done)
-    × (w' ≡ with_client w c (Some (forgot k (span lo hi))) (says_release k (span lo hi) mode.N ∷ []))
+    × (w' ≡ with_client w c (Some (lowered k (span lo hi) keep)) (says_release k (span lo hi) keep ∷ []))
 Obeys w c k (command.Pin lo hi) answer w' =
     (id : ℕ) × (free_pin k ≡ Some id) × (answer ≡ answered.Pinned id)
     × (w' ≡ with_client w c (Some (pinned k (span lo hi) id)) [])
@@ -233,7 +232,7 @@ abbrev pub CommandTakesMemory : Client → Command → Type 0
 CommandTakesMemory k (command.Lock point hi m) = Unit {0}
 CommandTakesMemory k (command.Write op) = Unit {0}
 CommandTakesMemory k (command.Scan lo hi) = (is_writing_in k (span lo hi) ≡ false) × CoversAll k.belief (span lo hi)
-CommandTakesMemory k (command.Forget lo hi) = Unit {0}
+CommandTakesMemory k (command.Lower lo hi keep) = Unit {0}
 CommandTakesMemory k (command.Pin lo hi) = ⊥
 CommandTakesMemory k (command.Unpin id) = ⊥
 CommandTakesMemory k command.Leave = Unit {0}

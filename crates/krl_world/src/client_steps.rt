@@ -68,15 +68,21 @@ fn write(client: &mut Client, sent: &mut Vec<Message>, op: WriteOp) -> Result<An
     Ok(Answer::Done)
 }
 
-/// The client forgets a span.
-fn forget(client: &mut Client, sent: &mut Vec<Message>, lo: u64, hi: u64) -> Result<Answer, Refused>
-    ensures { Commanded (meaning client.old) (command.Forget lo hi) (Some (meaning client.new))
+/// The client gives back what it holds of a span above a mode.
+fn lower(
+    client: &mut Client,
+    sent: &mut Vec<Message>,
+    lo: u64,
+    hi: u64,
+    keep: Mode,
+) -> Result<Answer, Refused>
+    ensures { Commanded (meaning client.old) (command.Lower lo hi keep) (Some (meaning client.new))
         sent.old.items sent.new.items result }
 {
     if sent.reserve(MAX_OF_A_CLIENT).is_err() {
-        return Err(refused_without_room(client.forget_refusal(lo, hi)));
+        return Err(refused_without_room(client.lower_refusal(lo, hi)));
     }
-    let messages = client.forget(lo, hi)?;
+    let messages = client.lower(lo, hi, keep)?;
     send_to_server(sent, messages);
     Ok(Answer::Done)
 }
@@ -153,7 +159,7 @@ pub fn obey(
         Command::Lock { point, hi, mode } => lock(client, sent, point, hi, mode),
         Command::Write(op) => write(client, sent, op),
         Command::Scan { lo, hi } => scan(client, lo, hi),
-        Command::Forget { lo, hi } => forget(client, sent, lo, hi),
+        Command::Lower { lo, hi, keep } => lower(client, sent, lo, hi, keep),
         Command::Pin { lo, hi } => pin(client, lo, hi),
         Command::Unpin(id) => unpin(client, id),
         Command::Leave => leave(place, sent),

@@ -66,7 +66,14 @@ fn steps() -> [Step; 24] {
         Step::Deliver(10),
         Step::Deliver(11),
         Step::Deliver(12),
-        Step::Command(0, Command::Forget { lo: 0, hi: 21 }),
+        Step::Command(
+            0,
+            Command::Lower {
+                lo: 0,
+                hi: 21,
+                keep: Mode::N,
+            },
+        ),
         Step::Command(0, Command::Leave),
     ]
 }

@@ -4,7 +4,6 @@ use Rattle.krl_refinement.proofs.Names.{and_parts, not-false, END, TOP, KeyPart,
 use Rattle.krl_refinement.proofs.Names.{mode_parts, lower, is_span, Client, begun, LockRequest, Waiting, outstanding, has_joined, is_in, is_writing_in, op_of, op_shown, Grows, server_part, IsFrom}
 use Rattle.krl_refinement.proofs.Names.{ShowsClient, ShowsPlace, Leads}
 use Rattle.krl_modes.specs.declared.part.KeyPart.TheVariants as key
-use Rattle.krl_modes.specs.declared.mode.Mode.TheVariants as mode
 use Rattle.krl_messages.specs.declared.write_op.WriteOp.TheVariants as op
 use Rattle.krl_machine.specs.Links
 use Rattle.krl_machine.specs.Links.{Op, op_key, Link, Shared, LinkStep, idle, next, MayIssue, head_of, starts, crashes, leaves, lowers, issues, speaks}
@@ -14,7 +13,7 @@ use Rattle.krl_cache.proofs.Truths.{outside_span}
 use Rattle.krl_cache.proofs.Calls.{either_none}
 use Rattle.krl_messages.specs.Writes.{op_key as key_of_op}
 use Rattle.krl_modes.proofs.PartLaws.{range_is_X}
-use Rattle.krl_client.specs.Commands.{holds_for, lock_refusal, write_refusal, forget_refusal, locked, wrote, lowered, forgot, says_lock, says_write, says_release, says_bye}
+use Rattle.krl_client.specs.Commands.{holds_for, lock_refusal, write_refusal, lower_refusal, locked, wrote, lowered, says_lock, says_write, says_release, says_bye}
 use Rattle.krl_client.specs.Ticks.{says_hello}
 use Rattle.krl_refinement.proofs.Client.Basics.{grows_not, passed, lowered_at, before_last}
 
@@ -166,6 +165,6 @@ lowers_show s l c g k span keep h old some free = took s l _ c g _ _ h.1.number 
     )
     (inl (cc (h.1.inc, h.1.epoch, h.1.seen)), (some, inl (cc (h.1.inc, h.1.epoch, h.1.seen))))
 
-pub forgets_show : (s : Shared) (l : Link) (c g : ℕ) (k : Client) (span : Bounds) → ShowsPlace c g (Some k) l → forget_refusal k span ≡ None → Leads s l c g (Some (forgot k span)) (says_release k span mode.N ∷ [])
-forgets_show s l c g k span h e = let p1 = passed _ _ _ e in let p2 = passed _ _ _ p1.1 in let p3 = passed _ _ _ p2.1 in
-    lowers_show s l c g k span mode.N h (joined_epoch c k l h.1 (not-false _ p2.0)) (ltb-true span.lo span.hi (and_parts (nat_lt span.lo span.hi) (nat_le span.hi TOP) (not-false _ p1.0)).0) p3.0
+pub given_back_shows : (s : Shared) (l : Link) (c g : ℕ) (k : Client) (span : Bounds) (keep : Mode) → ShowsPlace c g (Some k) l → lower_refusal k span ≡ None → Leads s l c g (Some (lowered k span keep)) (says_release k span keep ∷ [])
+given_back_shows s l c g k span keep h e = let p1 = passed _ _ _ e in let p2 = passed _ _ _ p1.1 in let p3 = passed _ _ _ p2.1 in
+    lowers_show s l c g k span keep h (joined_epoch c k l h.1 (not-false _ p2.0)) (ltb-true span.lo span.hi (and_parts (nat_lt span.lo span.hi) (nat_le span.hi TOP) (not-false _ p1.0)).0) p3.0

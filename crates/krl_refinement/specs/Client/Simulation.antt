@@ -9,11 +9,10 @@ use Rattle.krl_messages.specs.declared.to_server.ToServer.{ToServer}
 use Rattle.krl_machine.specs.Links.{Link, Shared}
 use Rattle.krl_cache.specs.Kept.{Describes}
 use Rattle.krl_client.specs.Clients.{Client, begun}
-use Rattle.krl_client.specs.Commands.{lock_refusal, locked, says_lock, write_refusal, wrote, says_write, forget_refusal, forgot, says_release, pinned, unpinned, says_bye}
+use Rattle.krl_client.specs.Commands.{lock_refusal, locked, says_lock, write_refusal, wrote, says_write, lower_refusal, lowered, says_release, pinned, unpinned, says_bye}
 use Rattle.krl_client.specs.Messages.{case_of, after, sends}
 use Rattle.krl_client.specs.Ticks.{tick, says_hello}
 use Rattle.krl_refinement.specs.Client.Shows.{IsTo, ShowsPlace, Leads}
-use Rattle.krl_modes.specs.declared.mode.Mode.TheVariants as mode
 
 -- a client that runs, and shows in the link, leaves this and sends these
 abbrev pub Shown : Client → Option Client → List ToServer → Type 0
@@ -36,8 +35,8 @@ pub record CommandsShow : Type 0 where
   pub write : (k : Client) (change : WriteOp) → write_refusal k change ≡ None →
       Shown k (Some (wrote k change)) (says_write (wrote k change) change ∷ [])
   pub scan : (k : Client) → Shown k (Some k) []
-  pub forget : (k : Client) (span : Bounds) → forget_refusal k span ≡ None →
-      Shown k (Some (forgot k span)) (says_release k span mode.N ∷ [])
+  pub lower : (k : Client) (span : Bounds) (keep : Mode) → lower_refusal k span ≡ None →
+      Shown k (Some (lowered k span keep)) (says_release k span keep ∷ [])
   pub pin : (k : Client) (span : Bounds) (id : ℕ) → Shown k (Some (pinned k span id)) []
   pub unpin : (k : Client) (id : ℕ) → Shown k (Some (unpinned k id)) []
   pub leave : (k : Client) → Shown k None (says_bye k ∷ [])

@@ -27,7 +27,7 @@ obeys : (w v : State) (c : ℕ) (k : Client) (what : Command) (a : Answer) (next
 obeys w v c k (command.Lock point hi m) a next sent i e d = (d.0, gone_by w v c next _ sent _ e d.1 d.2)
 obeys w v c k (command.Write op) a next sent i e d = (d.0, gone_by w v c next _ sent _ e d.1 d.2)
 obeys w v c k (command.Scan lo hi) a next sent i e d = (d.0, gone_nowhere w v c next sent e (d.1 ∙ sym i) d.2)
-obeys w v c k (command.Forget lo hi) a next sent i e d = (d.0, gone_by w v c next _ sent _ e d.1 d.2)
+obeys w v c k (command.Lower lo hi keep) a next sent i e d = (d.0, gone_by w v c next _ sent _ e d.1 d.2)
 obeys w v c k (command.Pin lo hi) a next sent i e d = (d.0, d.1, d.2, quietly w v c next _ sent e d.3 d.4)
 obeys w v c k (command.Unpin id) a next sent i e d = (d.0, quietly w v c next _ sent e d.1 d.2)
 obeys w v c k command.Leave a next sent i e d = (d.0, gone_by w v c next _ sent _ e d.1 d.2)

@@ -43,7 +43,7 @@ obeys_left : (w v : State) (c : ℕ) (k : Client) (what : Command) (answer : Ans
 obeys_left w v c k (command.Lock point hi m) answer r e d = place_left w v c _ _ (in_range c r _ e) d.1
 obeys_left w v c k (command.Write op) answer r e d = place_left w v c _ _ (in_range c r _ e) d.1
 obeys_left w v c k (command.Scan lo hi) answer r e d = same_left w v d.1
-obeys_left w v c k (command.Forget lo hi) answer r e d = place_left w v c _ _ (in_range c r _ e) d.1
+obeys_left w v c k (command.Lower lo hi keep) answer r e d = place_left w v c _ _ (in_range c r _ e) d.1
 obeys_left w v c k (command.Pin lo hi) answer r e d = place_left w v c _ _ (in_range c r _ e) d.3
 obeys_left w v c k (command.Unpin id) answer r e d = place_left w v c _ _ (in_range c r _ e) d.1
 obeys_left w v c k command.Leave answer r e d = place_left w v c _ _ (in_range c r _ e) d.1

@@ -2,13 +2,12 @@
 use Rattle.krl_world.proofs.Names.{◌≡◌, ℕ, zero, suc, ◌+◌, ◌-◌, ◌≤◌, ◌<◌, Bool, true, false, cond, Option, Some, None, List, [], ◌∷◌, ◌⊎◌, inl, inr, refl, sym, subst, arith, is_some, nat_lt, nat_le}
 use Rattle.krl_world.proofs.Names.{ltb-true, eqb_tells, and_parts, not-false, not, END, TOP, Value, WriteOp, Pieces, ToServer, ToClient, op_key, always_bounded, restarts_hold, scans_are_index}
 use Rattle.krl_world.proofs.Names.{case_of, ServerFollows, Belief, is_span, is_covered, CoversAll, AreRows, Describes, Client, outstanding, is_in, is_writing_in, free_pin, begun, is_pending}
-use Rattle.krl_world.proofs.Names.{finds_rows, misses, locked, says_lock, wrote, says_write, says_release, forgot, pinned, unpinned, says_bye, passed, Message, Step, Command, Answer, Refused}
+use Rattle.krl_world.proofs.Names.{finds_rows, misses, locked, says_lock, wrote, says_write, says_release, lowered, pinned, unpinned, says_bye, passed, Message, Step, Command, Answer, Refused}
 use Rattle.krl_world.proofs.Names.{ServerPlace, Up, Down, State, index_of, client_of, with_client, seated, served, span, message_at, command_refusal, if_runs, refusal_of, applies, ServerReads}
 use Rattle.krl_world.proofs.Names.{ClientReads, Delivers, ScanAnswers, Obeys, nudged, started, crashed, Takes, IsReachable, refused_by_client, CanGoOn}
 use Rattle.krl_server.proofs.Outputs.Ends.{step_ends}
 use Rattle.krl_client.specs.Messages as receiver
 use Rattle.krl_client.specs.Ticks.{tick, says_hello}
-use Rattle.krl_modes.specs.declared.mode.Mode.TheVariants as mode
 use Rattle.krl_world.specs.declared.message.Message.TheVariants as message
 use Rattle.krl_steps.specs.declared.step.Step.TheVariants as step
 use Rattle.krl_steps.specs.declared.step.Command.TheVariants as command
@@ -102,7 +101,7 @@ obeys_on w c k (command.Scan lo hi) up h e =
     let is = not-false _ (passed _ _ _ e).0 in
     let x = scan_on k lo hi (index.range (index_of w) lo hi) is (h c lo hi k up is) in
     (x.0, w, (x.1, refl))
-obeys_on w c k (command.Forget lo hi) up h e = (told.Done, with_client w c (Some (forgot k (span lo hi))) (says_release k (span lo hi) mode.N ∷ []), (refl, refl))
+obeys_on w c k (command.Lower lo hi keep) up h e = (told.Done, with_client w c (Some (lowered k (span lo hi) keep)) (says_release k (span lo hi) keep ∷ []), (refl, refl))
 obeys_on w c k (command.Pin lo hi) up h e =
     let x = some_id (free_pin k) (passed _ _ _ (passed _ _ _ e).1).0 in
     (told.Pinned x.0, with_client w c (Some (pinned k (span lo hi) x.0)) [], (x.0, x.1, refl, refl))

@@ -148,7 +148,7 @@ command_range w v of log c k (command.Scan lo hi) (told.Pinned id) h scan up ok 
 command_range w v of log c k (command.Scan lo hi) (told.Rows rows) h scan up ok d = scan_rows w of log c lo hi k rows (scanned.Rows rows) h scan up ok d.0 refl
 command_range w v of log c k (command.Scan lo hi) (told.Miss p) h scan up ok d = tt
 command_range w v of log c k (command.Scan lo hi) (told.Pending n) h scan up ok d = tt
-command_range w v of log c k (command.Forget lo hi) answer h scan up ok d = tt
+command_range w v of log c k (command.Lower lo hi keep) answer h scan up ok d = tt
 command_range w v of log c k (command.Pin lo hi) answer h scan up ok d = tt
 command_range w v of log c k (command.Unpin id) answer h scan up ok d = tt
 command_range w v of log c k command.Leave answer h scan up ok d = tt

@@ -32,7 +32,7 @@ obey_way : (w v : State) (s : Step) (c : ℕ) (k : Client) (what : Command) (ans
 obey_way w v s c k (command.Lock point hi m) answer d = same w v _ s refl d.1
 obey_way w v s c k (command.Write op) answer d = same w v _ s refl d.1
 obey_way w v s c k (command.Scan lo hi) answer d = same w v _ s refl d.1
-obey_way w v s c k (command.Forget lo hi) answer d = same w v _ s refl d.1
+obey_way w v s c k (command.Lower lo hi keep) answer d = same w v _ s refl d.1
 obey_way w v s c k (command.Pin lo hi) answer d = same w v _ s refl d.3
 obey_way w v s c k (command.Unpin id) answer d = same w v _ s refl d.1
 obey_way w v s c k command.Leave answer d = same w v _ s refl d.1

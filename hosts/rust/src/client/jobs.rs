@@ -5,6 +5,7 @@ mod crossed;
 mod hold;
 mod leased;
 mod pinning;
+mod sharing;
 mod takings;
 mod watched;
 mod writing;
@@ -29,6 +30,7 @@ use crossed::Crossed;
 use hold::Taking;
 pub use hold::{Held, Purpose};
 use leased::Speech;
+use sharing::SharedRows;
 use takings::Takings;
 use watched::Watched;
 use writing::Written;
@@ -131,6 +133,7 @@ pub(crate) struct Jobs {
     /// What was given back just before that lock was asked for.
     yielded: Option<Range<u64>>,
     narrowed: Narrowed,
+    shared: SharedRows,
     crossed: Crossed,
     asking: Asking,
     room: Vec<Row>,
@@ -172,6 +175,7 @@ impl Jobs {
             asked: 0..0,
             yielded: None,
             narrowed: Narrowed::default(),
+            shared: SharedRows::default(),
             crossed: Crossed::default(),
             asking: Asking::Allowed,
             room: Vec::with_capacity(64),
@@ -345,8 +349,12 @@ impl Jobs {
             let message = Message::read(message);
             if let Some(span) = message.called_back() {
                 self.pins.note(&span);
+                self.note_shared(&span);
             }
             self.step(message)?;
+            if let Some(slot) = message.answered_slot() {
+                self.share_written(&slot);
+            }
         }
         self.is_changed = true;
         self.advance(Asking::Later);

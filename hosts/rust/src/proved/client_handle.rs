@@ -261,6 +261,14 @@ impl ClientHandle {
             .map(drop)
     }
 
+    /// Gives back what the client holds of the keys above this mode.
+    pub fn lower(&mut self, keys: &Range<u64>, keep: Mode) -> Result<(), Code> {
+        let Range { start, end } = *keys;
+        // SAFETY: `call` gives the handle to this call alone.
+        self.call(|handle| unsafe { ffi::krl_client_lower(handle, start, end, keep as u32) })
+            .map(drop)
+    }
+
     pub fn pin(&mut self, keys: &Range<u64>) -> Result<u64, Code> {
         // SAFETY: `call` gives the handle to this call alone.
         self.call(|handle| unsafe { ffi::krl_client_pin(handle, keys.start, keys.end) })
@@ -282,6 +290,13 @@ impl ClientHandle {
         const X: u32 = 3;
         let held = self.handle.get().handle.held(point);
         held.range == X && held.key == X
+    }
+
+    /// Whether the client holds the entry of this key so that it may change it, and no other client
+    /// may read it.
+    pub fn may_change(&self, key: u64) -> bool {
+        const X: u32 = 3;
+        self.handle.get().handle.held(key).key == X
     }
 
     /// Whether the client holds the entry of this key so that it alone may change it next.

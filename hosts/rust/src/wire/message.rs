@@ -13,6 +13,10 @@ const EPOCH_AT: usize = 18;
 /// Where a callback has the points that it calls back: from the first number to the second.
 const SPAN_AT: [usize; 2] = [26, 34];
 
+/// Where an Answer has the points of the slot that its write was about: after the head, three
+/// numbers and the outcome.
+const ANSWERED_AT: [usize; 2] = [43, 51];
+
 /// Where a Lock and a Grant have the number of their request: after the head and two numbers.
 const REQUEST_AT: usize = 34;
 
@@ -153,8 +157,17 @@ impl<'m> Message<'m> {
 
     /// The points that a message to a client calls back, if it is a callback.
     pub fn called_back(&self) -> Option<Range<u64>> {
-        let [start, end] = SPAN_AT.map(|at| number(self.bytes, at));
-        Some(start?..end?).filter(|_| self.kind() == Kind::Callback)
+        self.span(SPAN_AT).filter(|_| self.kind() == Kind::Callback)
+    }
+
+    /// The points of the slot that the written key lies in, if it is the answer to a write.
+    pub fn answered_slot(&self) -> Option<Range<u64>> {
+        self.span(ANSWERED_AT).filter(|_| self.kind() == Kind::Answer)
+    }
+
+    fn span(&self, at: [usize; 2]) -> Option<Range<u64>> {
+        let [start, end] = at.map(|at| number(self.bytes, at));
+        Some(start?..end?)
     }
 
     /// The number of the request of a Lock or a Grant.
@@ -228,6 +241,7 @@ pub(crate) mod tests {
                 bytes.resize(length.max(2), 0xff);
                 let message = Message::read(&bytes);
                 let _ = (message.epoch(), message.called_back(), message.request());
+                let _ = message.answered_slot();
                 assert_eq!(message.client(), None);
             }
         }
@@ -251,6 +265,17 @@ pub(crate) mod tests {
         assert_eq!(Message::read(&bytes[..40]).called_back(), None);
         bytes[KIND_AT] = kind::GRANT;
         assert_eq!(Message::read(&bytes).called_back(), None);
+    }
+
+    #[test]
+    fn an_answer_has_its_slot() {
+        let mut bytes = message(kind::ANSWER, &[3, 2, 1, 4, 6]);
+        bytes.push(0);
+        bytes.extend([100_u64, 200].iter().flat_map(|point| point.to_le_bytes()));
+        assert_eq!(Message::read(&bytes).answered_slot(), Some(100..200));
+        assert_eq!(Message::read(&bytes[..58]).answered_slot(), None);
+        bytes[KIND_AT] = kind::GRANT;
+        assert_eq!(Message::read(&bytes).answered_slot(), None);
     }
 
     #[test]

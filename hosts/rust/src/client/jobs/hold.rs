@@ -46,6 +46,11 @@ impl Taking {
         let Taking { keys, purpose, .. } = self;
         Taking { next: keys.start, keys, purpose, pin: None, asked: None }
     }
+
+    /// Whether a point of this slot lies in the range.
+    pub(super) fn meets(&self, slot: &Range<u64>) -> bool {
+        self.keys.start < slot.end && slot.start < self.keys.end
+    }
 }
 
 impl Jobs {

@@ -59,6 +59,12 @@ impl Jobs {
         }
     }
 
+    /// Whether the write that was on its way is judged Applied by now. Its job has not ended yet.
+    pub(super) fn has_just_written(&self) -> bool {
+        let number = self.written.as_ref().map(|written| written.number);
+        self.shows(|shown| number == Some(shown.number) && shown.outcome == Some(Outcome::Applied))
+    }
+
     pub(super) fn advance_write(
         &mut self,
         id: JobId,

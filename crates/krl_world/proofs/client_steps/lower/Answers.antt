@@ -1,12 +1,12 @@
 use Rattle.std.proofs.Common.{Some, ap}
 use Rattle.std.proofs.lemmas.Result.{err_from_is_err_and}
-use Rattle.krl_client.specs.Commands.{forget_refusal}
+use Rattle.krl_client.specs.Commands.{lower_refusal}
 use Rattle.krl_client.specs.Fields.{meaning}
 use Rattle.krl_world.proofs.Functions.Due.{as_due}
-use Rattle.krl_world.proofs.client_steps.forget.Goals as goal
+use Rattle.krl_world.proofs.client_steps.lower.Goals as goal
 
 pub returns-in_err-messages : goal.returns-in_err-messages
 returns-in_err-messages c =
     let k = meaning c.args.client.now in
     let p = err_from_is_err_and c.from_residual.result c.from_residual.ensures.1 in
-    rw (p.1, p.2) (ap (λ n. Some (meaning n)) c.in_err-messages.ensures.unchanged, c.reserve.ensures.items, as_due (forget_refusal k (record { lo = c.args.lo; hi = c.args.hi })) _ c.in_err-messages.ensures.due)
+    rw (p.1, p.2) (ap (λ n. Some (meaning n)) c.in_err-messages.ensures.unchanged, c.reserve.ensures.items, as_due (lower_refusal k (record { lo = c.args.lo; hi = c.args.hi })) _ c.in_err-messages.ensures.due)
