@@ -6,6 +6,7 @@ ghost use Rattle.krl_blocks.specs.Entries.{KeysRise, NoKey, HasEntry, IsFound, I
 ghost use Rattle.krl_blocks.specs.Entries.{IsRemoved, IsChanged};
 
 use crate::entries::Entries;
+use crate::finger::Finger;
 use crate::found::Found;
 use crate::layout::Layout;
 use std::alloc::{AllocError, Global};
@@ -110,6 +111,15 @@ impl<V: Copy + Drop> Blocks<V> {
         self.layout.find(point)
     }
 
+    /// As `find`, by a search that begins at the finger, and moves it to where the point stands. So
+    /// a walk that takes a finger along needs no search for the point after one that it has found.
+    pub fn find_by(&self, point: u64, finger: &mut Finger) -> Found<'_, V>
+        ensures found { IsFound self.now.list point result.before result.run.now }
+        ensures rises { KeysRise self.now.list }
+    {
+        self.layout.find_by(point, finger)
+    }
+
     /// The entries from the first at or above the point, as far as its block goes: there is at
     /// least one, if there is any. A walk asks again behind the last of them.
     pub fn run(&self, point: u64) -> &[(u64, V)]
@@ -122,10 +132,14 @@ impl<V: Copy + Drop> Blocks<V> {
     pub fn get(&self, key: u64) -> Option<V>
         ensures { MatchOption result (NoKey key self.now.list) (λ v. HasEntry self.now.list key v) }
     {
-        match self.find(key).run.first() {
-            Some(entry) if entry.0 == key => Some(entry.1),
-            _ => None,
-        }
+        self.find(key).value_of(key)
+    }
+
+    /// As `get`, by a search that begins at the finger, and moves it to where the key stands.
+    pub fn get_by(&self, key: u64, finger: &mut Finger) -> Option<V>
+        ensures { MatchOption result (NoKey key self.now.list) (λ v. HasEntry self.now.list key v) }
+    {
+        self.find_by(key, finger).value_of(key)
     }
 
     /// As `get`; and later searches begin where the key stands. So what is done next at the key, or
@@ -135,8 +149,10 @@ impl<V: Copy + Drop> Blocks<V> {
             (λ v. HasEntry self.old.list key v) }
         ensures same { self.new ≡ self.old }
     {
-        self.layout.seek(key);
-        self.get(key)
+        let mut finger = self.layout.finger;
+        let value = self.get_by(key, &mut finger);
+        self.layout.finger = finger;
+        value
     }
 
     /// Puts in an entry of a key that no entry has. It takes no memory: there is room.

@@ -25,8 +25,8 @@ pub struct Layout<V> {
     pub tops: Vec<u64>,
     /// The blocks, in key order.
     pub shelf: Shelf<V>,
-    /// Where a search begins.
-    finger: Finger,
+    /// Where a search begins that is given no other finger.
+    pub finger: Finger,
 }
 
 impl<V: Copy + Drop> Layout<V> {
@@ -38,7 +38,7 @@ impl<V: Copy + Drop> Layout<V> {
         Layout {
             tops: Vec::new(alloc),
             shelf: Shelf::new(alloc),
-            finger: Finger { block: 0, entry: 0 },
+            finger: Finger::new(),
         }
     }
 
@@ -64,8 +64,19 @@ impl<V: Copy + Drop> Layout<V> {
         requires kept { IsKept self.now.tops self.now.shelf }
         ensures { IsFound (flat self.now.shelf.blocks) point result.before result.run.now }
     {
+        let mut finger = self.finger;
+        self.find_by(point, &mut finger)
+    }
+
+    /// As `find`, by a search that begins at the finger. The finger is where the point stands from
+    /// then on.
+    pub fn find_by(&self, point: u64, finger: &mut Finger) -> Found<'_, V>
+        requires kept { IsKept self.now.tops self.now.shelf }
+        ensures { IsFound (flat self.now.shelf.blocks) point result.before result.run.now }
+    {
         let tops: &[u64] = &self.tops;
-        let b = count_tops(tops, point, self.finger.block);
+        let b = count_tops(tops, point, finger.block);
+        finger.block = b;
         let (front, _) = tops.split_at(b);
         let last = front.last().copied();
         if b >= self.shelf.len() {
@@ -75,7 +86,8 @@ impl<V: Copy + Drop> Layout<V> {
             };
         }
         let entries = self.shelf.get(b);
-        let count = count_keys(entries, point, self.finger.entry);
+        let count = count_keys(entries, point, finger.entry);
+        finger.entry = count;
         let (below, run) = entries.split_at(count);
         match below.last() {
             None => Found { before: last, run },
@@ -84,22 +96,6 @@ impl<V: Copy + Drop> Layout<V> {
                 run,
             },
         }
-    }
-
-    /// Later searches begin where the point stands.
-    pub fn seek(&mut self, point: u64)
-        requires kept { IsKept self.old.tops self.old.shelf }
-        ensures tops { self.new.tops ≡ self.old.tops }
-        ensures shelf { self.new.shelf ≡ self.old.shelf }
-    {
-        let tops: &[u64] = &self.tops;
-        let b = count_tops(tops, point, self.finger.block);
-        let mut entry = 0;
-        if b < self.shelf.len() {
-            let entries = self.shelf.get(b);
-            entry = count_keys(entries, point, self.finger.entry);
-        }
-        self.finger = Finger { block: b, entry };
     }
 
     /// Gives the entry of the key another value, and answers the one before.

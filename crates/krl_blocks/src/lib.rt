@@ -18,5 +18,6 @@ mod spot;
 pub use blocks::Blocks;
 pub use detached_box::DetachedBox;
 pub use entries::Entries;
+pub use finger::Finger;
 pub use found::Found;
 pub use reserved_map::ReservedMap;

@@ -6,6 +6,7 @@ ghost use Rattle.slab.specs.Slab.{Updates, ContainsKey, slab_len, get};
 ghost use Rattle.krl_blocks.specs.ReservedMaps.{IsNextKey};
 
 use crate::blocks::Blocks;
+use crate::finger::Finger;
 use slab::Slab;
 use std::alloc::{AllocError, Global};
 use std::marker::Model;
@@ -72,6 +73,14 @@ impl<V: Drop> ReservedMap<V> {
         ensures { option_copied result ≡ map.get self.now.map key }
     {
         let place = self.places.get(key)?;
+        self.values.get(place)
+    }
+
+    /// As `get`, by a search that begins at the finger, and moves it to where the key stands.
+    pub fn get_by(&self, key: u64, finger: &mut Finger) -> Option<&V>
+        ensures { option_copied result ≡ map.get self.now.map key }
+    {
+        let place = self.places.get_by(key, finger)?;
         self.values.get(place)
     }
 

@@ -1,7 +1,7 @@
 -- Holdings side by side whose range parts agree, taken over at once.
 use Rattle.krl_cache.proofs.Names.{◌≡◌, ◌≢◌, inl, inr, ℕ, suc, ◌-◌, ◌≤◌, ◌<◌, Bool, true, false, cond, List, [], ◌∷◌, Option, None, IsSome, refl, sym, ap, subst, ◌∙◌, arith, nat_eq, nat_tests}
 use Rattle.krl_cache.proofs.Names.{eqb_tells, or_parts, TOP, RangePart, KeyPart, reads_key, range_of, key_of, contains, Holding, Ascend, Entry, is_span, is_last, lies_in, own_entry, parts_after}
-use Rattle.krl_cache.proofs.Names.{entries_after, is_slot_of}
+use Rattle.krl_cache.proofs.Names.{entries_after, is_slot_of, entry_of, IsFree}
 use Rattle.krl_cache.specs.Joined.{AreJoined, AreHeld, HoldsAll}
 use Rattle.krl_cache.proofs.Rooms.{AreSpans, AreFrom, from_first, outside_entry}
 
@@ -101,3 +101,58 @@ setting_goes hs d0 h rest d e x entries = record {
   order = x.order.1;
   spans = x.spans.1;
 }
+
+-- What becomes of the entries if none stood in the spans
+
+put_last : (lo hi p : ℕ) (own o : Option Entry) → lo < hi → (lies_in lo hi p ≡ true → o ≡ None) → cond (nat_eq p (hi - 1)) own o ≡ cond (lies_in lo hi p) (cond (nat_eq (suc p) hi) own None) o
+put_last lo hi p own o lt free = by_test (lies_in lo hi p) refl
+  where
+    same : nat_eq p (hi - 1) ≡ nat_eq (suc p) hi
+    same = grind (arith, nat_tests)
+
+    outside : lies_in lo hi p ≡ false → nat_eq p (hi - 1) ≡ false
+    outside e = grind (arith, nat_tests)
+
+    by_test : (t : Bool) → lies_in lo hi p ≡ t → cond (nat_eq p (hi - 1)) own o ≡ cond (lies_in lo hi p) (cond (nat_eq (suc p) hi) own None) o
+    by_test true e = ap (λ (x : Option Entry). cond (nat_eq p (hi - 1)) own x) (free e) ∙ ap (λ (b : Bool). cond b own None) same ∙ sym (ap (λ (b : Bool). cond b (cond (nat_eq (suc p) hi) own None) o) e)
+    by_test false e = ap (λ (b : Bool). cond b own o) (outside e) ∙ sym (ap (λ (b : Bool). cond b (cond (nat_eq (suc p) hi) own None) o) e)
+
+lies : (lo hi p : ℕ) → lies_in lo hi p ≡ true → (lo ≤ p) × (p < hi)
+lies lo hi p e = (let a : lo ≤ p = grind (arith, nat_tests) in a, let b : p < hi = grind (arith, nat_tests) in b)
+
+apart : (q k : ℕ) (own o : Option Entry) → q ≢ k → cond (nat_eq q k) own o ≡ o
+apart q k own o ne = grind (arith, nat_tests)
+
+module _ (hs : List Holding) (h : Holding) (rest : List Holding) (lo hi next : ℕ) (part : RangePart) (d : ℕ → Option Entry) (whole : hs ≡ h ∷ rest) (up : next ≡ h.span.hi) (given : AreJoined hs lo hi part) (free : IsFree d lo hi) where
+  joined : AreJoined (h ∷ rest) lo hi part
+  joined = subst (λ (l : List Holding). AreJoined l lo hi part) whole given
+
+  pub rest_joined : AreJoined rest next hi part
+  rest_joined = subst (λ (n : ℕ). AreJoined rest n hi part) (sym up) joined.4
+
+  -- the first span
+  first_some : h.span.lo < next
+  first_some = let lt = joined.1 in omega (arith, lt, up)
+
+  pub last_free : d (next - 1) ≡ None
+  last_free =
+      let more = joined_up rest next hi part rest_joined in let is = joined.0 in let some = first_some in
+      free (next - 1) (omega (arith, is, some)) (omega (arith, more, some))
+
+  module _ (e : ℕ → Option Entry) (own : Option Entry) (put : (q : ℕ) → e q ≡ cond (nat_eq q (next - 1)) own (d q)) where
+    pub rest_free : IsFree e next hi
+    rest_free q le lt = put q ∙ apart q (next - 1) own (d q) (λ same. let some = first_some in omega (arith, same, le, some))
+        ∙ free q (let is = joined.0 in let some = first_some in omega (arith, is, some, le)) lt
+
+    pub put_step : own ≡ own_entry h → (n : ℕ → Option Entry) → ((p : ℕ) → n p ≡ entries_after rest p (e p)) → (p : ℕ) → n p ≡ entries_after hs p (d p)
+    put_step is n after p =
+        after p ∙ ap (entries_after rest p) (put p ∙ first) ∙ sym (ap (λ (l : List Holding). entries_after l p (d p)) whole)
+      where
+        there : lies_in h.span.lo next p ≡ true → d p ≡ None
+        there t = let w = lies h.span.lo next p t in let a = w.0 in let b = w.1 in let same = joined.0 in let more = joined_up rest next hi part rest_joined in
+            free p (omega (arith, a, same)) (omega (arith, b, more))
+
+        first : cond (nat_eq p (next - 1)) own (d p) ≡ cond (contains h.span p) (cond (is_last h.span p) (own_entry h) None) (d p)
+        first = put_last h.span.lo next p own (d p) first_some there
+            ∙ ap (λ (n : ℕ). cond (lies_in h.span.lo n p) (cond (nat_eq (suc p) n) own None) (d p)) up
+            ∙ ap (λ (o : Option Entry). cond (contains h.span p) (cond (is_last h.span p) o None) (d p)) is

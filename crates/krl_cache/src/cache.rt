@@ -38,7 +38,8 @@ use std::marker::Model;
 /// twice over the parts and once over the entries in it. Adopting walks back from the end of the
 /// span, by one search, to what stands before it; searches once for each end that changes, and
 /// twice for the entry; and twice for each part and each entry that goes. Several holdings side by
-/// side whose range parts agree are one piece: that walk is made once for all of them.
+/// side whose range parts agree are one piece: that walk is made once for all of them, and if no
+/// entry stands in their spans, which one search finds, each of theirs is put by one search.
 #[derive(Drop)]
 pub struct Cache {
     starts: BTreeMap<u64, RangePart>,

@@ -1,6 +1,6 @@
 //! Maps from points: what begins there, and what stands there.
 ghost use Rattle.std.specs.Prelude.{◌≡◌, ◌≢◌, ◌≤◌, ◌<◌, ◌-◌, ℕ, suc, true, nat_eq, MatchOption};
-ghost use Rattle.std.specs.Prelude.{IfOk, IsTrue, ◌↔◌, OnOk, OnErr, IsSome, if◌then◌else◌};
+ghost use Rattle.std.specs.Prelude.{IfOk, None, IsTrue, ◌↔◌, OnOk, OnErr, IsSome, if◌then◌else◌};
 ghost use Rattle.std.specs.Option.{option_and_then};
 ghost use Rattle.krl_modes.specs.declared.point.TheConstants.{TOP};
 ghost use Rattle.krl_modes.specs.Parts.{range_meet, reads_key};
@@ -107,6 +107,20 @@ pub fn place<V: Copy + Drop>(
     }
     map.insert(key, value)?;
     Ok(true)
+}
+
+// Puts a value at a key where none stands.
+pub fn put_new<V: Copy + Drop>(
+    map: &mut BTreeMap<u64, V>,
+    key: u64,
+    value: V,
+) -> Result<(), AllocError>
+    requires { at map.old.entries key ≡ None }
+    ensures placed { OnOk result (IsPlaced map.old map.new key value true) }
+    ensures err { OnErr result (map.new.entries ≡ map.old.entries) }
+{
+    map.insert(key, value)?;
+    Ok(())
 }
 
 // Takes a key out again that was put where none stood.

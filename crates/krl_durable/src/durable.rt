@@ -1,7 +1,6 @@
 //! What survives a restart, as its callers see it.
 ghost use Rattle.std.specs.Prelude.{◌≡◌, ◌≤◌, ◌<◌, suc, nat_eq, [], length, IsSome, IsSomeAnd};
-ghost use Rattle.std.specs.Prelude.{OnOk};
-ghost use Rattle.std.specs.Prelude.{OnErr, MatchResult, IfOk};
+ghost use Rattle.std.specs.Prelude.{OnOk, OnErr, MatchResult, IfOk};
 ghost use Rattle.std.specs.List.{AllByRecursion, IsDistinct};
 ghost use Rattle.std.specs.Map.{keys_of};
 ghost use Rattle.std.specs.FinMap as map;
@@ -33,7 +32,7 @@ use crate::refused::EntriesRefused;
 use crate::register::Register;
 use crate::room::Room;
 use crate::slot::Slot;
-use krl_blocks::Entries;
+use krl_blocks::{Entries, Finger};
 use krl_messages::{Outcome, Value, WriteOp};
 use krl_modes::Span;
 use std::alloc::{AllocError, Global};
@@ -110,9 +109,8 @@ impl Durable {
     }
 
     /// What was kept elsewhere: these entries, in any order, at this epoch, and these records of
-    /// clients, in order of first registration; with these limits, which may be others than it had
-    /// before. There is room for so many entries from the start, so that no later write takes
-    /// memory.
+    /// clients, in order of first registration; with these limits, which may be new ones. There is
+    /// room for so many entries from the start, so that no later write takes memory.
     ///
     /// Clients are below 64, with one record each; an incarnation is from 1 to END, `last` at most
     /// END, and the outcome None exactly if `last` is 0.
@@ -149,8 +147,7 @@ impl Durable {
     }
 
     /// What survived when values were numbers, as it is kept now: the same keys, epoch, register
-    /// and records, each value its eight bytes, the highest first. There is room for 65,536
-    /// entries.
+    /// and records, each value its eight bytes, the highest first, with room for 65,536 entries.
     ///
     /// # Errors
     ///
@@ -262,6 +259,18 @@ impl Durable {
         self.index.find(point)
     }
 
+    /// As `find`, by a search that begins at the finger, and moves it to the slot.
+    pub fn find_by(&self, point: u64, finger: &mut Finger) -> Slot
+        requires { point ≤ END }
+        ensures slot { result.point ≡ slot_of self.now.index point }
+        ensures least { IsSlotOf self.now.index point result.point }
+        ensures low { result.low ≡ low_of self.now.index result.point }
+        ensures points { IsSpanOf self.now.index result.point result.low }
+        ensures value { result.value ≡ map.get self.now.index result.point }
+    {
+        self.index.find_by(point, finger)
+    }
+
     /// The slot of a point: the least key at or above it, or END.
     pub fn slot_of(&self, point: u64) -> u64
         ensures slot { result ≡ slot_of self.now.index point }
@@ -277,6 +286,15 @@ impl Durable {
         ensures points { IsSpanOf self.now.index slot result.lo }
     {
         self.index.span_of(slot)
+    }
+
+    /// The span of a slot and its entry's value, by a search from the finger, which it moves there.
+    pub fn entry_by(&self, slot: u64, finger: &mut Finger) -> (Span, Option<Value>)
+        requires { slot ≤ END }
+        ensures span { result.0 ≡ span_of self.now.index slot }
+        ensures value { result.1 ≡ map.get self.now.index slot }
+    {
+        self.index.entry_by(slot, finger)
     }
 
     /// The client's record, if it ever registered.

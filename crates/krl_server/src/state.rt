@@ -18,6 +18,7 @@ use crate::missing::Missing;
 use crate::out::Outbox;
 use crate::session::Session;
 use crate::sessions::Sessions;
+use krl_blocks::Finger;
 use krl_durable::Durable;
 use krl_messages::{Gathering, Holding, Holdings, PushBody, ToClient, ToClientBody, Value};
 use krl_modes::{END, KeyPart, Mode, Point, Span};
@@ -150,7 +151,26 @@ impl State {
         }
     }
 
+    /// As `holding`, by searches that begin at the fingers, one among the entries and one among the
+    /// rows. They are moved to the slot.
+    fn holding_by(&self, slot: u64, client: u64, entries: &mut Finger, rows: &mut Finger) -> Holding
+        requires formed { IsFormed self.now }
+        requires slot { is_slot self.now.durable.index slot ≡ true }
+        requires client { client < MAX_CLIENTS }
+        ensures { result ≡ holding (meaning self.now) slot client }
+    {
+        let mode = self.table.mode_by(slot, client, rows);
+        let (_, key) = mode.parts();
+        let (span, value) = self.durable.entry_by(slot, entries);
+        Holding {
+            span,
+            mode,
+            value: shown(key, value),
+        }
+    }
+
     /// What the client holds on each of these slots, of which there are 1 to 128, in their order.
+    /// Fingers go along, so that a slot after the first costs no search if it is the next one.
     pub(crate) fn holdings(&self, slots: &[Point], client: u64, room: Gathering) -> Holdings
         requires formed { IsFormed self.now }
         requires slots { AllByRecursion (λ n. is_slot self.now.durable.index n ≡ true) slots.now }
@@ -163,9 +183,16 @@ impl State {
         ensures { result ≡ holdings (meaning self.now) client slots.now }
     {
         let mut all = room;
+        let (mut entries, mut rows) = (Finger::new(), Finger::new());
         for i in 0..slots.len() {
+            let slot = slots[i].get();
             // Apart: the prover has to see the type of the value.
-            let Holding { span, mode, value } = self.holding(slots[i].get(), client);
+            let Holding { span, mode, value } = self.holding_by(
+                slot,
+                client,
+                &mut entries,
+                &mut rows,
+            );
             all.push(Holding { span, mode, value });
         }
         all.into_holdings()

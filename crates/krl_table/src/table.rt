@@ -31,7 +31,7 @@ use crate::row::SlotRow;
 use crate::waiting::Waiting;
 use crate::{all_rows, reports, row_ops};
 use arrayvec::ArrayVec;
-use krl_blocks::ReservedMap;
+use krl_blocks::{Finger, ReservedMap};
 use krl_durable::{Durable, Room};
 use krl_messages::Pieces;
 use krl_modes::{MAX_CLIENTS, Mode, Point, Span, TOP};
@@ -108,6 +108,17 @@ impl Table {
         ensures { result ≡ mode_at (rows_of self.now.map) slot client }
     {
         match self.rows.get(slot) {
+            Some(row) => row.mode(client),
+            None => Mode::N,
+        }
+    }
+
+    /// As `mode`, by a search that begins at the finger, and moves it to the slot.
+    pub fn mode_by(&self, slot: u64, client: u64, finger: &mut Finger) -> Mode
+        requires { client < MAX_CLIENTS }
+        ensures { result ≡ mode_at (rows_of self.now.map) slot client }
+    {
+        match self.rows.get_by(slot, finger) {
             Some(row) => row.mode(client),
             None => Mode::N,
         }

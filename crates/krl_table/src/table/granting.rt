@@ -18,6 +18,7 @@ use super::Table;
 use crate::row::SlotRow;
 use crate::row_ops;
 use arrayvec::ArrayVec;
+use krl_blocks::Finger;
 use krl_durable::Durable;
 use krl_modes::{END, MAX_HOLDINGS, Point};
 use krl_queue::Waiter;
@@ -83,7 +84,8 @@ impl Table {
     }
 
     /// The waiter's client gets what it wants on the slots after this one, as far as it may take
-    /// them and there is room to note them. It takes one search for the next slot for each.
+    /// them and there is room to note them. A finger goes along in the index, so that a slot after
+    /// the first costs no search there.
     pub(super) fn go_on(
         &mut self,
         durable: &Durable,
@@ -105,9 +107,10 @@ impl Table {
         ensures room { self.new.room ≡ self.old.room }
     {
         let most = durable.reach();
+        let mut finger = Finger::new();
         let mut at = slot;
         while taken.len() < most {
-            let Some(next) = self.next_taken(durable, at, waiter) else {
+            let Some(next) = self.next_taken(durable, at, waiter, &mut finger) else {
                 return;
             };
             self.raise(durable, next.get(), waiter);
@@ -116,8 +119,14 @@ impl Table {
         }
     }
 
-    /// The slot after this one, if the waiter may take it.
-    fn next_taken(&self, durable: &Durable, at: u64, waiter: &Waiter) -> Option<Point>
+    /// The slot after this one, if the waiter may take it. The search begins at the finger.
+    fn next_taken(
+        &self,
+        durable: &Durable,
+        at: u64,
+        waiter: &Waiter,
+        finger: &mut Finger,
+    ) -> Option<Point>
         requires over { IsOver durable.now.index self.now.map }
         requires client { waiter.now.client < MAX_CLIENTS }
         ensures some { IfSome result
@@ -129,7 +138,7 @@ impl Table {
         if at >= END || at + 1 >= waiter.hi {
             return None;
         }
-        let next = durable.slot_of(at + 1);
+        let next = durable.find_by(at + 1, finger).point;
         if self.can_take(next, waiter) {
             Point::new(next)
         } else {

@@ -1,14 +1,10 @@
 use Rattle.krl_cache.proofs.Names.{refl, sym, ◌∙◌, at, part_at}
 use Rattle.krl_cache.proofs.Plans.{adopts_made, adopted_parts, adopted_merged, adopted_ends}
-use Rattle.krl_cache.proofs.Rooms.{entries_same}
 use Rattle.krl_cache.proofs.Beside.{joined_below, joined_spans, joined_parts}
 use Rattle.krl_cache.proofs.joined.adopt_joined.Goals as goal
 
 pub returns-in-Err-clause-starts_stay : goal.returns-in-Err-clause-starts_stay
 returns-in-Err-clause-starts_stay c = c.shut.ensures c.args.starts.now c.open.new.starts c.in_ok-low.ensures.undo refl
-
-pub set_all-requires-clause-spans : goal.set_all-requires-clause-spans
-set_all-requires-clause-spans c = joined_spans c.args.holdings.now c.args.lo c.args.hi c.args.part c.requires.joined
 
 pub returns-clause-parts : goal.returns-clause-parts
 returns-clause-parts c p =
@@ -31,14 +27,6 @@ returns-clause-merged c merged =
     let k = at c.close.new.starts.entries in
     let a = adopts_made f (at c.open.new.starts.entries) k c.args.lo c.args.hi c.args.part c.plan_of-plan.result c.requires.some c.plan_of-plan.ensures c.in_ok-low.ensures.opened c.close.ensures in
     adopted_merged f k c.args.lo c.args.hi c.args.part a merged
-
-pub returns-clause-entries : goal.returns-clause-entries
-returns-clause-entries c p =
-    let hs = c.args.holdings.now in
-    let d = at c.args.entries.now.entries in
-    let e = at c.hold_all.new.entries.entries in
-    c.set_all.ensures p
-    ∙ entries_same hs (joined_spans hs c.args.lo c.args.hi c.args.part c.requires.joined) p (e p) (d p) (c.in_default.ensures.held.entries p)
 
 pub returns-clause-spans : goal.returns-clause-spans
 returns-clause-spans c = joined_spans c.args.holdings.now c.args.lo c.args.hi c.args.part c.requires.joined

@@ -35,6 +35,6 @@ into_holdings-requires-clause-few c =
 pub loop-i-preserved : goal.loop-i-preserved
 loop-i-preserved c =
     let s = meaning c.args.self.now in let ns = c.args.slots.now in (
-      c.push.ensures.holdings ∙ more s c.args.client c.loop-i.i c.index-slots-i.result ns c.loop-i.all.holdings c.holding-span.result c.get.result c.loop-i-test.true c.loop-i.invariant.0 (c.get.ensures.number ∙ c.index-slots-i.is) c.holding-span.ensures,
+      c.push.ensures.holdings ∙ more s c.args.client c.loop-i.i c.index-slots-i.result ns c.loop-i.all.holdings c.holding_by-span.result c.get-slot.result c.loop-i-test.true c.loop-i.invariant.0 (c.get-slot.ensures.number ∙ c.index-slots-i.is) c.holding_by-span.ensures,
       (let r = c.push.ensures.room in let more = c.loop-i.invariant.1 in omega (arith, r, more)),
     )

@@ -9,8 +9,8 @@ of_point (Some p) k P h x = subst P (sym h) x
 
 pub returns-then-can_take-clause-some : goal.returns-then-can_take-clause-some
 returns-then-can_take-clause-some c =
-    let m = c.args.durable.now.index in let t = c.args.self.now.map in let at = c.args.at in let w = c.args.waiter.now in let next = c.slot_of-next.result in
-    let slot : slot_of m (suc at) ≡ next = ap (slot_of m) (sym (add-one at)) ∙ sym c.slot_of-next.ensures.slot in
+    let m = c.args.durable.now.index in let t = c.args.self.now.map in let at = c.args.at in let w = c.args.waiter.now in let next = c.find_by-next.result.point in
+    let slot : slot_of m (suc at) ≡ next = ap (slot_of m) (sym (add-one at)) ∙ sym c.find_by-next.ensures.slot in
     let near : nat_lt at END ≡ true = grind (arith, nat_tests, c.if-at-ge-END.false) in
     let below : nat_lt (suc at) w.hi ≡ true = grind (arith, nat_tests, c.if-at-waiter.false) in
     of_point c.new.result next (IsTaken m t at w) c.new.ensures.point (record {
@@ -21,8 +21,8 @@ returns-then-can_take-clause-some c =
 
 pub returns-else-can_take-clause-none : goal.returns-else-can_take-clause-none
 returns-else-can_take-clause-none c =
-    let m = c.args.durable.now.index in let t = c.args.self.now.map in let at = c.args.at in let w = c.args.waiter.now in let next = c.slot_of-next.result in
-    let slot : slot_of m (suc at) ≡ next = ap (slot_of m) (sym (add-one at)) ∙ sym c.slot_of-next.ensures.slot in
+    let m = c.args.durable.now.index in let t = c.args.self.now.map in let at = c.args.at in let w = c.args.waiter.now in let next = c.find_by-next.result.point in
+    let slot : slot_of m (suc at) ≡ next = ap (slot_of m) (sym (add-one at)) ∙ sym c.find_by-next.ensures.slot in
     let near : nat_lt at END ≡ true = grind (arith, nat_tests, c.if-at-ge-END.false) in
     let below : nat_lt (suc at) w.hi ≡ true = grind (arith, nat_tests, c.if-at-waiter.false) in
     by_take m (rows_of t) at next w false near below slot (sym c.can_take.ensures.result ∙ c.if-can_take.false)

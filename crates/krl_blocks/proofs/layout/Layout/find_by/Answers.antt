@@ -1,7 +1,7 @@
 use Rattle.std.proofs.Common.{sym, subst, ◌∙◌, arith}
 use Rattle.krl_blocks.specs.Laid.{Rises}
 use Rattle.krl_blocks.proofs.Places.{laid_rise, ends_rise, block_at, found_none, found_low, found_here}
-use Rattle.krl_blocks.proofs.layout.Layout.find.Goals as goal
+use Rattle.krl_blocks.proofs.layout.Layout.find_by.Goals as goal
 
 pub count_tops-b-requires : goal.count_tops-b-requires
 count_tops-b-requires g c = subst Rises (sym c.deref-tops.ensures.value) (laid_rise 0 c.args.self.now.tops.items c.args.self.now.shelf.blocks c.requires.kept.laid)
