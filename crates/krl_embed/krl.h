@@ -207,7 +207,7 @@ void krl_close(krl_handle *handle);
  *
  * How long a client may answer from its cache, and from when on its server may evict it. A lease lets a server evict a
  * client that is dead or cut off, without anybody's word for it: an evicted incarnation answers nothing any more,
- * whatever was lost or delayed, and however long anything stood still. `docs/EMBEDDING.md` says what the two hosts
+ * whatever was lost or delayed, and however long anything stood still. `docs/LEASES.md` says what the two hosts
  * have to do for that, and what they need of their clocks.
  *
  * These calls need no handle, take no memory, read no clock and cannot fail. `now` is what the host's clock shows: a
