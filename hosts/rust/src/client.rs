@@ -1,6 +1,9 @@
 //! A client over a network.
+pub(crate) mod answer;
+pub(crate) mod asynchronous;
 mod backoff;
 pub(crate) mod builder;
+mod deadlines;
 pub(crate) mod evict;
 pub(crate) mod jobs;
 pub(crate) mod joining;

@@ -40,6 +40,7 @@ mod wire;
 
 pub use access::Access;
 pub use access::identity::{BadIdentity, BadTableName, Identity, TableName};
+pub use client::asynchronous::{AsyncClient, AsyncPin};
 pub use client::builder::ClientBuilder;
 pub use client::evict::evict;
 pub use client::lock_file::LockFileError;

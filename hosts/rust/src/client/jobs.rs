@@ -11,6 +11,7 @@ mod watched;
 mod writing;
 mod yielding;
 
+use crate::client::answer::{Answer, Answering, place};
 use crate::client::pins::Pins;
 use crate::client::scratch::{copied, kept};
 use crate::lease::clocks::Now;
@@ -21,7 +22,7 @@ use crate::model::row::Row;
 use crate::proved::client_handle::{Cache, ClientHandle, Mode, Scan};
 use crate::wire::message::Message;
 use std::ops::Range;
-use std::sync::mpsc::{Receiver, SyncSender, sync_channel};
+use std::sync::mpsc::SyncSender;
 use std::time::{Duration, Instant};
 
 pub(crate) use anew::Dropped;
@@ -48,16 +49,26 @@ pub(crate) struct Asked<T> {
     pub id: JobId,
     /// The client says it again until it is answered.
     pub is_urgent: bool,
-    pub answer: Receiver<Result<T, Error>>,
+    pub answer: Answer<Result<T, Error>>,
 }
 
 /// Where the answer to a job goes, once.
-struct Reply<T>(SyncSender<Result<T, Error>>);
+enum Reply<T> {
+    /// To whoever waits for this job.
+    Own(Answering<Result<T, Error>>),
+    /// To one who waits for several jobs.
+    Shared(SyncSender<Result<T, Error>>),
+}
 
 impl<T> Reply<T> {
     fn end(self, answer: Result<T, Error>) {
-        // One who waits no longer hears nothing.
-        let _ = self.0.send(answer);
+        match self {
+            Reply::Own(place) => place.give(answer),
+            Reply::Shared(sender) => {
+                // One who waits no longer hears nothing.
+                let _ = sender.send(answer);
+            }
+        }
     }
 
     /// Gives the answer, if there is one. Else the job goes on.
@@ -244,8 +255,8 @@ impl Jobs {
     fn add<T>(&mut self, job: impl FnOnce(Reply<T>) -> Job) -> Asked<T> {
         self.next += 1;
         self.end_lease_if_over();
-        let (reply, answer) = sync_channel(1);
-        let job = job(Reply(reply));
+        let (reply, answer) = place();
+        let job = job(Reply::Own(reply));
         match self.stage {
             Stage::Ended => {}
             Stage::Gone => job.end_after_bye(),

@@ -1,6 +1,7 @@
 //! The thread of a client that keeps its connection, and what it shares with the callers: sockets,
 //! locks and the lock file, around what [`crate::client::session`] decides.
 use crate::client::backoff;
+use crate::client::deadlines::Deadlines;
 use crate::client::jobs::Jobs;
 use crate::client::lock_file::LockFile;
 use crate::client::session::Session;
@@ -19,6 +20,8 @@ use std::convert::Infallible;
 use std::io::{self, ErrorKind};
 use std::sync::{Arc, Condvar, Mutex, MutexGuard, PoisonError, TryLockError};
 use std::time::{Duration, Instant};
+
+pub(crate) use awaiting::Awaited;
 
 /// How long a connection may take to be made.
 const CONNECT: Duration = Duration::from_secs(1);
@@ -43,6 +46,8 @@ pub(crate) struct Link {
     poller: SecondPoller,
     thread: Mutex<Thread>,
     changed: Condvar,
+    /// When tasks that wait for answers give up.
+    deadlines: Deadlines,
     /// None once the client is gone.
     lock_file: Mutex<Option<LockFile>>,
 }
@@ -97,6 +102,7 @@ impl Link {
             poller: SecondPoller::of(&poller)?,
             thread: Mutex::new(Thread::Runs),
             changed: Condvar::new(),
+            deadlines: Deadlines::default(),
             lock_file: Mutex::new(lock_file),
         };
         Ok((link, poller))
@@ -187,12 +193,19 @@ impl Link {
         *lock(&self.thread) == Thread::Runs
     }
 
-    /// Waits so long, or until the client ends.
+    /// Waits so long, or until the client ends. Tasks whose deadline comes meanwhile are woken.
     fn rest(&self, pause: Duration) {
-        let thread = lock(&self.thread);
-        let waited =
-            self.changed.wait_timeout_while(thread, pause, |thread| *thread == Thread::Runs);
-        drop(waited.unwrap_or_else(PoisonError::into_inner));
+        let end = Instant::now() + pause;
+        let mut now = Instant::now();
+        while now < end && self.runs() {
+            let left = end.saturating_duration_since(now).min(self.deadlines.next_in(now));
+            let thread = lock(&self.thread);
+            let waited =
+                self.changed.wait_timeout_while(thread, left, |thread| *thread == Thread::Runs);
+            drop(waited.unwrap_or_else(PoisonError::into_inner));
+            now = Instant::now();
+            self.deadlines.wake_due(now);
+        }
     }
 
     /// Connects, and serves the connection until it ends.
@@ -216,9 +229,10 @@ impl Link {
         self.open_reading(carrier, poller)?;
         let mut due_in = self.go_on(std::iter::empty())?;
         while self.runs() {
-            poller.wait(due_in)?;
+            poller.wait(due_in.min(self.deadlines.next_in(Instant::now())))?;
             due_in = self.go_on(poller.ready())?;
             self.let_caller_read();
+            self.deadlines.wake_due(Instant::now());
         }
         Err(ErrorKind::Interrupted.into())
     }
@@ -380,5 +394,6 @@ fn lock<T>(mutex: &Mutex<T>) -> MutexGuard<'_, T> {
 }
 
 mod asking;
+mod awaiting;
 #[cfg(test)]
 mod tests;

@@ -36,6 +36,14 @@ impl Pin {
         Pin { shared, id }
     }
 
+    pub(crate) fn shared(&self) -> &Arc<Shared> {
+        &self.shared
+    }
+
+    pub(crate) fn id(&self) -> u64 {
+        self.id
+    }
+
     /// Whether no other client has taken what was held of the range. Who has to know asks **after**
     /// the work: the answer is that of one moment of this call.
     #[must_use]

@@ -13,14 +13,22 @@ pub(crate) fn set<E: From<Error>>(
 ) -> Result<Outcome, E> {
     let mut next = first;
     loop {
-        next = match (next, write(next)?) {
-            (Write::Put(row), Outcome::Absent) => Write::Insert(row),
-            (Write::Insert(row), Outcome::Exists) => Write::Put(row),
-            (_, outcome) => return Ok(outcome),
-        };
+        let outcome = write(next)?;
+        let Some(following) = after(next, outcome) else { return Ok(outcome) };
+        next = following;
         if Instant::now() >= end {
             return Err(Error::TimedOut.into());
         }
+    }
+}
+
+/// The write that follows one with this outcome, or none if the key has its value, or the index is
+/// full.
+pub(crate) fn after(write: Write, outcome: Outcome) -> Option<Write> {
+    match (write, outcome) {
+        (Write::Put(row), Outcome::Absent) => Some(Write::Insert(row)),
+        (Write::Insert(row), Outcome::Exists) => Some(Write::Put(row)),
+        _ => None,
     }
 }
 

@@ -20,6 +20,9 @@ pub(crate) const MAX_WAIT: Duration = Duration::from_secs(365 * 24 * 3600);
 /// How long a client that is dropped waits until its Bye is kept.
 pub(crate) const FAREWELL: Duration = Duration::from_secs(1);
 
+/// How long a task waits until the thread of a client that has left has ended.
+const SOON: Duration = Duration::from_millis(100);
+
 /// A client with the thread of its connection. It leaves when nobody has it any more.
 pub(crate) struct Shared {
     number: u8,
@@ -48,7 +51,7 @@ impl Shared {
         self.number
     }
 
-    pub fn link(&self) -> &Link {
+    pub fn link(&self) -> &Arc<Link> {
         &self.link
     }
 
@@ -99,6 +102,12 @@ impl Shared {
         self.link.finish(leaving, end)?;
         self.end(end);
         Ok(())
+    }
+
+    /// The server has kept that the client left: its thread ends, which is waited for no longer than
+    /// it takes to wake, and its number is free.
+    pub fn has_left(&self) {
+        self.end(Instant::now() + SOON);
     }
 
     /// Leaves until the deadline, and ends then whether or not the server has answered.

@@ -1,9 +1,9 @@
 //! Writes that are bound to a pin.
 use super::writing::Kept;
-use super::{Asked, Job, Jobs, Reply, Stage};
+use super::{Asked, Job, Jobs, Stage};
+use crate::client::answer::place;
 use crate::model::change::{Outcome, Write};
 use crate::model::error::Error;
-use std::sync::mpsc::sync_channel;
 
 /// What has to hold for a write to be made.
 #[derive(Clone, Copy, Debug, PartialEq, Eq)]
@@ -55,8 +55,8 @@ impl Jobs {
             return self.add(|reply| Job::Write(Wanted { write, bond, kept: None }, reply));
         }
         self.next += 1;
-        let (reply, answer) = sync_channel(1);
-        Reply(reply).end(Err(Error::PinIsVoid));
+        let (reply, answer) = place();
+        reply.give(Err(Error::PinIsVoid));
         Asked { id: self.next, is_urgent: true, answer }
     }
 

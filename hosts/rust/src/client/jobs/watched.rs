@@ -1,12 +1,13 @@
 //! Ranges whose changes a caller waits for.
-use super::{Asked, JobId, Jobs, Reply};
+use super::{Asked, JobId, Jobs, Reply, Stage};
+use crate::client::answer::place;
 use crate::client::scratch::kept;
 use crate::model::code::Code;
 use crate::model::error::Error;
 use crate::model::row::Row;
 use crate::proved::client_handle::Scan;
 use std::ops::Range;
-use std::sync::mpsc::{SyncSender, sync_channel};
+use std::sync::mpsc::SyncSender;
 
 /// A caller waits until the client no longer knows that the range has these rows.
 pub(super) struct Watched {
@@ -25,8 +26,8 @@ impl Watched {
 impl Jobs {
     /// Ends when the client no longer knows that the range has these rows. It asks for nothing.
     pub fn watch(&mut self, keys: Range<u64>, rows: Vec<Row>) -> Asked<()> {
-        let (told, answer) = sync_channel(1);
-        Asked { id: self.watch_and_tell(keys, rows, told), is_urgent: false, answer }
+        let (reply, answer) = place();
+        Asked { id: self.watch_for(keys, rows, Reply::Own(reply)), is_urgent: false, answer }
     }
 
     /// The same, and the end is told to one who may wait for several. There has to be room for it.
@@ -36,9 +37,12 @@ impl Jobs {
         rows: Vec<Row>,
         told: SyncSender<Result<(), Error>>,
     ) -> JobId {
+        self.watch_for(keys, rows, Reply::Shared(told))
+    }
+
+    fn watch_for(&mut self, keys: Range<u64>, rows: Vec<Row>, reply: Reply<()>) -> JobId {
         self.next += 1;
-        let reply = Reply(told);
-        if self.stage == super::Stage::Ended {
+        if self.stage == Stage::Ended {
             reply.end(Err(Error::Stopped));
         } else {
             self.watched.push(Watched { id: self.next, keys, rows, reply });

@@ -1,12 +1,13 @@
 //! What callers ask of a client, and how they wait for the answer.
 use super::{Link, lock};
+use crate::client::answer::Answer;
 use crate::client::jobs::{Asked, BUSY_TICK, Jobs};
 use crate::client::session::Session;
 use crate::client::writer::Written;
 use crate::model::error::Error;
 use crate::model::refusal::Refusal;
 use std::sync::MutexGuard;
-use std::sync::mpsc::{Receiver, RecvTimeoutError, TryRecvError};
+use std::sync::mpsc::{RecvTimeoutError, TryRecvError};
 use std::time::{Duration, Instant};
 
 impl Link {
@@ -70,7 +71,7 @@ impl Link {
     /// to wake another one. It answers nothing if there is no answer by the end.
     pub(super) fn read_until<T>(
         &self,
-        answer: &Receiver<Result<T, Error>>,
+        answer: &Answer<Result<T, Error>>,
         end: Instant,
     ) -> Option<Result<T, Error>> {
         let _turn = self.turn.try_lock().ok()?;

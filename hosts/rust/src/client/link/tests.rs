@@ -98,7 +98,7 @@ fn a_caller_reads_the_connection_while_it_waits() {
 #[test]
 fn a_caller_learns_of_the_answer_that_the_thread_has_read() {
     let (link, _poller, _theirs) = &connected();
-    let (sender, answer) = std::sync::mpsc::sync_channel(1);
+    let (answering, answer) = crate::client::answer::place();
     std::thread::scope(|scope| {
         let begun = Instant::now();
         // The look at the turn below may take it from the caller, which then tries again.
@@ -112,7 +112,7 @@ fn a_caller_learns_of_the_answer_that_the_thread_has_read() {
         while link.turn.try_lock().is_ok() && !reading.is_finished() {
             std::thread::yield_now();
         }
-        sender.send(Ok(7)).unwrap();
+        answering.give(Ok(7));
         link.let_caller_read();
         assert_eq!(reading.join().unwrap(), Some(Ok(7)));
         assert!(begun.elapsed() < LONG, "it was woken");

@@ -1,0 +1,181 @@
+//! Where the answer to a job comes: a caller waits for it, or a task that polls it is woken.
+use std::sync::mpsc::{RecvTimeoutError, TryRecvError};
+use std::sync::{Arc, Condvar, Mutex, MutexGuard, PoisonError};
+use std::task::{Context, Poll, Waker};
+use std::time::Duration;
+
+/// The end of whoever waits for the answer.
+#[derive(Debug)]
+pub(crate) struct Answer<T>(Arc<Place<T>>);
+
+/// The end of whoever answers, once. If it is dropped without that, no answer comes any more.
+#[derive(Debug)]
+pub(crate) struct Answering<T>(Arc<Place<T>>);
+
+#[derive(Debug)]
+struct Place<T> {
+    state: Mutex<State<T>>,
+    changed: Condvar,
+}
+
+#[derive(Debug)]
+enum State<T> {
+    /// There is no answer yet. This task is woken when there is one, or when none comes any more.
+    Open(Option<Waker>),
+    Answered(T),
+    /// The answer was taken, or none comes any more.
+    Over,
+}
+
+/// A place for one answer.
+pub(crate) fn place<T>() -> (Answering<T>, Answer<T>) {
+    let place = Arc::new(Place { state: Mutex::new(State::Open(None)), changed: Condvar::new() });
+    (Answering(Arc::clone(&place)), Answer(place))
+}
+
+impl<T> Answering<T> {
+    /// Gives the answer, also if nobody waits for it any more.
+    pub fn give(self, answer: T) {
+        self.0.end(State::Answered(answer));
+    }
+}
+
+impl<T> Drop for Answering<T> {
+    fn drop(&mut self) {
+        self.0.end(State::Over);
+    }
+}
+
+impl<T> Answer<T> {
+    /// The answer, if it has come.
+    ///
+    /// # Errors
+    ///
+    /// `Empty` if it has not come; `Disconnected` if it was taken, or none comes any more.
+    pub fn try_recv(&self) -> Result<T, TryRecvError> {
+        self.0.lock().take().map_err(|is_over| match is_over {
+            IsOver::Yes => TryRecvError::Disconnected,
+            IsOver::No => TryRecvError::Empty,
+        })
+    }
+
+    /// Waits so long for the answer.
+    ///
+    /// # Errors
+    ///
+    /// `Timeout` if it has not come; `Disconnected` if it was taken, or none comes any more.
+    pub fn recv_timeout(&self, timeout: Duration) -> Result<T, RecvTimeoutError> {
+        let is_open = |state: &mut State<T>| matches!(state, State::Open(_));
+        let waited = self.0.changed.wait_timeout_while(self.0.lock(), timeout, is_open);
+        let (mut state, _) = waited.unwrap_or_else(PoisonError::into_inner);
+        state.take().map_err(|is_over| match is_over {
+            IsOver::Yes => RecvTimeoutError::Disconnected,
+            IsOver::No => RecvTimeoutError::Timeout,
+        })
+    }
+
+    /// The answer, or nothing if none comes any more. Until then the task is woken when it has
+    /// something to see here.
+    pub fn poll(&self, context: &Context<'_>) -> Poll<Option<T>> {
+        let mut state = self.0.lock();
+        if let State::Open(waker) = &mut *state {
+            match waker {
+                Some(waker) => waker.clone_from(context.waker()),
+                None => *waker = Some(context.waker().clone()),
+            }
+            return Poll::Pending;
+        }
+        Poll::Ready(state.take().ok())
+    }
+}
+
+/// Whether there is no answer to come.
+enum IsOver {
+    Yes,
+    No,
+}
+
+impl<T> State<T> {
+    fn take(&mut self) -> Result<T, IsOver> {
+        match std::mem::replace(self, State::Over) {
+            State::Answered(answer) => Ok(answer),
+            State::Over => Err(IsOver::Yes),
+            open @ State::Open(_) => {
+                *self = open;
+                Err(IsOver::No)
+            }
+        }
+    }
+}
+
+impl<T> Place<T> {
+    fn lock(&self) -> MutexGuard<'_, State<T>> {
+        self.state.lock().unwrap_or_else(PoisonError::into_inner)
+    }
+
+    /// Ends in this state, if it has not ended before.
+    fn end(&self, end: State<T>) {
+        let mut state = self.lock();
+        let State::Open(waker) = &mut *state else { return };
+        let waker = waker.take();
+        *state = end;
+        drop(state);
+        self.changed.notify_all();
+        if let Some(waker) = waker {
+            waker.wake();
+        }
+    }
+}
+
+#[cfg(test)]
+mod tests {
+    use super::*;
+    use std::sync::atomic::{AtomicUsize, Ordering};
+    use std::task::Wake;
+
+    const LONG: Duration = Duration::from_secs(30);
+
+    #[derive(Default)]
+    struct Count(AtomicUsize);
+
+    impl Wake for Count {
+        fn wake(self: Arc<Count>) {
+            self.0.fetch_add(1, Ordering::Relaxed);
+        }
+    }
+
+    #[test]
+    fn an_answer_is_taken_once() {
+        let (answering, answer) = place();
+        assert_eq!(answer.try_recv(), Err(TryRecvError::Empty));
+        answering.give(7);
+        assert_eq!(answer.recv_timeout(LONG), Ok(7));
+        assert_eq!(answer.try_recv(), Err(TryRecvError::Disconnected));
+    }
+
+    #[test]
+    fn one_who_waits_learns_that_no_answer_comes() {
+        let (answering, answer) = place::<u8>();
+        let waiting = std::thread::spawn(move || answer.recv_timeout(LONG));
+        drop(answering);
+        assert_eq!(waiting.join().unwrap(), Err(RecvTimeoutError::Disconnected));
+    }
+
+    #[test]
+    fn a_task_is_woken_once_by_an_answer_and_by_its_absence() {
+        for gives in [true, false] {
+            let (count, (answering, answer)) = (Arc::new(Count::default()), place());
+            let waker = Waker::from(Arc::clone(&count));
+            assert!(answer.poll(&Context::from_waker(&waker)).is_pending());
+            assert!(answer.poll(&Context::from_waker(&waker)).is_pending());
+            if gives {
+                answering.give(7);
+            } else {
+                drop(answering);
+            }
+            assert_eq!(count.0.load(Ordering::Relaxed), 1);
+            let found = answer.poll(&Context::from_waker(&waker));
+            assert_eq!(found, Poll::Ready(gives.then_some(7)));
+        }
+    }
+}

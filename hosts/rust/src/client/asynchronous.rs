@@ -1,0 +1,317 @@
+//! A client whose calls are futures.
+use crate::client::jobs::{Asked, Held, Jobs, Purpose};
+use crate::client::link::Awaited;
+use crate::client::pin::Pin;
+use crate::client::set;
+use crate::client::shared::{MAX_WAIT, Shared};
+use crate::client::{Client, Waited};
+use crate::model::change::{Outcome, Write};
+use crate::model::error::Error;
+use crate::model::range::keys_of;
+use crate::model::row::{END, Row, Value};
+use std::fmt;
+use std::ops::{Range, RangeBounds};
+use std::sync::Arc;
+use std::time::{Duration, Instant};
+
+/// A client whose calls are futures, for tasks of any executor. It has no executor and no timer of
+/// its own: the client's thread wakes the tasks.
+///
+/// Each call is that of [`Client`] of the same name, with its outcomes and errors, and ends by the
+/// client's timeout, or a little later while the client connects. A call begins when its future is
+/// first polled. A read that the cache answers does not yield. A future that is dropped before it
+/// ends gives its call up: of a write that was sent nobody knows then whether it was made.
+///
+/// Two things wait without a future: to join, and the drop of the last clone, which waits a second
+/// at most until the server has kept that the client left. So join before the executor runs or on a
+/// thread that may wait, and [`AsyncClient::leave`] before the last clone is dropped.
+///
+/// ```
+/// use krl::{AsyncClient, Client, MemoryStore, Server, Value};
+/// # use std::{pin::pin, sync::Arc, task::{Context, Poll, Wake, Waker}, thread::{self, Thread}};
+/// # struct Unpark(Thread);
+/// # impl Wake for Unpark {
+/// #     fn wake(self: Arc<Unpark>) { self.0.unpark() }
+/// # }
+/// # fn block_on<T>(future: impl Future<Output = T>) -> T {
+/// #     let waker = Waker::from(Arc::new(Unpark(thread::current())));
+/// #     let mut future = pin!(future);
+/// #     loop {
+/// #         if let Poll::Ready(value) = future.as_mut().poll(&mut Context::from_waker(&waker)) {
+/// #             return value;
+/// #         }
+/// #         thread::park();
+/// #     }
+/// # }
+/// # let folder = std::env::temp_dir().join(format!("krl-async-{}", std::process::id()));
+/// # std::fs::create_dir_all(&folder)?;
+/// # let lock_file = folder.join("client-0.lock");
+///
+/// let listener = std::net::TcpListener::bind("127.0.0.1:0")?;
+/// let server = Server::start(listener, MemoryStore::default())?;
+/// let client = AsyncClient::from(Client::join(server.address(), 0, lock_file)?);
+/// block_on(async {
+///     client.insert(15, Value::from(5)).await?;
+///     assert_eq!(client.read(10..20).await?.len(), 1);
+///     client.leave().await
+/// })?;
+/// # std::fs::remove_dir_all(&folder)?;
+/// # Ok::<(), Box<dyn std::error::Error>>(())
+/// ```
+#[derive(Clone)]
+pub struct AsyncClient {
+    client: Client,
+}
+
+type Pinned = Result<(Vec<Row>, AsyncPin), Error>;
+
+impl AsyncClient {
+    /// The client whose calls wait. Those that wait for nothing are called there: `cached`, `pin`,
+    /// `number`, `set_timeout`.
+    #[must_use]
+    pub fn client(&self) -> &Client {
+        &self.client
+    }
+
+    /// The rows of the range, as [`Client::read`] gives them.
+    ///
+    /// # Errors
+    ///
+    /// Those of [`Client::read`].
+    pub async fn read(&self, keys: impl RangeBounds<u64>) -> Result<Vec<Row>, Error> {
+        let keys = keys_of(&keys)?;
+        match self.client.cached(keys.clone()) {
+            Some(rows) => Ok(rows),
+            None => ask(self.shared(), |jobs| jobs.read(keys)).await,
+        }
+    }
+
+    /// Inserts a row, as [`Client::insert`] does.
+    ///
+    /// # Errors
+    ///
+    /// Those of [`Client::insert`].
+    pub async fn insert(&self, key: u64, value: Value) -> Result<Outcome, Error> {
+        write(self.shared(), Write::Insert(Row { key, value }), Jobs::write).await
+    }
+
+    /// Gives a row another value, as [`Client::put`] does.
+    ///
+    /// # Errors
+    ///
+    /// Those of [`Client::insert`].
+    pub async fn put(&self, key: u64, value: Value) -> Result<Outcome, Error> {
+        write(self.shared(), Write::Put(Row { key, value }), Jobs::write).await
+    }
+
+    /// Gives a key this value, as [`Client::set`] does. The timeout is that of all its writes
+    /// together.
+    ///
+    /// # Errors
+    ///
+    /// Those of [`Client::set`].
+    pub async fn set(&self, key: u64, value: Value) -> Result<Outcome, Error> {
+        set_by(self.shared(), Row { key, value }, Jobs::write).await
+    }
+
+    /// Deletes a row, as [`Client::delete`] does.
+    ///
+    /// # Errors
+    ///
+    /// Those of [`Client::insert`].
+    pub async fn delete(&self, key: u64) -> Result<Outcome, Error> {
+        write(self.shared(), Write::Delete(key), Jobs::write).await
+    }
+
+    /// Gives back what the client holds of the range, as [`Client::forget`] does.
+    ///
+    /// # Errors
+    ///
+    /// Those of [`Client::forget`].
+    pub async fn forget(&self, keys: impl RangeBounds<u64>) -> Result<(), Error> {
+        let keys = keys_of(&keys)?;
+        if keys.is_empty() { Ok(()) } else { ask(self.shared(), |jobs| jobs.forget(keys)).await }
+    }
+
+    /// Reads the range and pins it, as [`Client::pin_for_read`] does.
+    ///
+    /// # Errors
+    ///
+    /// Those of [`Client::pin_for_read`].
+    pub async fn pin_for_read(&self, keys: impl RangeBounds<u64>) -> Pinned {
+        self.hold(keys_of(&keys)?, Purpose::Read).await
+    }
+
+    /// Reads the range and pins it, as [`Client::pin_for_update`] does.
+    ///
+    /// # Errors
+    ///
+    /// Those of [`Client::pin_for_read`].
+    pub async fn pin_for_update(&self, keys: impl RangeBounds<u64>) -> Pinned {
+        self.hold(keys_of(&keys)?, Purpose::Update).await
+    }
+
+    /// Reads the range and pins it, as [`Client::pin_for_write`] does.
+    ///
+    /// # Errors
+    ///
+    /// Those of [`Client::pin_for_read`].
+    pub async fn pin_for_write(&self, keys: impl RangeBounds<u64>) -> Pinned {
+        self.hold(keys_of(&keys)?, Purpose::Write).await
+    }
+
+    /// Waits so long, a year at most, until the client no longer knows that the range has these rows,
+    /// as [`Client::wait_for_change`] does.
+    ///
+    /// # Errors
+    ///
+    /// Those of [`Client::wait_for_change`].
+    pub async fn wait_for_change(
+        &self,
+        keys: impl RangeBounds<u64>,
+        rows: &[Row],
+        timeout: Duration,
+    ) -> Result<Waited, Error> {
+        let keys = keys_of(&keys)?;
+        let end = Instant::now() + timeout.min(MAX_WAIT);
+        let watch = |jobs: &mut Jobs| jobs.watch(keys, rows.to_vec());
+        match Awaited::begin(self.shared().link(), end, watch).await {
+            Ok(()) => Ok(Waited::Changed),
+            Err(Error::TimedOut | Error::Unserved(_)) => Ok(Waited::Unchanged),
+            Err(refused) => Err(refused),
+        }
+    }
+
+    /// Leaves, as [`Client::leave`] does.
+    ///
+    /// # Errors
+    ///
+    /// Those of [`Client::leave`].
+    pub async fn leave(&self) -> Result<(), Error> {
+        ask(self.shared(), Jobs::leave).await?;
+        self.shared().has_left();
+        Ok(())
+    }
+
+    async fn hold(&self, keys: Range<u64>, purpose: Purpose) -> Pinned {
+        if keys.is_empty() {
+            return Err(Error::BadRange);
+        }
+        let Held { rows, pin } = ask(self.shared(), |jobs| jobs.hold(keys, purpose)).await?;
+        Ok((rows, AsyncPin { pin: Pin::new(Arc::clone(self.shared()), pin) }))
+    }
+
+    fn shared(&self) -> &Arc<Shared> {
+        self.client.shared()
+    }
+}
+
+impl From<Client> for AsyncClient {
+    fn from(client: Client) -> AsyncClient {
+        AsyncClient { client }
+    }
+}
+
+impl fmt::Debug for AsyncClient {
+    fn fmt(&self, f: &mut fmt::Formatter<'_>) -> fmt::Result {
+        f.debug_tuple("AsyncClient").field(&self.client).finish()
+    }
+}
+
+/// A pinned range whose writes are futures. When it is dropped, the range is free.
+#[derive(Debug)]
+#[must_use = "the range is free again as soon as this is dropped"]
+pub struct AsyncPin {
+    pin: Pin,
+}
+
+impl AsyncPin {
+    /// Whether no other client has taken what was held of the range, as [`Pin::holds`] tells.
+    #[must_use]
+    pub fn holds(&self) -> bool {
+        self.pin.holds()
+    }
+
+    /// Inserts a row while the pin holds, or never, as [`Pin::insert`] does.
+    ///
+    /// # Errors
+    ///
+    /// Those of [`Pin::insert`].
+    pub async fn insert(&self, key: u64, value: Value) -> Result<Outcome, Error> {
+        write(self.pin.shared(), Write::Insert(Row { key, value }), self.bound()).await
+    }
+
+    /// Gives a row another value while the pin holds, or never, as [`Pin::put`] does.
+    ///
+    /// # Errors
+    ///
+    /// Those of [`Pin::insert`].
+    pub async fn put(&self, key: u64, value: Value) -> Result<Outcome, Error> {
+        write(self.pin.shared(), Write::Put(Row { key, value }), self.bound()).await
+    }
+
+    /// Gives a key this value while the pin holds, or never, as [`Pin::set`] does.
+    ///
+    /// # Errors
+    ///
+    /// Those of [`Pin::insert`].
+    pub async fn set(&self, key: u64, value: Value) -> Result<Outcome, Error> {
+        set_by(self.pin.shared(), Row { key, value }, self.bound()).await
+    }
+
+    /// Deletes a row while the pin holds, or never, as [`Pin::delete`] does.
+    ///
+    /// # Errors
+    ///
+    /// Those of [`Pin::insert`].
+    pub async fn delete(&self, key: u64) -> Result<Outcome, Error> {
+        write(self.pin.shared(), Write::Delete(key), self.bound()).await
+    }
+
+    fn bound(&self) -> impl Fn(&mut Jobs, Write) -> Asked<Outcome> + use<> {
+        let pin = self.pin.id();
+        move |jobs, write| jobs.write_under(pin, write)
+    }
+}
+
+/// Asks for something, until the client's timeout.
+async fn ask<T>(shared: &Arc<Shared>, ask: impl FnOnce(&mut Jobs) -> Asked<T>) -> Result<T, Error> {
+    Awaited::begin(shared.link(), Instant::now() + shared.timeout(), ask).await
+}
+
+async fn write(
+    shared: &Arc<Shared>,
+    write: Write,
+    ask: impl Fn(&mut Jobs, Write) -> Asked<Outcome>,
+) -> Result<Outcome, Error> {
+    write_by(shared, Instant::now() + shared.timeout(), write, &ask).await
+}
+
+async fn write_by(
+    shared: &Arc<Shared>,
+    end: Instant,
+    write: Write,
+    ask: &impl Fn(&mut Jobs, Write) -> Asked<Outcome>,
+) -> Result<Outcome, Error> {
+    if write.key() >= END {
+        return Err(Error::BadKey);
+    }
+    Awaited::begin(shared.link(), end, |jobs| ask(jobs, write)).await
+}
+
+async fn set_by(
+    shared: &Arc<Shared>,
+    row: Row,
+    ask: impl Fn(&mut Jobs, Write) -> Asked<Outcome>,
+) -> Result<Outcome, Error> {
+    let end = Instant::now() + shared.timeout();
+    let mut next = shared.first_of_set(row);
+    loop {
+        let outcome = write_by(shared, end, next, &ask).await?;
+        let Some(following) = set::after(next, outcome) else { return Ok(outcome) };
+        next = following;
+        if Instant::now() >= end {
+            return Err(Error::TimedOut);
+        }
+    }
+}

@@ -1,0 +1,87 @@
+//! When tasks that wait for answers give up: none of them has a thread that could wait for that.
+use crate::client::jobs::JobId;
+use std::collections::BTreeMap;
+use std::sync::{Mutex, MutexGuard, PoisonError};
+use std::task::Waker;
+use std::time::{Duration, Instant};
+
+/// The thread of a client looks at the deadlines this often, or when the next one comes.
+const LOOKS: Duration = Duration::from_millis(250);
+
+/// The tasks that wait for answers, by when they give up.
+#[derive(Debug, Default)]
+pub(crate) struct Deadlines {
+    waiting: Mutex<BTreeMap<(Instant, JobId), Waker>>,
+}
+
+impl Deadlines {
+    /// The task of this job is woken at its deadline.
+    pub fn put(&self, end: Instant, job: JobId, waker: &Waker) {
+        self.lock()
+            .entry((end, job))
+            .and_modify(|known| known.clone_from(waker))
+            .or_insert_with(|| waker.clone());
+    }
+
+    /// The job has ended.
+    pub fn remove(&self, end: Instant, job: JobId) {
+        self.lock().remove(&(end, job));
+    }
+
+    /// How soon to look again. A deadline that is put later may be earlier than all others.
+    pub fn next_in(&self, now: Instant) -> Duration {
+        let waiting = self.lock();
+        let next = waiting.first_key_value().map(|((end, _), _)| *end);
+        next.map_or(LOOKS, |end| end.saturating_duration_since(now).min(LOOKS))
+    }
+
+    /// Wakes the tasks whose deadline has come, each once.
+    pub fn wake_due(&self, now: Instant) {
+        let mut due = Vec::new();
+        let mut waiting = self.lock();
+        while let Some(first) = waiting.first_entry().filter(|first| first.key().0 <= now) {
+            due.push(first.remove());
+        }
+        drop(waiting);
+        due.into_iter().for_each(Waker::wake);
+    }
+
+    fn lock(&self) -> MutexGuard<'_, BTreeMap<(Instant, JobId), Waker>> {
+        self.waiting.lock().unwrap_or_else(PoisonError::into_inner)
+    }
+}
+
+#[cfg(test)]
+mod tests {
+    use super::*;
+    use std::sync::Arc;
+    use std::sync::atomic::{AtomicUsize, Ordering};
+    use std::task::Wake;
+
+    #[derive(Default)]
+    struct Count(AtomicUsize);
+
+    impl Wake for Count {
+        fn wake(self: Arc<Count>) {
+            self.0.fetch_add(1, Ordering::Relaxed);
+        }
+    }
+
+    #[test]
+    fn a_task_is_woken_once_at_its_deadline_unless_it_has_ended() {
+        let (count, now) = (Arc::new(Count::default()), Instant::now());
+        let (waker, second) = (Waker::from(Arc::clone(&count)), Duration::from_secs(1));
+        let deadlines = Deadlines::default();
+        assert_eq!(deadlines.next_in(now), LOOKS);
+        for (end, job) in [(now + second, 1), (now, 2), (now, 3)] {
+            deadlines.put(end, job, &waker);
+        }
+        assert_eq!(deadlines.next_in(now), Duration::ZERO);
+        deadlines.remove(now, 3);
+        deadlines.wake_due(now);
+        deadlines.wake_due(now);
+        assert_eq!(count.0.load(Ordering::Relaxed), 1);
+        deadlines.wake_due(now + second);
+        assert_eq!(count.0.load(Ordering::Relaxed), 2);
+    }
+}

@@ -1,0 +1,66 @@
+//! How tasks wait for answers.
+use super::Link;
+use crate::client::jobs::{Asked, Jobs};
+use crate::model::error::Error;
+use std::future::Future;
+use std::pin::Pin;
+use std::sync::Arc;
+use std::task::{Context, Poll};
+use std::time::Instant;
+
+/// What a client was asked, until it is answered or its deadline comes. If it is dropped earlier,
+/// nobody waits for it any more, as at its deadline.
+pub(crate) struct Awaited<T> {
+    link: Arc<Link>,
+    end: Instant,
+    /// None once it has ended.
+    asked: Option<Asked<T>>,
+}
+
+impl<T> Awaited<T> {
+    /// Asks for something now.
+    pub fn begin(
+        link: &Arc<Link>,
+        end: Instant,
+        ask: impl FnOnce(&mut Jobs) -> Asked<T>,
+    ) -> Awaited<T> {
+        let asked = Some(link.begin(ask));
+        Awaited { link: Arc::clone(link), end, asked }
+    }
+
+    /// Nobody waits any more. It answers why there was no answer, unless there is one after all.
+    fn give_up(&mut self) -> Option<Result<T, Error>> {
+        let asked = self.asked.take()?;
+        self.link.deadlines.remove(self.end, asked.id);
+        let why = self.link.session().give_up(asked.id);
+        // It may have come meanwhile.
+        Some(asked.answer.try_recv().unwrap_or(Err(why)))
+    }
+}
+
+impl<T> Future for Awaited<T> {
+    type Output = Result<T, Error>;
+
+    fn poll(mut self: Pin<&mut Self>, context: &mut Context<'_>) -> Poll<Result<T, Error>> {
+        let Some(asked) = &self.asked else { return Poll::Ready(Err(Error::Stopped)) };
+        // It is put before the look at the answer, so that the thread finds it in any case.
+        self.link.deadlines.put(self.end, asked.id, context.waker());
+        match asked.answer.poll(context) {
+            Poll::Ready(answered) => {
+                self.link.deadlines.remove(self.end, asked.id);
+                self.asked = None;
+                Poll::Ready(answered.unwrap_or(Err(Error::Stopped)))
+            }
+            Poll::Pending if Instant::now() >= self.end => {
+                Poll::Ready(self.give_up().unwrap_or(Err(Error::Stopped)))
+            }
+            Poll::Pending => Poll::Pending,
+        }
+    }
+}
+
+impl<T> Drop for Awaited<T> {
+    fn drop(&mut self) {
+        let _ = self.give_up();
+    }
+}

@@ -1,0 +1,164 @@
+//! Calls of a client that are futures, by an executor of 20 lines.
+use krl::{AsyncClient, Client, Error, MemoryStore, Outcome, Row, Server, Value, Waited};
+use std::future::Future;
+use std::pin::{Pin, pin};
+use std::sync::Arc;
+use std::task::{Context, Poll, Wake, Waker};
+use std::thread::{self, Thread};
+use std::time::{Duration, Instant};
+
+const LONG: Duration = Duration::from_secs(60);
+
+struct Unpark(Thread);
+
+impl Wake for Unpark {
+    fn wake(self: Arc<Unpark>) {
+        self.0.unpark();
+    }
+}
+
+fn waker() -> Waker {
+    Waker::from(Arc::new(Unpark(thread::current())))
+}
+
+/// Runs a future on this thread, which sleeps until it is woken.
+fn block_on<T>(future: impl Future<Output = T>) -> T {
+    let (waker, mut future) = (waker(), pin!(future));
+    loop {
+        match future.as_mut().poll(&mut Context::from_waker(&waker)) {
+            Poll::Ready(value) => return value,
+            Poll::Pending => thread::park(),
+        }
+    }
+}
+
+/// Runs all of these futures at once on this thread.
+fn block_on_all<T>(futures: impl IntoIterator<Item = impl Future<Output = T>>) -> Vec<T> {
+    let mut waiting: Vec<Pin<Box<_>>> = futures.into_iter().map(Box::pin).collect();
+    let (waker, mut ended) = (waker(), Vec::new());
+    loop {
+        waiting.retain_mut(|future| {
+            match future.as_mut().poll(&mut Context::from_waker(&waker)) {
+                Poll::Ready(value) => ended.push(value),
+                Poll::Pending => return true,
+            }
+            false
+        });
+        if waiting.is_empty() {
+            return ended;
+        }
+        thread::park();
+    }
+}
+
+/// Whether the future ends when it is polled for the first time.
+fn ends_at_once<T>(future: impl Future<Output = T>) -> bool {
+    pin!(future).poll(&mut Context::from_waker(&waker())).is_ready()
+}
+
+fn server() -> Server {
+    let listener = std::net::TcpListener::bind("127.0.0.1:0").unwrap();
+    Server::start(listener, MemoryStore::default()).unwrap()
+}
+
+/// A client of this number, with a lock file of this test.
+fn client(server: &Server, number: u8, test: &str) -> AsyncClient {
+    let name = format!("krl-asynchronous-{test}-{}-{number}.lock", std::process::id());
+    let client = Client::join(server.address(), number, std::env::temp_dir().join(name)).unwrap();
+    client.set_timeout(LONG);
+    AsyncClient::from(client)
+}
+
+fn row(key: u64, number: u64) -> Row {
+    Row { key, value: Value::from(number) }
+}
+
+#[test]
+fn each_call_has_its_outcome_and_a_read_from_the_cache_does_not_yield() {
+    let server = server();
+    let client = client(&server, 0, "outcomes");
+    block_on(async {
+        assert_eq!(client.insert(15, Value::from(1)).await, Ok(Outcome::Applied));
+        assert_eq!(client.insert(15, Value::from(1)).await, Ok(Outcome::Exists));
+        assert_eq!(client.put(15, Value::from(2)).await, Ok(Outcome::Applied));
+        assert_eq!(client.put(16, Value::from(2)).await, Ok(Outcome::Absent));
+        assert_eq!(client.set(16, Value::from(3)).await, Ok(Outcome::Applied));
+        assert_eq!(client.set(16, Value::from(4)).await, Ok(Outcome::Applied));
+        assert_eq!(client.read(10..20).await, Ok(vec![row(15, 2), row(16, 4)]));
+        assert!(ends_at_once(client.read(10..20)));
+        assert_eq!(client.forget(10..20).await, Ok(()));
+        assert!(!ends_at_once(client.read(10..20)));
+        assert_eq!(client.delete(16).await, Ok(Outcome::Applied));
+        assert_eq!(client.read(10..20).await, Ok(vec![row(15, 2)]));
+        assert_eq!(client.put(krl::END, Value::from(1)).await, Err(Error::BadKey));
+        let (rows, pin) = client.pin_for_update(10..20).await.unwrap();
+        assert_eq!(rows, [row(15, 2)]);
+        assert_eq!(pin.set(17, Value::from(1)).await, Ok(Outcome::Applied));
+        assert_eq!(pin.put(15, Value::from(3)).await, Ok(Outcome::Applied));
+        assert_eq!(pin.delete(17).await, Ok(Outcome::Applied));
+        assert!(pin.holds());
+        drop(pin);
+        assert_eq!(client.leave().await, Ok(()));
+        assert!(client.read(30..40).await.is_err());
+    });
+    server.stop().unwrap();
+}
+
+#[test]
+fn one_thread_waits_for_many_calls_at_once() {
+    let server = server();
+    let clients: Vec<_> = (0..4).map(|number| client(&server, number, "many")).collect();
+    let inserts = (0..200).map(|key| {
+        let client = &clients[usize::try_from(key % 4).unwrap()];
+        client.insert(key, Value::from(key))
+    });
+    assert!(block_on_all(inserts).iter().all(|outcome| *outcome == Ok(Outcome::Applied)));
+    let reads = clients.iter().map(|client| client.read(0..1000));
+    for rows in block_on_all(reads) {
+        assert_eq!(rows.unwrap().len(), 200);
+    }
+    server.stop().unwrap();
+}
+
+#[test]
+fn a_task_is_woken_when_a_range_changes() {
+    let server = server();
+    let (watches, changes) = (client(&server, 0, "changes"), client(&server, 1, "changes"));
+    block_on(async {
+        let rows = watches.read(10..20).await.unwrap();
+        let short = Duration::from_millis(50);
+        assert_eq!(watches.wait_for_change(10..20, &rows, short).await, Ok(Waited::Unchanged));
+    });
+    let rows = watches.client().cached(10..20).unwrap();
+    let writer = thread::spawn(move || block_on(changes.insert(15, Value::from(1))));
+    assert_eq!(block_on(watches.wait_for_change(10..20, &rows, LONG)), Ok(Waited::Changed));
+    assert_eq!(writer.join().unwrap(), Ok(Outcome::Applied));
+    server.stop().unwrap();
+}
+
+#[test]
+fn a_call_ends_by_its_timeout_while_there_is_no_server() {
+    let server = server();
+    let client = client(&server, 0, "timeout");
+    server.stop().unwrap();
+    client.client().set_timeout(Duration::from_millis(100));
+    let begun = Instant::now();
+    assert_eq!(block_on(client.read(0..9)), Err(Error::TimedOut));
+    assert!(begun.elapsed() >= Duration::from_millis(100));
+    assert_eq!(block_on(client.leave()), Err(Error::TimedOut));
+}
+
+#[test]
+fn a_future_that_is_dropped_gives_its_call_up() {
+    let server = server();
+    let (pins, writes) = (client(&server, 0, "dropped"), client(&server, 1, "dropped"));
+    let (_, pin) = block_on(pins.pin_for_write(10..20)).unwrap();
+    assert!(!ends_at_once(writes.insert(15, Value::from(1))));
+    drop(pin);
+    block_on(async {
+        // The lock that was asked for may still come; the write does not.
+        assert_eq!(writes.insert(16, Value::from(2)).await, Ok(Outcome::Applied));
+        assert_eq!(pins.read(10..20).await, Ok(vec![row(16, 2)]));
+    });
+    server.stop().unwrap();
+}
