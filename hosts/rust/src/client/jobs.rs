@@ -465,7 +465,7 @@ impl Jobs {
         let mut room = std::mem::take(&mut self.room);
         let rows = match self.client.scan(keys, &mut room, self.now) {
             Ok(Scan::Rows) => copied(&mut room).map(Some),
-            Ok(Scan::Miss(point)) => self.ask(id, point..keys.end, Mode::RangeSS).map(|_| None),
+            Ok(Scan::Miss(point)) => self.ask_to_read(id, point..keys.end).map(|_| None),
             Ok(Scan::Pending | Scan::Ended) => Ok(None),
             Err(code) => Err(code),
         };

@@ -153,7 +153,7 @@ impl Jobs {
         purpose: Purpose,
     ) -> Result<bool, Code> {
         match purpose {
-            Purpose::Read => self.ask(id, points, Mode::RangeSS),
+            Purpose::Read => self.ask_to_read(id, points),
             Purpose::Update => self.ask_to_change(id, points, Mode::RangeSU),
             Purpose::Write => self.ask_to_change(id, points, Mode::RangeXX),
         }

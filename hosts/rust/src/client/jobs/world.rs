@@ -1,4 +1,4 @@
-//! A server and two clients of the library, whose messages are handed over one by one.
+//! A server and clients of the library, whose messages are handed over one by one.
 use super::{Asking, Jobs};
 use crate::lease::clocks::Now;
 use crate::model::change::{Change, Outcome, Write};
@@ -13,10 +13,10 @@ use crate::wire::message::Message;
 use std::ops::Range;
 use std::time::Duration;
 
-/// A server and two clients of it.
+/// A server and clients of it.
 pub(crate) struct World {
     pub server: ServerHandle,
-    pub clients: [Jobs; 2],
+    pub clients: Vec<Jobs>,
 }
 
 pub(crate) fn messages(take: impl FnOnce(&mut Vec<u8>)) -> Vec<Vec<u8>> {
@@ -26,14 +26,19 @@ pub(crate) fn messages(take: impl FnOnce(&mut Vec<u8>)) -> Vec<Vec<u8>> {
 }
 
 impl World {
+    /// Two clients that have joined.
     pub fn new() -> World {
+        World::of(2)
+    }
+
+    /// So many clients that have joined.
+    pub fn of(clients: u8) -> World {
         let (mut server, epoch) =
             ServerHandle::open(&Snapshot::default(), Room::default(), Reach::default()).unwrap();
         server.confirm(&[Change::Started { epoch }]).unwrap();
-        let clients =
-            [0, 1].map(|number| Jobs::new(ClientHandle::open(number, 1).unwrap(), Now::read()));
-        let mut world = World { server, clients };
-        let joined = [0, 1].map(|place: usize| world.clients[place].join());
+        let open = |number| Jobs::new(ClientHandle::open(number, 1).unwrap(), Now::read());
+        let mut world = World { server, clients: (0..clients).map(open).collect() };
+        let joined: Vec<_> = world.clients.iter_mut().map(Jobs::join).collect();
         assert!(joined.iter().all(|joined| joined.answer.try_recv().is_err()), "too early");
         world.settle();
         assert!(joined.iter().all(|joined| joined.answer.try_recv() == Ok(Ok(()))));
@@ -80,7 +85,7 @@ impl World {
     /// Hands over what each client says, and then what the server says. It answers whether anybody
     /// has said anything.
     pub fn round(&mut self) -> bool {
-        let said: Vec<_> = [0, 1].into_iter().flat_map(|client| self.said(client)).collect();
+        let said: Vec<_> = (0..self.clients.len()).flat_map(|client| self.said(client)).collect();
         self.tell_server(&said);
         let heard = self.tell_clients();
         for jobs in &mut self.clients {

@@ -1,10 +1,17 @@
-//! What a client gives back before it asks for a slot that it only reads.
+//! What a client gives back before it asks for more of a slot, so that it passes nobody who waits.
 //!
 //! A server puts a request in front of the others if its client already holds something of the
-//! slot. A client that reads a slot and then asks to change it would pass the client that has the
-//! slot pinned for an update and asks for X. It would wait for that pin, and the other client would
-//! wait after it, until one of the two calls times out. The request of a client that holds nothing
-//! goes to the end of the queue: the client that has the update mode writes first.
+//! slot. The request of a client that holds nothing goes to the end of the queue.
+//!
+//! A client that reads a slot and then asks to change it would pass the client that has the slot
+//! pinned for an update and asks for X. It would wait for that pin, and the other client would wait
+//! after it, until one of the two calls times out. With nothing held, the client that has the update
+//! mode writes first.
+//!
+//! A client that was called back from a gap keeps the entry at its end. Two clients that read the
+//! gap again would pass the one that waits to insert there, each while the other one still reads:
+//! one of them reads the gap at any time, and nobody ever inserts. With nothing held, each of them
+//! reads the gap again after the insert.
 mod narrowed;
 mod reach;
 
@@ -19,7 +26,7 @@ use std::ops::Range;
 /// So many rows are looked at to find where a gap ends.
 const FEW: usize = 64;
 
-/// A slot that the client reads, and that another client may have for an update.
+/// A slot that the client reads, and of which another client may have more or wait for more.
 #[derive(Clone, Debug, PartialEq, Eq)]
 struct OnlyRead {
     span: Range<u64>,
@@ -49,14 +56,40 @@ impl Jobs {
         points: Range<u64>,
         mode: Mode,
     ) -> Result<bool, Code> {
-        let is_waiting = self.shows(|shown| shown.is_waiting);
-        let may_ask = self.takings.may_ask(id, points.start);
-        if self.asking == Asking::Later || is_waiting || !may_ask {
+        if !self.may_ask(id, points.start) {
             return Ok(false);
         }
-        let Some(read) = self.slot_only_read(points.start, mode) else {
-            return self.ask(id, points, mode);
+        match self.slot_only_read(points.start, mode) {
+            Some(read) => self.give_back_and_ask(id, points, &read, mode),
+            None => self.ask(id, points, mode),
+        }
+    }
+
+    /// Asks for a lock with which the client reads, if it may ask just now. It answers whether it
+    /// has. What a callback left of the first slot it gives back before, as above.
+    pub(super) fn ask_to_read(&mut self, id: JobId, points: Range<u64>) -> Result<bool, Code> {
+        let Some(left) = self.left_by_a_callback(points.start) else {
+            return self.ask(id, points, Mode::RangeSS);
         };
+        if !self.may_ask(id, points.start) {
+            return Ok(false);
+        }
+        self.give_back_and_ask(id, points, &left, Mode::RangeSS)
+    }
+
+    fn may_ask(&self, id: JobId, point: u64) -> bool {
+        self.asking == Asking::Allowed
+            && !self.shows(|shown| shown.is_waiting)
+            && self.takings.may_ask(id, point)
+    }
+
+    fn give_back_and_ask(
+        &mut self,
+        id: JobId,
+        points: Range<u64>,
+        read: &OnlyRead,
+        mode: Mode,
+    ) -> Result<bool, Code> {
         // The server passes over a release that leaves while a push is on its way.
         if self.shows(Shown::awaits_a_push) {
             return Ok(false);
@@ -64,7 +97,7 @@ impl Jobs {
         match self.try_forget(&read.span) {
             Ok(true) => {
                 let has_asked = self.ask(id, points, read.joined_with(mode))?;
-                self.yielded = has_asked.then_some(read.span);
+                self.yielded = has_asked.then(|| read.span.clone());
                 Ok(has_asked)
             }
             Ok(false) => Ok(false),
@@ -101,11 +134,21 @@ impl Jobs {
         if self.client.reads_gap(point) {
             return self.slot_with_gap(point);
         }
-        let narrowed = self.narrowed.slot_of(point);
-        if let Some(slot) = narrowed.filter(|slot| self.reads_entry_without_gap(slot)) {
-            return Some(OnlyRead { span: slot.clone(), has_gap: false });
+        let is_alone = || OnlyRead { span: point..point + 1, has_gap: false };
+        self.left_by_a_callback(point).or_else(|| is_entry_read.then(is_alone))
+    }
+
+    /// The slot of this point, if a callback left the client only its entry. Another client may
+    /// still wait for the gap.
+    fn left_by_a_callback(&self, point: u64) -> Option<OnlyRead> {
+        let slot = self.narrowed.slot_of(point)?;
+        if !self.reads_entry_without_gap(slot) {
+            return None;
         }
-        is_entry_read.then(|| OnlyRead { span: point..point + 1, has_gap: false })
+        // The slot has become smaller since, if the client holds the point before.
+        let is_smaller = slot.start < point && self.client.holds(point - 1);
+        let start = if is_smaller { point } else { slot.start };
+        Some(OnlyRead { span: start..slot.end, has_gap: false })
     }
 
     /// What the client knows of the slot of this point in a gap that it reads.

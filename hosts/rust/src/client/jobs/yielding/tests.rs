@@ -1,6 +1,11 @@
+use super::OnlyRead;
 use crate::client::jobs::world::{World, row};
 use crate::client::jobs::{Asked, Asking, Purpose};
 use crate::model::change::{Outcome, Write};
+use crate::model::row::Row;
+use crate::wire::message::Message;
+use crate::wire::message::kind::{LOCK, RELEASE};
+use std::ops::Range;
 
 /// A world with the rows 5 and 10, which both clients read.
 fn read_by_both() -> World {
@@ -95,6 +100,98 @@ fn who_reads_an_entry_without_its_gap_waits_behind_the_one_that_writes_too() {
         world.clients[0].unpin(pin);
         world.settle();
         assert_eq!(next.answer.try_recv(), Ok(Ok(Outcome::Applied)), "{write:?}");
+    }
+}
+
+#[test]
+fn a_callback_leaves_the_entry_of_a_slot() {
+    let mut world = read_without_its_gap();
+    let left = |world: &World, point| {
+        let left = world.clients[1].left_by_a_callback(point);
+        left.map(|OnlyRead { span, has_gap }| (span, has_gap))
+    };
+    assert_eq!(left(&world, 9), Some((6..11, false)));
+    assert_eq!(left(&world, 6), Some((6..11, false)));
+    assert_eq!([left(&world, 5), left(&world, 11)], [None, None], "it was not called back there");
+    // The client reads the lower part of that slot again, which is a slot by itself by now.
+    let pin = world.clients[1].pin(10..11).unwrap();
+    assert_eq!(world.read(1, 6..8), [row(7, 1)]);
+    world.clients[1].unpin(pin);
+    assert_eq!(left(&world, 9), Some((6..11, false)));
+    assert_eq!(left(&world, 8), Some((8..11, false)));
+    world.read(1, 0..20);
+    assert!((0..20).all(|point| left(&world, point).is_none()), "it reads all");
+}
+
+#[test]
+fn who_reads_a_gap_again_gives_back_what_a_callback_left() {
+    let mut world = read_without_its_gap();
+    let kinds = |said: &[Vec<u8>]| said.iter().map(|message| message[1]).collect::<Vec<_>>();
+    let read = world.clients[1].read(8..11);
+    let said = world.said(1);
+    assert_eq!(kinds(&said), [RELEASE, LOCK]);
+    world.tell_server(&said);
+    world.settle();
+    assert_eq!(read.answer.try_recv(), Ok(Ok(vec![row(10, 1)])));
+    world.clients[1].forget(0..6);
+    world.settle();
+    let _read = world.clients[1].read(0..6);
+    assert_eq!(kinds(&world.said(1)), [LOCK], "nobody else has wanted that");
+}
+
+/// Two clients that read this range over and over, each as soon as it was called back there.
+struct HastyReaders {
+    keys: Range<u64>,
+    reads: [Asked<Vec<Row>>; 2],
+}
+
+impl HastyReaders {
+    fn begin(world: &mut World, keys: Range<u64>) -> HastyReaders {
+        let reads = [0, 1].map(|client| world.clients[client].read(keys.clone()));
+        HastyReaders { keys, reads }
+    }
+
+    fn go_on(&mut self, world: &mut World) {
+        for (client, read) in self.reads.iter_mut().enumerate() {
+            if read.answer.try_recv().is_ok() {
+                *read = world.clients[client].read(self.keys.clone());
+            }
+        }
+    }
+
+    /// One round trip, in which each message comes by itself.
+    fn trip(&mut self, world: &mut World) {
+        let said: Vec<_> = (0..3).flat_map(|client| world.said(client)).collect();
+        world.tell_server(&said);
+        for message in world.said_by_server() {
+            let client = usize::from(Message::read(&message).client().unwrap());
+            world.clients[client].hear(&message).unwrap();
+            world.clients[client].advance(Asking::Allowed);
+            self.go_on(world);
+        }
+    }
+}
+
+/// So many round trips does a write take that is not kept waiting, and a few more.
+const FEW: usize = 8;
+
+#[test]
+fn who_reads_again_what_was_called_back_keeps_no_writer_waiting() {
+    for keys in [0..10, 0..11, 0..20] {
+        let mut world = World::of(3);
+        for key in [10, 15] {
+            assert_eq!(world.write(2, Write::Insert(row(key, 1))), Outcome::Applied);
+        }
+        let mut readers = HastyReaders::begin(&mut world, keys.clone());
+        world.settle();
+        for key in [5, 7] {
+            let insert = world.clients[2].write(Write::Insert(row(key, 1)));
+            let is_done = (0..FEW).any(|_| {
+                readers.trip(&mut world);
+                insert.answer.try_recv() == Ok(Ok(Outcome::Applied))
+            });
+            assert!(is_done, "{key} is not inserted, while others read {keys:?}");
+        }
     }
 }
 
