@@ -15,21 +15,18 @@ WIDTH = 100
 
 HEAD = """# The types that definitions take from the code
 
-`tests/statement --write` makes this page from the sources, and `tests/statement` compares it with them: do not edit it.
-
-A definition imports a type of the code by `use Rattle.CRATE.specs.declared.FILE.TYPE`, and its variants by
-`TYPE.TheVariants as name`. Here is each type and constant that the files of *What to read to know what is proved* in
-`docs/ARCHITECTURE.md` import so, lowest first. The sources have a comment at each field.
-
-In definitions a `u64` or `usize` is a number, `ℕ`, that knows no greatest one; a `bool` is a `Bool`; a `Vec<T>` or
-`[T; n]` is a `List T`. A field is read as `h.span`. What a variant carries follows it, in the order of its
-declaration: `write.Insert k v`.
+`tests/statement --write` makes this page from the sources, and `tests/statement` compares it with them. A definition
+imports a type of the code by `use Rattle.CRATE.specs.declared.FILE.TYPE`, and its variants by `TYPE.TheVariants as
+name`. Here is each type and constant that the files of *What to read to know what is proved* in `docs/ARCHITECTURE.md`
+import, lowest first. In definitions a `u64` or `usize` is a number, `ℕ`, that knows no greatest one; a `bool` is a
+`Bool`; a `Vec<T>` or `[T; n]` is a `List T`. A field is read as `h.span`. What a variant carries follows it, in the
+order of its declaration: `write.Insert k v`.
 """
 TABLE = """
 ## What stands for other types
 
-These types have fields that their users do not see. Contracts and definitions see the value on the right in their
-place, which the type's `impl Model` names.
+These types have fields that their users do not see. Contracts and definitions see the value on the right, which the
+type's `impl Model` names.
 
 | Type | In definitions | Declared in |
 | --- | --- | --- |

@@ -7,8 +7,8 @@
  * cache until its lease ends, and nothing from then on. A little later the server evicts it, and client 1 inserts. The
  * program counts the time by itself.
  *
- * This host pins nothing, no client changes what it has read, and only one client reads. So it needs neither writes that
- * are bound to a pin, nor to give something back before it asks for more: `docs/EMBEDDING.md` has these rules.
+ * This host pins nothing, no client changes what it has read, and only one client reads. So it needs neither writes
+ * that are bound to a pin, nor to give something back before it asks for more: `docs/EMBEDDING.md` has these rules.
  *
  *     cc -std=c11 -I FOLDER_OF_krl.h two_clients.c libkrl_embed.a liblibc_c.a -o two_clients
  */
