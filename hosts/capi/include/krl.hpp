@@ -28,9 +28,11 @@
 
 #include "krl_client.h"
 
+#include <algorithm>
 #include <chrono>
 #include <cstddef>
 #include <cstdint>
+#include <cstring>
 #include <iterator>
 #include <memory>
 #include <new>
@@ -254,6 +256,39 @@ class rows {
     std::unique_ptr<krlc_rows, detail::free_rows> room_;
 };
 
+/* Several writes that are made in one wait, as `krlc_write_all`, and what became of each. */
+class batch {
+  public:
+    batch &insert(std::uint64_t key, std::string_view value) { return add(KRLC_INSERT, key, value); }
+    batch &put(std::uint64_t key, std::string_view value) { return add(KRLC_PUT, key, value); }
+    batch &set(std::uint64_t key, std::string_view value) { return add(KRLC_SET, key, value); }
+    batch &erase(std::uint64_t key) { return add(KRLC_DELETE, key, {}); }
+
+    std::size_t size() const noexcept { return writes_.size(); }
+    bool empty() const noexcept { return writes_.empty(); }
+    void clear() noexcept { writes_.clear(); }
+    krlc_write *data() noexcept { return writes_.data(); }
+
+    /* What became of the write at a place below the size: the code of its outcome, as `outcome` has it, KRLC_UNKNOWN or
+     * KRLC_NOT_MADE. It is KRLC_NOT_MADE before the batch is written. */
+    krlc_code at(std::size_t place) const { return static_cast<krlc_code>(writes_.at(place).outcome); }
+
+  private:
+    /* A value that is too long keeps its length, by which it is refused. */
+    batch &add(krlc_kind kind, std::uint64_t key, std::string_view value) {
+        krlc_write write = {};
+        write.kind = kind;
+        write.outcome = KRLC_NOT_MADE;
+        write.row.key = key;
+        write.row.length = value.size();
+        value.copy(reinterpret_cast<char *>(write.row.bytes), sizeof write.row.bytes);
+        writes_.push_back(write);
+        return *this;
+    }
+
+    std::vector<krlc_write> writes_;
+};
+
 /* How long a call waits for an answer: a call that is given none waits for its client's timeout. */
 using timeout = std::chrono::milliseconds;
 
@@ -282,6 +317,13 @@ class pin {
     [[nodiscard]] answer<outcome> erase(std::uint64_t key, timeout time = {}) {
         krlc_error failed;
         return detail::judged(krlc_pin_delete(pin_.get(), key, detail::milliseconds(time), &failed), failed);
+    }
+    /* Makes the writes of the batch as `client::write_all` does, each while the pin holds, or never. */
+    answer<void> write_all(batch &writes, timeout time = {}) {
+        krlc_error failed;
+        std::uint64_t waits = detail::milliseconds(time);
+        std::uint32_t code = krlc_pin_write_all(pin_.get(), writes.data(), writes.size(), waits, &failed);
+        return detail::answered(code, failed, [] {});
     }
     /* Ends the pin now. Later calls are refused. */
     void release() noexcept { pin_.reset(); }
@@ -355,6 +397,60 @@ inline answer<void> evict(const options &wanted) {
     return detail::answered(krlc_evict(&options, &failed), failed, [] {});
 }
 
+/* The states of a range, one after the other, of a client that outlives this. The first is that of the first call. Each
+ * later one is that of a later moment and differs from the one before: states in between may be missed, and the last
+ * one is not. An error ends nothing, and the next call goes on. */
+class changes {
+  public:
+    changes(krlc_client *client, std::uint64_t lo, std::uint64_t hi) : client_(client), lo_(lo), hi_(hi) {}
+
+    /* Waits for the next state: false if the range has not changed within the time. A read that it needs waits for the
+     * client's timeout all the same. */
+    [[nodiscard]] answer<bool> next(std::chrono::milliseconds time) {
+        using clock = std::chrono::steady_clock;
+        const clock::time_point end = clock::now() + time;
+        for (;;) {
+            const auto left = std::chrono::duration_cast<std::chrono::milliseconds>(end - clock::now());
+            if (has_read_ && is_unchanged(left))
+                return false;
+            krlc_error failed;
+            const std::uint32_t code = krlc_read(client_, lo_, hi_, rows_.get(), 0, &failed);
+            if (code > KRLC_ANSWERS)
+                return detail::answered(code, failed, [] { return false; });
+            if (!has_read_ || differs())
+                break;
+            if (left.count() <= 0)
+                return false;
+        }
+        has_read_ = true;
+        known_.assign(rows_.data(), rows_.data() + rows_.size());
+        return true;
+    }
+    /* The rows of the last state; none after an error. */
+    const krl::rows &rows() const noexcept { return rows_; }
+
+  private:
+    /* Why a wait failed shows in the read that follows. */
+    bool is_unchanged(std::chrono::milliseconds left) const {
+        return krlc_wait_for_change(client_, lo_, hi_, known_.data(), known_.size(), detail::milliseconds(left),
+                                    nullptr) == KRLC_UNCHANGED;
+    }
+    bool differs() const {
+        return !std::equal(known_.begin(), known_.end(), rows_.data(), rows_.data() + rows_.size(),
+                           [](const krlc_row &a, const krlc_row &b) {
+                               return a.key == b.key && a.length == b.length &&
+                                      std::memcmp(a.bytes, b.bytes, static_cast<std::size_t>(a.length)) == 0;
+                           });
+    }
+
+    krlc_client *client_;
+    std::uint64_t lo_;
+    std::uint64_t hi_;
+    bool has_read_ = false;
+    krl::rows rows_;
+    std::vector<krlc_row> known_;
+};
+
 /* A client that has joined. Its destructor leaves, and waits at most a second for that. */
 class client {
   public:
@@ -405,6 +501,14 @@ class client {
         return detail::judged(krlc_delete(client_.get(), key, detail::milliseconds(time), &failed), failed);
     }
 
+    /* Makes the writes of the batch in one wait: `batch::at` shows what became of each, also after an error. */
+    answer<void> write_all(batch &writes, timeout time = {}) {
+        krlc_error failed;
+        std::uint64_t waits = detail::milliseconds(time);
+        std::uint32_t code = krlc_write_all(client_.get(), writes.data(), writes.size(), waits, &failed);
+        return detail::answered(code, failed, [] {});
+    }
+
     /* Pins what the client holds of the range, without reading it. */
     [[nodiscard]] answer<krl::pin> pin_held(std::uint64_t lo, std::uint64_t hi, timeout time = {}) {
         krlc_pin *taken = nullptr;
@@ -430,6 +534,13 @@ class client {
         std::uint32_t code = krlc_wait_for_change(client_.get(), lo, hi, known.data(), known.size(),
                                                   detail::milliseconds(time), &failed);
         return detail::answered(code, failed, [&] { return code == KRLC_OK; });
+    }
+    /* The states of a range that is not empty, one after the other, for as long as this client lives. */
+    [[nodiscard]] answer<krl::changes> changes(std::uint64_t lo, std::uint64_t hi) {
+        krlc_error none = detail::named(KRLC_BAD_RANGE);
+        const bool is_range = lo < hi && hi <= end_of_ranges;
+        return detail::answered(is_range ? KRLC_OK : KRLC_BAD_RANGE, none,
+                                [&] { return krl::changes(client_.get(), lo, hi); });
     }
     /* Gives back what the client holds of the range. */
     answer<void> forget(std::uint64_t lo, std::uint64_t hi, timeout time = {}) {

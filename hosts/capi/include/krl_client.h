@@ -152,6 +152,8 @@ typedef enum krlc_code {
     KRLC_STOPPED = 44,
     /* A fault of the library, which is printed on standard error. */
     KRLC_INTERNAL = 45,
+    /* Of one of several writes: it may have been applied, or may still be. No call returns it. */
+    KRLC_UNKNOWN = 46,
 
     /* Other errors: a write that returned one of these changes nothing. */
 
@@ -166,7 +168,9 @@ typedef enum krlc_code {
     /* The system has no thread for the client's connection. */
     KRLC_NO_THREAD = 64,
     /* Of krl_host.h: the connection has to end. No call of this header returns it. */
-    KRLC_DISCONNECT = 65
+    KRLC_DISCONNECT = 65,
+    /* Of one of several writes: it was not made. No call returns it. */
+    KRLC_NOT_MADE = 66
 } krlc_code;
 
 /* Why a server does not serve a client. The numbers are those of `docs/WIRE.md`. */
@@ -211,6 +215,27 @@ typedef struct krlc_row {
     uint64_t length;
     uint8_t bytes[KRLC_MAX_VALUE_BYTES];
 } krlc_row;
+
+/* What a write of several does. */
+typedef enum krlc_kind {
+    /* As `krlc_insert`. */
+    KRLC_INSERT = 0,
+    /* As `krlc_put`. */
+    KRLC_PUT = 1,
+    /* As `krlc_set`. */
+    KRLC_SET = 2,
+    /* As `krlc_delete`, which uses the key of the row only. */
+    KRLC_DELETE = 3,
+} krlc_kind;
+
+/* One write of several, and what became of it. */
+typedef struct krlc_write {
+    /* A `krlc_kind`. */
+    uint32_t kind;
+    /* Written by the call: KRLC_OK or another answer of this write; KRLC_UNKNOWN; or KRLC_NOT_MADE. */
+    uint32_t outcome;
+    krlc_row row;
+} krlc_write;
 
 /* What went wrong. */
 typedef struct krlc_error {
@@ -386,6 +411,16 @@ KRLC_NODISCARD uint32_t krlc_set(krlc_client *client, uint64_t key, const void *
 /* Deletes a row. */
 KRLC_NODISCARD uint32_t krlc_delete(krlc_client *client, uint64_t key, uint64_t timeout_ms, krlc_error *error);
 
+/* Makes several writes in one wait, one after the other: their outcomes are written to `writes`. A write whose outcome
+ * is KRLC_EXISTS, KRLC_ABSENT or KRLC_FULL ends no other one, and the call returns KRLC_OK. It is no transaction: other
+ * clients may see the first writes without the others, also after a crash, and may write in between. With a map, the
+ * writes of each shard are made in their order, and those of all shards at the same time. All writes together take
+ * `timeout_ms` at most. Errors: those of `krlc_insert`, for the first write that was not judged; and KRLC_MISUSE,
+ * KRLC_TOO_LONG and KRLC_BAD_KEY before any write is made. After an error at each server at most one write is
+ * KRLC_UNKNOWN: a read of its key shows it. Those that are KRLC_NOT_MADE change nothing. */
+KRLC_NODISCARD uint32_t krlc_write_all(krlc_client *client, krlc_write *writes, size_t count, uint64_t timeout_ms,
+                                       krlc_error *error);
+
 /* Pins. While a pin lives, no other client takes what this client holds of the range: others wait. A client has at most
  * eight pins at a server. A pin becomes void if the client's lease ends or the server's store goes back. */
 
@@ -422,6 +457,11 @@ KRLC_NODISCARD uint32_t krlc_pin_put(krlc_pin *pin, uint64_t key, const void *by
 KRLC_NODISCARD uint32_t krlc_pin_set(krlc_pin *pin, uint64_t key, const void *bytes, size_t length,
                                      uint64_t timeout_ms, krlc_error *error);
 KRLC_NODISCARD uint32_t krlc_pin_delete(krlc_pin *pin, uint64_t key, uint64_t timeout_ms, krlc_error *error);
+
+/* Makes several writes as `krlc_write_all` does, each while the pin holds, or never. By a pin of `krlc_pin_for_write`,
+ * writes in its range ask for no locks. Errors: those of `krlc_write_all`, and KRLC_PIN_IS_VOID. */
+KRLC_NODISCARD uint32_t krlc_pin_write_all(krlc_pin *pin, krlc_write *writes, size_t count, uint64_t timeout_ms,
+                                           krlc_error *error);
 
 /* Ends a pin: other clients get the range that they wait for. A null pointer and a freed pin change nothing. If the
  * client was freed before, its last pin may wait a second for servers that do not answer. */

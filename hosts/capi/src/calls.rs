@@ -20,6 +20,7 @@ use crate::input::{self, GivenRow, range};
 use crate::options::{NUMBERS, Options, options_at};
 use crate::status::Status;
 use crate::table::{Table, Write};
+use crate::writes::{GivenWrite, write_all, writes};
 use krl::{Row, Waited};
 use std::ffi::{c_char, c_void};
 use std::ptr;
@@ -403,4 +404,21 @@ pub unsafe extern "C" fn krlc_delete(
 ) -> u32 {
     // SAFETY: the caller vouches for the client and the room.
     unsafe { write(client, timeout_ms, error, || Ok(Write::Delete(key))) }
+}
+
+#[unsafe(no_mangle)]
+pub unsafe extern "C" fn krlc_write_all(
+    client: *mut Client,
+    at: *mut GivenWrite,
+    count: usize,
+    timeout_ms: u64,
+    error: *mut ErrorRoom,
+) -> u32 {
+    let write = || {
+        // SAFETY: the caller vouches for so many writes, and frees the client after this call.
+        let (given, table) = unsafe { (writes(at, count)?, table(client)?) };
+        write_all(given, |wanted| table.write_all(wanted, table.timeout_of(timeout_ms)))
+    };
+    // SAFETY: the caller vouches for the room of the error.
+    unsafe { answer(error, write) }
 }

@@ -1,5 +1,5 @@
 //! What a call returns.
-use krl::{Code as LibraryCode, Error, JoinError, LockFileError, Outcome};
+use krl::{Code as LibraryCode, Error, Fate, JoinError, LockFileError, Outcome};
 use std::ffi::CStr;
 
 macro_rules! codes {
@@ -54,12 +54,14 @@ codes! {
     LeaseEnded = 43, c"KRLC_LEASE_ENDED";
     Stopped = 44, c"KRLC_STOPPED";
     Internal = 45, c"KRLC_INTERNAL";
+    Unknown = 46, c"KRLC_UNKNOWN";
     TurnedAway = 60, c"KRLC_TURNED_AWAY";
     OtherShard = 61, c"KRLC_OTHER_SHARD";
     PinIsVoid = 62, c"KRLC_PIN_IS_VOID";
     OutOfMemory = 63, c"KRLC_OUT_OF_MEMORY";
     NoThread = 64, c"KRLC_NO_THREAD";
     Disconnect = 65, c"KRLC_DISCONNECT";
+    NotMade = 66, c"KRLC_NOT_MADE";
 }
 
 impl Code {
@@ -78,6 +80,7 @@ impl Code {
                 | Code::LeaseEnded
                 | Code::Stopped
                 | Code::Internal
+                | Code::Unknown
         )
     }
 }
@@ -90,6 +93,16 @@ impl From<Outcome> for Code {
             Outcome::Absent => Code::Absent,
             Outcome::NotHeld => Code::NotHeld,
             Outcome::Full => Code::Full,
+        }
+    }
+}
+
+impl From<Fate> for Code {
+    fn from(fate: Fate) -> Code {
+        match fate {
+            Fate::Judged(outcome) => outcome.into(),
+            Fate::Unknown => Code::Unknown,
+            Fate::NotMade => Code::NotMade,
         }
     }
 }

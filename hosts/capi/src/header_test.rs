@@ -9,6 +9,7 @@ use crate::input::GivenRow;
 use crate::options::{NUMBERS, Options};
 use crate::reason::Reason;
 use crate::status::Status;
+use crate::writes::GivenWrite;
 use std::collections::{BTreeMap, BTreeSet};
 use std::fmt::Write as _;
 use std::io::Write as _;
@@ -31,7 +32,7 @@ fn headers() -> String {
 }
 
 /// What each type of a call is in C.
-const TYPES: [(&str, &str); 25] = [
+const TYPES: [(&str, &str); 26] = [
     ("bool", "bool"),
     ("u32", "uint32_t"),
     ("u64", "uint64_t"),
@@ -52,6 +53,7 @@ const TYPES: [(&str, &str); 25] = [
     ("*mut Row", "krlc_row *"),
     ("*const Row", "const krlc_row *"),
     ("*const GivenRow", "const krlc_row *"),
+    ("*mut GivenWrite", "krlc_write *"),
     ("*const HostOptions", "const krlh_options *"),
     ("*mut HostHandle", "krlh_client *"),
     ("*mut *mut HostHandle", "krlh_client **"),
@@ -148,6 +150,10 @@ fn program(header: &str) -> String {
         ("KRLC_MAX_SENTENCE_BYTES", MAX_SENTENCE_BYTES as u64),
         ("KRLC_FOR_EVER", u64::MAX),
         ("KRLC_NUMBERS", u64::from(NUMBERS)),
+        ("KRLC_INSERT", 0),
+        ("KRLC_PUT", 1),
+        ("KRLC_SET", 2),
+        ("KRLC_DELETE", 3),
         ("KRLH_NO_PIN", NO_PIN),
         ("KRLH_NEVER", NEVER),
     ];
@@ -155,6 +161,7 @@ fn program(header: &str) -> String {
         writeln!(program, "_Static_assert({name} == UINT64_C({number}), \"{name}\");").unwrap();
     }
     layout!(program, GivenRow, "krlc_row", key length bytes);
+    layout!(program, GivenWrite, "krlc_write", kind outcome row);
     layout!(program, ErrorRoom, "krlc_error", code shard reason sentence);
     layout!(program, Status, "krlc_status", shard epoch incarnation lease_left_ms is_connected);
     layout!(program, Options, "krlc_options", size servers map lock_file number numbers timeout_ms

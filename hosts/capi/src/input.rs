@@ -109,7 +109,8 @@ pub unsafe fn rows(at: *const GivenRow, count: usize) -> Result<Vec<Row>, Fault>
     Ok(rows)
 }
 
-fn row_of(given: &GivenRow) -> Result<Row, Fault> {
+/// The row that a caller names.
+pub fn row_of(given: &GivenRow) -> Result<Row, Fault> {
     let length = usize::try_from(given.length).ok();
     let bytes = length.and_then(|length| given.bytes.get(..length));
     let value = bytes.and_then(Value::new).ok_or_else(|| too_long(given.length))?;

@@ -19,6 +19,7 @@ mod status;
 mod table;
 #[cfg_attr(not(feature = "tls"), path = "no_tls.rs")]
 mod tls;
+mod writes;
 
 #[cfg(test)]
 mod header_test;

@@ -1,6 +1,6 @@
 //! A pin as C has it.
-use crate::table::{Purpose, Table, TablePin, Write};
-use krl::{Outcome, Row, ShardError};
+use crate::table::{Judged, Purpose, Table, TablePin, Write};
+use krl::{Mutation, Outcome, Row, ShardError};
 use std::ops::Range;
 use std::sync::Arc;
 use std::time::Duration;
@@ -40,5 +40,10 @@ impl OwnPin {
     /// Makes a write that waits for so many milliseconds, of which 0 stands for the timeout.
     pub fn write(&self, write: Write, timeout_ms: u64) -> Result<Outcome, ShardError> {
         self.pin.write(write, self.table.timeout_of(timeout_ms))
+    }
+
+    /// Makes several writes, which wait for so many milliseconds together.
+    pub fn write_all(&self, writes: Vec<Mutation>, timeout_ms: u64) -> Judged {
+        self.pin.write_all(writes, self.table.timeout_of(timeout_ms))
     }
 }

@@ -1,5 +1,6 @@
 //! The table that a client works on: that of one server, or that of all servers of a map.
-use krl::{Client, Outcome, Pin, Row, ShardError, ShardedClient, ShardedPin, Value, Waited};
+use krl::{BatchError, Client, Mutation, Outcome, Pin, Row, ShardError, ShardedClient, ShardedPin};
+use krl::{Value, Waited};
 use std::ops::Range;
 use std::time::Duration;
 
@@ -35,6 +36,9 @@ pub enum Write {
 }
 
 type Answer<T> = Result<T, ShardError>;
+
+/// How several writes were judged.
+pub type Judged = Result<Vec<Outcome>, BatchError<ShardError>>;
 
 /// Makes a write by what has the calls for it: clients and pins, of one server or of several.
 macro_rules! written {
@@ -92,6 +96,13 @@ impl Table {
         match self {
             Table::One(client) => Ok(written!(client.within(timeout), write)?),
             Table::Sharded(client) => written!(client.within(timeout), write),
+        }
+    }
+
+    pub fn write_all(&self, writes: Vec<Mutation>, timeout: Duration) -> Judged {
+        match self {
+            Table::One(client) => Ok(client.within(timeout).write_all(writes)?),
+            Table::Sharded(client) => client.within(timeout).write_all(writes),
         }
     }
 
@@ -183,6 +194,13 @@ impl TablePin {
         match self {
             TablePin::One(pin) => Ok(written!(pin.within(timeout), write)?),
             TablePin::Sharded(pin) => written!(pin.within(timeout), write),
+        }
+    }
+
+    pub fn write_all(&self, writes: Vec<Mutation>, timeout: Duration) -> Judged {
+        match self {
+            TablePin::One(pin) => Ok(pin.within(timeout).write_all(writes)?),
+            TablePin::Sharded(pin) => pin.within(timeout).write_all(writes),
         }
     }
 }

@@ -1,6 +1,6 @@
 //! The lines in Rust of `docs/CLIENTS.md` are built here. Those in C and C++ are run by `programs.rs`,
 //! and those in Python by its own tests.
-use krl::{Client, Outcome, Servers, Value};
+use krl::{Client, Mutation, Outcome, Row, Servers, Value};
 use std::error::Error;
 
 const PAGE: &str = include_str!("../../../docs/CLIENTS.md");
@@ -25,9 +25,24 @@ fn lines() -> Result<(), Box<dyn Error>> {
     Ok(())
 }
 
+#[allow(dead_code, clippy::unnecessary_wraps, reason = "they are only built")]
+#[rustfmt::skip]
+fn several_writes(client: &Client) -> Result<(), Box<dyn Error>> {
+    let row = |key, value: u64| Row { key, value: Value::from(value) };
+    match client.write_all([Mutation::Set(row(20, 1)), Mutation::Set(row(21, 2)), Mutation::Delete(22)]) {
+        Ok(outcomes) => println!("{outcomes:?}"),
+        Err(failed) => println!("{failed}; to be read: {:?}", failed.unknown().collect::<Vec<_>>()),
+    }
+    Ok(())
+}
+
 #[test]
 fn the_page_has_the_lines_that_are_built_here() {
-    let lines = PAGE.split_once("```rust\n").unwrap().1.split_once("```").unwrap().0;
-    let indented = format!("\n    {}\n    Ok(())\n", lines.trim_end().replace('\n', "\n    "));
-    assert!(THIS.contains(&indented), "{lines}");
+    let blocks: Vec<&str> = PAGE.split("```rust\n").skip(1).collect();
+    assert_eq!(blocks.len(), 2);
+    for block in blocks {
+        let lines = block.split_once("```").unwrap().0.trim_end();
+        let indented = format!("\n    {}\n    Ok(())\n", lines.replace('\n', "\n    "));
+        assert!(THIS.contains(&indented), "{lines}");
+    }
 }

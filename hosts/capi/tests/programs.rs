@@ -268,11 +268,17 @@ fn a_lease_that_ends_leaves_neither_rows_nor_pins() {
 const README: &str = include_str!("../README.md");
 const CLIENTS: &str = include_str!("../../../docs/CLIENTS.md");
 
-/// Runs the lines of the page in this language, as the body of a program with these headers.
-fn run_page(page: &str, language: &str, compiler: &str, headers: &[&str]) -> String {
-    let world = World::new(&format!("page-{}-{compiler}", page.len()));
-    let lines = page.split_once(&format!("```{language}\n")).unwrap().1;
-    let lines = lines.split_once("```").unwrap().0.replace("127.0.0.1:7400", &world.place);
+/// The first blocks of the page in this language, so many.
+fn blocks(page: &str, language: &str, count: usize) -> String {
+    let fence = format!("```{language}\n");
+    let blocks = page.split(&fence).skip(1).take(count);
+    blocks.map(|block| block.split_once("```").unwrap().0).collect()
+}
+
+/// Runs lines of a page in this language, as the body of a program with these headers.
+fn run_page(lines: &str, language: &str, compiler: &str, headers: &[&str]) -> String {
+    let world = World::new(&format!("page-{}-{compiler}", lines.len()));
+    let lines = lines.replace("127.0.0.1:7400", &world.place);
     let lines = lines.replace("client-3.lock", &text(&world.folder.join("client-3.lock")));
     let headers: Vec<String> = headers.iter().map(|name| format!("#include <{name}>\n")).collect();
     let source = world.folder.join(format!("page.{language}"));
@@ -284,12 +290,14 @@ fn run_page(page: &str, language: &str, compiler: &str, headers: &[&str]) -> Str
 #[test]
 fn the_lines_of_the_pages() {
     let (headers, classes) = (["krl_client.h", "err.h", "stdio.h"], ["krl.hpp", "iostream"]);
-    assert_eq!(run_page(README, "c", "cc", &headers), "15=hello\n");
-    assert_eq!(run_page(CLIENTS, "c", "cc", &headers), "15=world\n");
+    assert_eq!(run_page(&blocks(README, "c", 1), "c", "cc", &headers), "15=hello\n");
+    assert_eq!(run_page(&blocks(CLIENTS, "c", 1), "c", "cc", &headers), "15=world\n");
     for compiler in compilers() {
-        assert_eq!(run_page(README, "cpp", compiler, &classes), "15=world\n");
-        let printed = run_page(CLIENTS, "cpp", compiler, &classes);
-        assert_eq!(printed, "1 rows, of which one has changed\n15=world\n");
+        let printed = run_page(&blocks(README, "cpp", 1), "cpp", compiler, &classes);
+        assert_eq!(printed, "15=world\n");
+        let printed = run_page(&blocks(CLIENTS, "cpp", 2), "cpp", compiler, &classes);
+        let lines = ["1 rows, of which one has changed", "15=world", "KRLC_OK", "KRLC_OK"];
+        assert_eq!(printed, lines.join("\n") + "\nKRLC_ABSENT\n");
     }
 }
 

@@ -16,15 +16,12 @@ from ._waiting import made
 from .errors import BadOption, Closed, Forked, JoinError, LibraryError, LockFileError
 from .errors import LockFileTaken, OutOfMemory, Reason, Refused, Stopped, Unserved
 
-NAMED_BY = "KRL_CLIENT_LIBRARY"
-"""This variable names the file, if it is neither in the package nor where the system looks."""
+# The file, if it is neither in the package nor where the system looks, and the KRLC_VERSION.
+NAMED_BY, VERSION = "KRL_CLIENT_LIBRARY", 1_000
 
-VERSION = 1_000
-"""The ``KRLC_VERSION`` of the header whose calls are declared here."""
-
+# Codes of the header. Those up to ANSWERS are no errors.
 OK, MISS, ANSWERS, MISUSE, BAD_TLS, LOCK_FILE, LOCK_FILE_TAKEN = 0, 5, 15, 16, 23, 24, 29
 BAD_OPTIONS = (MISUSE, 17, 20, 21, 22, BAD_TLS)
-"""Codes of the header. Those up to ``ANSWERS`` are no errors."""
 
 NUMBERS, FOR_EVER = 64, (1 << 64) - 1
 
@@ -40,9 +37,11 @@ class Row(NamedTuple):
 
 
 class Outcome(IntEnum):
-    """How a write was judged. Only ``APPLIED`` is true: the others changed nothing."""
+    """How a write was judged. Only ``APPLIED`` is true: the others changed nothing. After an error,
+    one write of several may be ``UNKNOWN``: a read of its key shows it."""
 
     APPLIED, EXISTS, ABSENT, FULL, NOT_HELD = range(5)
+    UNKNOWN, NOT_MADE = 46, 66
 
     def __bool__(self) -> bool:
         return self is Outcome.APPLIED
@@ -76,9 +75,8 @@ class StatusRoom(ctypes.Structure):
     ]
 
 
-ROW = struct.Struct("=QQ32s")
-"""A ``krlc_row``: the key, the length of the value, and its bytes."""
-
+# A krlc_row: the key, the length of the value, and its bytes. A krlc_write: kind, outcome and row.
+ROW, WRITE = struct.Struct("=QQ32s"), struct.Struct("=IIQQ32s")
 RowRoom, _new = c_char * ROW.size, tuple.__new__
 
 
@@ -115,32 +113,24 @@ class Rows(Handle):
             raise OutOfMemory("memory was refused")
 
     def taken(self) -> list[Row]:
-        """The rows."""
         at = library().rows_get(self, byref(count := c_size_t()))
         return rows_in(ctypes.string_at(at, count.value * ROW.size)) if count.value else []
 
 
-_TYPES: dict[str, Any] = {
-    "-": None,
-    "?": c_bool,
-    "i": c_uint32,
-    "n": c_size_t,
-    "q": c_uint64,
-    "s": c_char_p,
-    # Any pointer: ctypes takes a handle, a reference, an array or an address for it.
-    "p": c_void_p,
-}
+# The types of a call by letters. "p" is any pointer: ctypes takes a handle, a reference, an array or
+# an address for it.
+_TYPES: dict[str, Any] = {"-": None, "?": c_bool, "i": c_uint32, "n": c_size_t, "q": c_uint64}
+_TYPES |= {"s": c_char_p, "p": c_void_p}
 
+# The calls, each with the types of its result and of its parameters. Those that wait for nobody keep
+# the interpreter's lock; while the others wait, other threads of the program go on.
 _AT_ONCE = """version:i is_unknown_outcome:?i set_timeout:ipqp number:ip joined:np status_at:ipnpp
     cached:ipqqp cached_row:ipqp pin_holds:ip rows_new:p rows_get:ppp rows_free:-p"""
-"""The calls that wait for nobody, each with the types of its result and of its parameters. They
-keep the interpreter's lock."""
-
 _WAITING = """join:ippp evict:ipp leave:ipqp free:-p reload_tls:ipp read:ipqqpqp forget:ipqqqp
-    wait_for_change:ipqqsnqp insert:ipqsnqp put:ipqsnqp set:ipqsnqp delete:ipqqp
-    pin_held:ipqqpqp pin_for_read:ipqqppqp pin_for_update:ipqqppqp pin_for_write:ipqqppqp
-    pin_insert:ipqsnqp pin_put:ipqsnqp pin_set:ipqsnqp pin_delete:ipqqp pin_free:-p"""
-"""The calls that may wait: other threads of the program go on meanwhile."""
+    wait_for_change:ipqqsnqp write_all:ippnqp pin_write_all:ippnqp insert:ipqsnqp put:ipqsnqp
+    set:ipqsnqp delete:ipqqp pin_held:ipqqpqp pin_for_read:ipqqppqp pin_for_update:ipqqppqp
+    pin_for_write:ipqqppqp pin_insert:ipqsnqp pin_put:ipqsnqp pin_set:ipqsnqp pin_delete:ipqqp
+    pin_free:-p"""
 
 
 class Library:
@@ -161,10 +151,7 @@ class Library:
 
 @functools.cache
 def library() -> Library:
-    """The library, which is loaded once.
-
-    Raises ``LibraryError`` if it is not found, has another version, or lacks a call.
-    """
+    """The library, which is loaded once, or a ``LibraryError``."""
     here, name, tried = Path(__file__).resolve(), "libkrl_client.so", []
     # `make install` puts the package into share/krl/python, next to the folder lib.
     installed = here.parents[min(4, len(here.parents) - 1)] / "lib"
@@ -187,7 +174,6 @@ def fits(version: int) -> bool:
 
 
 def spelled(version: int) -> str:
-    """The version as people write it."""
     return f"{version // 1_000_000}.{version // 1000 % 1000}.{version % 1000}"
 
 
@@ -216,8 +202,7 @@ def not_joined(code: int, failure: Failure) -> JoinError:
 
 
 def call(name: str, *words: Any) -> int:
-    """Makes a call that may wait, and returns the code of its answer. Raises a ``Refused`` for any
-    other code."""
+    """Makes a call that may wait. It answers a code, or raises what was refused."""
     failure = Failure()
     code: int = made(getattr(library(), name), *words, byref(failure))
     # An error keeps what this function names as long as somebody keeps the error.
@@ -226,7 +211,6 @@ def call(name: str, *words: Any) -> int:
 
 
 def answered(code: int, failure: Failure) -> int:
-    """The code of an answer. Raises a ``Refused`` for any other code."""
     if code > ANSWERS:
         raise refused(code, failure)
     return code

@@ -56,8 +56,20 @@ def _wrapped(
 
 
 class _Calls:
+    """Those of clients and pins. ``of_threads`` is the same one, with calls that are not awaited."""
+
+    of_threads: Any
+    insert = _awaitable(threads._Writer.insert)
+    put = _awaitable(threads._Writer.put)
+    set = _awaitable(threads._Writer.set)
+    delete = _awaitable(threads._Writer.delete)
+    write_all = _awaitable(threads._Writer.write_all)
+
     async def __aenter__(self) -> Self:
         return self
+
+    async def __aexit__(self, *error: object) -> None:
+        await _awaited(self.of_threads.__exit__, *error)
 
 
 class Pin(_Calls):
@@ -66,33 +78,22 @@ class Pin(_Calls):
     def __init__(self, pin: threads.Pin) -> None:
         self.of_threads, self.rows, self.holds = pin, pin.rows, pin.holds
 
-    insert = _awaitable(threads.Pin.insert)
-    put = _awaitable(threads.Pin.put)
-    set = _awaitable(threads.Pin.set)
-    delete = _awaitable(threads.Pin.delete)
     free = _awaitable(threads.Pin.free)
-    __aexit__ = _awaitable(threads.Pin.__exit__)
 
 
 class Client(_Calls):
-    """A client. It leaves at the end of an ``async with``. ``of_threads`` is the same client with
-    calls that are not awaited."""
+    """A client. It leaves at the end of an ``async with``."""
 
     def __init__(self, client: threads.Client) -> None:
         self.of_threads, self.number = client, client.number
         self.cached, self.status = client.cached, client.status
 
-    insert = _awaitable(threads.Client.insert)
-    put = _awaitable(threads.Client.put)
-    set = _awaitable(threads.Client.set)
-    delete = _awaitable(threads.Client.delete)
     forget = _awaitable(threads.Client.forget)
     leave = _awaitable(threads.Client.leave)
     pin = _wrapped(Pin, _awaitable(threads.Client.pin))
     pin_for_read = _wrapped(Pin, _awaitable(threads.Client.pin_for_read))
     pin_for_update = _wrapped(Pin, _awaitable(threads.Client.pin_for_update))
     pin_for_write = _wrapped(Pin, _awaitable(threads.Client.pin_for_write))
-    __aexit__ = _awaitable(threads.Client.__exit__)
     _read = _awaitable(threads.Client.read)
 
     async def read(

@@ -16,7 +16,7 @@ from typing import Any, NamedTuple, Self
 
 from . import _library as lib
 from ._library import Failure, Handle, Options, RowRoom, Rows, StatusRoom, answered, call, library
-from ._library import END, ROW, TOP, Outcome, Row, not_joined, refused, rows_in
+from ._library import END, ROW, TOP, WRITE, Outcome, Row, not_joined, refused, rows_in
 from ._waiting import made
 from .errors import BadKey, BadOption, BadRange, Closed, PinIsVoid, Refused
 
@@ -44,6 +44,21 @@ class Status(NamedTuple):
     lease_left: float | None
     is_connected: bool
 
+
+class Write(NamedTuple):
+    """A write of ``write_all``, by the call that its class is named for."""
+
+    key: int
+    value: bytes = b""
+
+
+class Insert(Write): """As ``insert``."""
+class Put(Write): """As ``put``."""
+class Set(Write): """As ``set``."""
+class Delete(Write): """As ``delete``: it has no value."""
+
+
+_KINDS = (Insert, Put, Set, Delete)
 
 # ctypes cuts off what a number has above 64 bits, so numbers are checked before it sees them.
 
@@ -96,11 +111,33 @@ class _Writer:
         """Deletes a row. The outcome is ``APPLIED`` or ``ABSENT``."""
         return self._write("delete", key, timeout)
 
+    def write_all(self, writes: Iterable[Write], timeout: Seconds = None) -> list[Outcome]:
+        """Makes several writes in one wait, in this order: see ``krlc_write_all``. It is no
+        transaction. An error has what became of each write in its ``outcomes``."""
+        packed = bytearray()
+        for write in writes:
+            value, kind = memoryview(write.value).tobytes(), _KINDS.index(type(write))
+            packed += WRITE.pack(kind, Outcome.NOT_MADE, _key(write.key), len(value), value)
+        room = (ctypes.c_char * len(packed)).from_buffer(packed)
+        try:
+            self._call("write_all", room, len(packed) // WRITE.size, _milliseconds(timeout))
+        except Refused as error:
+            error.outcomes = _outcomes(packed)
+            raise
+        return _outcomes(packed)
+
     def _write(self, name: str, key: int, timeout: Seconds, *value: bytes) -> Outcome:
         words: list[Any] = [_key(key)]
         for taken in (memoryview(it).tobytes() for it in value):
             words += taken, len(taken)
-        return Outcome(call(self._prefix + name, self._handle, *words, _milliseconds(timeout)))
+        return Outcome(self._call(name, *words, _milliseconds(timeout)))
+
+    def _call(self, name: str, *words: Any) -> int:
+        return call(self._prefix + name, self._handle, *words)
+
+
+def _outcomes(packed: bytearray) -> list[Outcome]:
+    return [Outcome(outcome) for _, outcome, *_ in WRITE.iter_unpack(packed)]
 
 
 class Pin(_Writer):
@@ -128,17 +165,21 @@ class Pin(_Writer):
     def __exit__(self, *error: object) -> None:
         self.free()
 
-    def _write(self, name: str, key: int, timeout: Seconds, *value: bytes) -> Outcome:
+    def _call(self, name: str, *words: Any) -> int:
         if self._handle.value is None:
             raise refused(PinIsVoid.code)
-        return super()._write(name, key, timeout, *value)
+        return super()._call(name, *words)
 
 
 class Changes(Iterator[list[Row]]):
-    """The rows of a range, now and after each change. It may be asked again after an error."""
+    """The states of a range, one after the other: its rows now, and then at later moments, each
+    time other rows than before. States in between may be missed, and the last one is not. It may be
+    asked again after an error, and ends when the client leaves."""
 
     def __init__(self, client: Client, start: int, stop: int) -> None:
         self._client, self._keys = client, _range(start, stop)
+        if start == stop:
+            raise BadRange("an empty range does not change")
         self._rows: list[Row] | None = None
 
     def look(self) -> list[Row] | None:
@@ -160,8 +201,7 @@ class Changes(Iterator[list[Row]]):
 
 class Client(_Writer):
     """A client. Any threads may use it. At the end of a ``with``, when it is collected, and when
-    the interpreter ends it leaves. It does not survive a fork: in the child its calls raise
-    ``Forked``."""
+    the interpreter ends it leaves. In the child of a fork its calls raise ``Forked``."""
 
     def __init__(self, handle: Handle, place: str, timeout: float) -> None:
         super().__init__(handle)
@@ -193,8 +233,7 @@ class Client(_Writer):
         return found.taken()
 
     def cached(self, start: int = 0, stop: int = TOP) -> list[Row] | None:
-        """The rows if the cache has the whole range, otherwise ``None``. It sends nothing, and
-        waits for nobody."""
+        """The rows if the cache has the whole range, otherwise ``None``: it waits for nobody."""
         _range(start, stop)
         if stop - start == 1 and start != END:
             row = RowRoom()
@@ -218,7 +257,7 @@ class Client(_Writer):
         return call("wait_for_change", self._handle, *_range(start, stop), *known) == lib.OK
 
     def changes(self, start: int = 0, stop: int = TOP) -> Changes:
-        """The rows of the range now, and then after each change, until the client leaves."""
+        """The states of the range, which is not empty, one after the other."""
         return Changes(self, start, stop)
 
     def forget(self, start: int = 0, stop: int = TOP, timeout: Seconds = None) -> None:
@@ -262,8 +301,8 @@ class Client(_Writer):
         return self.status()[0].epoch
 
     def reload_tls(self) -> None:
-        """Reads the files for TLS again, for connections that are made from now on. Raises
-        ``BadOption`` if they are not what they should be; then the earlier ones stay."""
+        """Reads the files for TLS again, for connections that are made from now on. After a
+        ``BadOption`` the earlier ones stay."""
         code = made(library().reload_tls, self._handle, byref(failure := Failure()))
         if code == lib.BAD_TLS:
             raise not_joined(code, failure)

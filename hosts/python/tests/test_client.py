@@ -80,6 +80,41 @@ class CallsTest(Served):
             with self.assertRaises(krl.BadKey):
                 one.set(bad, b"")
 
+    def test_several_writes_are_made_in_one_wait(self) -> None:
+        one, other = self.join(0), self.join(1)
+        outcomes = one.write_all([
+            krl.Insert(10, b"1"), krl.Insert(10, b"2"), krl.Put(11, b""), krl.Set(11, bytearray(b"3")),
+            krl.Delete(12),
+        ])
+        E, N = Outcome.EXISTS, Outcome.ABSENT
+        self.assertEqual(outcomes, [Outcome.APPLIED, E, N, Outcome.APPLIED, N])
+        self.assertEqual(other.read(), [Row(10, b"1"), Row(11, b"3")])
+        self.assertEqual(one.write_all([]), [])
+        with one.pin_for_write(5, 30) as pin:
+            self.assertEqual(pin.write_all([krl.Put(10, b"4"), krl.Delete(11)]), [Outcome.APPLIED] * 2)
+        with self.assertRaises(krl.PinIsVoid) as refused:
+            pin.write_all([krl.Put(10, b"5")])
+        self.assertEqual(refused.exception.outcomes, [Outcome.NOT_MADE])
+        self.assertEqual(other.read(), [Row(10, b"4")])
+        with self.assertRaises(krl.BadKey):
+            one.write_all([krl.Delete(10), krl.Delete(END)])
+        with self.assertRaises(krl.BadValue) as too_long:
+            one.write_all([krl.Delete(10), krl.Put(10, bytes(33))])
+        self.assertEqual(too_long.exception.outcomes, [Outcome.NOT_MADE] * 2)
+        self.assertEqual(other.read(), [Row(10, b"4")])
+
+    def test_an_error_tells_what_became_of_each_write(self) -> None:
+        one, other = self.join(0), self.join(1, 3600)
+        # The gap after the pinned range ends at the second row.
+        one.write_all([krl.Insert(10, b"1"), krl.Insert(15, b"")])
+        other.read(50, 60)
+        with one.pin_for_write(5, 15), other.pin(50, 60), self.assertRaises(krl.TimedOut) as refused:
+            # The client knows by itself that the first key has no row.
+            other.write_all([krl.Delete(55), krl.Put(10, b"2"), krl.Delete(56)], 0.05)
+        wanted = [Outcome.ABSENT, Outcome.UNKNOWN, Outcome.NOT_MADE]
+        self.assertEqual(refused.exception.outcomes, wanted)
+        self.assertTrue(refused.exception.is_unknown_outcome)
+
     def test_a_call_waits_for_a_time_of_its_own(self) -> None:
         one, other = self.join(0), self.join(1, 3600)
         one.insert(10, b"1")
@@ -116,6 +151,8 @@ class CallsTest(Served):
 
     def test_a_range_is_watched(self) -> None:
         watcher, writer = self.join(0), self.join(1)
+        with self.assertRaises(krl.BadRange):
+            watcher.changes(5, 5)
         changes = watcher.changes(0, 20)
         self.assertEqual(next(changes), [])
         self.assertFalse(watcher.wait_for_change(0, 20, [], 0.01))

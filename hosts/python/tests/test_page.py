@@ -8,6 +8,8 @@ import re
 import unittest
 from pathlib import Path
 
+import krl
+
 from .serving import Served
 
 PAGE = Path(__file__).resolve().parents[3] / "docs" / "CLIENTS.md"
@@ -16,8 +18,11 @@ PAGE = Path(__file__).resolve().parents[3] / "docs" / "CLIENTS.md"
 class PageTest(Served):
     def test_the_lines_of_the_page(self) -> None:
         blocks = re.findall(r"```python\n(.*?)```", PAGE.read_text(), flags=re.DOTALL)
-        self.assertEqual(len(blocks), 2)
+        self.assertEqual(len(blocks), 3)
         printed = []
+        with self.join(4) as client, contextlib.redirect_stdout(io.StringIO()) as out:
+            exec(blocks.pop(), {"krl": krl, "client": client})
+        self.assertEqual(out.getvalue().split(), ["APPLIED", "APPLIED", "ABSENT"])
         for block in blocks:
             lines = block.replace("127.0.0.1:7400", self.address)
             lines = lines.replace("client-3.lock", str(self.lock_file(3)))

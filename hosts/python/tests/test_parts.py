@@ -66,6 +66,7 @@ class HeaderTest(unittest.TestCase):
             self.assertEqual([text.replace("sentence", "text") for _, _, text in there], names)
         self.assertEqual(lib.ROW.size, 16 + self.number("KRLC_MAX_VALUE_BYTES"))
         self.assertEqual(ctypes.sizeof(lib.RowRoom), lib.ROW.size)
+        self.assertEqual(lib.WRITE.size, 8 + lib.ROW.size)
         self.assertEqual(ctypes.sizeof(lib.Failure), 12 + self.number("KRLC_MAX_SENTENCE_BYTES"))
 
     def test_codes_and_reasons_are_those_of_the_header(self) -> None:
@@ -75,7 +76,7 @@ class HeaderTest(unittest.TestCase):
             self.assertEqual(getattr(lib, name), self.number(f"KRLC_{name}"))
         options = ("MISUSE", "BAD_RANGE", "BAD_NUMBER", "BAD_ADDRESS", "BAD_MAP", "BAD_TLS")
         self.assertEqual(lib.BAD_OPTIONS, tuple(self.number(f"KRLC_{name}") for name in options))
-        outcomes = ("OK", "EXISTS", "ABSENT", "FULL", "NOT_HELD")
+        outcomes = ("OK", "EXISTS", "ABSENT", "FULL", "NOT_HELD", "UNKNOWN", "NOT_MADE")
         self.assertEqual(list(Outcome), [self.number(f"KRLC_{name}") for name in outcomes])
         for reason in krl.Reason:
             self.assertEqual(reason, self.number(f"KRLC_REASON_{reason.name}"))

@@ -60,7 +60,7 @@ class ForkTest(Served):
                     told.append(str(forked))
             return told
 
-        told = "A client does not survive a fork: join in the process that uses it."
+        told = "A client does not survive a fork: join in the child process."
         self.assertEqual(in_child(looks), repr(6 * [told]))
         pin.free()
         self.assertEqual(client.cached(0, 20), [Row(10, b"1")])

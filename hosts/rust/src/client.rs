@@ -3,6 +3,7 @@ pub(crate) mod answer;
 pub(crate) mod asynchronous;
 mod backoff;
 pub(crate) mod builder;
+pub(crate) mod changes;
 mod deadlines;
 pub(crate) mod evict;
 pub(crate) mod jobs;
@@ -20,19 +21,21 @@ pub(crate) mod silence;
 pub(crate) mod within;
 mod writer;
 
+use crate::client::changes::{Changes, WatchedRange};
 use crate::client::jobs::Jobs;
 use crate::client::link::Link;
 use crate::client::pin::Pin;
 use crate::client::scratch::with_room;
 use crate::client::shared::{MAX_WAIT, Shared};
 use crate::client::within::Within;
+use crate::model::batch::{BatchError, Mutation};
 use crate::model::change::Outcome;
 use crate::model::code::Code;
 use crate::model::error::Error;
 use crate::model::range::keys_of;
 use crate::model::row::{Row, Value};
 use std::fmt;
-use std::ops::RangeBounds;
+use std::ops::{Range, RangeBounds};
 use std::sync::Arc;
 use std::time::{Duration, Instant};
 
@@ -209,6 +212,42 @@ impl Client {
         self.within(self.timeout()).delete(key)
     }
 
+    /// Makes several writes in one wait, one after the other in this order, and answers how each was
+    /// judged. A write that changes nothing, since its outcome is `Exists`, `Absent` or `Full`, ends
+    /// no other one.
+    ///
+    /// **It is no transaction**: each is a write of its own. Other clients may see the first ones
+    /// without the others, also after a crash between them, and may write in between. Writes of
+    /// other threads of this client come in between too. All of them together take the timeout at
+    /// most.
+    ///
+    /// The client has one write on its way at a time, and sends the next one as soon as the server
+    /// has kept the one before: nobody else has to be woken for it. To take the locks of many writes
+    /// in a range by one request, call [`Client::pin_for_write`] first, and [`Pin::write_all`] then.
+    ///
+    /// ```no_run
+    /// # use krl::{BatchError, Client, Mutation, Row, Value};
+    /// # fn write(client: &Client) -> Result<(), BatchError> {
+    /// let row = |key, value: u64| Row { key, value: Value::from(value) };
+    /// let writes = [Mutation::Insert(row(7, 1)), Mutation::Set(row(8, 2)), Mutation::Delete(9)];
+    /// let outcomes = client.write_all(writes)?;
+    /// assert_eq!(outcomes.len(), 3);
+    /// # Ok(())
+    /// # }
+    /// ```
+    ///
+    /// # Errors
+    ///
+    /// Those of `insert`, for the first write that was not judged. [`BatchError::fates`] tells which
+    /// writes were judged, and how; at most one is unknown, and those after it were not made and
+    /// will not be. With `BadKey` none was made.
+    pub fn write_all(
+        &self,
+        writes: impl IntoIterator<Item = Mutation>,
+    ) -> Result<Vec<Outcome>, BatchError> {
+        self.within(self.timeout()).write_all(writes)
+    }
+
     /// Pins the range: what the client holds of it, or is granted while the pin lives, no callback
     /// and no forget takes. Other clients that want it wait until the pin is dropped; what they
     /// called back meanwhile the client then gives back. A client has at most eight pins.
@@ -290,22 +329,7 @@ impl Client {
     /// does not hold the range, that is so at once.
     ///
     /// It sends nothing. After [`Waited::Changed`], [`Client::read`] may have something new, or the
-    /// rows may be what they were. With the two, a range is watched without asking the server again
-    /// and again:
-    ///
-    /// ```no_run
-    /// # use std::time::Duration;
-    /// # use krl::Waited;
-    /// # fn watch(client: &krl::Client) -> Result<(), krl::Error> {
-    /// let mut rows = client.read(10..20)?;
-    /// loop {
-    ///     println!("{rows:?}");
-    ///     let minute = Duration::from_secs(60);
-    ///     while client.wait_for_change(10..20, &rows, minute)? == Waited::Unchanged {}
-    ///     rows = client.read(10..20)?;
-    /// }
-    /// # }
-    /// ```
+    /// rows may be what they were. [`Client::changes`] makes an iterator of the two.
     ///
     /// # Errors
     ///
@@ -323,6 +347,31 @@ impl Client {
             Err(Error::TimedOut | Error::Unserved(_)) => Ok(Waited::Unchanged),
             Err(refused) => Err(refused),
         }
+    }
+
+    /// The states of the range, one after the other: the rows now, and then after each change.
+    /// [`Changes`] describes what it promises. It has a clone of the client, which therefore does not
+    /// leave by itself before the iterator is dropped.
+    ///
+    /// ```no_run
+    /// # fn watch(client: &krl::Client) -> Result<(), krl::Error> {
+    /// for rows in client.changes(10..20)? {
+    ///     println!("{:?}", rows?);
+    /// }
+    /// # Ok(())
+    /// # }
+    /// ```
+    ///
+    /// # Errors
+    ///
+    /// `BadRange` if the range is empty, begins above its end, or ends above 2^63. Items are the
+    /// errors of [`Client::read`].
+    pub fn changes(&self, keys: impl RangeBounds<u64>) -> Result<Changes, Error> {
+        let keys = keys_of(&keys)?;
+        if keys.is_empty() {
+            return Err(Error::BadRange);
+        }
+        Ok(Changes::of(RangeOfClient { client: self.clone(), keys }))
     }
 
     /// The epoch that the client has joined: how many times the server had started by then.
@@ -378,6 +427,26 @@ impl Client {
     /// what this one held then, until it is evicted.
     pub fn leave(&self) -> Result<(), Error> {
         self.within(self.timeout()).leave()
+    }
+}
+
+/// A range of a client that is watched.
+struct RangeOfClient {
+    client: Client,
+    keys: Range<u64>,
+}
+
+impl WatchedRange<Error> for RangeOfClient {
+    fn read(&self) -> Result<Vec<Row>, Error> {
+        self.client.read(self.keys.clone())
+    }
+
+    fn wait_for_change(&self, rows: &[Row], timeout: Duration) -> Result<Waited, Error> {
+        self.client.wait_for_change(self.keys.clone(), rows, timeout)
+    }
+
+    fn has_left(&self, error: &Error) -> bool {
+        *error == Error::Other(Code::Gone)
     }
 }
 

@@ -1,4 +1,5 @@
 //! What a table is, and what is said of it: rows, ranges, changes, and why a call is refused.
+pub(crate) mod batch;
 pub(crate) mod change;
 pub(crate) mod client_number;
 pub(crate) mod client_set;

@@ -1,4 +1,5 @@
 //! Several servers, each of which has a part of the keys, and a client of them all.
+pub(crate) mod batch;
 pub(crate) mod builder;
 pub(crate) mod client;
 pub(crate) mod error;

@@ -1,5 +1,6 @@
 //! Calls of a client that are futures, by an executor of 20 lines.
-use krl::{AsyncClient, Client, Error, MemoryStore, Outcome, Row, Server, Value, Waited};
+use krl::Waited;
+use krl::{AsyncClient, Client, Error, Fate, MemoryStore, Mutation, Outcome, Row, Server, Value};
 use std::future::Future;
 use std::pin::{Pin, pin};
 use std::sync::Arc;
@@ -133,6 +134,57 @@ fn a_task_is_woken_when_a_range_changes() {
     let writer = thread::spawn(move || block_on(changes.insert(15, Value::from(1))));
     assert_eq!(block_on(watches.wait_for_change(10..20, &rows, LONG)), Ok(Waited::Changed));
     assert_eq!(writer.join().unwrap(), Ok(Outcome::Applied));
+    server.stop().unwrap();
+}
+
+#[test]
+fn several_writes_are_one_future() {
+    let server = server();
+    let (client, other) = (client(&server, 0, "batch"), client(&server, 1, "batch"));
+    block_on(async {
+        let writes =
+            [Mutation::Insert(row(10, 1)), Mutation::Set(row(11, 2)), Mutation::Delete(12)];
+        let outcomes = [Outcome::Applied, Outcome::Applied, Outcome::Absent];
+        assert_eq!(client.write_all(writes).await, Ok(outcomes.to_vec()));
+        let bad = client.write_all([Mutation::Delete(10), Mutation::Delete(krl::END)]).await;
+        assert_eq!(bad.unwrap_err().fates, [Fate::NotMade; 2]);
+        let (_, pin) = client.pin_for_write(5..15).await.unwrap();
+        assert_eq!(pin.write_all([Mutation::Delete(11)]).await, Ok(vec![Outcome::Applied]));
+        drop(pin);
+        assert_eq!(other.read(..).await, Ok(vec![row(10, 1)]));
+    });
+    server.stop().unwrap();
+}
+
+#[test]
+fn the_states_of_a_range_end_with_the_client() {
+    let server = server();
+    let (watcher, writer) = (client(&server, 0, "states"), client(&server, 1, "states"));
+    let mut changes = watcher.changes(10..20).unwrap();
+    assert_eq!(block_on(changes.next()), Some(Ok(vec![])));
+    for number in 1..4 {
+        assert!(!ends_at_once(changes.next()), "nothing has changed");
+        assert_eq!(block_on(writer.set(15, Value::from(number))), Ok(Outcome::Applied));
+        assert_eq!(block_on(changes.next()), Some(Ok(vec![row(15, number)])));
+    }
+    block_on(watcher.leave()).unwrap();
+    assert_eq!(block_on(changes.next()), None);
+    assert!(watcher.changes(5..5).is_err());
+    server.stop().unwrap();
+}
+
+#[test]
+fn a_pin_that_came_and_that_nobody_takes_is_free() {
+    let server = server();
+    let (pins, writes) = (client(&server, 0, "untaken"), client(&server, 1, "untaken"));
+    for _ in 0..20 {
+        let mut taking = Box::pin(pins.pin_for_write(10..20));
+        assert!(taking.as_mut().poll(&mut Context::from_waker(&waker())).is_pending());
+        // The thread of the client takes the grant, and wakes this one.
+        thread::park_timeout(LONG);
+        drop(taking);
+        assert_eq!(block_on(writes.set(15, Value::from(1))), Ok(Outcome::Applied));
+    }
     server.stop().unwrap();
 }
 

@@ -2,7 +2,7 @@
 mod common;
 
 use common::{Serving, errors, run, text, until};
-use krl::{Address, Client, Outcome, Error, Row, Value};
+use krl::{Address, Client, Error, Outcome, Row, Value};
 use std::path::Path;
 use std::sync::Barrier;
 use std::sync::atomic::{AtomicBool, Ordering};

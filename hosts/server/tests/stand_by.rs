@@ -5,7 +5,7 @@ mod common;
 
 use cluster::{Cluster, free_address};
 use common::{ServiceManager, Serving, errors, lock_file, program, until};
-use krl::{Client, Outcome, Error, Servers, Value};
+use krl::{Client, Error, Outcome, Servers, Value};
 use std::io::{BufRead, BufReader};
 use std::net::TcpListener;
 use std::process::{Command, Stdio};

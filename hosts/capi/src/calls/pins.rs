@@ -7,6 +7,7 @@ use crate::handle::{Handle, Kind};
 use crate::input::{self, range};
 use crate::pin::OwnPin;
 use crate::table::{Purpose, Write};
+use crate::writes::{GivenWrite, write_all, writes};
 use std::ffi::c_void;
 use std::ptr;
 
@@ -194,6 +195,23 @@ pub unsafe extern "C" fn krlc_pin_delete(
 ) -> u32 {
     // SAFETY: the caller vouches for the pin and the room.
     unsafe { write(pin, timeout_ms, error, || Ok(Write::Delete(key))) }
+}
+
+#[unsafe(no_mangle)]
+pub unsafe extern "C" fn krlc_pin_write_all(
+    pin: *mut Pin,
+    at: *mut GivenWrite,
+    count: usize,
+    timeout_ms: u64,
+    error: *mut ErrorRoom,
+) -> u32 {
+    let write = || {
+        // SAFETY: the caller vouches for so many writes, and frees the pin after this call.
+        let (given, pin) = unsafe { (writes(at, count)?, PINS.own_value(pin)?) };
+        write_all(given, |wanted| pin.write_all(wanted, timeout_ms))
+    };
+    // SAFETY: the caller vouches for the room of the error.
+    unsafe { answer(error, write) }
 }
 
 #[unsafe(no_mangle)]

@@ -31,6 +31,41 @@ static void writes(krlc_client *client, krlc_rows *rows) {
     EXPECT(KRLC_OK, krlc_put(client, 15, "five", 4, 0, &error));
 }
 
+static krlc_write write_of(krlc_kind kind, uint64_t key, const char *value) {
+    krlc_write write = {.kind = kind, .outcome = 999, .row = {.key = key, .length = strlen(value)}};
+    memcpy(write.row.bytes, value, strlen(value));
+    return write;
+}
+
+/* Several writes in one wait: with a map, at both shards. Afterwards the table is what it was. */
+static void several(krlc_client *client, krlc_rows *rows) {
+    krlc_write writes[] = {
+        write_of(KRLC_INSERT, 20, "twenty"), write_of(KRLC_INSERT, 160, "far"),  write_of(KRLC_INSERT, 20, "again"),
+        write_of(KRLC_PUT, 20, "20"),        write_of(KRLC_PUT, 21, "none"),     write_of(KRLC_SET, 21, "made"),
+        write_of(KRLC_SET, 21, "set"),       write_of(KRLC_DELETE, 22, ""),
+    };
+    const krlc_code wanted[] = {KRLC_OK, KRLC_OK, KRLC_EXISTS, KRLC_OK, KRLC_ABSENT, KRLC_OK, KRLC_OK, KRLC_ABSENT};
+    EXPECT(KRLC_OK, krlc_write_all(client, writes, 8, 0, &error));
+    for (size_t i = 0; i < 8; i++)
+        WANT(writes[i].outcome == wanted[i]);
+    EXPECT(KRLC_OK, krlc_read(client, 20, 161, rows, 0, &error));
+    WANT(are(rows, 4, (uint64_t[]){20, 21, 150, 160}, (const char *[]){"20", "set", "last", "far"}));
+    krlc_write deletes[] = {write_of(KRLC_DELETE, 20, ""), write_of(KRLC_DELETE, 21, ""), write_of(KRLC_DELETE, 160, "")};
+    EXPECT(KRLC_OK, krlc_write_all(client, deletes, 3, 0, &error));
+    WANT(deletes[0].outcome == KRLC_OK && deletes[1].outcome == KRLC_OK && deletes[2].outcome == KRLC_OK);
+    EXPECT(KRLC_OK, krlc_write_all(client, NULL, 0, 0, &error));
+    krlc_write bad[] = {write_of(KRLC_INSERT, 20, ""), write_of(KRLC_INSERT, KRLC_END, "")};
+    EXPECT(KRLC_BAD_KEY, krlc_write_all(client, bad, 2, 0, &error));
+    WANT(bad[0].outcome == KRLC_NOT_MADE && bad[1].outcome == KRLC_NOT_MADE);
+    bad[1] = (krlc_write){.kind = KRLC_PUT, .row = {.key = 21, .length = 33}};
+    EXPECT(KRLC_TOO_LONG, krlc_write_all(client, bad, 2, 0, &error));
+    bad[1].kind = 4;
+    EXPECT(KRLC_MISUSE, krlc_write_all(client, bad, 2, 0, &error));
+    EXPECT(KRLC_MISUSE, krlc_write_all(client, NULL, 2, 0, &error));
+    EXPECT(KRLC_OK, krlc_read(client, 20, 22, rows, 0, &error));
+    WANT(are(rows, 0, NULL, NULL));
+}
+
 static void reads(krlc_client *client, krlc_rows *rows) {
     uint64_t keys[] = {15, 17};
     const char *values[] = {"five", ""};
@@ -98,6 +133,9 @@ static void pins(krlc_client *client, krlc_rows *rows) {
     EXPECT(KRLC_OK, krlc_pin_set(pin, 16, "set", 3, 0, &error));
     EXPECT(KRLC_OK, krlc_pin_delete(pin, 16, 0, &error));
     EXPECT(KRLC_TOO_LONG, krlc_pin_put(pin, 15, "", 33, 0, &error));
+    krlc_write writes[] = {write_of(KRLC_INSERT, 16, "new"), write_of(KRLC_DELETE, 16, ""), write_of(KRLC_PUT, 16, "")};
+    EXPECT(KRLC_OK, krlc_pin_write_all(pin, writes, 3, 0, &error));
+    WANT(writes[0].outcome == KRLC_OK && writes[1].outcome == KRLC_OK && writes[2].outcome == KRLC_ABSENT);
     EXPECT(KRLC_OK, krlc_pin_holds(pin));
     EXPECT(KRLC_PINNED, krlc_forget(client, 10, 20, 0, &error));
     EXPECT(KRLC_OK, krlc_pin_held(client, 30, 40, &second, 0, &error));
@@ -149,6 +187,11 @@ static void waits(krlc_client *client, krlc_client *other, krlc_rows *rows) {
     EXPECT(KRLC_TIMED_OUT, krlc_put(client, 301, "", 0, 50, &error));
     EXPECT(KRLC_TIMED_OUT, krlc_set(client, 301, "", 0, 50, &error));
     EXPECT(KRLC_TIMED_OUT, krlc_delete(client, 301, 50, &error));
+    /* The client knows by itself that the first key has no row. */
+    krlc_write writes[] = {write_of(KRLC_DELETE, 320, ""), write_of(KRLC_PUT, 301, ""), write_of(KRLC_PUT, 321, "")};
+    EXPECT(KRLC_TIMED_OUT, krlc_write_all(client, writes, 3, 50, &error));
+    WANT(writes[0].outcome == KRLC_ABSENT && writes[1].outcome == KRLC_UNKNOWN && writes[2].outcome == KRLC_NOT_MADE);
+    WANT(krlc_is_unknown_outcome(KRLC_UNKNOWN) && !krlc_is_unknown_outcome(KRLC_NOT_MADE));
     EXPECT(KRLC_TIMED_OUT, krlc_pin_for_read(client, 300, 310, rows, &none, 50, &error));
     EXPECT(KRLC_TIMED_OUT, krlc_pin_for_update(client, 300, 310, rows, &none, 50, &error));
     EXPECT(KRLC_TIMED_OUT, krlc_pin_for_write(client, 300, 310, rows, &none, 50, &error));
@@ -170,6 +213,7 @@ int main(int argument_count, char **arguments) {
     krlc_rows *rows = krlc_rows_new();
     WANT(rows != NULL);
     writes(client, rows);
+    several(client, rows);
     reads(client, rows);
     changes(client, other, rows);
     pins(client, rows);
@@ -178,6 +222,9 @@ int main(int argument_count, char **arguments) {
     EXPECT(KRLC_OK, krlc_leave(client, 0, &error));
     EXPECT(KRLC_LEFT, krlc_read(client, 10, 20, rows, 0, &error));
     EXPECT(KRLC_LEFT, krlc_insert(client, 1, "", 0, 0, &error));
+    krlc_write late = write_of(KRLC_INSERT, 1, "");
+    EXPECT(KRLC_LEFT, krlc_write_all(client, &late, 1, 0, &error));
+    WANT(late.outcome == KRLC_NOT_MADE);
     EXPECT(KRLC_MISS, krlc_cached(client, 10, 20, rows));
     krlc_free(client);
     /* The number is free again. A pin may be freed after its client, and before. */

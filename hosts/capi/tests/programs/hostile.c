@@ -31,6 +31,10 @@ static void null_pointers(krlc_client *client, krlc_rows *rows) {
     EXPECT(KRLC_MISUSE, krlc_put(NULL, 1, "", 0, 0, &error));
     EXPECT(KRLC_MISUSE, krlc_set(NULL, 1, "", 0, 0, &error));
     EXPECT(KRLC_MISUSE, krlc_delete(NULL, 1, 0, &error));
+    krlc_write write = {.kind = KRLC_DELETE, .row = {.key = 1}};
+    EXPECT(KRLC_MISUSE, krlc_write_all(NULL, &write, 1, 0, &error));
+    WANT(write.outcome == KRLC_NOT_MADE);
+    EXPECT(KRLC_MISUSE, krlc_pin_write_all(NULL, &write, 1, 0, &error));
     EXPECT(KRLC_MISUSE, krlc_pin_held(NULL, 1, 2, &pin, 0, &error));
     EXPECT(KRLC_MISUSE, krlc_pin_for_read(NULL, 1, 2, rows, &pin, 0, &error));
     EXPECT(KRLC_MISUSE, krlc_pin_holds(NULL));

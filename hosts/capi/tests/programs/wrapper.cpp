@@ -70,6 +70,43 @@ void reads_and_writes(krl::client &client, krl::client &other) {
     want(client.erase(17) == krl::outcome::applied, "an erase of what was set");
 }
 
+void several(krl::client &client) {
+    krl::batch batch;
+    want(batch.empty(), "a batch of nothing");
+    client.write_all(batch);
+    batch.insert(40, "forty").insert(40, "again").set(41, "set").put(42, "none").erase(41);
+    want(batch.size() == 5 && batch.at(0) == KRLC_NOT_MADE, "a batch that is not written");
+    client.write_all(batch);
+    want(batch.at(0) == KRLC_OK && batch.at(1) == KRLC_EXISTS && batch.at(2) == KRLC_OK, "the first outcomes");
+    want(batch.at(3) == KRLC_ABSENT && batch.at(4) == KRLC_OK, "the last outcomes");
+    krl::rows rows = client.read(40, 43);
+    want(rows.size() == 1 && rows[0].value == "forty", "the rows of a batch");
+    batch.clear();
+    batch.erase(40).put(41, std::string(33, 'x'));
+    throws(KRLC_TOO_LONG, [&] { client.write_all(batch); });
+    want(batch.at(0) == KRLC_NOT_MADE && batch.at(1) == KRLC_NOT_MADE, "a batch that was refused");
+    krl::pin pin = client.pin_for_write(40, 50).pin;
+    batch.clear();
+    pin.write_all(batch.erase(40).insert(41, "one"), 60s);
+    want(batch.at(0) == KRLC_OK && batch.at(1) == KRLC_OK, "a batch by a pin");
+    pin.release();
+    throws(KRLC_MISUSE, [&] { pin.write_all(batch); });
+    want(client.erase(41) == krl::outcome::applied, "an erase after a batch");
+}
+
+void changes(krl::client &client, krl::client &other) {
+    krl::changes changes = client.changes(60, 70);
+    want(changes.next(0ms) && changes.rows().empty(), "the first state");
+    want(!changes.next(10ms), "no change of a range");
+    want(other.insert(65, "one") == krl::outcome::applied, "an insert to be seen");
+    want(changes.next(60s) && changes.rows().size() == 1 && changes.rows()[0].value == "one", "the next state");
+    want(other.put(65, "two") == krl::outcome::applied, "a put to be seen");
+    want(changes.next(60s) && changes.rows()[0].value == "two", "a state with another value");
+    want(other.erase(65) == krl::outcome::applied, "an erase to be seen");
+    want(changes.next(60s) && changes.rows().empty(), "the last state");
+    throws(KRLC_BAD_RANGE, [&] { (void)client.changes(60, 60); });
+}
+
 /* The client's own timeout would be longer than the test may take. */
 void timeouts(krl::client &client, krl::client &other) {
     /* The gap after the pinned range ends here. */
@@ -127,6 +164,8 @@ int main(int count, char **words) {
     want(count == 4, "three words");
     krl::client client = join(words, 0), other = join(words, 1);
     reads_and_writes(client, other);
+    several(client);
+    changes(client, other);
     pins(client);
     timeouts(client, other);
     numbers(words);

@@ -1,11 +1,13 @@
 //! A client whose calls are futures.
 use crate::client::jobs::{Asked, Held, Jobs, Purpose};
-use crate::client::link::Awaited;
+use crate::client::link::{Awaited, Link};
 use crate::client::pin::Pin;
 use crate::client::set;
 use crate::client::shared::{MAX_WAIT, Shared};
 use crate::client::{Client, Waited};
+use crate::model::batch::{self, BatchError, Judged, Mutation};
 use crate::model::change::{Outcome, Write};
+use crate::model::code::Code;
 use crate::model::error::Error;
 use crate::model::range::keys_of;
 use crate::model::row::{END, Row, Value};
@@ -123,6 +125,19 @@ impl AsyncClient {
         write(self.shared(), Write::Delete(key), Jobs::write).await
     }
 
+    /// Makes several writes, as [`Client::write_all`] does. If its future is dropped, those that were
+    /// not sent are not made.
+    ///
+    /// # Errors
+    ///
+    /// Those of [`Client::write_all`].
+    pub async fn write_all(
+        &self,
+        writes: impl IntoIterator<Item = Mutation>,
+    ) -> Result<Vec<Outcome>, BatchError> {
+        write_all(self.shared(), writes.into_iter().collect(), Jobs::write_all).await
+    }
+
     /// Gives back what the client holds of the range, as [`Client::forget`] does.
     ///
     /// # Errors
@@ -182,6 +197,19 @@ impl AsyncClient {
         }
     }
 
+    /// The states of the range, one after the other, as [`Client::changes`] gives them.
+    ///
+    /// # Errors
+    ///
+    /// Those of [`Client::changes`].
+    pub fn changes(&self, keys: impl RangeBounds<u64>) -> Result<AsyncChanges, Error> {
+        let keys = keys_of(&keys)?;
+        if keys.is_empty() {
+            return Err(Error::BadRange);
+        }
+        Ok(AsyncChanges { client: self.clone(), keys, last: None })
+    }
+
     /// Leaves, as [`Client::leave`] does.
     ///
     /// # Errors
@@ -197,7 +225,9 @@ impl AsyncClient {
         if keys.is_empty() {
             return Err(Error::BadRange);
         }
-        let Held { rows, pin } = ask(self.shared(), |jobs| jobs.hold(keys, purpose)).await?;
+        let (link, end) = (self.shared().link(), Instant::now() + self.shared().timeout());
+        let held = Awaited::begin(link, end, |jobs| jobs.hold(keys, purpose)).or_undo(unpin).await;
+        let Held { rows, pin } = held?;
         Ok((rows, AsyncPin { pin: Pin::new(Arc::clone(self.shared()), pin) }))
     }
 
@@ -268,15 +298,79 @@ impl AsyncPin {
         write(self.pin.shared(), Write::Delete(key), self.bound()).await
     }
 
+    /// Makes several writes, as [`Pin::write_all`] does.
+    ///
+    /// # Errors
+    ///
+    /// Those of [`Pin::write_all`].
+    pub async fn write_all(
+        &self,
+        writes: impl IntoIterator<Item = Mutation>,
+    ) -> Result<Vec<Outcome>, BatchError> {
+        let pin = self.pin.id();
+        let ask = |jobs: &mut Jobs, writes| jobs.write_all_under(pin, writes);
+        write_all(self.pin.shared(), writes.into_iter().collect(), ask).await
+    }
+
     fn bound(&self) -> impl Fn(&mut Jobs, Write) -> Asked<Outcome> + use<> {
         let pin = self.pin.id();
         move |jobs, write| jobs.write_under(pin, write)
     }
 }
 
+/// The states of a range, one after the other, as [`Changes`](crate::Changes) gives them.
+#[derive(Debug)]
+#[must_use = "it reads nothing before it is asked"]
+pub struct AsyncChanges {
+    client: AsyncClient,
+    keys: Range<u64>,
+    last: Option<Vec<Row>>,
+}
+
+impl AsyncChanges {
+    /// Waits for the next state, or for the end of the client: then it is `None`. A future that is
+    /// dropped before it ends misses no last state.
+    pub async fn next(&mut self) -> Option<Result<Vec<Row>, Error>> {
+        loop {
+            if let Some(rows) = &self.last {
+                // Why a wait failed shows in the read that follows.
+                let _ = self.client.wait_for_change(self.keys.clone(), rows, MAX_WAIT).await;
+            }
+            match self.client.read(self.keys.clone()).await {
+                Ok(rows) if self.last.as_ref() == Some(&rows) => {}
+                Ok(rows) => {
+                    self.last = Some(rows.clone());
+                    return Some(Ok(rows));
+                }
+                Err(Error::Other(Code::Gone)) => return None,
+                Err(error) => return Some(Err(error)),
+            }
+        }
+    }
+}
+
+/// Nobody takes what was held: it is free again.
+fn unpin(link: &Link, Held { pin, .. }: Held) {
+    link.with_jobs(|jobs| jobs.unpin(pin));
+    link.flush();
+}
+
 /// Asks for something, until the client's timeout.
 async fn ask<T>(shared: &Arc<Shared>, ask: impl FnOnce(&mut Jobs) -> Asked<T>) -> Result<T, Error> {
     Awaited::begin(shared.link(), Instant::now() + shared.timeout(), ask).await
+}
+
+async fn write_all(
+    shared: &Arc<Shared>,
+    writes: Vec<Mutation>,
+    ask_for: impl FnOnce(&mut Jobs, Vec<Mutation>) -> Asked<Judged>,
+) -> Result<Vec<Outcome>, BatchError> {
+    let count = writes.len();
+    let judged = match batch::refused(&writes) {
+        Some(refused) => refused,
+        None => ask(shared, |jobs| ask_for(jobs, writes)).await.unwrap_or_else(Judged::nothing),
+    };
+    judged.all(count)
 }
 
 async fn write(

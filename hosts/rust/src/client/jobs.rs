@@ -1,5 +1,6 @@
 //! What a client has been asked to do, as far as it has come.
 mod anew;
+mod batch;
 mod bound;
 mod crossed;
 mod hold;
@@ -26,6 +27,7 @@ use std::sync::mpsc::SyncSender;
 use std::time::{Duration, Instant};
 
 pub(crate) use anew::Dropped;
+use batch::Report;
 use bound::{Bound, Wanted};
 use crossed::Crossed;
 use hold::Taking;
@@ -87,7 +89,7 @@ impl<T> Reply<T> {
 enum Job {
     Join(Reply<()>),
     Read(Range<u64>, Reply<Vec<Row>>),
-    Write(Wanted, Reply<Outcome>),
+    Write(Wanted, Report),
     Forget(Range<u64>, Reply<()>),
     Hold(Taking, Reply<Held>),
     Leave(Reply<()>),
@@ -227,7 +229,7 @@ impl Jobs {
     }
 
     pub fn write(&mut self, write: Write) -> Asked<Outcome> {
-        self.add(|reply| Job::Write(Wanted::free(write), reply))
+        self.add(|reply| Job::Write(Wanted::free(write), Report::Once(reply)))
     }
 
     /// Gives back a range that is not empty.
@@ -268,15 +270,27 @@ impl Jobs {
         Asked { id: self.next, is_urgent: true, answer }
     }
 
-    /// Nobody waits for the job any more. It answers whether a write was sent for it.
-    pub fn abandon(&mut self, job: JobId) -> WasSent {
-        let written = self.written.take_if(|written| written.id == job);
-        self.watched.retain(|watched| watched.id != job);
-        if let Some(place) = self.open.iter().position(|(id, _)| *id == job) {
-            let (id, mut job) = self.open.remove(place);
-            self.free_pins_of(id, &mut job);
+    /// The answer to something that needs no job.
+    fn answer_at_once<T>(&mut self, answer: Result<T, Error>) -> Asked<T> {
+        self.next += 1;
+        let (reply, asked) = place();
+        reply.give(answer);
+        Asked { id: self.next, is_urgent: true, answer: asked }
+    }
+
+    /// Nobody waits for the job any more: it ends for this reason.
+    pub fn abandon(&mut self, job: JobId, why: Error) {
+        if let Some(written) = self.written.take_if(|written| written.id == job) {
+            written.refuse(why);
         }
-        if written.is_some() { WasSent::Yes } else { WasSent::No }
+        self.unwatch(job);
+        self.refuse(job, why);
+    }
+
+    /// Whether a write was sent for this job and is not judged.
+    pub fn was_sent(&self, job: JobId) -> WasSent {
+        let is_its = self.written.as_ref().is_some_and(|written| written.id == job);
+        if is_its { WasSent::Yes } else { WasSent::No }
     }
 
     /// Ends this job for this reason, if it is open.
@@ -323,8 +337,12 @@ impl Jobs {
         if self.stage != Stage::Gone {
             self.stage = Stage::Ended;
         }
-        self.open.clear();
-        self.written = None;
+        for (_, job) in self.open.drain(..) {
+            job.refuse(Error::Stopped);
+        }
+        if let Some(written) = self.written.take() {
+            written.refuse(Error::Stopped);
+        }
         self.watched.clear();
     }
 
@@ -447,7 +465,7 @@ impl Jobs {
                 let rows = self.try_read(id, &keys);
                 reply.give(rows).map(|reply| Job::Read(keys, reply))
             }
-            Job::Write(wanted, reply) => self.advance_write(id, wanted, reply),
+            Job::Write(wanted, report) => self.advance_write(id, wanted, report),
             Job::Forget(keys, reply) => {
                 let is_done = self.try_forget(&keys);
                 let done = is_done.map(|is_done| is_done.then_some(()));

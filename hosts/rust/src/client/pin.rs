@@ -2,6 +2,7 @@
 use crate::client::jobs::Jobs;
 use crate::client::set;
 use crate::client::shared::{MAX_WAIT, Shared};
+use crate::model::batch::{BatchError, Mutation};
 use crate::model::change::{Outcome, Write};
 use crate::model::error::Error;
 use crate::model::row::{Row, Value};
@@ -57,7 +58,12 @@ impl Pin {
     }
 
     fn by_default(&self) -> PinWithin<'_> {
-        self.within(self.shared.timeout())
+        self.within(self.timeout())
+    }
+
+    /// How long each of its writes waits: as long as its client's calls.
+    pub(crate) fn timeout(&self) -> Duration {
+        self.shared.timeout()
     }
 
     /// Inserts a row while the pin holds, or never. The outcome is that of [`Client::insert`]. The
@@ -110,6 +116,24 @@ impl Pin {
     pub fn delete(&self, key: u64) -> Result<Outcome, Error> {
         self.by_default().delete(key)
     }
+
+    /// Makes several writes, as [`Client::write_all`] does, each while the pin holds, or never. Keys
+    /// may lie outside the pinned range. By a pin that [`Client::pin_for_write`] took, writes in its
+    /// range ask for no locks.
+    ///
+    /// # Errors
+    ///
+    /// Those of [`Client::write_all`], and `PinIsVoid`: then the writes that were not judged by then
+    /// were not made.
+    ///
+    /// [`Client::write_all`]: crate::Client::write_all
+    /// [`Client::pin_for_write`]: crate::Client::pin_for_write
+    pub fn write_all(
+        &self,
+        writes: impl IntoIterator<Item = Mutation>,
+    ) -> Result<Vec<Outcome>, BatchError> {
+        self.by_default().write_all(writes)
+    }
 }
 
 /// A pin whose writes wait for another time than [`Client::timeout`]: see [`Pin::within`].
@@ -160,6 +184,19 @@ impl PinWithin<'_> {
     /// Those of [`Pin::insert`].
     pub fn delete(self, key: u64) -> Result<Outcome, Error> {
         self.write(self.end(), Write::Delete(key))
+    }
+
+    /// Makes several writes, as [`Pin::write_all`] does. The time is that of all of them together.
+    ///
+    /// # Errors
+    ///
+    /// Those of [`Pin::write_all`].
+    pub fn write_all(
+        self,
+        writes: impl IntoIterator<Item = Mutation>,
+    ) -> Result<Vec<Outcome>, BatchError> {
+        let ask = |jobs: &mut Jobs, writes| jobs.write_all_under(self.pin.id, writes);
+        self.pin.shared.write_all(self.end(), writes.into_iter().collect(), ask)
     }
 
     fn write(self, end: Instant, write: Write) -> Result<Outcome, Error> {

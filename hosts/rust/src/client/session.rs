@@ -275,8 +275,9 @@ impl Session {
 
     /// Nobody waits for the job any more. It answers why it has no answer.
     pub fn give_up(&mut self, job: JobId) -> Error {
-        let was_sent = self.jobs.abandon(job);
-        self.unanswered(was_sent)
+        let why = self.unanswered(self.jobs.was_sent(job));
+        self.jobs.abandon(job, why);
+        why
     }
 
     /// Ends the jobs that can't be done, since the only server there is rejects this side again and

@@ -2,6 +2,7 @@
 use crate::client::jobs::{Asked, Jobs};
 use crate::client::link::Link;
 use crate::lease::boot_clock::Moment;
+use crate::model::batch::{self, BatchError, Judged, Mutation};
 use crate::model::change::{Outcome, Write};
 use crate::model::error::Error;
 use crate::model::row::{END, Row};
@@ -89,6 +90,19 @@ impl Shared {
             return Err(Error::BadKey);
         }
         self.link.ask(end, |jobs| ask(jobs, write))
+    }
+
+    /// Asks for several writes until the deadline, if each key may be one.
+    pub fn write_all(
+        &self,
+        end: Instant,
+        writes: Vec<Mutation>,
+        ask: impl FnOnce(&mut Jobs, Vec<Mutation>) -> Asked<Judged>,
+    ) -> Result<Vec<Outcome>, BatchError> {
+        let count = writes.len();
+        let made = |writes| self.link.ask(end, |jobs| ask(jobs, writes));
+        let judged = batch::refused(&writes).map_or_else(|| made(writes), Ok);
+        judged.unwrap_or_else(Judged::nothing).all(count)
     }
 
     /// Begins to leave, and waits for nothing.

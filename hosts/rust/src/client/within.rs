@@ -4,6 +4,7 @@ use crate::client::pin::Pin;
 use crate::client::scratch::with_room;
 use crate::client::set;
 use crate::client::shared::{MAX_WAIT, Shared};
+use crate::model::batch::{BatchError, Mutation};
 use crate::model::change::{Outcome, Write};
 use crate::model::error::Error;
 use crate::model::range::keys_of;
@@ -101,6 +102,20 @@ impl<'c> Within<'c> {
     /// [`Client::insert`]: crate::Client::insert
     pub fn delete(self, key: u64) -> Result<Outcome, Error> {
         self.write(Write::Delete(key))
+    }
+
+    /// Makes several writes, as [`Client::write_all`] does. The time is that of all of them together.
+    ///
+    /// # Errors
+    ///
+    /// Those of [`Client::write_all`].
+    ///
+    /// [`Client::write_all`]: crate::Client::write_all
+    pub fn write_all(
+        self,
+        writes: impl IntoIterator<Item = Mutation>,
+    ) -> Result<Vec<Outcome>, BatchError> {
+        self.shared.write_all(self.end(), writes.into_iter().collect(), Jobs::write_all)
     }
 
     /// Gives back what the client holds of the range, as [`Client::forget`] does.

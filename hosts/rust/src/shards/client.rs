@@ -1,15 +1,19 @@
 //! A client of several servers, each of which has a part of the keys.
+use crate::client::changes::{Changes, WatchedRange};
 use crate::client::scratch::with_room;
 use crate::client::{Client, Waited};
+use crate::model::batch::{BatchError, Mutation};
 use crate::model::change::Outcome;
+use crate::model::code::Code;
 use crate::model::error::Error;
+use crate::model::range::keys_of;
 use crate::model::row::{Row, Value};
 use crate::shards::error::ShardError;
 use crate::shards::joined::Joined;
 use crate::shards::map::ShardMap;
 use crate::shards::pin::ShardedPin;
 use crate::shards::within::{Pinned, ShardedWithin};
-use std::ops::RangeBounds;
+use std::ops::{Range, RangeBounds};
 use std::sync::Arc;
 use std::time::Duration;
 
@@ -186,6 +190,21 @@ impl ShardedClient {
         self.joined.at(key, |client| client.delete(key))
     }
 
+    /// Makes several writes, those of all shards at once: at each shard one after the other in this
+    /// order, as [`Client::write_all`] does. Writes at two shards have no order.
+    ///
+    /// # Errors
+    ///
+    /// Those of [`Client::write_all`], with the first shard at which not all were judged. At each
+    /// shard at most one write is unknown. `BadKey`, without a shard, also if a key is one of a shard
+    /// that is not joined.
+    pub fn write_all(
+        &self,
+        writes: impl IntoIterator<Item = Mutation>,
+    ) -> Result<Vec<Outcome>, BatchError<ShardError>> {
+        self.within(self.timeout()).write_all(writes)
+    }
+
     /// Gives back what the client holds of the range, at all shards at once.
     ///
     /// # Errors
@@ -241,6 +260,21 @@ impl ShardedClient {
         self.joined.wait_for_change(keys, rows, timeout)
     }
 
+    /// The states of the range, one after the other, as [`Client::changes`] gives them. Each is that
+    /// of all shards together at one moment.
+    ///
+    /// # Errors
+    ///
+    /// `BadRange` if the range is empty or none, or has keys of a shard that is not joined. Items are
+    /// the errors of [`ShardedClient::read`].
+    pub fn changes(&self, keys: impl RangeBounds<u64>) -> Result<Changes<ShardError>, ShardError> {
+        let keys = keys_of(&keys)?;
+        if self.joined.parts(keys.clone())?.is_empty() {
+            return Err(Error::BadRange.into());
+        }
+        Ok(Changes::of(RangeOfShards { client: self.clone(), keys }))
+    }
+
     /// Leaves all shards at once, and waits until each server has kept that, as [`Client::leave`] does.
     ///
     /// # Errors
@@ -248,5 +282,25 @@ impl ShardedClient {
     /// Those of [`Client::leave`], with the first shard that did not answer. The others are left.
     pub fn leave(&self) -> Result<(), ShardError> {
         self.within(self.timeout()).leave()
+    }
+}
+
+/// A range of several shards that is watched.
+struct RangeOfShards {
+    client: ShardedClient,
+    keys: Range<u64>,
+}
+
+impl WatchedRange<ShardError> for RangeOfShards {
+    fn read(&self) -> Result<Vec<Row>, ShardError> {
+        self.client.read(self.keys.clone())
+    }
+
+    fn wait_for_change(&self, rows: &[Row], timeout: Duration) -> Result<Waited, ShardError> {
+        self.client.wait_for_change(self.keys.clone(), rows, timeout)
+    }
+
+    fn has_left(&self, error: &ShardError) -> bool {
+        error.error == Error::Other(Code::Gone)
     }
 }

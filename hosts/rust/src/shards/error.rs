@@ -1,4 +1,5 @@
 //! Why a call over shards was refused.
+use crate::model::batch::BatchError;
 use crate::model::code::Code;
 use crate::model::error::{Error, JoinError};
 use std::fmt;
@@ -34,6 +35,12 @@ impl ShardError {
 impl From<Error> for ShardError {
     fn from(error: Error) -> ShardError {
         ShardError { shard: None, error }
+    }
+}
+
+impl From<BatchError> for BatchError<ShardError> {
+    fn from(error: BatchError) -> BatchError<ShardError> {
+        BatchError { fates: error.fates, error: error.error.into() }
     }
 }
 

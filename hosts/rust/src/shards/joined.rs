@@ -4,11 +4,13 @@ use crate::client::link::Link;
 use crate::client::pin::Pin;
 use crate::client::shared::{FAREWELL, MAX_WAIT, Shared};
 use crate::client::{Client, Waited};
+use crate::model::batch::{BatchError, Judged, Mutation};
 use crate::model::change::Outcome;
 use crate::model::error::Error;
 use crate::model::range::keys_of;
 use crate::model::row::Row;
 use crate::proved::partition::Part;
+use crate::shards::batch::{PartOfBatch, Spread};
 use crate::shards::error::ShardError;
 use crate::shards::map::ShardMap;
 use crate::shards::one_moment::{self, Known};
@@ -186,11 +188,30 @@ impl Joined {
         key: u64,
         call: impl FnOnce(&Client) -> Result<Outcome, Error>,
     ) -> Result<Outcome, ShardError> {
-        let shard = self.map.shard_of(key)?;
-        if !self.has(shard) {
-            return Err(Error::BadKey.into());
-        }
+        let shard = self.shard_of(key)?;
         call(self.client(shard)).map_err(ShardError::at(shard))
+    }
+
+    /// The shard of the key, if it is joined.
+    pub fn shard_of(&self, key: u64) -> Result<usize, ShardError> {
+        let shard = self.map.shard_of(key)?;
+        if self.has(shard) { Ok(shard) } else { Err(Error::BadKey.into()) }
+    }
+
+    /// Makes the writes at all shards at once, as `ask` does at one, until the deadline.
+    pub fn write_all(
+        &self,
+        spread: &Spread,
+        end: Instant,
+        ask: impl Fn(&mut Jobs, usize, Vec<Mutation>) -> Asked<Judged>,
+    ) -> Result<Vec<Outcome>, BatchError<ShardError>> {
+        let begin = |PartOfBatch { shard, writes, .. }: &PartOfBatch| {
+            let link = self.link(*shard);
+            (link, link.begin(|jobs| ask(jobs, *shard, writes.clone())))
+        };
+        let asked: Vec<_> = spread.parts().iter().map(begin).collect();
+        let finish = |(link, asked): (&Link, Asked<Judged>)| link.finish(asked, end);
+        spread.joined(&asked.into_iter().map(finish).collect::<Vec<_>>())
     }
 
     /// Gives back what the client holds of the range, until the deadline.
@@ -221,7 +242,7 @@ impl Joined {
         drop(told);
         let is_known = change.recv_timeout(timeout.min(MAX_WAIT)) == Err(RecvTimeoutError::Timeout);
         for (shard, job) in watched {
-            self.link(shard).with_jobs(|jobs| jobs.abandon(job));
+            self.link(shard).with_jobs(|jobs| jobs.unwatch(job));
         }
         Ok(if is_known { Waited::Unchanged } else { Waited::Changed })
     }

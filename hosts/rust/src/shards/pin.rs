@@ -1,12 +1,16 @@
 //! A pinned range of several shards, and the writes that are bound to it.
+use crate::client::jobs::Jobs;
 use crate::client::pin::Pin;
+use crate::client::shared::MAX_WAIT;
+use crate::model::batch::{BatchError, Mutation};
 use crate::model::change::Outcome;
 use crate::model::error::Error;
 use crate::model::row::Value;
+use crate::shards::batch::Spread;
 use crate::shards::error::ShardError;
 use crate::shards::joined::{Joined, PinOfShard};
 use std::sync::Arc;
-use std::time::Duration;
+use std::time::{Duration, Instant};
 
 /// A pinned range of several shards: no other client takes away what the client holds of it, as long
 /// as this lives. If a server's store goes back, or the lease there ends, the pin is void at that
@@ -78,16 +82,53 @@ impl ShardedPin {
         self.at(key, |pin| pin.delete(key))
     }
 
+    /// Makes several writes, as [`ShardedClient::write_all`] does, each while the pin holds at the
+    /// shard of its key, or never.
+    ///
+    /// # Errors
+    ///
+    /// Those of [`ShardedClient::write_all`], and those of [`ShardedPin::insert`]. If no part of the
+    /// pinned range is at the shard of some key, no write is made.
+    ///
+    /// [`ShardedClient::write_all`]: crate::ShardedClient::write_all
+    pub fn write_all(
+        &self,
+        writes: impl IntoIterator<Item = Mutation>,
+    ) -> Result<Vec<Outcome>, BatchError<ShardError>> {
+        self.write_all_within(writes, Pin::timeout)
+    }
+
+    fn write_all_within(
+        &self,
+        writes: impl IntoIterator<Item = Mutation>,
+        timeout: impl FnOnce(&Pin) -> Duration,
+    ) -> Result<Vec<Outcome>, BatchError<ShardError>> {
+        let writes: Vec<_> = writes.into_iter().collect();
+        let spread = Spread::new(&writes, |key| self.part_of(key).map(|part| part.shard))?;
+        let waits = self.pins.first().map_or(Duration::ZERO, |part| timeout(&part.pin));
+        let write_all = |jobs: &mut Jobs, shard, writes| {
+            // Each write has the shard of some part.
+            let part = self.pins.iter().find(|part| part.shard == shard);
+            jobs.write_all_under(part.map_or(u64::MAX, |part| part.pin.id()), writes)
+        };
+        self.joined.write_all(&spread, Instant::now() + waits, write_all)
+    }
+
+    /// The part of the pinned range at the shard of the key.
+    fn part_of(&self, key: u64) -> Result<&PinOfShard, ShardError> {
+        let shard = self.joined.map().shard_of(key)?;
+        let part = self.pins.iter().find(|part| part.shard == shard);
+        part.ok_or(ShardError::at(shard)(Error::PinIsVoid))
+    }
+
     /// Makes a call by the pin at the shard of the key.
     fn at(
         &self,
         key: u64,
         call: impl FnOnce(&Pin) -> Result<Outcome, Error>,
     ) -> Result<Outcome, ShardError> {
-        let shard = self.joined.map().shard_of(key)?;
-        let part = self.pins.iter().find(|part| part.shard == shard);
-        let part = part.ok_or(ShardError::at(shard)(Error::PinIsVoid))?;
-        call(&part.pin).map_err(ShardError::at(shard))
+        let part = self.part_of(key)?;
+        call(&part.pin).map_err(ShardError::at(part.shard))
     }
 }
 
@@ -142,5 +183,18 @@ impl<'p> ShardedPinWithin<'p> {
     /// Those of [`ShardedPin::insert`].
     pub fn delete(self, key: u64) -> Result<Outcome, ShardError> {
         self.pin.at(key, |pin| pin.within(self.timeout).delete(key))
+    }
+
+    /// Makes several writes, as [`ShardedPin::write_all`] does. The time is that of all of them
+    /// together.
+    ///
+    /// # Errors
+    ///
+    /// Those of [`ShardedPin::write_all`].
+    pub fn write_all(
+        self,
+        writes: impl IntoIterator<Item = Mutation>,
+    ) -> Result<Vec<Outcome>, BatchError<ShardError>> {
+        self.pin.write_all_within(writes, |_| self.timeout.min(MAX_WAIT))
     }
 }

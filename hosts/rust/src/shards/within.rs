@@ -1,8 +1,10 @@
 //! Calls of a sharded client that wait for a time of their own.
 use crate::client::jobs::Purpose;
 use crate::client::shared::MAX_WAIT;
+use crate::model::batch::{BatchError, Mutation};
 use crate::model::change::Outcome;
 use crate::model::row::{Row, Value};
+use crate::shards::batch::Spread;
 use crate::shards::error::ShardError;
 use crate::shards::joined::Joined;
 use crate::shards::pin::ShardedPin;
@@ -94,6 +96,23 @@ impl<'c> ShardedWithin<'c> {
     /// [`ShardedClient::insert`]: crate::ShardedClient::insert
     pub fn delete(self, key: u64) -> Result<Outcome, ShardError> {
         self.joined.at(key, |client| client.within(self.timeout).delete(key))
+    }
+
+    /// Makes several writes, as [`ShardedClient::write_all`] does. The time is that of all of them
+    /// together.
+    ///
+    /// # Errors
+    ///
+    /// Those of [`ShardedClient::write_all`].
+    ///
+    /// [`ShardedClient::write_all`]: crate::ShardedClient::write_all
+    pub fn write_all(
+        self,
+        writes: impl IntoIterator<Item = Mutation>,
+    ) -> Result<Vec<Outcome>, BatchError<ShardError>> {
+        let writes: Vec<_> = writes.into_iter().collect();
+        let spread = Spread::new(&writes, |key| self.joined.shard_of(key))?;
+        self.joined.write_all(&spread, self.end(), |jobs, _, writes| jobs.write_all(writes))
     }
 
     /// Gives back what the client holds of the range, as [`ShardedClient::forget`] does.

@@ -38,8 +38,8 @@ impl Job {
             (Job::Hold(taking, reply), Dropped::LeaseEnded) => {
                 Some(Job::Hold(taking.begun_again(), reply))
             }
-            (Job::Write(wanted, reply), Dropped::LeaseEnded) => {
-                Some(Job::Write(wanted.begun_again(), reply))
+            (Job::Write(wanted, report), Dropped::LeaseEnded) => {
+                Some(Job::Write(wanted.begun_again(), report))
             }
             (job @ (Job::Join(_) | Job::Leave(_)), _) | (job, Dropped::LeaseEnded) => Some(job),
             (job, Dropped::StoreWentBack | Dropped::OtherStore) => {
@@ -61,7 +61,7 @@ impl Job {
         match self {
             Job::Join(reply) | Job::Forget(_, reply) | Job::Leave(reply) => reply.end(Err(why)),
             Job::Read(_, reply) => reply.end(Err(why)),
-            Job::Write(_, reply) => reply.end(Err(why)),
+            Job::Write(_, report) => report.refuse(why),
             Job::Hold(_, reply) => reply.end(Err(why)),
         }
     }

@@ -1,7 +1,7 @@
 //! Writes that are bound to a pin.
+use super::batch::Report;
 use super::writing::Kept;
 use super::{Asked, Job, Jobs, Stage};
-use crate::client::answer::place;
 use crate::model::change::{Outcome, Write};
 use crate::model::error::Error;
 
@@ -50,14 +50,17 @@ impl Jobs {
     pub fn write_under(&mut self, pin: u64, write: Write) -> Asked<Outcome> {
         self.end_lease_if_over();
         let bond = Bond::Pin(pin);
-        // A client that has left says so, of its pins too.
-        if self.may_write(bond) || self.stage == Stage::Gone {
-            return self.add(|reply| Job::Write(Wanted { write, bond, kept: None }, reply));
+        if !self.may_ask_to_write(bond) {
+            return self.answer_at_once(Err(Error::PinIsVoid));
         }
-        self.next += 1;
-        let (reply, answer) = place();
-        reply.give(Err(Error::PinIsVoid));
-        Asked { id: self.next, is_urgent: true, answer }
+        let wanted = Wanted { write, bond, kept: None };
+        self.add(|reply| Job::Write(wanted, Report::Once(reply)))
+    }
+
+    /// Whether a write of this bond is added to the jobs. A client that has left says so, of its pins
+    /// too.
+    pub(super) fn may_ask_to_write(&mut self, bond: Bond) -> bool {
+        self.may_write(bond) || self.stage == Stage::Gone
     }
 
     /// Whether the client may send the write just now. It is asked each time before one is sent.
@@ -86,8 +89,8 @@ impl Jobs {
     pub(super) fn end_unbound_writes(&mut self) {
         for (id, job) in std::mem::take(&mut self.open) {
             match job {
-                Job::Write(Wanted { bond, .. }, reply) if !self.may_write(bond) => {
-                    reply.end(Err(Error::PinIsVoid));
+                Job::Write(Wanted { bond, .. }, report) if !self.may_write(bond) => {
+                    report.refuse(Error::PinIsVoid);
                 }
                 job => self.open.push((id, job)),
             }

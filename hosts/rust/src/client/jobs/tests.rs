@@ -54,12 +54,12 @@ fn a_write_whose_lock_is_called_back_is_asked_again() {
 fn an_abandoned_job_keeps_no_other_one_waiting() {
     let mut world = World::new();
     let (first, second) = (world.clients[0].read(0..5), world.clients[0].read(0..9));
-    world.clients[0].abandon(first.id);
+    world.clients[0].abandon(first.id, Error::TimedOut);
     world.settle();
     assert_eq!(second.answer.try_recv(), Ok(Ok(vec![])));
-    assert!(first.answer.try_recv().is_err());
+    assert_eq!(first.answer.try_recv(), Ok(Err(Error::TimedOut)));
     let write = world.clients[0].write(Write::Insert(row(3, 1)));
-    world.clients[0].abandon(write.id);
+    world.clients[0].abandon(write.id, Error::TimedOut);
     assert_eq!(world.write(0, Write::Insert(row(4, 1))), Outcome::Applied);
 }
 
@@ -100,7 +100,7 @@ fn whoever_waits_hears_that_the_thread_has_ended() {
     let before = world.clients[0].read(0..9);
     assert_eq!(before.answer.try_recv(), Err(TryRecvError::Empty));
     world.clients[0].end();
-    assert_eq!(before.answer.try_recv(), Err(TryRecvError::Disconnected));
+    assert_eq!(before.answer.try_recv(), Ok(Err(Error::Stopped)));
     let after = world.clients[0].read(0..9);
     assert_eq!(after.answer.try_recv(), Err(TryRecvError::Disconnected));
 }
@@ -192,7 +192,7 @@ fn a_delete_that_nobody_waits_for_keeps_nothing() {
     let delete = world.clients[0].write(Write::Delete(5));
     world.settle();
     assert_eq!(world.clients[0].takings.count(), 1);
-    world.clients[0].abandon(delete.id);
+    world.clients[0].abandon(delete.id, Error::TimedOut);
     assert_eq!(world.clients[0].takings.count(), 0);
     world.settle();
     assert_eq!(world.read(1, 0..6), [row(5, 1)]);

@@ -52,6 +52,11 @@ impl Jobs {
         self.next
     }
 
+    /// Nobody waits any more for a change that this job watches for.
+    pub fn unwatch(&mut self, job: JobId) {
+        self.watched.retain(|watched| watched.id != job);
+    }
+
     /// The epoch that the client has joined.
     pub fn epoch(&mut self) -> Result<u64, Code> {
         Ok(self.client.status()?.epoch)

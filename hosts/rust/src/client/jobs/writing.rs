@@ -1,6 +1,7 @@
 //! Writes: the locks that each needs, and how it was judged.
+use super::batch::Report;
 use super::bound::Wanted;
-use super::{Job, JobId, Jobs, Reply};
+use super::{Job, JobId, Jobs};
 use crate::model::change::{Outcome, Write};
 use crate::model::code::Code;
 use crate::model::error::Error;
@@ -16,12 +17,12 @@ pub(super) struct Written {
     pub id: JobId,
     wanted: Wanted,
     number: u64,
-    reply: Reply<Outcome>,
+    report: Report,
 }
 
 impl Written {
     pub fn refuse(self, why: Error) {
-        self.reply.end(Err(why));
+        self.report.refuse(why);
     }
 }
 
@@ -41,6 +42,7 @@ enum Step {
     Sent(u64),
     Waits,
     Known(Outcome),
+    Refused(Error),
 }
 
 impl Jobs {
@@ -48,14 +50,15 @@ impl Jobs {
     pub(super) fn end_written(&mut self, shown: &Shown) {
         let Some(outcome) = shown.outcome else { return };
         let judged = self.written.take_if(|written| written.number == shown.number);
-        let Some(Written { id, wanted, reply, .. }) = judged else { return };
+        let Some(Written { id, wanted, report, .. }) = judged else { return };
         if outcome == Outcome::NotHeld {
             // The table was the server's to judge by: the client asks for what it lacks, and writes
             // again.
-            let place = self.open.partition_point(|(other, _)| *other < id);
-            self.open.insert(place, (id, Job::Write(wanted, reply)));
-        } else {
-            reply.end(Ok(outcome));
+            let younger = self.open.iter().position(|(other, _)| *other > id);
+            let place = younger.unwrap_or(self.open.len());
+            self.open.insert(place, (id, Job::Write(wanted, report)));
+        } else if let Some((next, report)) = self.next_write(&wanted, outcome, report) {
+            self.reopen_last(id, next, report);
         }
     }
 
@@ -69,29 +72,42 @@ impl Jobs {
         &mut self,
         id: JobId,
         mut wanted: Wanted,
-        reply: Reply<Outcome>,
+        mut report: Report,
     ) -> Option<Job> {
-        if !self.may_write(wanted.bond) {
-            self.let_go(id, &mut wanted);
-            reply.end(Err(Error::PinIsVoid));
-            return None;
-        }
-        let step = self.try_write(id, &mut wanted);
-        if matches!(step, Ok(Step::Waits)) {
-            self.let_go_if_late(id, &mut wanted);
-            return Some(Job::Write(wanted, reply));
-        }
-        self.let_go(id, &mut wanted);
-        match step {
-            Ok(Step::Waits) => {}
-            Ok(Step::Sent(number)) => {
-                self.note_bond(wanted.bond, number);
-                self.written = Some(Written { id, wanted, number, reply });
+        loop {
+            match self.advance_one_write(id, &mut wanted) {
+                Step::Waits => return Some(Job::Write(wanted, report)),
+                Step::Sent(number) => {
+                    self.written = Some(Written { id, wanted, number, report });
+                    return None;
+                }
+                Step::Refused(why) => {
+                    report.refuse(why);
+                    return None;
+                }
+                Step::Known(outcome) => {
+                    (wanted, report) = self.next_write(&wanted, outcome, report)?;
+                }
             }
-            Ok(Step::Known(outcome)) => reply.end(Ok(outcome)),
-            Err(code) => reply.end(Err(code.into())),
         }
-        None
+    }
+
+    /// Goes on with one write. What a delete kept for it is free unless it still waits.
+    fn advance_one_write(&mut self, id: JobId, wanted: &mut Wanted) -> Step {
+        if !self.may_write(wanted.bond) {
+            self.let_go(id, wanted);
+            return Step::Refused(Error::PinIsVoid);
+        }
+        let step = self.try_write(id, wanted).unwrap_or_else(|code| Step::Refused(code.into()));
+        match step {
+            Step::Waits => self.let_go_if_late(id, wanted),
+            Step::Sent(number) => {
+                self.let_go(id, wanted);
+                self.note_bond(wanted.bond, number);
+            }
+            Step::Known(_) | Step::Refused(_) => self.let_go(id, wanted),
+        }
+        step
     }
 
     fn try_write(&mut self, id: JobId, wanted: &mut Wanted) -> Result<Step, Code> {
@@ -161,7 +177,7 @@ impl Jobs {
         }
     }
 
-    fn is_empty_at(&mut self, key: u64) -> bool {
+    pub(super) fn is_empty_at(&mut self, key: u64) -> bool {
         let mut rows = Vec::new();
         self.client.scan(&(key..key + 1), &mut rows, self.now) == Ok(Scan::Rows) && rows.is_empty()
     }

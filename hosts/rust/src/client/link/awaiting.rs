@@ -15,6 +15,8 @@ pub(crate) struct Awaited<T> {
     end: Instant,
     /// None once it has ended.
     asked: Option<Asked<T>>,
+    /// What is done with an answer that came and that nobody takes.
+    undo: fn(&Link, T),
 }
 
 impl<T> Awaited<T> {
@@ -25,7 +27,13 @@ impl<T> Awaited<T> {
         ask: impl FnOnce(&mut Jobs) -> Asked<T>,
     ) -> Awaited<T> {
         let asked = Some(link.begin(ask));
-        Awaited { link: Arc::clone(link), end, asked }
+        Awaited { link: Arc::clone(link), end, asked, undo: |_, _| () }
+    }
+
+    /// The same, and this is done with an answer that came and that nobody takes.
+    pub fn or_undo(mut self, undo: fn(&Link, T)) -> Awaited<T> {
+        self.undo = undo;
+        self
     }
 
     /// Nobody waits any more. It answers why there was no answer, unless there is one after all.
@@ -61,6 +69,8 @@ impl<T> Future for Awaited<T> {
 
 impl<T> Drop for Awaited<T> {
     fn drop(&mut self) {
-        let _ = self.give_up();
+        if let Some(Ok(untaken)) = self.give_up() {
+            (self.undo)(&self.link, untaken);
+        }
     }
 }

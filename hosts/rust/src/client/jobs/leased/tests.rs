@@ -242,7 +242,8 @@ fn a_pin_stays_until_a_write_that_is_bound_to_it_is_judged() {
     let pin = world.clients[0].pin(0..20).unwrap();
     let put = world.clients[0].write_under(pin, Write::Put(row(10, 2)));
     let late = world.said(0);
-    assert_eq!(world.clients[0].abandon(put.id), super::super::WasSent::Yes);
+    assert_eq!(world.clients[0].was_sent(put.id), super::super::WasSent::Yes);
+    world.clients[0].abandon(put.id, Error::TimedOut);
     world.clients[0].unpin(pin);
     assert!(!world.clients[0].holds_pin(pin) && world.clients[0].are_open());
     let other = world.clients[1].write(Write::Put(row(15, 3)));

@@ -1,0 +1,134 @@
+//! Several writes of one job. A client has one write on its way at most: so the next one is sent as
+//! soon as the one before it is judged, in the same step, and only the last answer wakes the caller.
+use super::bound::{Bond, Wanted};
+use super::{Asked, Job, JobId, Jobs, Reply};
+use crate::client::set;
+use crate::model::batch::{Judged, Mutation};
+use crate::model::change::{Outcome, Write};
+use crate::model::error::Error;
+use std::collections::VecDeque;
+
+/// Where it goes how a write was judged.
+pub(super) enum Report {
+    /// To the caller.
+    Once(Reply<Outcome>),
+    /// To the caller with the outcomes of other writes.
+    Together(Box<Batch>),
+}
+
+/// Writes of which the first one that is not judged is on its way, or waits for its locks.
+pub(super) struct Batch {
+    outcomes: Vec<Outcome>,
+    /// That one, and those after it.
+    left: VecDeque<Mutation>,
+    reply: Reply<Judged>,
+}
+
+impl Report {
+    /// The write was not judged, for this reason, and none after it is made.
+    pub fn refuse(self, why: Error) {
+        match self {
+            Report::Once(reply) => reply.end(Err(why)),
+            Report::Together(batch) => batch.end(Some(why)),
+        }
+    }
+}
+
+impl Batch {
+    fn end(self, ended: Option<Error>) {
+        self.reply.end(Ok(Judged { outcomes: self.outcomes, ended }));
+    }
+
+    /// The write was judged so. It answers what is to be written next.
+    fn next_after(&mut self, write: &Write, outcome: Outcome) -> Option<Next> {
+        if let Some(Mutation::Set(_)) = self.left.front()
+            && let Some(other) = set::after(*write, outcome)
+        {
+            return Some(Next::Same(other));
+        }
+        self.left.pop_front();
+        self.outcomes.push(outcome);
+        self.left.front().copied().map(Next::Other)
+    }
+}
+
+/// What a batch writes next.
+enum Next {
+    /// The other write by which a set is made.
+    Same(Write),
+    Other(Mutation),
+}
+
+impl Jobs {
+    /// Writes that are made one after the other, of which there is at least one.
+    pub fn write_all(&mut self, writes: Vec<Mutation>) -> Asked<Judged> {
+        self.write_all_bound(Bond::Free, writes)
+    }
+
+    /// The same, each of which is made while the pin holds, or never.
+    pub fn write_all_under(&mut self, pin: u64, writes: Vec<Mutation>) -> Asked<Judged> {
+        self.end_lease_if_over();
+        let bond = Bond::Pin(pin);
+        if self.may_ask_to_write(bond) {
+            self.write_all_bound(bond, writes)
+        } else {
+            self.answer_at_once(Ok(Judged::nothing(Error::PinIsVoid)))
+        }
+    }
+
+    fn write_all_bound(&mut self, bond: Bond, writes: Vec<Mutation>) -> Asked<Judged> {
+        let Some(first) = writes.first().copied() else {
+            return self.answer_at_once(Ok(Judged { outcomes: Vec::new(), ended: None }));
+        };
+        let wanted = Wanted { write: self.first_write_of(first), bond, kept: None };
+        self.add(|reply| {
+            let outcomes = Vec::with_capacity(writes.len());
+            let batch = Batch { outcomes, left: writes.into(), reply };
+            Job::Write(wanted, Report::Together(Box::new(batch)))
+        })
+    }
+
+    /// The write of a job was judged so. It answers what the job writes next.
+    pub(super) fn next_write(
+        &mut self,
+        wanted: &Wanted,
+        outcome: Outcome,
+        report: Report,
+    ) -> Option<(Wanted, Report)> {
+        let mut batch = match report {
+            Report::Once(reply) => {
+                reply.end(Ok(outcome));
+                return None;
+            }
+            Report::Together(batch) => batch,
+        };
+        let write = match batch.next_after(&wanted.write, outcome) {
+            None => {
+                batch.end(None);
+                return None;
+            }
+            Some(Next::Same(write)) => write,
+            Some(Next::Other(mutation)) => self.first_write_of(mutation),
+        };
+        Some((Wanted { write, bond: wanted.bond, kept: None }, Report::Together(batch)))
+    }
+
+    /// The write that is made first. A set of a key that the client knows to have no row is an insert:
+    /// a put would ask the server in vain.
+    fn first_write_of(&mut self, mutation: Mutation) -> Write {
+        match mutation {
+            Mutation::Insert(row) => Write::Insert(row),
+            Mutation::Set(row) if self.is_empty_at(row.key) => Write::Insert(row),
+            Mutation::Put(row) | Mutation::Set(row) => Write::Put(row),
+            Mutation::Delete(key) => Write::Delete(key),
+        }
+    }
+
+    /// A job of a batch goes on after the others that are open: their writes come in between.
+    pub(super) fn reopen_last(&mut self, id: JobId, wanted: Wanted, report: Report) {
+        self.open.push((id, Job::Write(wanted, report)));
+    }
+}
+
+#[cfg(test)]
+mod tests;

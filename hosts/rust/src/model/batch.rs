@@ -1,0 +1,174 @@
+//! Several writes of one call, and how far they came.
+use crate::model::change::{Outcome, Write};
+use crate::model::error::Error;
+use crate::model::row::{END, Row};
+use std::fmt;
+
+/// One of the writes of a [`Client::write_all`](crate::Client::write_all).
+#[derive(Clone, Copy, Debug, PartialEq, Eq)]
+pub enum Mutation {
+    /// A new row: the outcome is `Applied`, `Exists` or `Full`.
+    Insert(Row),
+    /// Another value for the row of that key: the outcome is `Applied` or `Absent`.
+    Put(Row),
+    /// That value for the key, whether or not it has a row: the outcome is `Applied` or `Full`.
+    Set(Row),
+    /// The row of that key goes: the outcome is `Applied` or `Absent`.
+    Delete(u64),
+}
+
+/// What became of one of several writes.
+#[derive(Clone, Copy, Debug, PartialEq, Eq)]
+pub enum Fate {
+    /// It was judged, and changes the table if the outcome is `Applied`.
+    Judged(Outcome),
+    /// The table may have changed or may still change: a read of the key shows it. At most one write
+    /// at each server has this fate.
+    Unknown,
+    /// It was not made, and changes nothing.
+    NotMade,
+}
+
+/// Why several writes were not all judged, and what became of each.
+#[derive(Clone, Debug, PartialEq, Eq)]
+#[non_exhaustive]
+pub struct BatchError<E = Error> {
+    /// What became of each write, in the order in which they were given.
+    pub fates: Vec<Fate>,
+    /// Why the first write that was not judged was not.
+    pub error: E,
+}
+
+/// How the first writes of a batch were judged, and why the next one was not, if there is one.
+#[derive(Clone, Debug, PartialEq, Eq)]
+pub(crate) struct Judged {
+    pub outcomes: Vec<Outcome>,
+    pub ended: Option<Error>,
+}
+
+impl Mutation {
+    /// The key that the write is about.
+    #[must_use]
+    pub fn key(&self) -> u64 {
+        match self {
+            Mutation::Insert(row) | Mutation::Put(row) | Mutation::Set(row) => row.key,
+            Mutation::Delete(key) => *key,
+        }
+    }
+}
+
+impl From<Write> for Mutation {
+    fn from(write: Write) -> Mutation {
+        match write {
+            Write::Insert(row) => Mutation::Insert(row),
+            Write::Put(row) => Mutation::Put(row),
+            Write::Delete(key) => Mutation::Delete(key),
+        }
+    }
+}
+
+/// Why none of these writes is made, if one has a key that is none.
+pub(crate) fn refused(writes: &[Mutation]) -> Option<Judged> {
+    let has_bad_key = writes.iter().any(|write| write.key() >= END);
+    has_bad_key.then(|| Judged::nothing(Error::BadKey))
+}
+
+impl Judged {
+    /// One of which nothing was judged.
+    pub fn nothing(why: Error) -> Judged {
+        Judged { outcomes: Vec::new(), ended: Some(why) }
+    }
+
+    /// What became of each of so many writes: the one after those that were judged was the only one
+    /// on its way, and those after it were never sent.
+    pub fn fates(&self, count: usize) -> Vec<Fate> {
+        let mut fates: Vec<_> = self.outcomes.iter().copied().map(Fate::Judged).collect();
+        if self.ended.is_some_and(|why| why.is_unknown_outcome()) && fates.len() < count {
+            fates.push(Fate::Unknown);
+        }
+        fates.resize(count, Fate::NotMade);
+        fates
+    }
+
+    /// The outcomes of so many writes if all were judged.
+    pub fn all(self, count: usize) -> Result<Vec<Outcome>, BatchError> {
+        match self.ended {
+            None => Ok(self.outcomes),
+            Some(error) => Err(BatchError { fates: self.fates(count), error }),
+        }
+    }
+}
+
+impl<E> BatchError<E> {
+    /// An error with what became of each write, and why the first one that was not judged was not.
+    #[must_use]
+    pub fn new(fates: Vec<Fate>, error: E) -> BatchError<E> {
+        BatchError { fates, error }
+    }
+
+    /// The places of the writes that were applied.
+    pub fn applied(&self) -> impl Iterator<Item = usize> {
+        self.places(Fate::Judged(Outcome::Applied))
+    }
+
+    /// The places of the writes whose outcome is unknown.
+    pub fn unknown(&self) -> impl Iterator<Item = usize> {
+        self.places(Fate::Unknown)
+    }
+
+    /// The places of the writes that were not made.
+    pub fn not_made(&self) -> impl Iterator<Item = usize> {
+        self.places(Fate::NotMade)
+    }
+
+    fn places(&self, wanted: Fate) -> impl Iterator<Item = usize> {
+        let places = self.fates.iter().enumerate();
+        places.filter(move |(_, fate)| **fate == wanted).map(|(place, _)| place)
+    }
+}
+
+impl<E: fmt::Display> fmt::Display for BatchError<E> {
+    fn fmt(&self, f: &mut fmt::Formatter<'_>) -> fmt::Result {
+        let is_judged = |fate: &&Fate| matches!(fate, Fate::Judged(_));
+        let judged = self.fates.iter().filter(is_judged).count();
+        write!(f, "{judged} of {} writes were judged: {}", self.fates.len(), self.error)
+    }
+}
+
+impl<E: std::error::Error + 'static> std::error::Error for BatchError<E> {
+    fn source(&self) -> Option<&(dyn std::error::Error + 'static)> {
+        Some(&self.error)
+    }
+}
+
+#[cfg(test)]
+mod tests {
+    use super::*;
+    use Fate::{NotMade, Unknown};
+    use Outcome::{Applied, Exists};
+
+    #[test]
+    fn the_write_after_those_that_were_judged_is_unknown_if_it_may_have_been_applied() {
+        let ended = |why| Judged { outcomes: vec![Applied, Exists], ended: Some(why) };
+        let judged = [Fate::Judged(Applied), Fate::Judged(Exists)];
+        for why in [Error::TimedOut, Error::LeaseEnded, Error::StoreWentBack, Error::Stopped] {
+            assert_eq!(ended(why).fates(4), [&judged[..], &[Unknown, NotMade]].concat());
+        }
+        for why in [Error::PinIsVoid, Error::TurnedAway, Error::OutOfMemory] {
+            assert_eq!(ended(why).fates(4), [&judged[..], &[NotMade, NotMade]].concat());
+        }
+        let whole = Judged { outcomes: vec![Applied, Exists], ended: None };
+        assert_eq!(whole.clone().all(2), Ok(vec![Applied, Exists]));
+        assert_eq!(whole.fates(2), judged);
+    }
+
+    #[test]
+    fn an_error_names_the_places_of_its_writes() {
+        let judged = Judged { outcomes: vec![Applied, Exists], ended: Some(Error::TimedOut) };
+        let error = judged.all(4).unwrap_err();
+        assert_eq!(error.applied().collect::<Vec<_>>(), [0]);
+        assert_eq!(error.unknown().collect::<Vec<_>>(), [2]);
+        assert_eq!(error.not_made().collect::<Vec<_>>(), [3]);
+        assert_eq!(error.to_string(), "2 of 4 writes were judged: no answer came in time");
+    }
+}

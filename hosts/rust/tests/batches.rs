@@ -1,0 +1,147 @@
+//! Several writes in one wait, at one server and at several.
+use krl::{BatchError, Client, Error, Fate, Listener, MemoryStore, Mutation, Outcome, Row, Server};
+use krl::{Shard, ShardError, ShardMap, ShardedClient, Value};
+use std::path::PathBuf;
+use std::time::Duration;
+
+use Mutation::{Delete, Insert, Put, Set};
+use Outcome::{Absent, Applied, Exists};
+
+/// No wait of a test is longer.
+const LONG: Duration = Duration::from_secs(60);
+
+const SHORT: Duration = Duration::from_millis(100);
+
+/// The second shard begins here.
+const BOUND: u64 = 100;
+
+/// Two servers, and a folder that is gone when the test is.
+struct World {
+    servers: Vec<Server>,
+    folder: PathBuf,
+}
+
+impl World {
+    fn new(name: &str) -> World {
+        let folder = std::env::temp_dir().join(format!("krl-batch-{}-{name}", std::process::id()));
+        std::fs::create_dir_all(&folder).unwrap();
+        let start = |_| {
+            let listener = Listener::bind(&"127.0.0.1:0".parse().unwrap()).unwrap();
+            Server::start(listener, MemoryStore::default()).unwrap()
+        };
+        World { servers: (0..2).map(start).collect(), folder }
+    }
+
+    /// A client of the first server.
+    fn join(&self, number: u8) -> Client {
+        let builder = Client::builder(self.servers[0].address()).number(number).timeout(LONG);
+        builder.lock_file(self.folder.join(format!("client-{number}.lock"))).join().unwrap()
+    }
+
+    /// A client of both servers, of which each has some keys.
+    fn join_both(&self, number: u8) -> ShardedClient {
+        let shard =
+            |(first, server): (u64, &Server)| Shard { first, servers: server.address().into() };
+        let shards = [0, BOUND].into_iter().zip(&self.servers).map(shard).collect();
+        let builder = ShardedClient::builder(ShardMap::new(shards).unwrap()).number(number);
+        builder.lock_folder(&self.folder).timeout(LONG).join().unwrap()
+    }
+}
+
+impl Drop for World {
+    fn drop(&mut self) {
+        let _ = std::fs::remove_dir_all(&self.folder);
+    }
+}
+
+fn row(key: u64, number: u64) -> Row {
+    Row { key, value: Value::from(number) }
+}
+
+#[test]
+fn each_write_has_its_outcome_in_order() {
+    let world = World::new("order");
+    let (first, second) = (world.join(0), world.join(1));
+    let writes =
+        [Insert(row(10, 1)), Insert(row(10, 2)), Put(row(11, 3)), Set(row(11, 4)), Delete(12)];
+    assert_eq!(first.write_all(writes), Ok(vec![Applied, Exists, Absent, Applied, Absent]));
+    assert_eq!(second.read(0..50), Ok(vec![row(10, 1), row(11, 4)]));
+    assert_eq!(first.write_all([]), Ok(vec![]));
+    let (_, pin) = first.pin_for_write(0..50).unwrap();
+    assert_eq!(pin.write_all((20..30).map(|key| Insert(row(key, 0)))), Ok(vec![Applied; 10]));
+    assert_eq!(pin.within(LONG).write_all([Delete(20)]), Ok(vec![Applied]));
+    drop(pin);
+    assert_eq!(second.read(0..50).unwrap().len(), 11);
+}
+
+#[test]
+fn a_bad_key_is_refused_before_any_write() {
+    let world = World::new("bad");
+    let client = world.join(0);
+    let refused = client.write_all([Insert(row(10, 1)), Delete(krl::END)]).unwrap_err();
+    assert_eq!(refused, BatchError::new(vec![Fate::NotMade; 2], Error::BadKey));
+    assert_eq!(client.read(0..50), Ok(vec![]));
+    client.leave().unwrap();
+    let late = client.write_all([Insert(row(10, 1))]).unwrap_err();
+    assert_eq!(late.fates, [Fate::NotMade]);
+}
+
+#[test]
+fn an_error_tells_what_became_of_each_write() {
+    let world = World::new("error");
+    let (first, second) = (world.join(0), world.join(1));
+    // The gap after the pinned range ends at the second row.
+    assert_eq!(second.write_all([10, 15].map(|key| Insert(row(key, 1)))), Ok(vec![Applied; 2]));
+    first.read(50..60).unwrap();
+    let (_, pin) = second.pin_for_write(5..15).unwrap();
+    // The client knows by itself that the first key has no row.
+    let _own = first.pin(50..60).unwrap();
+    let failed =
+        first.within(SHORT).write_all([Delete(55), Put(row(10, 2)), Delete(56)]).unwrap_err();
+    assert_eq!(failed.fates, [Fate::Judged(Absent), Fate::Unknown, Fate::NotMade]);
+    assert_eq!(failed.error, Error::TimedOut);
+    drop(pin);
+}
+
+#[test]
+fn many_threads_write_batches_by_one_client() {
+    let world = World::new("threads");
+    let client = world.join(0);
+    std::thread::scope(|scope| {
+        for thread in 0..4 {
+            let client = client.clone();
+            scope.spawn(move || {
+                let keys = (0..50).map(|place| 4 * place + thread);
+                let inserted = client.write_all(keys.clone().map(|key| Insert(row(key, thread))));
+                assert_eq!(inserted, Ok(vec![Applied; 50]));
+                let deleted = client.write_all(keys.step_by(2).map(Delete));
+                assert_eq!(deleted, Ok(vec![Applied; 25]));
+            });
+        }
+    });
+    assert_eq!(client.read(..).unwrap().len(), 100);
+}
+
+#[test]
+fn the_writes_of_all_shards_are_made_at_once() {
+    let world = World::new("shards");
+    let client = world.join_both(0);
+    let writes = [150, 1, 101, 2, 1].map(|key| Insert(row(key, key)));
+    assert_eq!(client.write_all(writes), Ok(vec![Applied, Applied, Applied, Applied, Exists]));
+    assert_eq!(client.read(..), Ok([1, 2, 101, 150].map(|key| row(key, key)).to_vec()));
+    let (_, pin) = client.pin_for_write(0..160).unwrap();
+    assert_eq!(
+        pin.write_all([Delete(150), Delete(1), Delete(3)]),
+        Ok(vec![Applied, Applied, Absent])
+    );
+    drop(pin);
+    let (_, of_first) = client.pin_for_write(0..10).unwrap();
+    let refused = of_first.write_all([Delete(2), Delete(101)]).unwrap_err();
+    assert_eq!(refused.fates, [Fate::NotMade; 2]);
+    let ShardError { shard, error, .. } = refused.error;
+    assert_eq!((shard, error), (Some(1), Error::PinIsVoid));
+    drop(of_first);
+    let bad = client.write_all([Delete(2), Delete(krl::END)]).unwrap_err();
+    assert_eq!((bad.fates, bad.error.error), (vec![Fate::NotMade; 2], Error::BadKey));
+    assert_eq!(client.read(..), Ok([2, 101].map(|key| row(key, key)).to_vec()));
+}
