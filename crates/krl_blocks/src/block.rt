@@ -18,7 +18,7 @@ pub fn put_in<V: Copy + Drop>(shelf: &mut Shelf<V>, b: usize, key: u64, value: V
     ensures most { shelf.new.most ≡ shelf.old.most }
 {
     let i = count_keys(shelf.get(b), key, guess);
-    shelf.put(b, i, (key, value));
+    shelf.insert_at(b, i, (key, value));
 }
 
 /// Puts the entry behind those of the block there, which has room for it.
@@ -30,7 +30,7 @@ pub fn push_in<V: Copy + Drop>(shelf: &mut Shelf<V>, b: usize, key: u64, value: 
     ensures most { shelf.new.most ≡ shelf.old.most }
 {
     let i = shelf.get(b).len();
-    shelf.put(b, i, (key, value));
+    shelf.insert_at(b, i, (key, value));
 }
 
 /// Takes the entry of the key out of the block there, and answers its value.

@@ -113,7 +113,7 @@ impl<V: Copy + Drop> Shelf<V> {
     }
 
     /// Puts an entry into the block there, before the one at i. The block has fewer than 64.
-    pub fn put(&mut self, b: usize, i: usize, entry: (u64, V))
+    pub fn insert_at(&mut self, b: usize, i: usize, entry: (u64, V))
         requires within { b < length self.old.blocks }
         requires place { IfSome (slice_get self.old.blocks b)
             (λ x. (i ≤ length x) × (length x < 64)) }

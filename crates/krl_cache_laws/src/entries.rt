@@ -16,7 +16,7 @@ use krl_modes::{KeyPart, Span, TOP};
 use std::alloc::{AllocError, Global};
 
 // What is left of an entry that is lowered, if it lies from `lo` on below `hi`.
-fn pick(entry: &(u64, Entry), lo: u64, hi: u64, keep: KeyPart) -> Option<(u64, Entry)>
+fn lowered_entry(entry: &(u64, Entry), lo: u64, hi: u64, keep: KeyPart) -> Option<(u64, Entry)>
     ensures { result ≡ pick lo hi (entry_lowered keep) entry.now }
 {
     let (point, Entry { part, value }) = *entry;
@@ -41,7 +41,7 @@ fn add_entries(
         ++ filter_map (pick lo hi (entry_lowered keep)) entries.now) }
 {
     for entry in entries {
-        if let Some(left) = pick(entry, lo, hi, keep) {
+        if let Some(left) = lowered_entry(entry, lo, hi, keep) {
             list.push(left)?;
         }
     }

@@ -66,7 +66,7 @@ impl Client {
     }
 
     // The answer to a scan of a span that contains the outstanding write's key.
-    fn pending(&self, span: Span) -> Option<u64>
+    fn pending_key_in(&self, span: Span) -> Option<u64>
         ensures { MatchOption result (clients.is_writing_in (meaning self.now) span ≡ false)
             (λ key. commands.Answers (meaning self.now) span (Pending key)) }
     {
@@ -101,7 +101,7 @@ impl Client {
         let Ok(span) = Span::new(lo, hi) else {
             return Err(CommandRefused::BadSpan);
         };
-        if let Some(key) = self.pending(span) {
+        if let Some(key) = self.pending_key_in(span) {
             return Ok(ScanAnswer::Pending(key));
         }
         match self.cache.scan(self.alloc, span)? {
@@ -127,7 +127,7 @@ impl Client {
         let Ok(span) = Span::new(lo, hi) else {
             return Err(CommandRefused::BadSpan);
         };
-        if let Some(key) = self.pending(span) {
+        if let Some(key) = self.pending_key_in(span) {
             return Ok(FindAnswer::Pending(key));
         }
         match self.cache.find(span) {

@@ -1,6 +1,7 @@
 //! What a lock holds and where: the parts of a mode, the thirteen modes, points and spans.
 #![tactic(auto)]
 
+pub mod laws;
 mod limits;
 mod mode;
 mod part;

@@ -52,7 +52,7 @@ impl Office {
     }
 
     /// Gives the post back, and the seat is this node from now on.
-    pub(crate) fn give<J: Next>(&self, ticket: &mut Ticket)
+    pub(crate) fn give_back<J: Next>(&self, ticket: &mut Ticket)
         requires own { ticket.old.table_id ≡ self.now }
         requires may { MayGive ticket.old.me J.next }
         ensures own { (ticket.new.table_id ≡ ticket.old.table_id)
@@ -72,7 +72,7 @@ impl Office {
         ensures view { ticket.new.me ≡ (given_view ticket.old.me J.next, []) }
         ensures stands { Agreeable ticket.old.me.0.opening (shown J.next) }
     {
-        self.give::<J>(ticket);
+        self.give_back::<J>(ticket);
     }
 
     // The same. The call tells the client's number and seat, which only its proof reads.
@@ -89,6 +89,6 @@ impl Office {
         ensures view { ticket.new.me ≡ (given_view ticket.old.me J.next, []) }
         ensures stands { Agreeable ticket.old.me.0.opening (shown J.next) }
     {
-        self.give::<J>(ticket);
+        self.give_back::<J>(ticket);
     }
 }

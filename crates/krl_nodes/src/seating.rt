@@ -143,7 +143,7 @@ impl Office {
         self.take(rt, &mut ticket);
         match self.sit(&mut ticket, number) {
             Chair::Taken => {
-                self.give::<Brand>(&mut ticket);
+                self.give_back::<Brand>(&mut ticket);
                 self.unblank(&mut server.ticket, ticket);
                 Err(NotSeated::Seated)
             }
@@ -192,7 +192,7 @@ impl Office {
         } = client;
         self.take(rt, &mut ticket);
         self.get_up(&mut ticket, number, seat.last_incarnation);
-        self.give::<Brand>(&mut ticket);
+        self.give_back::<Brand>(&mut ticket);
         self.unblank(&mut server.ticket, ticket);
         server.seated[number as usize] = false;
         Ok(())

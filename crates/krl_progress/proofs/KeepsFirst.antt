@@ -36,7 +36,7 @@ pub record IsStill (old new : Server) : Type 0 where
 
 -- A write that is applied is of a client that holds something
 
-applied_part : (s : Server) (c : ℕ) (op : WriteOp) → judged s c op ≡ outcome.Applied → HasPart s c
+pub applied_part : (s : Server) (c : ℕ) (op : WriteOp) → judged s c op ≡ outcome.Applied → HasPart s c
 applied_part s c (write.Insert k v) e = holds (slot_of s.durable.index k) (λ none. not_both (lets_insert (range_of (mode_at s.rows (slot_of s.durable.index k) c))) (insert_may _ _ _ e).1 (ap (λ g. lets_insert (range_of g)) none))
 applied_part s c (write.Put k v) e = holds k (λ none. not_both (is_key_X (key_of (mode_at s.rows k c))) (change_may _ _ e).1 (ap (λ g. is_key_X (key_of g)) none))
 applied_part s c (write.Delete k) e =

@@ -40,6 +40,10 @@ pub mod Lateness
 pub mod Owing
 pub mod Paying
 pub mod LocksAnswered
+pub mod Registered
+pub mod Speaks
+pub mod Parts
+pub mod Manned
 pub mod Growing
 pub mod Outlasting
 mod Names

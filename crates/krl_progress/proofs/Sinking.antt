@@ -139,7 +139,7 @@ granted_others r m rows n d u us q ne k =
     ∙ sym (row_modes rows n (grant_first (rows n) (rows n).queue) d (sym (ap (λ vs. (grant_first (rows n) vs).modes d) q ∙ mode_other (rows n).modes u.client d (wanted (rows n) u) ne)) k)
 
 -- an answer changes what its waiter's client holds, and what nobody else holds
-turn_others : (s : Server) (t : Turn) (d : ℕ) → next_turn s ≡ Some t → d ≢ t.waiter.client → (k : ℕ) → mode_at (answer_first s t).server.rows k d ≡ mode_at s.rows k d
+pub turn_others : (s : Server) (t : Turn) (d : ℕ) → next_turn s ≡ Some t → d ≢ t.waiter.client → (k : ℕ) → mode_at (answer_first s t).server.rows k d ≡ mode_at s.rows k d
 turn_others s t d e ne k = if_both (λ (x : Done). mode_at x.server.rows k d ≡ mode_at s.rows k d) (asks_absent s.durable.index t.waiter) (tells_absent s t) (grants s t)
     (ap (λ (r : Rows). mode_at r k d) (pushes_rows (with_rows s (dropped s.rows t.slot)) t.waiter.client (push.Absent t.waiter.req t.waiter.point))
     ∙ sym (row_modes s.rows t.slot (with_queue (s.rows t.slot) (behind_first (s.rows t.slot).queue)) d refl k))

@@ -14,7 +14,7 @@ use Rattle.krl_messages.specs.declared.to_client.PushBody.{PushBody}
 use Rattle.krl_messages.specs.declared.to_client.PushBody.TheVariants as push
 use Rattle.krl_messages.specs.Writes.{op_key}
 use Rattle.krl_server.specs.Servers.{incarnation_of, incarnation_or_0}
-use Rattle.krl_server.specs.Cases.{is_malformed, case_of_record, case_of_body, case_of_write, case_of_last, case_of_late, is_bad_write, judged}
+use Rattle.krl_server.specs.Cases.{is_malformed, case_of_record, case_of_body, case_of_write, case_of_repeated_write, case_of_late, is_bad_write, judged}
 use Rattle.krl_server.specs.Effects.{push_to}
 use Rattle.krl_server.specs.Outputs.{answered_write, IsAnswered}
 use Rattle.std.specs.Prelude.{IfSome}
@@ -230,11 +230,11 @@ module _ (c inc epoch seen0 number : ℕ) (op : WriteOp) (some : 1 ≤ epoch) (r
         (λ bad. absurd (not_both _ bad (all_false (nat_lt (op_key op) END) (nat_eq number 0) (nat_lt END number) (lt-ltb (op_key op) END good.0) (ne_eqb number 0 (λ z. omega (arith, z, one_up))) (le-ltb END number top))))
         (λ fine. if_case (Does h.at.server) (nat_eq number (suc r.last)) _ _
         (λ next. answers (judged h.at.server c op) refl l)
-        (λ not_next. if_case (Does h.at.server) (nat_eq number r.last) (case_of_last number op r.outcome) _
+        (λ not_next. if_case (Does h.at.server) (nat_eq number r.last) (case_of_repeated_write number op r.outcome) _
         (λ last. last_case r e r.outcome refl l (eqb-true number r.last last) one_up)
         (λ not_last. absurd (let a = counted.0 in let b = counted.1 in let y = x.2 in let p = eqb-false number (suc r.last) not_next in let q = eqb-false number r.last not_last in omega (arith, a, b, y, p, q)))))
       where
-        last_case : (r : Record) → record_of h.at.server.durable.register c ≡ Some r → (o : Option Outcome) → r.outcome ≡ o → (h.at.server.sessions c).last_push ≡ seen0 → number ≡ r.last → 1 ≤ number → Does h.at.server (case_of_last number op o)
+        last_case : (r : Record) → record_of h.at.server.durable.register c ≡ Some r → (o : Option Outcome) → r.outcome ≡ o → (h.at.server.sessions c).last_push ≡ seen0 → number ≡ r.last → 1 ≤ number → Does h.at.server (case_of_repeated_write number op o)
         last_case r e (Some o) f l is some = answers o refl l
         last_case r e None f l is some = absurd (let order = (in_order u h.at.server h.at.reachable h.at.up).1 in
             let has = order.outcomes c r e in

@@ -2,6 +2,8 @@
 use Rattle.std.specs.Prelude.{◌≡◌, ◌<◌, ℕ, false, Some, length}
 use Rattle.krl_modes.specs.declared.point.TheConstants.{END}
 use Rattle.krl_modes.specs.Spans.{Bounds}
+use Rattle.krl_durable.specs.Registers.{record_of}
+use Rattle.krl_durable.specs.declared.record.Record.{Record}
 use Rattle.krl_server.specs.Servers.{Server, is_recovering}
 use Rattle.krl_client.specs.Clients.{Client, is_waiting, meets_pin}
 use Rattle.krl_world.specs.States.{Up, State, client_of}
@@ -27,9 +29,33 @@ pub record IsUndisturbed (reqs writes : ℕ → ℕ) (w : State) : Type 0 where
   pub undisturbed : (c : ℕ) (k : Client) → client_of w c ≡ Some k → k.epoch ≡ server.durable.epoch →
       IsUndisturbedFor (reqs c) (writes c) k
 
+-- In this world the server serves, each client that holds something or waits for something runs in its epoch, and each
+-- registered client that has not left runs.
+pub record IsManned (w : State) : Type 0 where
+  pub server : Server
+  pub up : w.server ≡ Up server
+  pub serves : is_recovering server.missing ≡ false
+  pub here : (c : ℕ) → HasPart server c →
+      (k : Client) × (client_of w c ≡ Some k) × (k.epoch ≡ server.durable.epoch)
+  pub registered : (c : ℕ) (r : Record) → record_of server.durable.register c ≡ Some r → r.left ≡ false →
+      (k : Client) × (client_of w c ≡ Some k) × (k.incarnation ≡ r.incarnation)
+
+-- no client of the server's epoch asks for a further lock, writes anew, or pins
+abbrev pub AsksNoMore : (ℕ → ℕ) → (ℕ → ℕ) → State → Type 0
+AsksNoMore reqs writes w =
+    (s : Server) (c : ℕ) (k : Client) → w.server ≡ Up s → client_of w c ≡ Some k → k.epoch ≡ s.durable.epoch →
+    IsUndisturbedFor (reqs c) (writes c) k
+
 -- After n undisturbed good rounds no client of the server's epoch waits for a lock, whatever was lost before them.
 abbrev pub LocksAreAnsweredIn : ℕ → Type 0
 LocksAreAnsweredIn n =
     (reqs writes : ℕ → ℕ) (w v : State) (s : Server) (c : ℕ) (k : Client) → IsReachable w →
     IsUndisturbed reqs writes w → RoundsWhile (IsUndisturbed reqs writes) n (length w.sent) w v →
+    v.server ≡ Up s → client_of v c ≡ Some k → k.epoch ≡ s.durable.epoch → is_waiting k.asked ≡ false
+
+-- So it is after n good rounds from a manned world, if nobody asks for more meanwhile.
+abbrev pub MannedWorldsAnswerIn : ℕ → Type 0
+MannedWorldsAnswerIn n =
+    (reqs writes : ℕ → ℕ) (w v : State) (s : Server) (c : ℕ) (k : Client) → IsReachable w → IsManned w →
+    AsksNoMore reqs writes w → RoundsWhile (AsksNoMore reqs writes) n (length w.sent) w v →
     v.server ≡ Up s → client_of v c ≡ Some k → k.epoch ≡ s.durable.epoch → is_waiting k.asked ≡ false

@@ -1,12 +1,17 @@
 -- What a server and a client know of a lock request.
-use Rattle.std.specs.Prelude.{◌≡◌, ℕ, suc, true, false, Some, is_some}
+use Rattle.std.specs.Prelude.{◌≡◌, ◌≤◌, ℕ, suc, true, false, Some, is_some}
 use Rattle.krl_messages.specs.declared.to_client.PushBody.{PushBody}
 use Rattle.krl_messages.specs.declared.to_client.PushBody.TheVariants as push
+use Rattle.krl_messages.specs.declared.to_server.ToServer.{ToServer}
+use Rattle.krl_messages.specs.declared.to_server.ToServerBody.TheVariants as said
+use Rattle.krl_messages.specs.declared.to_server.Request.{Request}
+use Rattle.krl_messages.specs.Members.{In}
 use Rattle.krl_queue.specs.declared.waiter.Waiter.{Waiter}
 use Rattle.krl_table.specs.Rows.{waits}
-use Rattle.krl_server.specs.Servers.{Server}
+use Rattle.krl_server.specs.Servers.{Server, incarnation_of}
 use Rattle.krl_server.specs.Waits.{waiter_of}
 use Rattle.krl_client.specs.Clients.{Client, is_waiting, outstanding}
+use Rattle.krl_world.specs.declared.message.Message.TheVariants as message
 use Rattle.krl_world.specs.States.{Up, State, client_of}
 use Rattle.krl_world.specs.Steps.{IsReachable}
 use Rattle.krl_progress.specs.Answers.{answers_request}
@@ -46,3 +51,10 @@ PushesAreAwaited =
     (w : State) (s : Server) (c : ℕ) (k : Client) (b : PushBody) → IsReachable w → w.server ≡ Up s →
     client_of w c ≡ Some k → k.epoch ≡ s.durable.epoch → (s.sessions c).unacked ≡ Some b →
     (s.sessions c).last_push ≡ suc k.seen → IsAwaited k b
+
+-- In every reachable world: if the server runs, the incarnation of each request that was sent is registered, or a later
+-- one of that client is.
+abbrev pub RequestsAreRegistered : Type 0
+RequestsAreRegistered =
+    (w : State) (s : Server) (m : ToServer) (r : Request) → IsReachable w → w.server ≡ Up s →
+    In (message.ToServer m) w.sent → m.body ≡ said.Request r → m.incarnation ≤ incarnation_of s m.client

@@ -8,9 +8,10 @@ ghost use Rattle.krl_progress.specs.Blocks.{BlocksEndIn};
 ghost use Rattle.krl_progress.specs.FirstWaits.{FirstWaitsEndIn};
 ghost use Rattle.krl_progress.specs.Standstills.{NoStandstillIn};
 ghost use Rattle.krl_progress.specs.Calm.{SomebodyMovesOnIn};
-ghost use Rattle.krl_progress.specs.Locks.{LocksAreAnsweredIn};
+ghost use Rattle.krl_progress.specs.Locks.{LocksAreAnsweredIn, MannedWorldsAnswerIn};
 ghost use Rattle.krl_progress.specs.Pushes.{PushesArriveIn};
 ghost use Rattle.krl_progress.specs.Requests.{RequestsAreKnown, PushesAreAwaited};
+ghost use Rattle.krl_progress.specs.Requests.{RequestsAreRegistered};
 
 /// After any past: if the server runs, and each client whose report is missing runs, the server
 /// serves after five good rounds.
@@ -104,6 +105,20 @@ pub fn somebody_moves_on()
 /// runs. Push numbers are not spent.
 pub fn locks_are_answered()
     ensures { LocksAreAnsweredIn 1161 }
+{}
+
+/// In every reachable world: if the server runs, the incarnation of each request that was sent is
+/// registered, or a later one of that client is.
+pub fn requests_are_registered()
+    ensures { RequestsAreRegistered }
+{}
+
+/// After any past: if the server serves, each client that holds or waits for something runs in its
+/// epoch, and each registered client that has not left runs, then nobody waits for a lock after 1161
+/// good rounds in which nobody asks for a further lock, writes anew or pins. Push numbers are not
+/// spent.
+pub fn manned_worlds_answer()
+    ensures { MannedWorldsAnswerIn 1161 }
 {}
 
 /// After any past: if the server runs, and each client whose report is missing runs, an outstanding

@@ -2,7 +2,7 @@
 use Rattle.krl_server.proofs.Names.{◌≡◌, ℕ, suc, ◌≤◌, ◌<◌, true, false, not, ◌&&◌, ◌||◌, Option, Some, None, refl, sym, subst, arith, nat_eq, eqb-true, ltb-true, ltb-false, eqb-false, and_parts}
 use Rattle.krl_server.proofs.Names.{or_parts, not-true, not-false, nat_lt, nat_le, END, TOP, Mode, Bounds, Pieces, WriteOp, Outcome, ToServer, PushBody, Record, record_of, op_key, max_clients}
 use Rattle.krl_server.proofs.Names.{waits, conflicts, Server, is_recovering, lists, incarnation_or_0, Case, Ignored, Registers, Leaves, Tells, Alarms, Rebuilds, Repeats, Acknowledges, Lowers, Waits}
-use Rattle.krl_server.proofs.Names.{Judges, AnswersAgain, judged, case_of_last, is_bad_write, case_of_write, is_reach, case_of_request, case_of_late, case_of_seen, case_of_report, case_of_body}
+use Rattle.krl_server.proofs.Names.{Judges, AnswersAgain, judged, case_of_repeated_write, is_bad_write, case_of_write, is_reach, case_of_request, case_of_late, case_of_seen, case_of_report, case_of_body}
 use Rattle.krl_server.proofs.Names.{case_of_newer, case_of_record, is_malformed, case_of}
 use Rattle.krl_messages.specs.declared.to_server.ToServerBody.{ToServerBody}
 use Rattle.krl_messages.specs.declared.to_server.ToServerBody.TheVariants as said
@@ -63,7 +63,7 @@ module _ (s : Server) (m : ToServer) (P : Case → Type 0) (each : EachSaid s m 
       served : IsServed s m r
       served = record { from = from; serves = serves }
 
-      of_last : (number : ℕ) (op : WriteOp) (o : Option Outcome) → IsAsked s m r request (asked.Write number op) → op_key op < END → 1 ≤ number → number ≡ r.last → r.outcome ≡ o → P (case_of_last number op o)
+      of_last : (number : ℕ) (op : WriteOp) (o : Option Outcome) → IsAsked s m r request (asked.Write number op) → op_key op < END → 1 ≤ number → number ≡ r.last → r.outcome ≡ o → P (case_of_repeated_write number op o)
       of_last number op None a under some last e = each.acknowledges r request (asked.Write number op) a
       of_last number op (Some o) a under some last e = each.answers_again r request number op o a under some last e
 

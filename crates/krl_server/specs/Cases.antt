@@ -52,9 +52,9 @@ abbrev pub judged : Server → ℕ → WriteOp → Outcome
 judged s c op = judge s.durable.room s.durable.index op (held s.durable.index (column s.rows c) op)
 
 -- the last write once more. If no write was judged there is no outcome
-abbrev pub case_of_last : ℕ → WriteOp → Option Outcome → Case
-case_of_last number op None = Acknowledges
-case_of_last number op (Some o) = AnswersAgain number op o
+abbrev pub case_of_repeated_write : ℕ → WriteOp → Option Outcome → Case
+case_of_repeated_write number op None = Acknowledges
+case_of_repeated_write number op (Some o) = AnswersAgain number op o
 
 -- the key is no key, or the number is none of a write
 abbrev pub is_bad_write : ℕ → WriteOp → Bool
@@ -66,7 +66,7 @@ case_of_write s c r number op =
     first_rule (
     If (is_bad_write number op) Acknowledges
     ∷ If (nat_eq number (suc r.last)) (Judges number op (judged s c op))
-    ∷ If (nat_eq number r.last) (case_of_last number op r.outcome)
+    ∷ If (nat_eq number r.last) (case_of_repeated_write number op r.outcome)
     ∷ []
     ) Acknowledges
 

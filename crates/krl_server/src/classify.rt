@@ -7,7 +7,8 @@ ghost use Rattle.krl_messages.specs.declared.to_server.ToServerBody.{ToServerBod
 ghost use Rattle.krl_server.specs.Servers.{Server};
 ghost use Rattle.krl_server.specs.Cases.{is_malformed, case_of, case_of_record, case_of_newer};
 ghost use Rattle.krl_server.specs.Cases.{case_of_body, case_of_request, case_of_seen, case_of_late};
-ghost use Rattle.krl_server.specs.Cases.{case_of_lock, case_of_write, case_of_last, is_bad_write};
+ghost use Rattle.krl_server.specs.Cases.{case_of_lock, case_of_write, case_of_repeated_write};
+ghost use Rattle.krl_server.specs.Cases.{is_bad_write};
 ghost use Rattle.krl_modes.specs.declared.limits.TheConstants.{MAX_CLIENTS};
 
 use crate::case::Case;
@@ -56,9 +57,9 @@ fn case_of_late(seen: u64, session: &Session) -> Case
 }
 
 /// The case of the last write's number.
-fn case_of_last(number: u64, op: WriteOp, outcome: Option<Outcome>) -> Case
+fn case_of_repeated_write(number: u64, op: WriteOp, outcome: Option<Outcome>) -> Case
     ensures { (s : Server) (c : ℕ) (b : ToServerBody)
-        → meant s c b result ≡ case_of_last number op outcome }
+        → meant s c b result ≡ case_of_repeated_write number op outcome }
 {
     match outcome {
         Some(outcome) => Case::AnswersAgain {
@@ -88,7 +89,7 @@ fn case_of_write(known: &Record, number: u64, op: WriteOp) -> Case
     } else if number - 1 == known.last {
         Case::Judges { number, op }
     } else if number == known.last {
-        case_of_last(number, op, known.outcome)
+        case_of_repeated_write(number, op, known.outcome)
     } else {
         Case::Acknowledges
     }

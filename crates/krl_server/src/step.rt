@@ -212,7 +212,7 @@ impl State {
         let case = self.case_of(message);
         match self.step_at_once(alloc, message, &case)? {
             Some(out) => Ok(out),
-            None => self.step_by_turns(alloc, message, &case, rooms),
+            None => self.step_through_queue(alloc, message, &case, rooms),
         }
     }
 
@@ -252,7 +252,7 @@ impl State {
     /// # Errors
     ///
     /// `AllocError` if memory is refused. Nothing has changed then, and nothing is sent.
-    fn step_by_turns(
+    fn step_through_queue(
         &mut self,
         alloc: Global,
         message: &ToServer,

@@ -21,14 +21,14 @@ use Rattle.krl_text.specs.declared.word.Word.{Word}
 use Rattle.krl_text.specs.declared.word.Word.TheVariants as word
 use Rattle.krl_text.specs.declared.word.Alone.{Alone}
 use Rattle.krl_text.specs.declared.word.Alone.TheVariants as alone
-use Rattle.krl_text.specs.declared.word.Single.{Single}
-use Rattle.krl_text.specs.declared.word.Single.TheVariants as single
-use Rattle.krl_text.specs.declared.word.Double.{Double}
-use Rattle.krl_text.specs.declared.word.Double.TheVariants as double
+use Rattle.krl_text.specs.declared.word.OneNumber.{OneNumber}
+use Rattle.krl_text.specs.declared.word.OneNumber.TheVariants as one_number
+use Rattle.krl_text.specs.declared.word.ClientAndNumber.{ClientAndNumber}
+use Rattle.krl_text.specs.declared.word.ClientAndNumber.TheVariants as client_and_number
 use Rattle.krl_text.specs.declared.word.Valued.{Valued}
 use Rattle.krl_text.specs.declared.word.Valued.TheVariants as valued
-use Rattle.krl_text.specs.declared.word.Triple.{Triple}
-use Rattle.krl_text.specs.declared.word.Triple.TheVariants as triple
+use Rattle.krl_text.specs.declared.word.ClientAndTwo.{ClientAndTwo}
+use Rattle.krl_text.specs.declared.word.ClientAndTwo.TheVariants as client_and_two
 use Rattle.krl_text.specs.declared.request.Request.{Request}
 use Rattle.krl_text.specs.declared.request.Request.TheVariants as request
 use Rattle.krl_text.specs.declared.request.Query.TheVariants as show
@@ -133,29 +133,29 @@ alone_text alone.Writes = codes "writes"
 alone_text alone.Check = codes "check"
 alone_text alone.Modes = codes "modes"
 
-abbrev pub single_text : Single → List ℕ
-single_text single.Fill = codes "fill"
-single_text single.Client = codes "client"
-single_text single.Leave = codes "leave"
-single_text single.Tick = codes "tick"
-single_text single.Nudge = codes "nudge"
-single_text single.Deliver = codes "deliver"
-single_text single.Next = codes "next"
-single_text single.Status = codes "status"
+abbrev pub one_number_text : OneNumber → List ℕ
+one_number_text one_number.Fill = codes "fill"
+one_number_text one_number.Client = codes "client"
+one_number_text one_number.Leave = codes "leave"
+one_number_text one_number.Tick = codes "tick"
+one_number_text one_number.Nudge = codes "nudge"
+one_number_text one_number.Deliver = codes "deliver"
+one_number_text one_number.Next = codes "next"
+one_number_text one_number.Status = codes "status"
 
-abbrev pub double_text : Double → List ℕ
-double_text double.Delete = codes "delete"
-double_text double.Unpin = codes "unpin"
-double_text double.Hold = codes "hold"
+abbrev pub client_and_number_text : ClientAndNumber → List ℕ
+client_and_number_text client_and_number.Delete = codes "delete"
+client_and_number_text client_and_number.Unpin = codes "unpin"
+client_and_number_text client_and_number.Hold = codes "hold"
 
 abbrev pub valued_text : Valued → List ℕ
 valued_text valued.Insert = codes "insert"
 valued_text valued.Put = codes "put"
 
-abbrev pub triple_text : Triple → List ℕ
-triple_text triple.Scan = codes "scan"
-triple_text triple.Forget = codes "forget"
-triple_text triple.Pin = codes "pin"
+abbrev pub client_and_two_text : ClientAndTwo → List ℕ
+client_and_two_text client_and_two.Scan = codes "scan"
+client_and_two_text client_and_two.Forget = codes "forget"
+client_and_two_text client_and_two.Pin = codes "pin"
 
 abbrev pub word_text : Word → List ℕ
 word_text word.Seed = codes "seed"
@@ -164,10 +164,10 @@ word_text word.Lower = codes "lower"
 word_text word.Crash = codes "crash"
 word_text word.Start = codes "start"
 word_text (word.Alone w) = alone_text w
-word_text (word.Single w) = single_text w
-word_text (word.Double w) = double_text w
+word_text (word.OneNumber w) = one_number_text w
+word_text (word.ClientAndNumber w) = client_and_number_text w
 word_text (word.Valued w) = valued_text w
-word_text (word.Triple w) = triple_text w
+word_text (word.ClientAndTwo w) = client_and_two_text w
 
 -- every word
 abbrev pub all_words : List Word
@@ -176,12 +176,13 @@ all_words =
     ∷ word.Alone alone.Settle ∷ word.Alone alone.Drop ∷ word.Alone alone.Missing
     ∷ word.Alone alone.Index ∷ word.Alone alone.Writes ∷ word.Alone alone.Check
     ∷ word.Alone alone.Modes
-    ∷ word.Single single.Fill ∷ word.Single single.Client ∷ word.Single single.Leave
-    ∷ word.Single single.Tick ∷ word.Single single.Nudge ∷ word.Single single.Deliver
-    ∷ word.Single single.Next ∷ word.Single single.Status
-    ∷ word.Double double.Delete ∷ word.Double double.Unpin ∷ word.Double double.Hold
-    ∷ word.Valued valued.Insert ∷ word.Valued valued.Put ∷ word.Triple triple.Scan
-    ∷ word.Triple triple.Forget ∷ word.Triple triple.Pin ∷ []
+    ∷ word.OneNumber one_number.Fill ∷ word.OneNumber one_number.Client ∷ word.OneNumber one_number.Leave
+    ∷ word.OneNumber one_number.Tick ∷ word.OneNumber one_number.Nudge ∷ word.OneNumber one_number.Deliver
+    ∷ word.OneNumber one_number.Next ∷ word.OneNumber one_number.Status
+    ∷ word.ClientAndNumber client_and_number.Delete ∷ word.ClientAndNumber client_and_number.Unpin
+    ∷ word.ClientAndNumber client_and_number.Hold
+    ∷ word.Valued valued.Insert ∷ word.Valued valued.Put ∷ word.ClientAndTwo client_and_two.Scan
+    ∷ word.ClientAndTwo client_and_two.Forget ∷ word.ClientAndTwo client_and_two.Pin ∷ []
 
 -- the word of this text
 abbrev pub word_named : List ℕ → Option Word
@@ -198,21 +199,21 @@ alone_request alone.Check = request.Query show.Check
 alone_request alone.Modes = request.Modes
 
 -- what a word asks for with one number
-abbrev pub single_request : Single → ℕ → Request
-single_request single.Fill n = request.Fill n
-single_request single.Client c = request.Step (step.StartClient c)
-single_request single.Leave c = request.Step (step.Command c command.Leave)
-single_request single.Tick c = request.Step (step.Tick c)
-single_request single.Nudge c = request.Step (step.Nudge c)
-single_request single.Deliver i = request.Deliver i
-single_request single.Next n = request.Next n
-single_request single.Status c = request.Query (show.Status c)
+abbrev pub one_number_request : OneNumber → ℕ → Request
+one_number_request one_number.Fill n = request.Fill n
+one_number_request one_number.Client c = request.Step (step.StartClient c)
+one_number_request one_number.Leave c = request.Step (step.Command c command.Leave)
+one_number_request one_number.Tick c = request.Step (step.Tick c)
+one_number_request one_number.Nudge c = request.Step (step.Nudge c)
+one_number_request one_number.Deliver i = request.Deliver i
+one_number_request one_number.Next n = request.Next n
+one_number_request one_number.Status c = request.Query (show.Status c)
 
 -- what a word asks for with a client and one more number
-abbrev pub double_request : Double → ℕ → ℕ → Request
-double_request double.Delete c k = request.Step (step.Command c (command.Write (write.Delete k)))
-double_request double.Unpin c id = request.Step (step.Command c (command.Unpin id))
-double_request double.Hold c p = request.Query (show.Hold c p)
+abbrev pub client_and_number_request : ClientAndNumber → ℕ → ℕ → Request
+client_and_number_request client_and_number.Delete c k = request.Step (step.Command c (command.Write (write.Delete k)))
+client_and_number_request client_and_number.Unpin c id = request.Step (step.Command c (command.Unpin id))
+client_and_number_request client_and_number.Hold c p = request.Query (show.Hold c p)
 
 -- what a word has a client write, with a key and a value
 abbrev pub valued_change : Valued → ℕ → Value → WriteOp
@@ -223,13 +224,13 @@ abbrev pub valued_request : Valued → ℕ → ℕ → Value → Request
 valued_request w c k v = request.Step (step.Command c (command.Write (valued_change w k v)))
 
 -- what a word tells a client to do, with two numbers
-abbrev pub triple_command : Triple → ℕ → ℕ → Command
-triple_command triple.Scan lo hi = command.Scan lo hi
-triple_command triple.Forget lo hi = command.Lower lo hi mode.N
-triple_command triple.Pin lo hi = command.Pin lo hi
+abbrev pub client_and_two_command : ClientAndTwo → ℕ → ℕ → Command
+client_and_two_command client_and_two.Scan lo hi = command.Scan lo hi
+client_and_two_command client_and_two.Forget lo hi = command.Lower lo hi mode.N
+client_and_two_command client_and_two.Pin lo hi = command.Pin lo hi
 
-abbrev pub triple_request : Triple → ℕ → ℕ → ℕ → Request
-triple_request w c m n = request.Step (step.Command c (triple_command w m n))
+abbrev pub client_and_two_request : ClientAndTwo → ℕ → ℕ → ℕ → Request
+client_and_two_request w c m n = request.Step (step.Command c (client_and_two_command w m n))
 
 -- there are n arguments
 abbrev pub argument_count : ℕ → List (List ℕ) → Result Unit SyntaxFault
@@ -252,18 +253,18 @@ abbrev pub number_at : List (List ℕ) → ℕ → Result ℕ SyntaxFault
 number_at arguments i = or_fault BadNumber (number_of (argument arguments i))
 
 -- one number, and no more arguments
-abbrev pub single_of : List (List ℕ) → Result ℕ SyntaxFault
-single_of arguments = argument_count 1 arguments >>= λ _. number_at arguments 0
+abbrev pub one_number_of : List (List ℕ) → Result ℕ SyntaxFault
+one_number_of arguments = argument_count 1 arguments >>= λ _. number_at arguments 0
 
 -- two numbers
-abbrev pub double_of : List (List ℕ) → Result (ℕ × ℕ) SyntaxFault
-double_of arguments =
+abbrev pub client_and_number_of : List (List ℕ) → Result (ℕ × ℕ) SyntaxFault
+client_and_number_of arguments =
     argument_count 2 arguments >>= λ _. number_at arguments 0 >>= λ m.
     number_at arguments 1 >>= λ n. Ok (m, n)
 
 -- three numbers
-abbrev pub triple_of : List (List ℕ) → Result (ℕ × ℕ × ℕ) SyntaxFault
-triple_of arguments =
+abbrev pub client_and_two_of : List (List ℕ) → Result (ℕ × ℕ × ℕ) SyntaxFault
+client_and_two_of arguments =
     argument_count 3 arguments >>= λ _. number_at arguments 0 >>= λ l.
     number_at arguments 1 >>= λ m. number_at arguments 2 >>= λ n. Ok (l, m, n)
 
@@ -325,12 +326,13 @@ request_of word.Lower arguments = lower_of arguments
 request_of word.Crash arguments = crash_of arguments
 request_of word.Start arguments = start_of arguments
 request_of (word.Alone w) arguments = argument_count 0 arguments >>= λ _. Ok (alone_request w)
-request_of (word.Single w) arguments = single_of arguments >>= λ n. Ok (single_request w n)
-request_of (word.Double w) arguments = double_of arguments >>= λ x. Ok (double_request w x.0 x.1)
+request_of (word.OneNumber w) arguments = one_number_of arguments >>= λ n. Ok (one_number_request w n)
+request_of (word.ClientAndNumber w) arguments =
+    client_and_number_of arguments >>= λ x. Ok (client_and_number_request w x.0 x.1)
 request_of (word.Valued w) arguments =
     valued_of arguments >>= λ x. Ok (valued_request w x.0 x.1 x.2)
-request_of (word.Triple w) arguments =
-    triple_of arguments >>= λ x. Ok (triple_request w x.0 x.1 x.2)
+request_of (word.ClientAndTwo w) arguments =
+    client_and_two_of arguments >>= λ x. Ok (client_and_two_request w x.0 x.1 x.2)
 
 -- what a line of these words asks for, none of them empty
 abbrev pub meaning_of_words : List (List ℕ) → Result Request SyntaxFault

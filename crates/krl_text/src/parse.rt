@@ -5,9 +5,10 @@ ghost use Rattle.std.specs.List.{slice_split};
 ghost use Rattle.std.specs.Str.{bytes_eq};
 ghost use Rattle.krl_text.specs.Words.{Gives, words_of, digits_of, number_of, bytes_of, value_of};
 ghost use Rattle.krl_text.specs.Words.{pair_of, pairs_of, mode_of, argument_count, argument};
-ghost use Rattle.krl_text.specs.Words.{or_fault, single_of, double_of, triple_of, valued_of};
-ghost use Rattle.krl_text.specs.Words.{seed_of, argument_count_within, reach_of, lock_of, lower_of};
-ghost use Rattle.krl_text.specs.Words.{crash_of, start_of, request_of, meaning_of_words, meaning_of};
+ghost use Rattle.krl_text.specs.Words.{or_fault, one_number_of, client_and_number_of};
+ghost use Rattle.krl_text.specs.Words.{client_and_two_of, valued_of, seed_of, lock_of, lower_of};
+ghost use Rattle.krl_text.specs.Words.{argument_count_within, reach_of, crash_of, start_of};
+ghost use Rattle.krl_text.specs.Words.{request_of, meaning_of_words, meaning_of};
 
 use crate::fault::{LineFault, SyntaxFault};
 use crate::request::{Entries, Request};
@@ -163,16 +164,16 @@ fn mode_at(arguments: &[&[u8]], i: usize) -> Result<Mode, LineFault>
 }
 
 // The one number that a word takes.
-fn single(arguments: &[&[u8]]) -> Result<u64, LineFault>
-    ensures { Gives result (single_of (map (λ word. word.now) arguments.now)) }
+fn one_number(arguments: &[&[u8]]) -> Result<u64, LineFault>
+    ensures { Gives result (one_number_of (map (λ word. word.now) arguments.now)) }
 {
     count(1, arguments)?;
     number_at(arguments, 0)
 }
 
 // The two numbers that a word takes.
-fn double(arguments: &[&[u8]]) -> Result<(u64, u64), LineFault>
-    ensures { Gives result (double_of (map (λ word. word.now) arguments.now)) }
+fn client_and_number(arguments: &[&[u8]]) -> Result<(u64, u64), LineFault>
+    ensures { Gives result (client_and_number_of (map (λ word. word.now) arguments.now)) }
 {
     count(2, arguments)?;
     let first = number_at(arguments, 0)?;
@@ -181,8 +182,8 @@ fn double(arguments: &[&[u8]]) -> Result<(u64, u64), LineFault>
 }
 
 // The three numbers that a word takes.
-fn triple(arguments: &[&[u8]]) -> Result<(u64, u64, u64), LineFault>
-    ensures { Gives result (triple_of (map (λ word. word.now) arguments.now)) }
+fn client_and_two(arguments: &[&[u8]]) -> Result<(u64, u64, u64), LineFault>
+    ensures { Gives result (client_and_two_of (map (λ word. word.now) arguments.now)) }
 {
     count(3, arguments)?;
     let first = number_at(arguments, 0)?;
@@ -282,20 +283,20 @@ fn request(alloc: Global, word: Word, arguments: &[&[u8]]) -> Result<Request, Li
             count(0, arguments)?;
             Ok(word.request())
         }
-        Word::Single(word) => {
-            let number = single(arguments)?;
+        Word::OneNumber(word) => {
+            let number = one_number(arguments)?;
             Ok(word.request(number))
         }
-        Word::Double(word) => {
-            let (client, second) = double(arguments)?;
+        Word::ClientAndNumber(word) => {
+            let (client, second) = client_and_number(arguments)?;
             Ok(word.request(client, second))
         }
         Word::Valued(word) => {
             let (client, key, value) = valued(arguments)?;
             Ok(word.request(client, key, value))
         }
-        Word::Triple(word) => {
-            let (client, second, third) = triple(arguments)?;
+        Word::ClientAndTwo(word) => {
+            let (client, second, third) = client_and_two(arguments)?;
             Ok(word.request(client, second, third))
         }
     }

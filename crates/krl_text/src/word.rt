@@ -1,9 +1,10 @@
 //! The words that begin a line.
 ghost use Rattle.std.specs.Prelude.{◌≡◌};
-ghost use Rattle.krl_text.specs.Words.{alone_text, single_text, double_text, triple_text};
-ghost use Rattle.krl_text.specs.Words.{word_text, word_named, alone_request, single_request};
-ghost use Rattle.krl_text.specs.Words.{double_request, valued_text, valued_change, valued_request};
-ghost use Rattle.krl_text.specs.Words.{triple_command, triple_request};
+ghost use Rattle.krl_text.specs.Words.{alone_text, one_number_text, client_and_number_text};
+ghost use Rattle.krl_text.specs.Words.{client_and_two_text, valued_text, word_text, word_named};
+ghost use Rattle.krl_text.specs.Words.{alone_request, one_number_request};
+ghost use Rattle.krl_text.specs.Words.{client_and_number_request, valued_change, valued_request};
+ghost use Rattle.krl_text.specs.Words.{client_and_two_command, client_and_two_request};
 
 use crate::request::{Query, Request};
 use krl_messages::{Value, WriteOp};
@@ -56,7 +57,7 @@ impl Alone {
 
 /// The words that take one number.
 #[derive(Clone, Copy)]
-pub enum Single {
+pub enum OneNumber {
     Fill,
     Client,
     Leave,
@@ -67,71 +68,71 @@ pub enum Single {
     Status,
 }
 
-impl Single {
+impl OneNumber {
     /// The word as it stands in a script.
     pub fn text(self) -> &'static str
-        ensures { result.now ≡ single_text self }
+        ensures { result.now ≡ one_number_text self }
     {
         match self {
-            Single::Fill => "fill",
-            Single::Client => "client",
-            Single::Leave => "leave",
-            Single::Tick => "tick",
-            Single::Nudge => "nudge",
-            Single::Deliver => "deliver",
-            Single::Next => "next",
-            Single::Status => "status",
+            OneNumber::Fill => "fill",
+            OneNumber::Client => "client",
+            OneNumber::Leave => "leave",
+            OneNumber::Tick => "tick",
+            OneNumber::Nudge => "nudge",
+            OneNumber::Deliver => "deliver",
+            OneNumber::Next => "next",
+            OneNumber::Status => "status",
         }
     }
 
     /// What the word asks for with this number.
     pub fn request(self, number: u64) -> Request
-        ensures { result ≡ single_request self number }
+        ensures { result ≡ one_number_request self number }
     {
         match self {
-            Single::Fill => Request::Fill(number),
-            Single::Client => Request::Step(Step::StartClient(number)),
-            Single::Leave => Request::Step(Step::Command(number, Command::Leave)),
-            Single::Tick => Request::Step(Step::Tick(number)),
-            Single::Nudge => Request::Step(Step::Nudge(number)),
-            Single::Deliver => Request::Deliver(number),
-            Single::Next => Request::Next(number),
-            Single::Status => Request::Query(Query::Status(number)),
+            OneNumber::Fill => Request::Fill(number),
+            OneNumber::Client => Request::Step(Step::StartClient(number)),
+            OneNumber::Leave => Request::Step(Step::Command(number, Command::Leave)),
+            OneNumber::Tick => Request::Step(Step::Tick(number)),
+            OneNumber::Nudge => Request::Step(Step::Nudge(number)),
+            OneNumber::Deliver => Request::Deliver(number),
+            OneNumber::Next => Request::Next(number),
+            OneNumber::Status => Request::Query(Query::Status(number)),
         }
     }
 }
 
 /// The words that take a client and one more number.
 #[derive(Clone, Copy)]
-pub enum Double {
+pub enum ClientAndNumber {
     Delete,
     Unpin,
     Hold,
 }
 
-impl Double {
+impl ClientAndNumber {
     /// The word as it stands in a script.
     pub fn text(self) -> &'static str
-        ensures { result.now ≡ double_text self }
+        ensures { result.now ≡ client_and_number_text self }
     {
         match self {
-            Double::Delete => "delete",
-            Double::Unpin => "unpin",
-            Double::Hold => "hold",
+            ClientAndNumber::Delete => "delete",
+            ClientAndNumber::Unpin => "unpin",
+            ClientAndNumber::Hold => "hold",
         }
     }
 
     /// What the word asks for with these numbers.
     pub fn request(self, client: u64, second: u64) -> Request
-        ensures { result ≡ double_request self client second }
+        ensures { result ≡ client_and_number_request self client second }
     {
         match self {
-            Double::Delete => {
+            ClientAndNumber::Delete => {
                 let op = WriteOp::Delete { key: second };
                 Request::Step(Step::Command(client, Command::Write(op)))
             }
-            Double::Unpin => Request::Step(Step::Command(client, Command::Unpin(second))),
-            Double::Hold => Request::Query(Query::Hold {
+            ClientAndNumber::Unpin => Request::Step(Step::Command(client, Command::Unpin(second))),
+            ClientAndNumber::Hold => Request::Query(Query::Hold {
                 client,
                 point: second,
             }),
@@ -177,43 +178,43 @@ impl Valued {
 
 /// The words that take a client and two more numbers.
 #[derive(Clone, Copy)]
-pub enum Triple {
+pub enum ClientAndTwo {
     Scan,
     Forget,
     Pin,
 }
 
-impl Triple {
+impl ClientAndTwo {
     /// The word as it stands in a script.
     pub fn text(self) -> &'static str
-        ensures { result.now ≡ triple_text self }
+        ensures { result.now ≡ client_and_two_text self }
     {
         match self {
-            Triple::Scan => "scan",
-            Triple::Forget => "forget",
-            Triple::Pin => "pin",
+            ClientAndTwo::Scan => "scan",
+            ClientAndTwo::Forget => "forget",
+            ClientAndTwo::Pin => "pin",
         }
     }
 
     // What the client is told to do.
     fn command(self, second: u64, third: u64) -> Command
-        ensures { result ≡ triple_command self second third }
+        ensures { result ≡ client_and_two_command self second third }
     {
         let (lo, hi) = (second, third);
         match self {
-            Triple::Scan => Command::Scan { lo, hi },
-            Triple::Forget => Command::Lower {
+            ClientAndTwo::Scan => Command::Scan { lo, hi },
+            ClientAndTwo::Forget => Command::Lower {
                 lo,
                 hi,
                 keep: Mode::N,
             },
-            Triple::Pin => Command::Pin { lo, hi },
+            ClientAndTwo::Pin => Command::Pin { lo, hi },
         }
     }
 
     /// What the word asks for with these numbers.
     pub fn request(self, client: u64, second: u64, third: u64) -> Request
-        ensures { result ≡ triple_request self client second third }
+        ensures { result ≡ client_and_two_request self client second third }
     {
         Request::Step(Step::Command(client, self.command(second, third)))
     }
@@ -235,13 +236,13 @@ pub enum Word {
     /// Nothing.
     Alone(Alone),
     /// One number.
-    Single(Single),
+    OneNumber(OneNumber),
     /// A client and a number.
-    Double(Double),
+    ClientAndNumber(ClientAndNumber),
     /// A client, a key and a value.
     Valued(Valued),
     /// A client and two numbers.
-    Triple(Triple),
+    ClientAndTwo(ClientAndTwo),
 }
 
 // Every word.
@@ -258,22 +259,22 @@ static WORDS: [Word; 28] = [
     Word::Alone(Alone::Writes),
     Word::Alone(Alone::Check),
     Word::Alone(Alone::Modes),
-    Word::Single(Single::Fill),
-    Word::Single(Single::Client),
-    Word::Single(Single::Leave),
-    Word::Single(Single::Tick),
-    Word::Single(Single::Nudge),
-    Word::Single(Single::Deliver),
-    Word::Single(Single::Next),
-    Word::Single(Single::Status),
-    Word::Double(Double::Delete),
-    Word::Double(Double::Unpin),
-    Word::Double(Double::Hold),
+    Word::OneNumber(OneNumber::Fill),
+    Word::OneNumber(OneNumber::Client),
+    Word::OneNumber(OneNumber::Leave),
+    Word::OneNumber(OneNumber::Tick),
+    Word::OneNumber(OneNumber::Nudge),
+    Word::OneNumber(OneNumber::Deliver),
+    Word::OneNumber(OneNumber::Next),
+    Word::OneNumber(OneNumber::Status),
+    Word::ClientAndNumber(ClientAndNumber::Delete),
+    Word::ClientAndNumber(ClientAndNumber::Unpin),
+    Word::ClientAndNumber(ClientAndNumber::Hold),
     Word::Valued(Valued::Insert),
     Word::Valued(Valued::Put),
-    Word::Triple(Triple::Scan),
-    Word::Triple(Triple::Forget),
-    Word::Triple(Triple::Pin),
+    Word::ClientAndTwo(ClientAndTwo::Scan),
+    Word::ClientAndTwo(ClientAndTwo::Forget),
+    Word::ClientAndTwo(ClientAndTwo::Pin),
 ];
 
 impl Word {
@@ -288,10 +289,10 @@ impl Word {
             Word::Crash => "crash",
             Word::Start => "start",
             Word::Alone(word) => word.text(),
-            Word::Single(word) => word.text(),
-            Word::Double(word) => word.text(),
+            Word::OneNumber(word) => word.text(),
+            Word::ClientAndNumber(word) => word.text(),
             Word::Valued(word) => word.text(),
-            Word::Triple(word) => word.text(),
+            Word::ClientAndTwo(word) => word.text(),
         }
     }
 

@@ -12,9 +12,9 @@ pub mod laws;
 mod message;
 pub mod network;
 mod node;
-mod nodes;
 pub mod server_steps;
 mod world;
+mod world_fields;
 
 pub use krl_steps::{Answer, AppliedWrite, Command, Refused, Step};
 pub use message::Message;

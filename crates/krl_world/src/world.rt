@@ -14,7 +14,7 @@ ghost use Rattle.krl_world.specs.Fields.{meaning};
 ghost use Rattle.krl_world.specs.FieldParts.{server_up, kept_client};
 
 use crate::message::Message;
-use crate::nodes::Nodes;
+use crate::world_fields::WorldFields;
 use krl_blocks::Entries;
 use krl_client::Client;
 use krl_durable::DurableV1;
@@ -27,27 +27,27 @@ use std::marker::Model;
 
 /// One server with its index, up to 64 clients, and every message between them.
 pub struct World {
-    nodes: Nodes,
+    fields: WorldFields,
 }
 
 impl Drop for World {
     fn drop(self) {
-        let World { nodes: _nodes } = self;
+        let World { fields: _fields } = self;
     }
 }
 
 impl Model for World {
     ghost use Rattle.krl_world.specs.Fields.{Fields, meaning};
     ghost use Rattle.krl_world.specs.Steps.{IsReachedByRun};
-    ghost use Rattle.krl_world.specs.contracts.nodes.Nodes as kept_nodes;
+    ghost use Rattle.krl_world.specs.contracts.world_fields.WorldFields as kept_fields;
 
     ghost Value = { Fields };
 
-    ghost coded = { kept_nodes.the_row.coded };
+    ghost coded = { kept_fields.the_row.coded };
 
-    ghost view = { λ w. w.nodes };
+    ghost view = { λ w. w.fields };
 
-    ghost invariant = { λ w. IsReachedByRun (meaning w.nodes) };
+    ghost invariant = { λ w. IsReachedByRun (meaning w.fields) };
 }
 
 impl World {
@@ -63,8 +63,8 @@ impl World {
             (λ w. CanBegin entries.items × (meaning w ≡ fresh entries.items))
             (CannotBegin entries.items) }
     {
-        let nodes = Nodes::new(alloc, entries)?;
-        Ok(World { nodes })
+        let fields = WorldFields::new(alloc, entries)?;
+        Ok(World { fields })
     }
 
     /// A world that begins with what survived when values were numbers: the same keys, epoch,
@@ -82,8 +82,8 @@ impl World {
             (λ w. CanOpen (migrated old.now) × (meaning w ≡ opened (migrated old.now)))
             (CannotMigrate old.now) }
     {
-        let nodes = Nodes::migrate(alloc, old)?;
-        Ok(World { nodes })
+        let fields = WorldFields::migrate(alloc, old)?;
+        Ok(World { fields })
     }
 
     /// Takes one step. The rows that answer a scan are the entries of the index in its span, though
@@ -112,7 +112,7 @@ impl World {
         ensures by_run { IsReachedByRun (meaning self.new) }
         ensures goes_on { CanGoOn (meaning self.new) }
     {
-        self.nodes.step(step)
+        self.fields.step(step)
     }
 
     /// Takes steps one after another, and gives what each answered, refusals too. Each step keeps
@@ -135,7 +135,7 @@ impl World {
         ensures by_run { IsReachedByRun (meaning self.new) }
     {
         // What holds of every world is known if its field is named.
-        let _ = &self.nodes;
+        let _ = &self.fields;
         let mut answers = Vec::with_capacity(alloc, steps.len())?;
         for step in steps {
             answers.push_reserved(self.step(*step));
@@ -148,28 +148,28 @@ impl World {
     pub fn index(&self) -> Entries<'_, Value>
         ensures { flat (runs_of result) ≡ map.entries (index_of (meaning self.now)) }
     {
-        self.nodes.index()
+        self.fields.index()
     }
 
     /// The server, if one runs.
     pub fn server(&self) -> Option<&Server>
         ensures { option_copied result ≡ server_up self.now.server }
     {
-        self.nodes.server()
+        self.fields.server()
     }
 
     /// The writes that were Applied, oldest first.
     pub fn writes(&self) -> &[AppliedWrite]
         ensures { result.now ≡ self.now.writes }
     {
-        self.nodes.writes()
+        self.fields.writes()
     }
 
     /// The client of this number, if one runs: none does above 63.
     pub fn client(&self, client: u64) -> Option<&Client>
         ensures { option_copied result ≡ kept_client self.now.places client }
     {
-        self.nodes.client(client)
+        self.fields.client(client)
     }
 
     /// What the client believes that it holds at the point: N and N if it does not run, and past
@@ -178,14 +178,14 @@ impl World {
         ensures { let world = meaning self.now in
             result ≡ (range_held world client point, key_held world client point) }
     {
-        self.nodes.held(client, point)
+        self.fields.held(client, point)
     }
 
     /// How many messages were sent.
     pub fn sent(&self) -> u64
         ensures { result ≡ length self.now.sent }
     {
-        self.nodes.sent()
+        self.fields.sent()
     }
 
     /// The message of this number, counted from 1 in the order in which they were sent; None if
@@ -193,6 +193,6 @@ impl World {
     pub fn message(&self, number: u64) -> Option<&Message>
         ensures { option_copied result ≡ message_at self.now.sent number }
     {
-        self.nodes.message(number)
+        self.fields.message(number)
     }
 }

@@ -4,12 +4,12 @@ use Rattle.std.proofs.lemmas.List.Edits.{insert_end}
 use Rattle.krl_blocks.proofs.Kept.{at_some, some_at, same_there}
 use Rattle.krl_blocks.proofs.block.push_in.Goals as goal
 
-pub put-requires-clause-place : goal.put-requires-clause-place
-put-requires-clause-place g c = some_at (λ x. (length c.get-i.result.now ≤ length x) × (length x < 64)) c.get-i.result.now _ c.get-i.ensures (omega arith, at_some (λ x. length x < 64) c.get-i.result.now _ c.get-i.ensures c.requires.room)
+pub insert_at-requires-clause-place : goal.insert_at-requires-clause-place
+insert_at-requires-clause-place g c = some_at (λ x. (length c.get-i.result.now ≤ length x) × (length x < 64)) c.get-i.result.now _ c.get-i.ensures (omega arith, at_some (λ x. length x < 64) c.get-i.result.now _ c.get-i.ensures c.requires.room)
 
 pub returns-clause-one : goal.returns-clause-one
 returns-clause-one g c =
-    let one = c.put.ensures.one in
+    let one = c.insert_at.ensures.one in
     record {
       block = one.block;
       other = one.other;

@@ -7,12 +7,12 @@ use Rattle.krl_blocks.proofs.block.put_in.Goals as goal
 pub count_keys-i-requires : goal.count_keys-i-requires
 count_keys-i-requires g c = at_some KeysRise c.get.result.now _ c.get.ensures c.requires.rising
 
-pub put-requires-clause-place : goal.put-requires-clause-place
-put-requires-clause-place g c = some_at (λ x. (c.count_keys-i.result ≤ length x) × (length x < 64)) c.get.result.now _ c.get.ensures (c.count_keys-i.ensures.within, at_some (λ x. length x < 64) c.get.result.now _ c.get.ensures c.requires.room)
+pub insert_at-requires-clause-place : goal.insert_at-requires-clause-place
+insert_at-requires-clause-place g c = some_at (λ x. (c.count_keys-i.result ≤ length x) × (length x < 64)) c.get.result.now _ c.get.ensures (c.count_keys-i.ensures.within, at_some (λ x. length x < 64) c.get.result.now _ c.get.ensures c.requires.room)
 
 pub returns-clause-one : goal.returns-clause-one
 returns-clause-one g c =
-    let one = c.put.ensures.one in
+    let one = c.insert_at.ensures.one in
     record {
       block = one.block;
       other = one.other;

@@ -6,7 +6,7 @@ use Rattle.krl_nodes.proofs.office.Office.seat_client.Goals as goal
 pub invariant_of-server : goal.invariant_of-server
 invariant_of-server g c =
     let i = c.server.inside in
-    (joined_at c.blank-ticket.new.ticket c.unblank.new.ticket (Server i.desk) c.give.new.ticket.me.0 (at_same i.ticket c.blank-ticket.new.ticket (Server i.desk) c.server.invariant.0 c.blank-ticket.ensures.same.2) c.unblank.ensures.joined, c.server.invariant.1)
+    (joined_at c.blank-ticket.new.ticket c.unblank.new.ticket (Server i.desk) c.give_back.new.ticket.me.0 (at_same i.ticket c.blank-ticket.new.ticket (Server i.desk) c.server.invariant.0 c.blank-ticket.ensures.same.2) c.unblank.ensures.joined, c.server.invariant.1)
 
 pub give_client-requires-clause-may : goal.give_client-requires-clause-may
 give_client-requires-clause-may g c =
