@@ -12,8 +12,7 @@
  *         std::cout << key << '=' << value << '\n';
  *     auto [read, pin] = client.pin_for_update(10, 20);
  *
- * Clients, pins and rows free themselves, and can be moved but not copied. A client and its pins may be used by many
- * threads at the same time, rows by one.
+ * Clients, pins and rows free themselves and can only be moved. A client and its pins serve many threads, rows one.
  *
  * Errors. Each error is thrown as a krl::error, and std::bad_alloc if memory was refused. A destructor throws nothing.
  * With KRL_EXPECTED defined before the header is included, and if the compiler has no exceptions, nothing is thrown:
@@ -184,14 +183,9 @@ inline std::uint64_t milliseconds(std::chrono::milliseconds time) {
 
 inline const char *or_null(const std::string &text) { return text.empty() ? nullptr : text.c_str(); }
 
-struct free_client {
-    void operator()(krlc_client *client) const noexcept { krlc_free(client); }
-};
-struct free_pin {
-    void operator()(krlc_pin *pin) const noexcept { krlc_pin_free(pin); }
-};
-struct free_rows {
-    void operator()(krlc_rows *rows) const noexcept { krlc_rows_free(rows); }
+/* Frees what a call has made, as `std::unique_ptr` asks for it. */
+template <auto Free> struct freed_by {
+    template <class T> void operator()(T *made) const noexcept { Free(made); }
 };
 
 } // namespace detail
@@ -212,10 +206,7 @@ class rows {
         row operator*() const noexcept {
             return {at_->key, {reinterpret_cast<const char *>(at_->bytes), static_cast<std::size_t>(at_->length)}};
         }
-        iterator &operator++() noexcept {
-            ++at_;
-            return *this;
-        }
+        iterator &operator++() noexcept { return ++at_, *this; }
         iterator operator++(int) noexcept { return iterator(at_++); }
         friend bool operator==(iterator a, iterator b) noexcept { return a.at_ == b.at_; }
         friend bool operator!=(iterator a, iterator b) noexcept { return a.at_ != b.at_; }
@@ -242,18 +233,14 @@ class rows {
     }
     bool empty() const noexcept { return size() == 0; }
     iterator begin() const noexcept { return iterator(data()); }
-    iterator end() const noexcept {
-        std::size_t count = 0;
-        const krlc_row *at = krlc_rows_get(room_.get(), &count);
-        return iterator(at + count);
-    }
+    iterator end() const noexcept { return iterator(data() + size()); }
     /* The row at a place below the size. */
     row operator[](std::size_t place) const noexcept { return *iterator(data() + place); }
 
     krlc_rows *get() const noexcept { return room_.get(); }
 
   private:
-    std::unique_ptr<krlc_rows, detail::free_rows> room_;
+    std::unique_ptr<krlc_rows, detail::freed_by<krlc_rows_free>> room_;
 };
 
 /* Several writes that are made in one wait, as `krlc_write_all`, and what became of each. */
@@ -321,8 +308,8 @@ class pin {
     /* Makes the writes of the batch as `client::write_all` does, each while the pin holds, or never. */
     answer<void> write_all(batch &writes, timeout time = {}) {
         krlc_error failed;
-        std::uint64_t waits = detail::milliseconds(time);
-        std::uint32_t code = krlc_pin_write_all(pin_.get(), writes.data(), writes.size(), waits, &failed);
+        const auto waits = detail::milliseconds(time);
+        const auto code = krlc_pin_write_all(pin_.get(), writes.data(), writes.size(), waits, &failed);
         return detail::answered(code, failed, [] {});
     }
     /* Ends the pin now. Later calls are refused. */
@@ -340,7 +327,7 @@ class pin {
         return detail::judged(call(pin_.get(), key, value.data(), value.size(), waits, &failed), failed);
     }
 
-    std::unique_ptr<krlc_pin, detail::free_pin> pin_;
+    std::unique_ptr<krlc_pin, detail::freed_by<krlc_pin_free>> pin_;
 };
 
 /* Rows that were read and are pinned. */
@@ -504,8 +491,8 @@ class client {
     /* Makes the writes of the batch in one wait: `batch::at` shows what became of each, also after an error. */
     answer<void> write_all(batch &writes, timeout time = {}) {
         krlc_error failed;
-        std::uint64_t waits = detail::milliseconds(time);
-        std::uint32_t code = krlc_write_all(client_.get(), writes.data(), writes.size(), waits, &failed);
+        const auto waits = detail::milliseconds(time);
+        const auto code = krlc_write_all(client_.get(), writes.data(), writes.size(), waits, &failed);
         return detail::answered(code, failed, [] {});
     }
 
@@ -545,11 +532,10 @@ class client {
     /* Gives back what the client holds of the range. */
     answer<void> forget(std::uint64_t lo, std::uint64_t hi, timeout time = {}) {
         krlc_error failed;
-        std::uint32_t code = krlc_forget(client_.get(), lo, hi, detail::milliseconds(time), &failed);
-        return detail::answered(code, failed, [] {});
+        return detail::answered(krlc_forget(client_.get(), lo, hi, detail::milliseconds(time), &failed), failed, [] {});
     }
 
-    /* The client's number: it tells which one of `numbers` was free. */
+    /* The client's number, which one of `numbers` was free. */
     [[nodiscard]] std::uint32_t number() const noexcept { return krlc_number(client_.get()); }
     /* What the client shows of each shard that it has joined, or of its one server. */
     [[nodiscard]] answer<std::vector<krlc_status>> status() const {
@@ -563,8 +549,7 @@ class client {
     /* How long calls wait from now on that are given no timeout. */
     answer<void> set_timeout(timeout time) {
         krlc_error failed;
-        std::uint32_t code = krlc_set_timeout(client_.get(), detail::milliseconds(time), &failed);
-        return detail::answered(code, failed, [] {});
+        return detail::answered(krlc_set_timeout(client_.get(), detail::milliseconds(time), &failed), failed, [] {});
     }
     answer<void> reload_tls() {
         krlc_error failed;
@@ -573,8 +558,7 @@ class client {
     /* Gives back all that the client holds, and waits until each server has that on its disk. */
     answer<void> leave(timeout time = {}) {
         krlc_error failed;
-        std::uint32_t code = krlc_leave(client_.get(), detail::milliseconds(time), &failed);
-        return detail::answered(code, failed, [] {});
+        return detail::answered(krlc_leave(client_.get(), detail::milliseconds(time), &failed), failed, [] {});
     }
 
     krlc_client *get() const noexcept { return client_.get(); }
@@ -603,7 +587,7 @@ class client {
         return detail::answered(code, failed, [&] { return pinned{std::move(found), krl::pin(taken)}; });
     }
 
-    std::unique_ptr<krlc_client, detail::free_client> client_;
+    std::unique_ptr<krlc_client, detail::freed_by<krlc_free>> client_;
 };
 
 #ifdef KRL_EXPECTED

@@ -27,13 +27,12 @@ fn lines() -> Result<(), Box<dyn Error>> {
 
 #[allow(dead_code, clippy::unnecessary_wraps, reason = "they are only built")]
 #[rustfmt::skip]
-fn several_writes(client: &Client) -> Result<(), Box<dyn Error>> {
+fn several_writes(client: &Client) {
     let row = |key, value: u64| Row { key, value: Value::from(value) };
     match client.write_all([Mutation::Set(row(20, 1)), Mutation::Set(row(21, 2)), Mutation::Delete(22)]) {
         Ok(outcomes) => println!("{outcomes:?}"),
         Err(failed) => println!("{failed}; to be read: {:?}", failed.unknown().collect::<Vec<_>>()),
     }
-    Ok(())
 }
 
 #[test]
@@ -42,7 +41,7 @@ fn the_page_has_the_lines_that_are_built_here() {
     assert_eq!(blocks.len(), 2);
     for block in blocks {
         let lines = block.split_once("```").unwrap().0.trim_end();
-        let indented = format!("\n    {}\n    Ok(())\n", lines.replace('\n', "\n    "));
+        let indented = format!("\n    {}\n", lines.replace('\n', "\n    "));
         assert!(THIS.contains(&indented), "{lines}");
     }
 }

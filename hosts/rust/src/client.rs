@@ -21,7 +21,7 @@ pub(crate) mod silence;
 pub(crate) mod within;
 mod writer;
 
-use crate::client::changes::{Changes, WatchedRange};
+use crate::client::changes::{Changes, Waited, WatchedRange};
 use crate::client::jobs::Jobs;
 use crate::client::link::Link;
 use crate::client::pin::Pin;
@@ -65,16 +65,6 @@ use std::time::{Duration, Instant};
 #[derive(Clone)]
 pub struct Client {
     shared: Arc<Shared>,
-}
-
-/// How a wait for a change ended.
-#[derive(Clone, Copy, Debug, PartialEq, Eq)]
-#[must_use]
-pub enum Waited {
-    /// The client no longer knows that the range has these rows: they are to be read again.
-    Changed,
-    /// The time is over, and the rows are as they were.
-    Unchanged,
 }
 
 impl Client {

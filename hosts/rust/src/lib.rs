@@ -40,13 +40,13 @@ mod wire;
 
 pub use access::Access;
 pub use access::identity::{BadIdentity, BadTableName, Identity, TableName};
+pub use client::Client;
 pub use client::asynchronous::{AsyncChanges, AsyncClient, AsyncPin};
 pub use client::builder::ClientBuilder;
-pub use client::changes::Changes;
+pub use client::changes::{Changes, Waited};
 pub use client::evict::evict;
 pub use client::lock_file::LockFileError;
 pub use client::pin::{Pin, PinWithin};
-pub use client::{Client, Waited};
 pub use lease::terms::{BadLeases, LeaseLeft, Leases};
 pub use model::batch::{BatchError, Fate, Mutation};
 pub use model::change::{Change, Outcome, Record, Write};

@@ -60,7 +60,7 @@ fn the_last_state_comes_however_many_are_missed() {
     assert_eq!(changes.next_within(Duration::from_millis(1)), Ok(None));
     assert_eq!(writer.insert(15, Value::from(1)), Ok(Outcome::Applied));
     assert_eq!(changes.next(), Some(Ok(vec![row(15, 1)])));
-    let thread = thread::spawn(move || {
+    let writing = thread::spawn(move || {
         for number in 2..100 {
             assert_eq!(writer.put(15, Value::from(number)), Ok(Outcome::Applied));
         }
@@ -72,7 +72,7 @@ fn the_last_state_comes_however_many_are_missed() {
         assert!(number > before, "{number} came after {before}");
         before = number;
     }
-    thread.join().unwrap();
+    writing.join().unwrap();
 }
 
 #[test]

@@ -1,7 +1,7 @@
 //! A shop whose processes keep its products in memory: once by krl-cache, and once with Redis in
 //! front of the database. `examples/shop/run` starts the servers and this.
 //!
-//!     shop show PROGRAM_SECONDS POSTGRES KRL [REDIS]
+//!     shop show SECONDS FOLDER POSTGRES KRL [REDIS]
 //!
 //! Each way has its turns of some seconds. In a turn three processes read shelves of ten products
 //! and sell one now and then. Each of them notes in a file what was sold, as soon as it is

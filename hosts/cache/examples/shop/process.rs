@@ -13,10 +13,10 @@ use std::time::{Duration, Instant};
 const SHELF: u64 = 10;
 
 /// Most customers look at these shelves.
-const POPULAR: u64 = 50;
+const POPULAR: u64 = 20;
 
 /// One call of so many sells a product.
-const SELLS: u64 = 100;
+const SELLS: u64 = 200;
 
 /// How often a process reports.
 const REPORTS: Duration = Duration::from_millis(500);

@@ -23,7 +23,7 @@ struct Worker {
     output: BufReader<ChildStdout>,
 }
 
-/// Shows the shop for so long.
+/// Shows the shop for so long. It fails if a read by krl-cache was stale.
 pub fn show(place: &Place, time: Duration) -> Found<()> {
     let mut ways = vec![Way::Krl];
     ways.extend(place.redis.as_ref().map(|_| Way::Redis));
@@ -38,7 +38,10 @@ pub fn show(place: &Place, time: Duration) -> Found<()> {
         }
     }
     shown.end(&teams)?;
-    teams.into_iter().try_for_each(Team::end)
+    let is_stale = |team: &Team| team.way == Way::Krl && team.sum.stale > 0;
+    let is_wrong = teams.iter().any(is_stale);
+    teams.into_iter().try_for_each(Team::end)?;
+    if is_wrong { Err("krl-cache has answered stale reads".into()) } else { Ok(()) }
 }
 
 impl Team {

@@ -76,6 +76,7 @@ pub(super) fn migration(table: &Table) -> String {
     let guard = guard(table);
     format!(
         "BEGIN;
+SET LOCAL client_min_messages = warning;
 
 -- The version of each row: its first one is drawn here, and each change through krl-cache gives the
 -- row another one. The table is written anew.

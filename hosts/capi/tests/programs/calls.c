@@ -50,7 +50,8 @@ static void several(krlc_client *client, krlc_rows *rows) {
         WANT(writes[i].outcome == wanted[i]);
     EXPECT(KRLC_OK, krlc_read(client, 20, 161, rows, 0, &error));
     WANT(are(rows, 4, (uint64_t[]){20, 21, 150, 160}, (const char *[]){"20", "set", "last", "far"}));
-    krlc_write deletes[] = {write_of(KRLC_DELETE, 20, ""), write_of(KRLC_DELETE, 21, ""), write_of(KRLC_DELETE, 160, "")};
+    krlc_write deletes[] = {write_of(KRLC_DELETE, 20, ""), write_of(KRLC_DELETE, 21, ""),
+                            write_of(KRLC_DELETE, 160, "")};
     EXPECT(KRLC_OK, krlc_write_all(client, deletes, 3, 0, &error));
     WANT(deletes[0].outcome == KRLC_OK && deletes[1].outcome == KRLC_OK && deletes[2].outcome == KRLC_OK);
     EXPECT(KRLC_OK, krlc_write_all(client, NULL, 0, 0, &error));

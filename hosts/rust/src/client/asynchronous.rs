@@ -1,10 +1,11 @@
 //! A client whose calls are futures.
+use crate::client::Client;
+use crate::client::changes::Waited;
 use crate::client::jobs::{Asked, Held, Jobs, Purpose};
 use crate::client::link::{Awaited, Link};
 use crate::client::pin::Pin;
 use crate::client::set;
 use crate::client::shared::{MAX_WAIT, Shared};
-use crate::client::{Client, Waited};
 use crate::model::batch::{self, BatchError, Judged, Mutation};
 use crate::model::change::{Outcome, Write};
 use crate::model::code::Code;
@@ -350,8 +351,8 @@ impl AsyncChanges {
 }
 
 /// Nobody takes what was held: it is free again.
-fn unpin(link: &Link, Held { pin, .. }: Held) {
-    link.with_jobs(|jobs| jobs.unpin(pin));
+fn unpin(link: &Link, held: &Held) {
+    link.with_jobs(|jobs| jobs.unpin(held.pin));
     link.flush();
 }
 

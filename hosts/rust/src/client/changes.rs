@@ -1,10 +1,19 @@
 //! The states of a range, one after the other.
-use crate::client::Waited;
 use crate::client::shared::MAX_WAIT;
 use crate::model::error::Error;
 use crate::model::row::Row;
 use std::fmt;
 use std::time::{Duration, Instant};
+
+/// How a wait for a change ended.
+#[derive(Clone, Copy, Debug, PartialEq, Eq)]
+#[must_use]
+pub enum Waited {
+    /// The client no longer knows that the range has these rows: they are to be read again.
+    Changed,
+    /// The time is over, and the rows are as they were.
+    Unchanged,
+}
 
 /// The states of a range, one after the other, from [`Client::changes`] or
 /// [`ShardedClient::changes`].

@@ -1,7 +1,6 @@
 //! Several writes at several shards.
 use crate::model::batch::{BatchError, Fate, Judged, Mutation};
 use crate::model::change::Outcome;
-use crate::model::error::Error;
 use crate::shards::error::ShardError;
 
 /// The writes of a call, by their shards.
@@ -58,14 +57,10 @@ impl Spread {
 
     /// The outcomes in the order of the call, of one answer for each part. The error is that of the
     /// first shard that has one.
-    pub fn joined(
-        &self,
-        answers: &[Result<Judged, Error>],
-    ) -> Result<Vec<Outcome>, BatchError<ShardError>> {
+    pub fn joined(&self, answers: &[Judged]) -> Result<Vec<Outcome>, BatchError<ShardError>> {
         let mut fates = vec![Fate::NotMade; self.count];
         let mut first_error = None;
-        for (part, answer) in self.parts.iter().zip(answers) {
-            let judged = answer.clone().unwrap_or_else(Judged::nothing);
+        for (part, judged) in self.parts.iter().zip(answers) {
             for (place, fate) in part.places.iter().zip(judged.fates(part.places.len())) {
                 fates[*place] = fate;
             }
@@ -89,6 +84,7 @@ fn outcome(fate: Fate) -> Option<Outcome> {
 #[cfg(test)]
 mod tests {
     use super::*;
+    use crate::model::error::Error;
     use Outcome::{Absent, Applied};
 
     /// Keys below 100 are the first shard's, those below 200 the second's.
@@ -108,7 +104,7 @@ mod tests {
         let spread = spread(&[150, 1, 101, 2]).unwrap();
         let keys = |part: &PartOfBatch| part.writes.iter().map(Mutation::key).collect::<Vec<_>>();
         assert_eq!(spread.parts().iter().map(keys).collect::<Vec<_>>(), [[1, 2], [150, 101]]);
-        let all = [Ok(judged(&[Applied, Absent], None)), Ok(judged(&[Absent, Applied], None))];
+        let all = [judged(&[Applied, Absent], None), judged(&[Absent, Applied], None)];
         assert_eq!(spread.joined(&all), Ok(vec![Absent, Applied, Applied, Absent]));
     }
 
@@ -116,11 +112,11 @@ mod tests {
     fn what_became_of_each_write_is_told_where_one_shard_does_not_answer() {
         let spread = spread(&[150, 1, 101, 2]).unwrap();
         let lost = judged(&[Applied], Some(Error::TimedOut));
-        let error = spread.joined(&[Ok(judged(&[Applied, Applied], None)), Ok(lost)]).unwrap_err();
+        let error = spread.joined(&[judged(&[Applied, Applied], None), lost]).unwrap_err();
         let applied = Fate::Judged(Applied);
         assert_eq!(error.fates, [applied, applied, Fate::Unknown, applied]);
         assert_eq!(error.error, ShardError::at(1)(Error::TimedOut));
-        let both = [Err(Error::TurnedAway), Ok(judged(&[], Some(Error::TimedOut)))];
+        let both = [Judged::nothing(Error::TurnedAway), judged(&[], Some(Error::TimedOut))];
         let error = spread.joined(&both).unwrap_err();
         assert_eq!(error.error, ShardError::at(0)(Error::TurnedAway));
         assert_eq!(error.unknown().collect::<Vec<_>>(), [0]);

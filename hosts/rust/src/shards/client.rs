@@ -1,7 +1,8 @@
 //! A client of several servers, each of which has a part of the keys.
+use crate::client::Client;
+use crate::client::changes::Waited;
 use crate::client::changes::{Changes, WatchedRange};
 use crate::client::scratch::with_room;
-use crate::client::{Client, Waited};
 use crate::model::batch::{BatchError, Mutation};
 use crate::model::change::Outcome;
 use crate::model::code::Code;

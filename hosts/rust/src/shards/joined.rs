@@ -1,9 +1,10 @@
 //! The shards that a client has joined.
+use crate::client::Client;
+use crate::client::changes::Waited;
 use crate::client::jobs::{Asked, Held, Jobs, Purpose};
 use crate::client::link::Link;
 use crate::client::pin::Pin;
 use crate::client::shared::{FAREWELL, MAX_WAIT, Shared};
-use crate::client::{Client, Waited};
 use crate::model::batch::{BatchError, Judged, Mutation};
 use crate::model::change::Outcome;
 use crate::model::error::Error;
@@ -210,7 +211,9 @@ impl Joined {
             (link, link.begin(|jobs| ask(jobs, *shard, writes.clone())))
         };
         let asked: Vec<_> = spread.parts().iter().map(begin).collect();
-        let finish = |(link, asked): (&Link, Asked<Judged>)| link.finish(asked, end);
+        let finish = |(link, asked): (&Link, Asked<Judged>)| {
+            link.finish(asked, end).unwrap_or_else(Judged::nothing)
+        };
         spread.joined(&asked.into_iter().map(finish).collect::<Vec<_>>())
     }
 

@@ -16,7 +16,7 @@ pub(crate) struct Awaited<T> {
     /// None once it has ended.
     asked: Option<Asked<T>>,
     /// What is done with an answer that came and that nobody takes.
-    undo: fn(&Link, T),
+    undo: fn(&Link, &T),
 }
 
 impl<T> Awaited<T> {
@@ -31,7 +31,7 @@ impl<T> Awaited<T> {
     }
 
     /// The same, and this is done with an answer that came and that nobody takes.
-    pub fn or_undo(mut self, undo: fn(&Link, T)) -> Awaited<T> {
+    pub fn or_undo(mut self, undo: fn(&Link, &T)) -> Awaited<T> {
         self.undo = undo;
         self
     }
@@ -70,7 +70,7 @@ impl<T> Future for Awaited<T> {
 impl<T> Drop for Awaited<T> {
     fn drop(&mut self) {
         if let Some(Ok(untaken)) = self.give_up() {
-            (self.undo)(&self.link, untaken);
+            (self.undo)(&self.link, &untaken);
         }
     }
 }
