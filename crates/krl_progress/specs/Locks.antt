@@ -35,8 +35,8 @@ pub record IsManned (w : State) : Type 0 where
   pub server : Server
   pub up : w.server ≡ Up server
   pub serves : is_recovering server.missing ≡ false
-  pub here : (c : ℕ) → HasPart server c →
-      (k : Client) × (client_of w c ≡ Some k) × (k.epoch ≡ server.durable.epoch)
+  pub here : (d : ℕ) → HasPart server d →
+      (k : Client) × (client_of w d ≡ Some k) × (k.epoch ≡ server.durable.epoch)
   pub registered : (c : ℕ) (r : Record) → record_of server.durable.register c ≡ Some r → r.left ≡ false →
       (k : Client) × (client_of w c ≡ Some k) × (k.incarnation ≡ r.incarnation)
 

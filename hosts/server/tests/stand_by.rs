@@ -102,8 +102,8 @@ fn a_service_manager_is_told_that_a_server_stands_by() {
     let Some(cluster) = Cluster::start() else { return };
     let folder = tempfile::tempdir().unwrap();
     let manager = ServiceManager::new(folder.path());
-    let first = Serving::start_by(&mut over(&cluster, "managed"));
-    let mut command = over(&cluster, "managed");
+    let first = Serving::start_by(&mut over_with(&cluster, "managed", LONG_LEASE));
+    let mut command = over_with(&cluster, "managed", LONG_LEASE);
     let second = Serving::start_until(manager.runs(&mut command), "stands by");
     let stands_by = "STATUS=stands by: the server at 127.0.0.1:0 serves";
     assert_eq!(manager.next(), ["READY=1", stands_by]);

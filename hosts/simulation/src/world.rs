@@ -21,7 +21,7 @@ use std::collections::{BTreeMap, BTreeSet, BinaryHeap};
 use std::time::Duration;
 use store::{Commit, Does, Stored};
 
-/// How soon after the last fault each client has to be served.
+/// How soon each client has to be served after the last fault, and after all go on that stood still.
 pub const BOUND: Duration = Duration::from_secs(30);
 
 /// No more events happen at one moment.
@@ -384,7 +384,7 @@ impl World {
     }
 
     fn run_until_served(&mut self) {
-        let end = self.now + BOUND;
+        let end = self.healed.unwrap_or(self.now) + BOUND;
         while self.judge.wrong.is_empty() && !self.are_all_served() {
             if self.now >= end {
                 self.tell_unserved();

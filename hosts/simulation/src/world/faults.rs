@@ -56,7 +56,8 @@ impl World {
             Fault::KillClient => self.kill_client(client, true),
             Fault::LosePower => self.kill_client(client, false),
             Fault::FreezeClient => {
-                self.machines[client].frozen_until = self.now + self.draw_frost();
+                let until = self.now + self.draw_frost();
+                freeze(&mut self.machines[client].frozen_until, until);
             }
             Fault::Cut => self.cut(client, site),
             Fault::Mend => self.machines[client].is_cut = [false; 2],
@@ -87,7 +88,8 @@ impl World {
     }
 
     fn freeze_server(&mut self, site: usize) {
-        self.sites[site].frozen_until = self.now + self.draw_frost();
+        let until = self.now + self.draw_frost();
+        freeze(&mut self.sites[site].frozen_until, until);
         if let Some(serving) = &mut self.sites[site].serving {
             serving.was_frozen = true;
         }
@@ -153,23 +155,28 @@ impl World {
         self.last_before = self.network.last();
     }
 
-    /// Nothing goes wrong any more: the network carries all, who stood still goes on, and who was
-    /// started by mistake is ended.
+    /// The moment from which on nobody stands still.
+    fn all_go_on(&self) -> Duration {
+        let sites = self.sites.iter().map(|site| site.frozen_until);
+        let machines = self.machines.iter().map(|machine| machine.frozen_until);
+        sites.chain(machines).fold(self.now, Duration::max)
+    }
+
+    /// Nothing goes wrong any more: the network carries all, and who was started by mistake is ended.
+    /// Who stands still goes on in its time, so that what waits for it comes in its order.
     pub(super) fn heal(&mut self) {
         self.record.note(self.now, &[0], || Happened::World("all is whole again".into()));
-        self.healed = Some(self.now);
+        self.healed = Some(self.all_go_on());
         self.weather.clear();
         self.network.faults = Faults::default();
         self.network.latency = self.weather.latency.clone();
         for site in 0..self.sites.len() {
-            self.sites[site].frozen_until = Duration::ZERO;
             self.after(Duration::from_millis(1), Event::Start { site });
         }
         for client in 0..self.weather.clients {
             let is_second = self.weather.has_second_process && client + 1 == self.weather.clients;
             let machine = &mut self.machines[client];
             machine.is_cut = [false; 2];
-            machine.frozen_until = Duration::ZERO;
             machine.rejected_until = Duration::ZERO;
             let is_wrong = machine.ahead > Duration::ZERO;
             if is_second {
@@ -182,6 +189,27 @@ impl World {
         let operator = self.weather.clients;
         if let Errand::Evict { victim, .. } = self.machines[operator].errand {
             self.end_eviction(operator, victim);
+        }
+    }
+}
+
+/// Stands still until this moment, or longer if it does so already: what waits for a process comes
+/// to it in its order.
+fn freeze(frozen_until: &mut Duration, until: Duration) {
+    *frozen_until = until.max(*frozen_until);
+}
+
+#[cfg(test)]
+mod tests {
+    use super::*;
+
+    #[test]
+    fn a_second_frost_shortens_none() {
+        let [short, long] = [3, 8].map(Duration::from_secs);
+        let mut frozen_until = Duration::ZERO;
+        for (until, expected) in [(short, short), (long, long), (short, long)] {
+            freeze(&mut frozen_until, until);
+            assert_eq!(frozen_until, expected);
         }
     }
 }
