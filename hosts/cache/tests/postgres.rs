@@ -1,18 +1,12 @@
 //! Caches of a table of PostgreSQL. They start a server of PostgreSQL.
-#[path = "../../postgres/tests/database/mod.rs"]
-mod database;
-#[path = "../../postgres/tests/deaf_relay/mod.rs"]
-mod deaf_relay;
-#[path = "../../drive/src/ports.rs"]
-mod ports;
 mod site;
 
-use database::{Database, address_at};
-use deaf_relay::DeafRelay;
 use krl_cache::tokio_postgres::types::ToSql;
 use krl_cache::tokio_postgres::{Error, Row};
 use krl_cache::{Cache, CacheError, PostgresAddress, PostgresOrigin, PostgresRow, Table};
 use krl_cache::{Origin, Step, TableFault};
+use krl_testing::database::{Database, address_at};
+use krl_testing::deaf_relay::DeafRelay;
 use site::{Krl, LONG, ends_after};
 use std::sync::Arc;
 use std::sync::atomic::{AtomicBool, Ordering};
@@ -85,7 +79,7 @@ fn an_applications_own_columns_are_cached() {
         "CREATE ROLE application LOGIN; GRANT SELECT, INSERT, UPDATE, DELETE ON item TO application;
          GRANT INSERT, SELECT ON sale TO application;",
     );
-    let at = database.address().to_string().replace("krl@", "application@").parse().unwrap();
+    let at = database.address::<String>().replace("krl@", "application@").parse().unwrap();
     let one = krl.cache_of(items(&at), 0).open().unwrap();
     let two = krl.cache_of(items(&database.address()), 1).open().unwrap();
     assert_eq!(rows(&one), [(10, item("lamp", 30)), (12, item("shade", None))]);

@@ -1,22 +1,12 @@
 //! A cache that speaks by TLS to krl and to the database. It starts a server of PostgreSQL.
-#[path = "../../etcd/tests/cluster/authority.rs"]
-#[allow(dead_code, reason = "no client shows a certificate to the database")]
-mod authority;
-#[path = "../../rust/tests/certificates/mod.rs"]
-mod certificates;
-#[path = "../../postgres/tests/database/mod.rs"]
-mod database;
-#[path = "../../drive/src/ports.rs"]
-mod ports;
-#[path = "../../rust/tests/secure/mod.rs"]
-mod secure;
-
-use authority::Authority;
-use database::Database;
+use krl::{Access, Client, Listener, MemoryStore, Server, Servers, TlsConfig};
 use krl_cache::tokio_postgres::types::ToSql;
 use krl_cache::tokio_postgres::{Error, Row};
 use krl_cache::{Cache, PostgresAddress, PostgresOrigin, PostgresRow, Table};
-use secure::{Setup, serve};
+use krl_testing::authority::Authority;
+use krl_testing::certificates;
+use krl_testing::database::Database;
+use std::path::PathBuf;
 
 #[derive(Debug, PartialEq, Eq)]
 struct Item(String);
@@ -33,6 +23,43 @@ impl PostgresRow for Item {
     }
 }
 
+/// A server of krl by TLS, and the authority that certifies its clients.
+struct Krl {
+    folder: PathBuf,
+    authority: certificates::Authority,
+    server: Server,
+}
+
+impl Krl {
+    fn start() -> Krl {
+        let folder = std::env::temp_dir().join(format!("krl-sealed-{}", std::process::id()));
+        std::fs::create_dir_all(&folder).unwrap();
+        let authority = certificates::Authority::new("cache");
+        let files = authority.certify(&folder, &["krl:server"], 5);
+        let listener = Listener::bind(&"tls:127.0.0.1:0".parse().unwrap()).unwrap();
+        let builder = Server::builder(listener, MemoryStore::default());
+        let server = builder.access(Access::new().tls(shown(&files))).start().unwrap();
+        Krl { folder, authority, server }
+    }
+
+    fn join(&self, number: u8) -> Client {
+        let name = format!("krl:client:{number}");
+        let files = self.authority.certify(&self.folder, &[&name], 5);
+        let servers = Servers::from(self.server.address()).with_tls(shown(&files));
+        Client::join(servers, number, self.folder.join(format!("{number}.lock"))).unwrap()
+    }
+}
+
+impl Drop for Krl {
+    fn drop(&mut self) {
+        let _ = std::fs::remove_dir_all(&self.folder);
+    }
+}
+
+fn shown(files: &certificates::Files) -> TlsConfig {
+    TlsConfig::from_files(&files.authority, &files.certificate, &files.key).unwrap()
+}
+
 /// A database whose certificate, for 127.0.0.1, is of this authority, and its address by TLS.
 fn sealed(authority: &Authority) -> Option<(Database, PostgresAddress)> {
     let (certificate, key) = authority.node();
@@ -41,7 +68,7 @@ fn sealed(authority: &Authority) -> Option<(Database, PostgresAddress)> {
     let key = format!("ssl_key_file={}", file("cache.key", key));
     let database = Database::start_with(&["ssl=on", &certificate, &key])?;
     let words = format!("sslmode=verify-full&sslrootcert={}", authority.certificate().display());
-    let address = format!("{}?{words}", database.address()).parse().unwrap();
+    let address = format!("{}?{words}", database.address::<String>()).parse().unwrap();
     Some((database, address))
 }
 
@@ -55,15 +82,9 @@ fn a_cache_speaks_by_tls_to_krl_and_to_the_database() {
     );
     let table = || PostgresOrigin::<Item>::new(&address, None, Table::new("item")).unwrap();
     table().set_up().unwrap();
-    let setup = Setup::new("cache");
-    let server = serve(&setup);
-    let builder = |number: u8| {
-        let join = |number: u8| {
-            let shown = setup.config(&[&format!("krl:client:{number}")]);
-            setup.join(&server, &shown, number).unwrap()
-        };
-        Cache::builder(join(2 * number), join(2 * number + 1), table())
-    };
+    let krl = Krl::start();
+    let builder =
+        |number: u8| Cache::builder(krl.join(2 * number), krl.join(2 * number + 1), table());
     builder(1).fill_and_open(|_, _| ()).unwrap().close().unwrap();
     let cache = builder(0).open().unwrap();
     assert!(cache.update(1, |item| Some(Item(format!("{}b", item.0)))).unwrap());

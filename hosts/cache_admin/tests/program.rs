@@ -1,14 +1,9 @@
 //! The program `krl-cache`, with a PostgreSQL of its own or a file of SQLite.
-#[path = "../../postgres/tests/database/mod.rs"]
-mod database;
-#[path = "../../drive/src/ports.rs"]
-mod ports;
-
-use database::Database;
 use krl::{Client, Server, SqliteStore};
 use krl_cache::tokio_postgres::types::ToSql;
 use krl_cache::tokio_postgres::{Error, Row};
 use krl_cache::{Cache, PostgresOrigin, PostgresRow, Table};
+use krl_testing::database::Database;
 use std::net::TcpListener;
 use std::path::Path;
 use std::process::{Command, Output};
@@ -73,7 +68,7 @@ fn expected() -> Vec<(u64, String)> {
 fn a_table_is_checked_prepared_and_filled() {
     let Some(database) = Database::start() else { return };
     let folder = TempDir::new().unwrap();
-    let (at, folder, sql) = (database.address().to_string(), folder.path(), database.connect());
+    let (at, folder, sql) = (database.address::<String>(), folder.path(), database.connect());
     assert_eq!(
         ended(folder, &["check", &at, "item"]),
         (1, "item: there is no such table\n".to_string())
@@ -113,7 +108,7 @@ fn a_table_is_checked_prepared_and_filled() {
 fn a_new_store_is_filled_at_once() {
     let Some(database) = Database::start() else { return };
     let folder = TempDir::new().unwrap();
-    let (at, folder) = (database.address().to_string(), folder.path());
+    let (at, folder) = (database.address::<String>(), folder.path());
     database.connect().run(TABLE);
     assert_eq!(ended(folder, &["set-up", &at, "item"]).0, 0);
     let words = ["fill", &at, "item", "--store", "krl.db"];

@@ -1,11 +1,9 @@
 //! A benchmark measures, leaves no rows, and touches nobody's rows.
-#[path = "../../rust/tests/relay/mod.rs"]
-mod relay;
 mod support;
 
 use krl::{Address, Value};
+use krl_testing::relay::{Plan, Relay};
 use nix::sys::signal::Signal;
-use relay::{Plan, Relay};
 use std::time::{Duration, Instant};
 use support::{Ended, World, signal, wait_for};
 

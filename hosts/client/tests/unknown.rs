@@ -1,10 +1,8 @@
 //! Writes whose outcome is not known, and what has no right: their exit statuses and sentences.
-#[path = "../../rust/tests/relay/mod.rs"]
-mod relay;
 mod support;
 
 use krl::Address;
-use relay::Relay;
+use krl_testing::relay::Relay;
 use std::io::{BufRead, BufReader, Write};
 use std::process::Stdio;
 use std::time::Duration;

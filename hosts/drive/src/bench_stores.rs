@@ -2,12 +2,12 @@
 //! itself, in turns. The cluster has three nodes on this machine, and all use its one disk.
 use crate::Found;
 use crate::cluster::Cluster;
-use crate::database::Database;
 use crate::gateway::Gateway;
 use crate::site::Site;
 use krl::{Address, Client, Listener, Outcome, Server, Snapshot, SqliteStore, Store, Value};
 use krl_etcd::{Credentials, EtcdAddress, EtcdStore};
 use krl_postgres::PostgresStore;
+use krl_testing::database::Database;
 use std::error::Error;
 use std::net::SocketAddr;
 use std::path::Path;

@@ -6,17 +6,17 @@ mod worker;
 
 use crate::Found;
 use crate::clients::{ENDING, Process, this, wait_for};
-use crate::database::Database;
 use crate::kill::start_server;
 use crate::log::now;
 use crate::lossy::Draws;
 use crate::nodes::end_file;
-use crate::ports::free_address;
 use check::{Change, Read, check};
 use krl::Client;
 use krl_cache::tokio_postgres::types::ToSql;
 use krl_cache::tokio_postgres::{self, Row};
 use krl_cache::{Builder, Cache, Origin, PostgresOrigin, PostgresRow, Table};
+use krl_testing::database::Database;
+use krl_testing::ports::free_address;
 use std::error::Error;
 use std::fmt;
 use std::net::SocketAddr;
@@ -147,7 +147,7 @@ impl Drive {
         database.connect().run(TABLE);
         let server_at = free_address()?;
         let server = start_krl(folder, server_at)?;
-        let (address, krl) = (database.address().to_string(), server_at.to_string());
+        let (address, krl) = (database.address::<String>(), server_at.to_string());
         let operator = open(OPERATOR, &address, &krl, folder, ENDING)?;
         items(&address)?.set_up()?;
         operator.fill_and_open(|_, _| ())?.close()?;
@@ -162,7 +162,7 @@ impl Drive {
     }
 
     fn start_worker(&self, number: u8, spawn: u64) -> Result<Worker, Box<dyn Error>> {
-        let (database, krl) = (self.database.address().to_string(), self.server_at.to_string());
+        let (database, krl) = (self.database.address::<String>(), self.server_at.to_string());
         let words = ["cache-worker", &number.to_string(), &spawn.to_string(), &database, &krl];
         let process = Process::start(&mut this(&words, &self.folder)?)?;
         Ok(Worker { process, spawn, goes_on: None })
@@ -257,7 +257,7 @@ impl Drive {
 
     /// Reads the whole table by a new cache, and by a question to the database.
     fn read_everything(&self) -> Result<[Read; 2], Box<dyn Error>> {
-        let address = self.database.address().to_string();
+        let address = self.database.address::<String>();
         wait_for_database(&address)?;
         let builder = open(OPERATOR, &address, &self.server_at.to_string(), &self.folder, ENDING)?;
         let cache: Cache<PostgresOrigin<Item>> = builder.open()?;

@@ -2,12 +2,12 @@
 //! by large batches, loaded again and compared; then two servers serve from it, one after the other.
 use crate::Found;
 use crate::cluster::Cluster;
-use crate::database::Database;
 use crate::site::Site;
 use krl::{Address, Change, Client, Listener, Outcome, Room, Row, Server, Snapshot};
 use krl::{SqliteStore, Store, Value, Write};
 use krl_etcd::{Credentials, EtcdStore};
-use krl_postgres::PostgresStore;
+use krl_postgres::{PostgresAddress, PostgresStore};
+use krl_testing::database::Database;
 use std::error::Error;
 use std::path::Path;
 use std::rc::Rc;
@@ -43,7 +43,7 @@ pub fn run(folder: &Path) -> Found {
     drop(cluster);
 
     let Some(database) = Database::start() else { return Ok(is_right) };
-    let address = database.address();
+    let address: PostgresAddress = database.address();
     let make = || Ok(PostgresStore::create(&address, None, &full)?);
     let open = || -> Opened { Ok(Box::new(PostgresStore::open(&address, None)?)) };
     Ok(is_right & self::is_right("PostgreSQL", folder, &full, make, open)?)

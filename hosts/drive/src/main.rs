@@ -36,8 +36,6 @@ mod certificates;
 mod clients;
 mod cluster;
 mod conform;
-#[path = "../../postgres/tests/database/mod.rs"]
-mod database;
 mod delayed;
 mod failover;
 mod fault;
@@ -55,9 +53,7 @@ mod long_reports;
 mod lossy;
 mod machines;
 mod nodes;
-mod ports;
 mod reaches;
-mod relay;
 mod sealed;
 mod shards;
 mod site;

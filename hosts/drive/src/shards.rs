@@ -6,8 +6,8 @@
 use crate::Found;
 use crate::clients::Process;
 use crate::kill::start_server;
-use crate::ports::free_address;
 use krl::{Outcome, Row, Shard, ShardError, ShardMap, ShardedClient, Value};
+use krl_testing::ports::free_address;
 use std::error::Error;
 use std::net::SocketAddr;
 use std::ops::Range;

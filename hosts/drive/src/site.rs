@@ -1,7 +1,7 @@
 //! Where the servers of a drive and the nodes of etcd run: each pair on a machine of its own, or all
 //! on this one.
 use crate::machines::{self, Machines};
-use crate::ports::free_address;
+use krl_testing::ports::free_address;
 use std::fmt;
 use std::io;
 use std::net::SocketAddr;

@@ -2,10 +2,10 @@
 //! and the cluster.
 use crate::clients::{ENDING, Process};
 use crate::cluster::{self, Cluster, NODES};
-use crate::relay::Relay;
 use crate::site::Site;
 use krl::Address;
 use krl_etcd::{Credentials, Election};
+use krl_testing::etcd_relay::Relay;
 use std::error::Error;
 use std::fs::OpenOptions;
 use std::net::{SocketAddr, TcpStream};

@@ -2,6 +2,7 @@
 use crate::address::{Credentials, EtcdAddress};
 use crate::explain::{self, Given};
 use crate::request::{bytes_of, text_of};
+use krl::fence::Failure;
 use native_tls::{Certificate, Identity, TlsConnector};
 use serde_json::{Value as Json, json};
 use std::fmt;
@@ -25,15 +26,6 @@ const LONGEST_PAUSE: Duration = Duration::from_millis(200);
 
 /// The most bytes of an answer: a full table has some 4 MB.
 const LONGEST_ANSWER: u64 = 1 << 26;
-
-/// Why a call has no answer.
-#[derive(Debug)]
-pub(crate) enum Failure {
-    /// It may be done or not, or may still be.
-    Unknown(String),
-    /// It is not done, and never will be.
-    Refused(String),
-}
 
 /// Why an attempt has no answer.
 enum Attempt {
@@ -219,13 +211,6 @@ pub(crate) fn pair_of(json: &Json) -> Result<(String, Vec<u8>), Failure> {
     let strange = || Failure::Refused("etcd's answer is no key with a value".to_string());
     let key = text_of(&json["key"]).ok_or_else(strange)?;
     Ok((key, bytes_of(&json["value"]).ok_or_else(strange)?))
-}
-
-impl fmt::Display for Failure {
-    fn fmt(&self, f: &mut fmt::Formatter<'_>) -> fmt::Result {
-        let (Failure::Unknown(why) | Failure::Refused(why)) = self;
-        f.write_str(why)
-    }
 }
 
 impl fmt::Debug for Etcd {

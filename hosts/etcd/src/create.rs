@@ -1,12 +1,12 @@
 //! A new store in etcd of what was copied from another one.
 use crate::address::{Credentials, EtcdAddress};
 use crate::bucket::{self, Buckets};
-use crate::call::{Etcd, Failure};
+use crate::call::Etcd;
 use crate::head::Head;
 use crate::request;
-use crate::store::{draw_owner, draw_salt};
 use crate::table::{Table, bucket_key};
 use crate::transaction::{self, Set, parts};
+use krl::fence::{self, Failure, Fence};
 use krl::{Snapshot, StoreError};
 use serde_json::{Value as Json, json};
 use std::time::{Duration, Instant};
@@ -33,16 +33,16 @@ pub(crate) fn create(
 ) -> Result<(), StoreError> {
     let mut etcd = Etcd::new(address, credentials).map_err(|why| StoreError::says(&why))?;
     transaction::probe(&mut etcd, &address.prefix, Instant::now() + TIMEOUT)?;
-    let mark = format!("{UNFINISHED}{:032x}", draw_owner()?);
+    let mark = format!("{UNFINISHED}{:032x}", u128::from_ne_bytes(fence::draw()?));
     let mut place = Place { etcd: &mut etcd, prefix: &address.prefix, mark };
     place.begin()?;
-    let (salt, owner) = (draw_salt()?, draw_owner()?);
+    let salt = u64::from_ne_bytes(fence::draw()?);
     let table = table_of(snapshot, salt);
     for part in parts(&place.sets(&table)) {
         place.set(part)?;
     }
-    let (epoch, buckets) = (snapshot.epoch, table.buckets.count());
-    let head = Head { epoch, owner, salt, buckets, ..Head::EMPTY };
+    let fence = Fence::with_new_owner(snapshot.epoch)?;
+    let head = Head { fence, salt, buckets: table.buckets.count() };
     place.set(&[Set { key: place.key("head"), value: head.to_string().into() }])?;
     Ok(())
 }
@@ -62,7 +62,8 @@ fn table_of(snapshot: &Snapshot, salt: u64) -> Table {
 /// What keeps the first start of the store that was copied. No batch that was committed since is
 /// here: who has seen more than that start finds an older store.
 fn first_start(first_start: u128) -> (u64, Head) {
-    (0, Head { owner: first_start, ..Head::EMPTY })
+    let fence = Fence { owner: first_start, ..Fence::default() };
+    (0, Head { fence, ..Head::EMPTY })
 }
 
 impl Place<'_> {
@@ -141,7 +142,7 @@ impl Place<'_> {
 #[cfg(test)]
 mod tests {
     use super::*;
-    use crate::cluster::Cluster;
+    use krl_testing::cluster::Cluster;
 
     #[test]
     fn of_two_that_make_a_store_at_one_place_the_later_one_does() {

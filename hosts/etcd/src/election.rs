@@ -4,9 +4,10 @@
 //! store, which refuses the older one's first change. The lease only says when another one should
 //! try.
 use crate::address::{Credentials, EtcdAddress};
-use crate::call::{Etcd, Failure};
+use crate::call::Etcd;
 use crate::explain;
 use crate::request::{self, number_of, text_of};
+use krl::fence::Failure;
 use serde_json::json;
 use std::fmt;
 use std::sync::mpsc::{Receiver, RecvTimeoutError, Sender, channel};
@@ -287,7 +288,7 @@ impl std::error::Error for ElectionError {}
 #[cfg(test)]
 mod tests {
     use super::*;
-    use crate::cluster::Cluster;
+    use krl_testing::cluster::Cluster;
     use std::sync::atomic::{AtomicBool, AtomicU32, Ordering};
 
     /// Each call of the cluster has so long.

@@ -1,24 +1,18 @@
-//! The fence: one key that every transaction compares, and sets anew.
+//! The head: one key that every transaction compares, and sets anew.
 use crate::bucket;
+use krl::fence::Fence;
 use std::fmt;
 use std::str::FromStr;
 
 /// What stands in the key `PREFIX/head`. As text: `krl1 EPOCH OWNER TRANSACTION COMMITS SALT`, or
 /// `krl2` with the same words and the number of buckets if these are more than the fewest.
 ///
-/// Each word has its work. **The owner** is drawn anew by each store that is opened: it tells two
-/// servers apart that both read one epoch and both want the next. **The transaction** counts what
-/// the owner has written: a transaction that is sent again since its answer was lost, or that comes
-/// late, finds another count and does nothing. The epoch alone would let it in, and a row would go
-/// back to an older value. **The commits** count the batches that are whole: by them clients notice
-/// a store that went back. **The salt** is drawn once for a store, and mixes its keys. **The
-/// buckets** grow with the room: a transaction that adds some sets their number with their rows.
+/// The first four words are the fence. **The salt** is drawn once for a store, and mixes its keys.
+/// **The buckets** grow with the room: a transaction that adds some sets their number with their
+/// rows.
 #[derive(Clone, Copy, Debug, PartialEq, Eq)]
 pub(crate) struct Head {
-    pub epoch: u64,
-    pub owner: u128,
-    pub transaction: u64,
-    pub commits: u64,
+    pub fence: Fence,
     pub salt: u64,
     pub buckets: usize,
 }
@@ -30,13 +24,16 @@ const FORM_WITH_BUCKETS: &str = "krl2";
 
 impl Head {
     /// The head of a store that nobody has committed anything to.
-    pub const EMPTY: Head =
-        Head { epoch: 0, owner: 0, transaction: 0, commits: 0, salt: 0, buckets: bucket::FEWEST };
+    pub const EMPTY: Head = Head {
+        fence: Fence { epoch: 0, owner: 0, transaction: 0, commits: 0 },
+        salt: 0,
+        buckets: bucket::FEWEST,
+    };
 }
 
 impl fmt::Display for Head {
     fn fmt(&self, f: &mut fmt::Formatter<'_>) -> fmt::Result {
-        let Head { epoch, owner, transaction, commits, salt, buckets } = self;
+        let Head { fence: Fence { epoch, owner, transaction, commits }, salt, buckets } = self;
         let form = if *buckets == bucket::FEWEST { FORM } else { FORM_WITH_BUCKETS };
         write!(f, "{form} {epoch} {owner:032x} {transaction} {commits} {salt}")?;
         if *buckets == bucket::FEWEST { Ok(()) } else { write!(f, " {buckets}") }
@@ -57,14 +54,13 @@ impl FromStr for Head {
             _ => return Err(()),
         };
         let [epoch, owner, transaction, commits, salt] = words[..] else { return Err(()) };
-        let head = Head {
+        let fence = Fence {
             epoch: number(epoch)?,
             owner: u128::from_str_radix(owner, 16).map_err(|_| ())?,
             transaction: number(transaction)?,
             commits: number(commits)?,
-            salt: number(salt)?,
-            buckets,
         };
+        let head = Head { fence, salt: number(salt)?, buckets };
         if bucket::is_count(buckets) && head.to_string() == text { Ok(head) } else { Err(()) }
     }
 }
@@ -76,7 +72,8 @@ mod tests {
     #[test]
     fn heads_are_read_as_they_are_written() {
         let buckets = bucket::FEWEST;
-        let head = Head { epoch: 7, owner: 1 << 127, transaction: 3, commits: 2, salt: 9, buckets };
+        let fence = Fence { epoch: 7, owner: 1 << 127, transaction: 3, commits: 2 };
+        let head = Head { fence, salt: 9, buckets };
         assert_eq!(head.to_string(), "krl1 7 80000000000000000000000000000000 3 2 9");
         assert_eq!(head.to_string().parse(), Ok(head));
         let great = Head { buckets: 5000, ..head };

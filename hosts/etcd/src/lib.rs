@@ -20,13 +20,6 @@ mod store;
 mod table;
 mod transaction;
 
-#[cfg(test)]
-extern crate self as krl_etcd;
-
-#[cfg(test)]
-#[path = "../tests/cluster/mod.rs"]
-mod cluster;
-
 pub use address::{BadEtcdAddress, Credentials, EtcdAddress};
 pub use election::{Election, ElectionError, Standing, Term};
 pub use store::EtcdStore;

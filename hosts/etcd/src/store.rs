@@ -1,7 +1,7 @@
 //! A store in etcd.
 //!
 //! ```text
-//! PREFIX/head          the fence: what every transaction compares, and sets
+//! PREFIX/head          the head: what every transaction compares, and sets
 //! PREFIX/bucket/0017   the rows of a bucket
 //! PREFIX/client/03     the record of a client
 //! PREFIX/lease         what is known of leases
@@ -12,14 +12,15 @@
 //! ```
 use crate::address::{Credentials, EtcdAddress};
 use crate::bucket;
-use crate::call::{Etcd, Failure, pair_of};
+use crate::call::{Etcd, pair_of};
 use crate::concerns;
 use crate::create;
 use crate::head::Head;
 use crate::request;
 use crate::table::{Table, bucket_key, parse_head, strange};
 use crate::transaction::{self, Part, Set};
-use krl::{Change, History, Mark, Outcome, Snapshot, Store, StoreError};
+use krl::fence::{self, Failure, Fence, Ownership};
+use krl::{Change, History, Outcome, Snapshot, Store, StoreError};
 use serde_json::{Value as Json, json};
 use std::time::{Duration, Instant};
 
@@ -51,21 +52,12 @@ pub struct EtcdStore {
     prefix: String,
     load_timeout: Duration,
     commit_timeout: Duration,
-    /// Why nothing can be committed, if so.
-    ended: Option<Ended>,
+    ownership: Ownership,
     /// The head as it stands in etcd, as far as this store knows. None in a new store.
     head: Option<Head>,
     /// The head that the next transaction sets.
     next: Head,
     table: Table,
-}
-
-#[derive(Clone, Debug)]
-enum Ended {
-    IsNotLoaded,
-    Deposed(String),
-    Unanswered(String),
-    Failed(String),
 }
 
 impl EtcdStore {
@@ -80,7 +72,7 @@ impl EtcdStore {
             prefix: address.prefix.clone(),
             load_timeout: LOAD_TIMEOUT,
             commit_timeout: COMMIT_TIMEOUT,
-            ended: Some(Ended::IsNotLoaded),
+            ownership: Ownership::default(),
             head: None,
             next: Head::EMPTY,
             table: Table::default(),
@@ -131,11 +123,15 @@ impl EtcdStore {
         let pairs = self.all_pairs()?;
         let head = pairs.iter().find(|(name, _)| name == "head");
         let head = head.map(|(name, text)| parse_head(name, text)).transpose()?;
-        let salt = head.map_or_else(draw_salt, |head| Ok(head.salt))?;
+        let salt = match head {
+            Some(head) => head.salt,
+            None => u64::from_ne_bytes(fence::draw()?),
+        };
         self.table = Table::of_pairs(&pairs, head, salt)?;
         self.head = head;
-        let (epoch, owner) = (head.map_or(0, |head| head.epoch), draw_owner()?);
-        self.next = Head { epoch, owner, salt, buckets: self.table.buckets.count(), ..Head::EMPTY };
+        let epoch = head.map_or(0, |head| head.fence.epoch);
+        let fence = Fence::with_new_owner(epoch)?;
+        self.next = Head { fence, salt, buckets: self.table.buckets.count() };
         Ok(self.table.snapshot(epoch, head))
     }
 
@@ -169,27 +165,21 @@ impl EtcdStore {
 
     /// Commits what the part sets, if nobody else has committed anything since this store did.
     fn send(&mut self, part: &Part, end: Instant) -> Result<(), StoreError> {
-        let mut next = self.next;
-        next.transaction += 1;
+        let next = Head { fence: self.next.fence.after_transaction(), ..self.next };
         let sets = self.operations(&next, part);
         let asked = json!({
             "compare": [self.fence()], "success": sets, "failure": [request::get(&self.key("head"))],
         });
-        let answer = self.ask(&asked, end)?;
-        let found = request::found_by_get(&answer);
-        // An attempt whose answer was lost may have done it.
-        if request::succeeded(&answer) || found.as_deref() == Some(&next.to_string()) {
-            (self.head, self.next) = (Some(next), next);
-            return Ok(());
-        }
-        Err(self.depose(found))
+        self.ask(&asked, Some(next), end)?;
+        (self.head, self.next) = (Some(next), next);
+        Ok(())
     }
 
     /// What a transaction does that sets this head, and what the part says.
     fn operations(&self, next: &Head, part: &Part) -> Vec<Json> {
         let mut operations = vec![request::put(&self.key("head"), next.to_string().as_bytes())];
         if let Some(past) = part.past {
-            let name = format!("start/{}", past.epoch);
+            let name = format!("start/{}", past.fence.epoch);
             operations.push(request::put(&self.key(&name), past.to_string().as_bytes()));
         }
         operations.extend(part.buckets().map(|number| self.set_bucket(number)));
@@ -205,11 +195,7 @@ impl EtcdStore {
     fn confirm(&mut self, end: Instant) -> Result<(), StoreError> {
         let asked =
             json!({"compare": [self.fence()], "failure": [request::get(&self.key("head"))]});
-        let answer = self.ask(&asked, end)?;
-        if request::succeeded(&answer) {
-            return Ok(());
-        }
-        Err(self.depose(request::found_by_get(&answer)))
+        self.ask(&asked, self.head, end)
     }
 
     /// What every transaction compares: that the head is the one that this store knows.
@@ -226,20 +212,13 @@ impl EtcdStore {
         }
     }
 
-    fn ask(&mut self, asked: &Json, end: Instant) -> Result<Json, StoreError> {
-        self.etcd.call("kv/txn", asked, end).map_err(|failure| match failure {
-            Failure::Refused(why) => self.end(Ended::Failed(why)),
-            Failure::Unknown(why) => self.end(Ended::Unanswered(why)),
-        })
-    }
-
-    fn depose(&mut self, found: Option<String>) -> StoreError {
-        self.end(Ended::Deposed(found.unwrap_or_else(|| "nothing".to_string())))
-    }
-
-    /// Nothing is committed any more, even if the cluster comes back.
-    fn end(&mut self, ended: Ended) -> StoreError {
-        self.ended.insert(ended).error()
+    /// Makes a transaction after which this is the head, or which finds the head that stands there.
+    fn ask(&mut self, asked: &Json, head: Option<Head>, end: Instant) -> Result<(), StoreError> {
+        let head = head.map(|head| head.to_string());
+        let found = self.etcd.call("kv/txn", asked, end).map(|answer| {
+            if request::succeeded(&answer) { head.clone() } else { request::found_by_get(&answer) }
+        });
+        self.ownership.judge(found, head.as_ref())
     }
 
     /// Makes a change in the table, and says what of it the part has to set.
@@ -247,8 +226,8 @@ impl EtcdStore {
         match *change {
             Change::Started { epoch } => {
                 part.past = self.head;
-                self.table.starts.extend(self.head.map(|head| (head.epoch, head)));
-                self.next.epoch = epoch;
+                self.table.starts.extend(self.head.map(|head| (head.fence.epoch, head)));
+                self.next.fence.epoch = epoch;
             }
             Change::Registered { client, .. } | Change::Left { client } => {
                 part.clients.insert(client);
@@ -319,33 +298,27 @@ impl Store for EtcdStore {
     /// A store is loaded once: what it commits rests on what it has loaded, and a server that
     /// loads anew is a new one.
     fn load(&mut self) -> Result<Snapshot, StoreError> {
-        match &self.ended {
-            Some(Ended::IsNotLoaded) => {}
-            Some(ended) => return Err(ended.error()),
-            None => return Err(StoreError::says("the store has been loaded already")),
-        }
+        self.ownership.may_load()?;
         for _ in 1..LOADS {
             match self.load_once() {
                 // The revision that was read was compacted away meanwhile.
                 Err(Failure::Refused(why)) if why.contains("compacted") => {}
                 Err(failure) => return Err(failure.into()),
                 Ok(snapshot) => {
-                    self.ended = None;
+                    self.ownership.note_loaded();
                     return Ok(snapshot);
                 }
             }
         }
         let snapshot = self.load_once()?;
-        self.ended = None;
+        self.ownership.note_loaded();
         Ok(snapshot)
     }
 
     /// Each transaction sets 120 keys and 1 MiB at most. If the changes set more, they are committed
     /// in several, in their order: after an error, the first ones may be kept.
     fn commit(&mut self, changes: &[Change]) -> Result<(), StoreError> {
-        if let Some(ended) = &self.ended {
-            return Err(ended.error());
-        }
+        self.ownership.may_commit()?;
         let end = Instant::now() + self.commit_timeout;
         if changes.is_empty() {
             return self.confirm(end);
@@ -358,7 +331,7 @@ impl Store for EtcdStore {
             }
             self.note(change, &mut part);
         }
-        self.next.commits += 1;
+        self.next.fence = self.next.fence.after_batch();
         self.send(&part, end)?;
         // A store of the first form stays as it is until its room is raised.
         let is_raised = changes.iter().any(|change| matches!(change, Change::Room(_)));
@@ -370,16 +343,13 @@ impl Store for EtcdStore {
 
     /// What this store has committed, from memory.
     fn snapshot(&mut self) -> Result<Snapshot, StoreError> {
-        match &self.ended {
-            Some(ended) => Err(ended.error()),
-            None => Ok(self.table.snapshot(self.next.epoch, self.head)),
-        }
+        self.ownership.may_commit()?;
+        Ok(self.table.snapshot(self.next.fence.epoch, self.head))
     }
 
     fn history(&mut self) -> Result<Option<History>, StoreError> {
         let heads = self.table.starts.iter().map(|(_, head)| *head).chain(self.head);
-        let marks = heads.map(|head| Mark { start: head.owner, commits: head.commits });
-        Ok(History::new(marks.collect()))
+        Ok(History::new(heads.filter_map(|head| head.fence.mark()).collect()))
     }
 
     fn longest_wait(&self) -> Duration {
@@ -387,45 +357,9 @@ impl Store for EtcdStore {
     }
 }
 
-impl Ended {
-    fn error(&self) -> StoreError {
-        match self {
-            Ended::IsNotLoaded => StoreError::says("the store has not been loaded"),
-            Ended::Deposed(found) => StoreError::Deposed(found.clone()),
-            Ended::Unanswered(why) => StoreError::Unanswered(why.clone().into()),
-            Ended::Failed(why) => StoreError::says(why),
-        }
-    }
-}
-
-impl From<Failure> for StoreError {
-    fn from(failure: Failure) -> StoreError {
-        match failure {
-            Failure::Refused(why) => StoreError::says(&why),
-            Failure::Unknown(why) => StoreError::Unanswered(why.into()),
-        }
-    }
-}
-
 /// How many keys the next answer may have, after one of so many keys and bytes.
 fn next_limit(keys: usize, bytes: usize) -> usize {
     (keys * PAGE_BYTES / bytes.max(1)).clamp(FEWEST_KEYS, 64 * FEWEST_KEYS)
-}
-
-/// Bits that nobody else draws.
-pub(crate) fn draw_owner() -> Result<u128, Failure> {
-    draw().map(u128::from_ne_bytes)
-}
-
-pub(crate) fn draw_salt() -> Result<u64, Failure> {
-    draw().map(u64::from_ne_bytes)
-}
-
-fn draw<const N: usize>() -> Result<[u8; N], Failure> {
-    let mut bytes = [0; N];
-    getrandom::getrandom(&mut bytes)
-        .map_err(|error| Failure::Refused(format!("this machine draws no bits: {error}")))?;
-    Ok(bytes)
 }
 
 #[cfg(test)]

@@ -1,9 +1,9 @@
 //! What etcd has of a table, as a server keeps it, and how it stands in etcd's keys.
 use crate::bucket::{self, Buckets};
-use crate::call::Failure;
 use crate::head::Head;
 use crate::transaction::Set;
 use crate::{lease, record};
+use krl::fence::Failure;
 use krl::{Change, LeaseRecord, Record, Room, Snapshot};
 
 /// What etcd has of the table.
@@ -62,7 +62,7 @@ impl Table {
         let rows = self.buckets.iter().flatten().map(|(key, value)| (*key, *value)).collect();
         let (records, leases, room) = (self.records.clone(), self.leases, self.room);
         let first = self.starts.first().map(|(_, head)| *head).or(head);
-        let first_start = first.map(|head| head.owner);
+        let first_start = first.map(|head| head.fence.owner);
         Snapshot { epoch, rows, records, leases, room, first_start }
     }
 

@@ -1,8 +1,9 @@
 //! What one transaction sets, within what etcd takes.
 use crate::bucket::{self, Bucket};
-use crate::call::{Etcd, Failure};
+use crate::call::Etcd;
 use crate::head::Head;
 use crate::request;
+use krl::fence::Failure;
 use serde_json::{Value as Json, json};
 use std::collections::{BTreeMap, BTreeSet};
 use std::time::Instant;

@@ -1,16 +1,11 @@
 //! Calls that come late, and starts that cross. They start a node of etcd, and a relay holds calls
 //! of it back.
-mod cluster;
-#[path = "../../postgres/tests/deaf_relay/mod.rs"]
-mod deaf_relay;
-#[path = "../../drive/src/relay.rs"]
-mod relay;
-
-use cluster::Cluster;
-use deaf_relay::DeafRelay;
-use krl::{Change, Outcome, Row, Store, StoreError, Value, Write};
+use krl::store_tests::{REGISTER, is_deposed, put};
+use krl::{Change, Store, StoreError, Value};
 use krl_etcd::{Credentials, EtcdAddress, EtcdStore};
-use relay::{Holds, Relay};
+use krl_testing::cluster::Cluster;
+use krl_testing::deaf_relay::DeafRelay;
+use krl_testing::etcd_relay::{Holds, Relay};
 use std::thread;
 use std::time::Duration;
 
@@ -29,7 +24,7 @@ fn loaded(address: &EtcdAddress) -> EtcdStore {
 /// A relay to the one node, at two addresses: an attempt that is not answered at the first one is
 /// made again at the second.
 fn relayed(cluster: &Cluster, table: &str) -> (Relay, EtcdAddress) {
-    let direct = cluster.address(table);
+    let direct: EtcdAddress = cluster.address(table);
     let node = direct.endpoints[0].parse().unwrap();
     let relay = Relay::start(&[node, node], || Ok(())).unwrap();
     let endpoints = relay.addresses().iter().map(ToString::to_string).collect();
@@ -37,22 +32,11 @@ fn relayed(cluster: &Cluster, table: &str) -> (Relay, EtcdAddress) {
 }
 
 /// What begins a table: a server of epoch 1, and a client.
-fn begin() -> [Change; 2] {
-    [Change::Started { epoch: 1 }, Change::Registered { client: 9, incarnation: 1 }]
-}
-
-fn put(number: u64, value: u64) -> Change {
-    let write = Write::Put(Row { key: 10, value: value.into() });
-    Change::Judged { client: 9, number, write, outcome: Outcome::Applied }
-}
+const BEGIN: [Change; 2] = [Change::Started { epoch: 1 }, REGISTER];
 
 fn value_of(address: &EtcdAddress) -> Option<u64> {
     let mut store = EtcdStore::open(address, &Credentials::default()).unwrap();
     store.load().unwrap().rows.get(&10).and_then(Value::to_u64)
-}
-
-fn is_deposed(committed: &Result<(), StoreError>) -> bool {
-    matches!(committed, Err(StoreError::Deposed(_)))
 }
 
 #[test]
@@ -60,7 +44,7 @@ fn a_change_that_comes_behind_its_own_repetition_is_not_made() {
     let Some(cluster) = Cluster::start() else { return };
     let (relay, address) = relayed(&cluster, "repeated");
     let mut store = loaded(&address);
-    store.commit(&begin()).unwrap();
+    store.commit(&BEGIN).unwrap();
     relay.hold(Holds::NextChange);
     store.commit(&[put(1, 1)]).unwrap();
     assert!(relay.has_held(Duration::ZERO), "the first attempt is on its way");
@@ -76,7 +60,7 @@ fn a_change_that_comes_behind_another_start_is_not_made() {
     let Some(cluster) = Cluster::start() else { return };
     let (relay, address) = relayed(&cluster, "behind");
     let mut old = loaded(&address).with_commit_timeout(Duration::from_millis(1500));
-    old.commit(&begin()).unwrap();
+    old.commit(&BEGIN).unwrap();
     relay.hold(Holds::Changes);
     let lost = old.commit(&[put(1, 1)]);
     assert!(matches!(lost, Err(StoreError::Unanswered(_))), "{lost:?}");
@@ -95,7 +79,7 @@ fn a_change_that_comes_behind_another_start_is_not_made() {
 fn of_two_starts_that_cross_one_is_made() {
     let Some(cluster) = Cluster::start() else { return };
     let (relay, address) = relayed(&cluster, "cross");
-    loaded(&address).commit(&begin()).unwrap();
+    loaded(&address).commit(&BEGIN).unwrap();
     let (mut late, mut early) = (loaded(&address), loaded(&cluster.address("cross")));
     relay.hold(Holds::Changes);
     let committed = thread::scope(|scope| {
@@ -112,11 +96,11 @@ fn of_two_starts_that_cross_one_is_made() {
 #[test]
 fn a_connection_that_is_silent_is_left_for_a_new_one() {
     let Some(cluster) = Cluster::start() else { return };
-    let direct = cluster.address("silent");
+    let direct: EtcdAddress = cluster.address("silent");
     let relay = DeafRelay::start(direct.endpoints[0].parse().unwrap());
     let address = EtcdAddress { endpoints: vec![relay.address().to_string()], ..direct };
     let mut store = loaded(&address).with_commit_timeout(Duration::from_secs(15));
-    store.commit(&begin()).unwrap();
+    store.commit(&BEGIN).unwrap();
     relay.swallow();
     store.commit(&[put(1, 1)]).unwrap();
     assert_eq!(value_of(&address), Some(1));

@@ -1,10 +1,9 @@
 //! Clusters that want TLS, certificates, or a user and the password. They start a node of etcd, and
 //! make certificates by openssl.
-mod cluster;
-
-use cluster::{Authority, Cluster};
 use krl::{Change, Store, StoreError};
 use krl_etcd::{Credentials, Election, EtcdAddress, EtcdStore};
+use krl_testing::authority::Authority;
+use krl_testing::cluster::Cluster;
 use serde_json::{Value as Json, json};
 
 const STARTED: [Change; 1] = [Change::Started { epoch: 1 }];
@@ -30,7 +29,7 @@ fn user(name: &str, password: &str) -> Credentials {
 fn a_cluster_that_wants_certificates_gets_one() {
     let Some((authority, other)) = Authority::make().zip(Authority::make()) else { return };
     let Some(cluster) = Cluster::start_secure(&authority) else { return };
-    let address = cluster.address("secure");
+    let address: EtcdAddress = cluster.address("secure");
     assert!(address.is_secure);
     let right = Credentials {
         user: None,
@@ -81,7 +80,7 @@ fn enable_users(cluster: &Cluster) {
 fn a_cluster_that_wants_a_user_gets_one() {
     let Some(cluster) = Cluster::start() else { return };
     enable_users(&cluster);
-    let address = cluster.address("users");
+    let address: EtcdAddress = cluster.address("users");
     let mut store = serve(&address, &user("krl", "of krl")).unwrap();
     // The token of before counts no more then.
     cluster.ask_as("root", "of all", "auth/user/add", &json!({"name": "one", "password": "more"}));

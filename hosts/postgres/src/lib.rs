@@ -15,17 +15,6 @@ mod security;
 mod sql;
 mod store;
 
-#[cfg(test)]
-extern crate self as krl_postgres;
-
-#[cfg(test)]
-#[path = "../tests/database/mod.rs"]
-mod database;
-
-#[cfg(test)]
-#[path = "../../drive/src/ports.rs"]
-mod ports;
-
 pub use address::{BadPostgresAddress, PostgresAddress};
 // For the crates of this workspace.
 #[doc(hidden)]

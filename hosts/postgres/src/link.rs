@@ -1,9 +1,9 @@
 //! A connection to the database, which is made anew when it ends.
 use crate::batch::Batch;
 use crate::connector::{Carrier, Connector};
-use crate::head::{Head, owner_text};
+use crate::head::{fence_of, owner_text};
 use crate::sql;
-use std::fmt;
+use krl::fence::{Failure, Fence};
 use std::thread;
 use std::time::{Duration, Instant};
 use tokio::runtime::{Builder, Runtime};
@@ -20,15 +20,6 @@ const ATTEMPTS: u32 = 3;
 
 /// What stands in an error of TLS of which another attempt comes to nothing.
 const REFUSED_BY_TLS: [&str; 2] = ["certificate verify failed", "server does not support TLS"];
-
-/// Why something was not done.
-#[derive(Debug)]
-pub(crate) enum Failure {
-    /// It may be done or not, or may still be.
-    Unknown(String),
-    /// It is not done.
-    Refused(String),
-}
 
 /// All that is stored, as it was at one moment.
 pub(crate) struct Loaded {
@@ -79,18 +70,18 @@ impl Link {
     /// head as it stands then.
     pub fn commit(
         &mut self,
-        last: &Head,
-        next: &Head,
+        last: &Fence,
+        next: &Fence,
         batch: &Batch,
         end: Instant,
-    ) -> Result<Option<Head>, Failure> {
+    ) -> Result<Option<Fence>, Failure> {
         self.again(end, |link, end| {
             link.ask(end, async |session: &mut Session| commit(session, last, next, batch).await)
         })
     }
 
     /// The head as it stands, on every machine that a commit comes to.
-    pub fn confirm(&mut self, head: &Head, end: Instant) -> Result<Option<Head>, Failure> {
+    pub fn confirm(&mut self, head: &Fence, end: Instant) -> Result<Option<Fence>, Failure> {
         self.again(end, |link, end| {
             link.ask(end, async |session: &mut Session| confirm(session, head).await)
         })
@@ -144,7 +135,7 @@ impl Link {
                 self.session = Some(session);
                 Ok(answer)
             }
-            Ok(Err(error)) => Err(Failure::of(&error)),
+            Ok(Err(error)) => Err(failure_of(&error)),
             Err(_) => Err(Failure::Unknown("no answer came in time".to_string())),
         }
     }
@@ -181,10 +172,10 @@ async fn load(client: &mut Client) -> Result<Loaded, Error> {
 
 async fn commit(
     session: &Session,
-    last: &Head,
-    next: &Head,
+    last: &Fence,
+    next: &Fence,
     batch: &Batch,
-) -> Result<Option<Head>, Error> {
+) -> Result<Option<Fence>, Error> {
     let ([epoch, transaction, commits], owner) = columns(next);
     let ([last_epoch, last_transaction, last_commits], last_owner) = columns(last);
     let keeps_last = batch.starts && last.owner != 0;
@@ -224,33 +215,31 @@ async fn commit(
 }
 
 /// The head as it stands. If it is the one that is expected, the replicas have it too.
-async fn confirm(session: &Session, expected: &Head) -> Result<Option<Head>, Error> {
+async fn confirm(session: &Session, expected: &Fence) -> Result<Option<Fence>, Error> {
     let ([epoch, transaction, commits], owner) = columns(expected);
     let values: [&(dyn ToSql + Sync); 4] = [&epoch, &owner, &transaction, &commits];
     let count: i64 = session.client.query_one(&session.confirm, &values).await?.try_get(0)?;
     if count == 1 { Ok(Some(*expected)) } else { head(&session.client).await }
 }
 
-async fn head(client: &Client) -> Result<Option<Head>, Error> {
-    Ok(Head::of(&client.query_one(sql::HEAD, &[]).await?))
+async fn head(client: &Client) -> Result<Option<Fence>, Error> {
+    Ok(fence_of(&client.query_one(sql::HEAD, &[]).await?))
 }
 
 /// `epoch, transaction, commits`, and the owner.
-fn columns(head: &Head) -> ([i64; 3], String) {
+fn columns(head: &Fence) -> ([i64; 3], String) {
     let numbers = [head.epoch, head.transaction, head.commits].map(u64::cast_signed);
-    (numbers, head.owner_text())
+    (numbers, owner_text(head.owner))
 }
 
-impl Failure {
-    fn of(error: &Error) -> Failure {
-        let Some(told) = error.as_db_error() else {
-            let why = error.to_string();
-            let is_refused = REFUSED_BY_TLS.iter().any(|sign| why.contains(sign));
-            return if is_refused { Failure::Refused(why) } else { Failure::Unknown(why) };
-        };
-        let why = format!("{}: {}", told.severity(), told.message());
-        if leaves_it_open(told.code()) { Failure::Unknown(why) } else { Failure::Refused(why) }
-    }
+fn failure_of(error: &Error) -> Failure {
+    let Some(told) = error.as_db_error() else {
+        let why = error.to_string();
+        let is_refused = REFUSED_BY_TLS.iter().any(|sign| why.contains(sign));
+        return if is_refused { Failure::Refused(why) } else { Failure::Unknown(why) };
+    };
+    let why = format!("{}: {}", told.severity(), told.message());
+    if leaves_it_open(told.code()) { Failure::Unknown(why) } else { Failure::Refused(why) }
 }
 
 /// Whether an error of the database says nothing of what was asked, or passes by itself: the server
@@ -258,13 +247,6 @@ impl Failure {
 fn leaves_it_open(code: &SqlState) -> bool {
     let code = code.code();
     ["08", "40", "53", "57P", "25006"].iter().any(|class| code.starts_with(class))
-}
-
-impl fmt::Display for Failure {
-    fn fmt(&self, f: &mut fmt::Formatter<'_>) -> fmt::Result {
-        let (Failure::Unknown(why) | Failure::Refused(why)) = self;
-        f.write_str(why)
-    }
 }
 
 #[cfg(test)]

@@ -2,8 +2,9 @@
 use crate::address::PostgresAddress;
 use crate::batch::{self, Batch};
 use crate::connector::Connector;
-use crate::head::Head;
-use crate::link::{Failure, Link, Loaded};
+use crate::head::fence_of;
+use crate::link::{Link, Loaded};
+use krl::fence::{Failure, Fence, Ownership};
 use krl::{
     Change, ClientSet, History, LeaseRecord, Mark, Room, Snapshot, Store, StoreError, Value,
 };
@@ -39,23 +40,14 @@ const LAST_ATTEMPT: Duration = Duration::from_secs(5);
 pub struct PostgresStore {
     link: Link,
     commit_timeout: Duration,
-    /// Why nothing can be committed, if so.
-    ended: Option<Ended>,
+    ownership: Ownership,
     /// The head as it stands in the database, as far as this store knows.
-    head: Head,
+    head: Fence,
     /// The head that the next commit sets.
-    next: Head,
+    next: Fence,
     /// The heads of servers before.
     starts: Vec<Mark>,
     snapshot: Snapshot,
-}
-
-#[derive(Clone, Debug)]
-enum Ended {
-    IsNotLoaded,
-    Deposed(String),
-    Unanswered(String),
-    Failed(String),
 }
 
 impl PostgresStore {
@@ -74,9 +66,9 @@ impl PostgresStore {
         Ok(PostgresStore {
             link: link.map_err(|error| StoreError::Failed(error.into()))?,
             commit_timeout: COMMIT_TIMEOUT,
-            ended: Some(Ended::IsNotLoaded),
-            head: Head::default(),
-            next: Head::default(),
+            ownership: Ownership::default(),
+            head: Fence::default(),
+            next: Fence::default(),
             starts: Vec::new(),
             snapshot: Snapshot::default(),
         })
@@ -111,11 +103,12 @@ impl PostgresStore {
     ) -> Result<(), StoreError> {
         let mut store = PostgresStore::open(address, user)?;
         store.load()?;
-        if store.head != Head::default() {
+        if store.head != Fence::default() {
             let why = format!("the database of {address} has a store of krl already");
             return Err(StoreError::says(&why));
         }
-        let next = Head { epoch: snapshot.epoch, transaction: 1, commits: 1, ..store.next };
+        let next = Fence { epoch: snapshot.epoch, ..store.next };
+        let next = next.after_batch().after_transaction();
         store.send(&Batch::of_all(snapshot), next, Instant::now() + CREATE_TIMEOUT)
     }
 
@@ -132,52 +125,29 @@ impl PostgresStore {
                 "PostgreSQL runs with fsync or full_page_writes off: it loses what it answers";
             return Err(Failure::Refused(why.to_string()));
         }
-        let head = Head::of(&loaded.head).ok_or_else(|| strange("head"))?;
+        let head = fence_of(&loaded.head).ok_or_else(|| strange("head"))?;
         self.snapshot = snapshot(&loaded, head.epoch)?;
         self.starts = loaded.starts.iter().map(mark).collect::<Result<_, _>>()?;
         self.head = head;
-        self.next = Head { epoch: head.epoch, owner: draw_owner()?, transaction: 0, commits: 0 };
+        self.next = Fence::with_new_owner(head.epoch)?;
         Ok(())
     }
 
-    /// Whether the head that was found is the one that it has to be.
-    fn judge(
-        &mut self,
-        found: Result<Option<Head>, Failure>,
-        expected: Head,
-    ) -> Result<(), StoreError> {
-        let ended = match found {
-            Ok(Some(found)) if found == expected => return Ok(()),
-            Ok(Some(found)) => Ended::Deposed(found.to_string()),
-            Ok(None) => Ended::Deposed("a head that no server of krl sets".to_string()),
-            Err(Failure::Unknown(why)) => Ended::Unanswered(why),
-            Err(Failure::Refused(why)) => Ended::Failed(why),
-        };
-        Err(self.end(ended))
-    }
-
     /// Commits the batch, and `next` as the head.
-    fn send(&mut self, batch: &Batch, next: Head, end: Instant) -> Result<(), StoreError> {
+    fn send(&mut self, batch: &Batch, next: Fence, end: Instant) -> Result<(), StoreError> {
         let found = self.link.commit(&self.head, &next, batch, end);
-        self.judge(found, next)?;
+        self.ownership.judge(found, Some(&next))?;
         (self.head, self.next) = (next, next);
         Ok(())
     }
 
     fn whole_history(&self) -> Option<History> {
-        let Head { owner, commits, .. } = self.head;
-        let last = (owner != 0).then_some(Mark { start: owner, commits });
-        History::new(self.starts.iter().copied().chain(last).collect())
+        History::new(self.starts.iter().copied().chain(self.head.mark()).collect())
     }
 
     fn whole_snapshot(&self) -> Snapshot {
         let first_start = self.whole_history().and_then(|history| history.first_start());
         Snapshot { first_start, ..self.snapshot.clone() }
-    }
-
-    /// Nothing is committed any more, even if the database comes back.
-    fn end(&mut self, ended: Ended) -> StoreError {
-        self.ended.insert(ended).error()
     }
 }
 
@@ -185,47 +155,35 @@ impl Store for PostgresStore {
     /// A store is loaded once: what it commits rests on what it has loaded, and a server that
     /// loads anew is a new one.
     fn load(&mut self) -> Result<Snapshot, StoreError> {
-        match &self.ended {
-            Some(Ended::IsNotLoaded) => {}
-            Some(ended) => return Err(ended.error()),
-            None => return Err(StoreError::says("the store has been loaded already")),
-        }
+        self.ownership.may_load()?;
         self.load_once(Instant::now() + LOAD_TIMEOUT)?;
-        self.ended = None;
+        self.ownership.note_loaded();
         Ok(self.whole_snapshot())
     }
 
     fn commit(&mut self, changes: &[Change]) -> Result<(), StoreError> {
-        if let Some(ended) = &self.ended {
-            return Err(ended.error());
-        }
+        self.ownership.may_commit()?;
         let end = Instant::now() + self.commit_timeout;
         if changes.is_empty() {
             let found = self.link.confirm(&self.head, end);
-            return self.judge(found, self.head);
+            return self.ownership.judge(found, Some(&self.head));
         }
         for change in changes {
             self.snapshot.apply(change);
         }
-        let next = Head {
-            epoch: self.snapshot.epoch,
-            transaction: self.next.transaction + 1,
-            commits: self.next.commits + 1,
-            ..self.next
-        };
+        let next = Fence { epoch: self.snapshot.epoch, ..self.next };
+        let next = next.after_batch().after_transaction();
         let batch = Batch::new(changes, &self.snapshot);
-        if batch.starts && self.head.owner != 0 {
-            self.starts.push(Mark { start: self.head.owner, commits: self.head.commits });
+        if batch.starts {
+            self.starts.extend(self.head.mark());
         }
         self.send(&batch, next, end)
     }
 
     /// What this store has committed, from memory.
     fn snapshot(&mut self) -> Result<Snapshot, StoreError> {
-        match &self.ended {
-            Some(ended) => Err(ended.error()),
-            None => Ok(self.whole_snapshot()),
-        }
+        self.ownership.may_commit()?;
+        Ok(self.whole_snapshot())
     }
 
     fn history(&mut self) -> Result<Option<History>, StoreError> {
@@ -234,26 +192,6 @@ impl Store for PostgresStore {
 
     fn longest_wait(&self) -> Duration {
         self.commit_timeout + LAST_ATTEMPT
-    }
-}
-
-impl Ended {
-    fn error(&self) -> StoreError {
-        match self {
-            Ended::IsNotLoaded => StoreError::says("the store has not been loaded"),
-            Ended::Deposed(found) => StoreError::Deposed(found.clone()),
-            Ended::Unanswered(why) => StoreError::Unanswered(why.clone().into()),
-            Ended::Failed(why) => StoreError::says(why),
-        }
-    }
-}
-
-impl From<Failure> for StoreError {
-    fn from(failure: Failure) -> StoreError {
-        match failure {
-            Failure::Refused(why) => StoreError::says(&why),
-            Failure::Unknown(why) => StoreError::Unanswered(why.into()),
-        }
     }
 }
 
@@ -307,14 +245,6 @@ fn mark(row: &Row) -> Result<Mark, Failure> {
     let commits: Option<i64> = row.try_get(1).ok();
     let mark = start.zip(commits).map(|(start, commits)| (start, commits.cast_unsigned()));
     mark.map(|(start, commits)| Mark { start, commits }).ok_or_else(|| strange("start"))
-}
-
-/// Bits that nobody else draws, and not those of a new database.
-fn draw_owner() -> Result<u128, Failure> {
-    let mut bytes = [0; 16];
-    getrandom::getrandom(&mut bytes)
-        .map_err(|error| Failure::Refused(format!("this machine draws no bits: {error}")))?;
-    Ok(u128::from_ne_bytes(bytes).max(1))
 }
 
 #[cfg(test)]

@@ -1,14 +1,10 @@
 //! Commits that wait for one another, that come late, and whose answers get lost. They start a
 //! server of PostgreSQL.
-mod database;
-mod deaf_relay;
-#[path = "../../drive/src/ports.rs"]
-mod ports;
-
-use database::{Database, address_at};
-use deaf_relay::DeafRelay;
-use krl::{Change, Outcome, Row, Store, StoreError, Value, Write};
+use krl::store_tests::{REGISTER, is_deposed, put};
+use krl::{Change, Store, StoreError, Value};
 use krl_postgres::{PostgresAddress, PostgresStore};
+use krl_testing::database::{Database, address_at};
+use krl_testing::deaf_relay::DeafRelay;
 use std::thread;
 use std::time::Duration;
 
@@ -26,29 +22,18 @@ fn loaded(address: &PostgresAddress) -> PostgresStore {
 }
 
 /// What begins a table: a server of epoch 1, and a client.
-fn begin() -> [Change; 2] {
-    [Change::Started { epoch: 1 }, Change::Registered { client: 9, incarnation: 1 }]
-}
-
-fn put(number: u64, value: u64) -> Change {
-    let write = Write::Put(Row { key: 10, value: value.into() });
-    Change::Judged { client: 9, number, write, outcome: Outcome::Applied }
-}
+const BEGIN: [Change; 2] = [Change::Started { epoch: 1 }, REGISTER];
 
 fn value_of(database: &Database) -> Option<u64> {
     let mut store = PostgresStore::open(&database.address(), None).unwrap();
     store.load().unwrap().rows.get(&10).and_then(Value::to_u64)
 }
 
-fn is_deposed(committed: &Result<(), StoreError>) -> bool {
-    matches!(committed, Err(StoreError::Deposed(_)))
-}
-
 #[test]
 fn of_two_commits_that_wait_for_the_head_one_is_made() {
     let Some(database) = Database::start() else { return };
     let mut old = loaded(&database.address()).with_commit_timeout(Duration::from_secs(60));
-    old.commit(&begin()).unwrap();
+    old.commit(&BEGIN).unwrap();
     let mut new = loaded(&database.address()).with_commit_timeout(Duration::from_secs(60));
     let sql = database.connect();
     sql.run(LOCK_HEAD);
@@ -68,7 +53,7 @@ fn of_two_commits_that_wait_for_the_head_one_is_made() {
 fn a_commit_that_comes_behind_another_start_is_not_made() {
     let Some(database) = Database::start() else { return };
     let mut old = loaded(&database.address()).with_commit_timeout(Duration::from_millis(300));
-    old.commit(&begin()).unwrap();
+    old.commit(&BEGIN).unwrap();
     let sql = database.connect();
     sql.run(LOCK_HEAD);
     let lost = old.commit(&[put(1, 1)]);
@@ -85,7 +70,7 @@ fn a_commit_whose_answer_got_lost_is_found_to_be_made() {
     let Some(database) = Database::start() else { return };
     let relay = DeafRelay::start(database.at());
     let mut store = loaded(&address_at(relay.address()));
-    store.commit(&begin()).unwrap();
+    store.commit(&BEGIN).unwrap();
     relay.lose_next_answer();
     store.commit(&[put(1, 1)]).unwrap();
     assert!(relay.has_lost());
@@ -99,7 +84,7 @@ fn a_commit_whose_answer_got_lost_is_told_as_unknown_if_the_database_is_gone() {
     let relay = DeafRelay::start(database.at());
     let store = loaded(&address_at(relay.address()));
     let mut store = store.with_commit_timeout(Duration::from_secs(2));
-    store.commit(&begin()).unwrap();
+    store.commit(&BEGIN).unwrap();
     relay.lose_all_answers();
     let lost = store.commit(&[put(1, 1)]);
     database.stop();
@@ -113,7 +98,7 @@ fn a_connection_that_is_silent_is_left_for_a_new_one() {
     let relay = DeafRelay::start(database.at());
     let store = loaded(&address_at(relay.address()));
     let mut store = store.with_commit_timeout(Duration::from_secs(15));
-    store.commit(&begin()).unwrap();
+    store.commit(&BEGIN).unwrap();
     relay.swallow();
     let before = relay.connections();
     store.commit(&[put(1, 1)]).unwrap();

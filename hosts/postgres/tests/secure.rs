@@ -1,15 +1,8 @@
 //! TLS to the database. They start a server of PostgreSQL.
-#[path = "../../etcd/tests/cluster/authority.rs"]
-#[allow(dead_code, reason = "no client shows a certificate here")]
-mod authority;
-mod database;
-#[path = "../../drive/src/ports.rs"]
-mod ports;
-
-use authority::Authority;
-use database::Database;
 use krl::{Change, Store};
 use krl_postgres::{PostgresAddress, PostgresStore};
+use krl_testing::authority::Authority;
+use krl_testing::database::Database;
 
 /// A database whose certificate, for 127.0.0.1, is of this authority.
 fn secure(authority: &Authority) -> Option<Database> {
@@ -22,7 +15,7 @@ fn secure(authority: &Authority) -> Option<Database> {
 
 /// The database's address at this host, with these words on TLS.
 fn address(database: &Database, host: &str, words: &str) -> PostgresAddress {
-    let text = database.address().to_string().replace("127.0.0.1", host);
+    let text = database.address::<String>().replace("127.0.0.1", host);
     format!("{text}?{words}").parse().unwrap()
 }
 

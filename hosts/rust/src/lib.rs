@@ -66,8 +66,9 @@ pub use proved::partition::Part;
 pub use server::close_reason::ClosedConnections;
 pub use server::lock_search::HeldRun;
 pub use server::shown::client_status::{ClientConnection, ClientStatus};
+pub use server::shown::held_search::{HeldPage, HeldSearch};
 pub use server::shown::liveness::Liveness;
-pub use server::shown::locks::{HeldPage, HeldSearch, Locks, LocksError};
+pub use server::shown::locks::{Locks, LocksError};
 pub use server::shown::monitor::{Monitor, SnapshotError};
 #[cfg(feature = "map-file")]
 pub use shards::map_file::BadMapFile;
@@ -95,10 +96,14 @@ pub use shards::error::{ShardError, ShardJoinError};
 pub use shards::map::{BadShardMap, Shard, ShardMap};
 pub use shards::pin::{ShardedPin, ShardedPinWithin};
 pub use shards::within::ShardedWithin;
+#[cfg(feature = "fence")]
+pub use store::fence;
 #[cfg(feature = "sqlite")]
 pub use store::sqlite::SqliteStore;
 #[cfg(feature = "sqlite")]
 pub use store::sqlite::checksum::Checksum;
 #[cfg(feature = "sqlite")]
 pub use store::sqlite::copy::StoreFile;
+#[cfg(feature = "store-tests")]
+pub use store::store_tests;
 pub use store::{MemoryStore, Store, StoreError};

@@ -1,9 +1,13 @@
 //! What survives a server, and the store that commits it.
+#[cfg(feature = "fence")]
+pub mod fence;
 #[cfg(feature = "sqlite")]
 pub(crate) mod sqlite;
+#[cfg(any(test, feature = "store-tests"))]
+#[cfg_attr(not(feature = "store-tests"), allow(dead_code, reason = "not each store runs all"))]
+pub mod store_tests;
 
 use crate::model::change::Change;
-
 use crate::model::history::History;
 use crate::model::snapshot::Snapshot;
 use std::fmt;
@@ -148,5 +152,47 @@ impl Store for Box<dyn Store> {
 
     fn longest_wait(&self) -> Duration {
         (**self).longest_wait()
+    }
+}
+
+#[cfg(test)]
+mod tests {
+    use super::*;
+    use std::sync::{Arc, Mutex};
+
+    /// A store in memory that outlives its values.
+    struct Kept(Arc<Mutex<MemoryStore>>);
+
+    impl Store for Kept {
+        fn load(&mut self) -> Result<Snapshot, StoreError> {
+            self.0.lock().unwrap().load()
+        }
+
+        fn commit(&mut self, changes: &[Change]) -> Result<(), StoreError> {
+            self.0.lock().unwrap().commit(changes)
+        }
+
+        fn snapshot(&mut self) -> Result<Snapshot, StoreError> {
+            self.0.lock().unwrap().snapshot()
+        }
+    }
+
+    #[test]
+    fn a_store_in_memory_keeps_what_is_committed() {
+        let kept = Arc::default();
+        store_tests::keeps_what_is_committed(|| Kept(Arc::clone(&kept)));
+    }
+
+    #[test]
+    #[should_panic(expected = "before Registered")]
+    fn a_store_that_keeps_nothing_is_found() {
+        store_tests::keeps_what_is_committed(MemoryStore::default);
+    }
+
+    #[test]
+    #[should_panic(expected = "it was loaded before the insert")]
+    fn a_store_without_a_fence_is_found() {
+        let kept = Arc::default();
+        store_tests::deposes_an_older_value(|| Kept(Arc::clone(&kept)));
     }
 }

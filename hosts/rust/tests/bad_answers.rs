@@ -1,11 +1,9 @@
 //! Connections that hear what no server says, or that one side rejects: what a client makes of one
 //! of them, and of several.
-mod certificates;
-mod relay;
 mod secure;
 
 use krl::{Address, Client, ClientBuilder, Error, JoinError, Outcome, Server, TlsConfig, Value};
-use relay::{Plan, Relay};
+use krl_testing::relay::{Plan, Relay};
 use secure::{Setup, at, serve};
 use std::path::Path;
 use std::thread;

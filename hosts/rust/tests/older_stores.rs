@@ -1,5 +1,4 @@
 //! A copy of the store from before is brought back while a client lives that has shown who it is.
-mod certificates;
 mod secure;
 
 use krl::{Access, Address, Client, Listener, Outcome, Row, ServeError, Server, SqliteStore};

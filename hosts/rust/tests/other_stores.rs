@@ -1,5 +1,4 @@
 //! A client that has seen one store meets the server of another one.
-mod certificates;
 mod secure;
 
 use krl::{Access, Address, Client, Error, Listener, Outcome, Refusal, Row, Server};

@@ -1,9 +1,8 @@
 //! Connections that stay open and carry nothing, as behind a proxy or an address translator that has
 //! lost them, and connections that end before anything comes.
-mod relay;
 
 use krl::{Address, Client, Leases, MemoryStore, Outcome, Server, Value};
-use relay::{Plan, Relay};
+use krl_testing::relay::{Plan, Relay};
 use std::net::TcpListener;
 use std::path::PathBuf;
 use std::time::{Duration, Instant};

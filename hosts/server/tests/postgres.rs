@@ -1,13 +1,10 @@
 //! Servers over a database of PostgreSQL. They start a server of it.
 mod common;
-#[path = "../../postgres/tests/database/mod.rs"]
-mod database;
-#[path = "../../drive/src/ports.rs"]
-mod ports;
 
 use common::{Serving, errors, join, program, run, text};
-use database::Database;
 use krl::{Outcome, Value};
+use krl_testing::database::Database;
+use krl_testing::ports::free_address;
 use std::io::{BufRead, BufReader};
 use std::process::{Command, Stdio};
 use std::thread;
@@ -15,7 +12,7 @@ use std::thread;
 /// The words of a server over this database.
 fn over(database: &Database) -> Command {
     let mut command = program();
-    command.args(["serve", "--store", &database.address().to_string()]);
+    command.args(["serve", "--store", &database.address::<String>()]);
     command
 }
 
@@ -63,7 +60,7 @@ fn a_backup_becomes_a_store_in_a_database() {
     client.leave().unwrap();
     serving.signal(&["TERM"]);
     serving.ended();
-    let (file, place) = (file.to_str().unwrap(), database.address().to_string());
+    let (file, place) = (file.to_str().unwrap(), database.address::<String>());
     let restore = ["restore", file, "--store", &place, "--clients-are-stopped"];
     let restored = run(&restore);
     assert!(restored.status.success(), "{}", errors(&restored));
@@ -78,7 +75,7 @@ fn a_backup_becomes_a_store_in_a_database() {
 /// It is told at once, and a signal is heeded at once.
 #[test]
 fn a_database_that_is_away_is_waited_for_until_a_signal_comes() {
-    let store = format!("postgres://krl@{}/x", ports::free_address().unwrap());
+    let store = format!("postgres://krl@{}/x", free_address().unwrap());
     let words = ["serve", "--store", &store, "--listen", "127.0.0.1:0", "--status", "off"];
     let mut command = program();
     command.args(words).args(["--log-format", "json"]).stderr(Stdio::piped());

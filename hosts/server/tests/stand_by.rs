@@ -1,11 +1,10 @@
 //! Servers over a cluster: one serves, and another takes its place. They start a node of etcd.
-#[path = "../../etcd/tests/cluster/mod.rs"]
-mod cluster;
 mod common;
 
-use cluster::{Cluster, free_address};
 use common::{ServiceManager, Serving, errors, lock_file, program, until};
 use krl::{Client, Error, Outcome, Servers, Value};
+use krl_testing::cluster::Cluster;
+use krl_testing::ports::free_address;
 use std::io::{BufRead, BufReader};
 use std::net::TcpListener;
 use std::process::{Command, Stdio};
@@ -24,7 +23,7 @@ fn over(cluster: &Cluster, table: &str) -> Command {
 
 fn over_with(cluster: &Cluster, table: &str, lease: Duration) -> Command {
     let mut command = program();
-    command.args(["serve", "--store", &cluster.address(table).to_string()]);
+    command.args(["serve", "--store", &cluster.address::<String>(table)]);
     command.args(["--election-lease", &lease.as_secs().to_string()]);
     command
 }
@@ -66,7 +65,8 @@ fn another_server_takes_the_place_of_one_that_is_killed() {
 fn a_client_finds_the_server_that_serves() {
     for signal in ["KILL", "STOP"] {
         let Some(cluster) = Cluster::start() else { return };
-        let (folder, addresses) = (tempfile::tempdir().unwrap(), [(); 2].map(|()| free_address()));
+        let (folder, addresses) =
+            (tempfile::tempdir().unwrap(), [(); 2].map(|()| free_address().unwrap().to_string()));
         let serve = |place: usize, told| {
             let mut command = over(&cluster, "found");
             Serving::start_until(command.args(["--listen", &addresses[place]]), told)
@@ -154,7 +154,7 @@ fn moment(event: &serde_json::Value) -> f64 {
 #[test]
 fn a_store_that_does_not_answer_is_told_once_a_second() {
     const DAY: f64 = 24.0 * 3600.0;
-    let store = format!("etcd://{}/none", free_address());
+    let store = format!("etcd://{}/none", free_address().unwrap());
     let words = ["serve", "--store", &store, "--listen", "127.0.0.1:0", "--status", "off"];
     let mut command = program();
     command.args(words).args(["--log-format", "json"]).stderr(Stdio::piped());

@@ -1,88 +1,29 @@
 //! What is committed is what is loaded, and who commits. They start a node of etcd.
 use super::*;
 use crate::bucket::Buckets;
-use crate::cluster::Cluster;
-use krl::{ClientSet, LeaseRecord, Room, Row, Value, Write};
+use krl::store_tests::{self, REGISTER, apply, is_deposed, judged, put, row};
+use krl::{Room, Row, Value, Write};
+use krl_testing::cluster::Cluster;
 use std::thread;
-
-fn row(key: u64, bytes: &[u8]) -> Row {
-    Row { key, value: Value::new(bytes).unwrap() }
-}
-
-fn judged(number: u64, write: Write, outcome: Outcome) -> Change {
-    Change::Judged { client: 9, number, write, outcome }
-}
-
-fn put(number: u64, value: u64) -> Change {
-    judged(number, Write::Put(Row { key: 10, value: value.into() }), Outcome::Applied)
-}
-
-fn leased(longest: u64, unleased: u64) -> Change {
-    Change::Leased(LeaseRecord { longest, unleased: ClientSet::of_bits(unleased) })
-}
-
-fn changes() -> Vec<Change> {
-    vec![
-        Change::Started { epoch: 1 },
-        Change::Registered { client: 9, incarnation: 5 },
-        Change::Registered { client: 2, incarnation: 7 },
-        judged(1, Write::Insert(row(10, b"ten")), Outcome::Applied),
-        judged(2, Write::Insert(row(10, b"other")), Outcome::Exists),
-        judged(3, Write::Insert(row(krl::END - 1, &[0xff; 32])), Outcome::Applied),
-        judged(4, Write::Put(row(10, b"")), Outcome::Applied),
-        Change::Left { client: 2 },
-        judged(5, Write::Delete(10), Outcome::Applied),
-        Change::Registered { client: 2, incarnation: u64::MAX },
-        Change::Registered { client: 9, incarnation: 6 },
-        leased(10_000_000_000, 1 << 63 | 5),
-        Change::Started { epoch: 2 },
-        leased(u64::MAX, 0),
-        Change::Room(Room::of(3).unwrap()),
-        Change::Room(Room::MAX),
-    ]
-}
 
 fn open(address: &EtcdAddress) -> EtcdStore {
     EtcdStore::open(address, &Credentials::default()).unwrap()
 }
 
-/// Makes the changes in the snapshot.
-fn apply(snapshot: &mut Snapshot, changes: &[Change]) {
-    for change in changes {
-        snapshot.apply(change);
-    }
-}
-
-/// The snapshot without the first start, which the store draws.
-fn table(snapshot: Snapshot) -> Snapshot {
-    Snapshot { first_start: None, ..snapshot }
-}
-
 fn loaded(address: &EtcdAddress) -> (EtcdStore, Snapshot) {
-    let mut store = open(address);
-    let snapshot = table(store.load().unwrap());
-    (store, snapshot)
-}
-
-fn is_deposed(committed: &Result<(), StoreError>) -> bool {
-    matches!(committed, Err(StoreError::Deposed(_)))
+    store_tests::loaded(&mut || open(address))
 }
 
 #[test]
 fn what_is_loaded_is_what_was_committed() {
     let Some(cluster) = Cluster::start() else { return };
     let address = cluster.address("one-by-one");
-    let mut expected = Snapshot::default();
-    for change in changes() {
-        let (mut store, snapshot) = loaded(&address);
-        assert_eq!(snapshot, expected);
-        store.commit(&[change]).unwrap();
-        expected.apply(&change);
-        assert_eq!(table(store.snapshot().unwrap()), expected, "{change:?}");
-        assert_eq!(loaded(&address).1, expected, "{change:?}");
-    }
+    store_tests::keeps_what_is_committed(|| open(&address));
     let address = cluster.address("at-once");
-    loaded(&address).0.commit(&changes()).unwrap();
+    let changes = store_tests::changes();
+    loaded(&address).0.commit(&changes).unwrap();
+    let mut expected = Snapshot::default();
+    apply(&mut expected, &changes);
     assert_eq!(loaded(&address).1, expected);
 }
 
@@ -93,7 +34,7 @@ fn a_batch_that_is_too_large_for_one_transaction_is_committed_in_several() {
     let (mut store, mut expected) = loaded(&address);
     let inserts = (0..5_000u64)
         .map(|at| judged(at + 1, Write::Insert(row(7 * at, &at.to_be_bytes())), Outcome::Applied));
-    let first = [Change::Started { epoch: 1 }, Change::Registered { client: 9, incarnation: 1 }];
+    let first = [Change::Started { epoch: 1 }, REGISTER];
     let all: Vec<Change> = first.into_iter().chain(inserts).collect();
     store.commit(&all).unwrap();
     apply(&mut expected, &all);
@@ -110,37 +51,20 @@ fn a_batch_that_is_too_large_for_one_transaction_is_committed_in_several() {
 fn an_older_server_is_deposed_for_good() {
     let Some(cluster) = Cluster::start() else { return };
     let address = cluster.address("deposed");
-    let (mut old, _) = loaded(&address);
-    let register = Change::Registered { client: 9, incarnation: 1 };
-    old.commit(&[Change::Started { epoch: 1 }, register]).unwrap();
-    old.commit(&[]).unwrap();
-    let (mut early, _) = loaded(&address);
-    // Nothing has happened yet: the old one still has the store.
-    old.commit(&[put(1, 1)]).unwrap();
-    assert!(is_deposed(&early.commit(&[Change::Started { epoch: 2 }])), "it read before the put");
-    let (mut new, snapshot) = loaded(&address);
-    assert_eq!(snapshot.rows.get(&10), Some(&1.into()));
-    new.commit(&[Change::Started { epoch: 2 }]).unwrap();
-    assert!(is_deposed(&old.commit(&[])));
-    assert!(is_deposed(&old.commit(&[put(2, 2)])));
-    assert!(old.load().is_err() && old.snapshot().is_err(), "it never comes back");
-    assert_eq!(loaded(&address).1.rows.get(&10), Some(&1.into()));
-    new.commit(&[put(2, 3)]).unwrap();
+    store_tests::deposes_an_older_value(|| open(&address));
 }
 
 #[test]
 fn two_that_start_at_once_are_told_apart() {
     let Some(cluster) = Cluster::start() else { return };
     let address = cluster.address("at-once");
-    let ((mut one, _), (mut two, _)) = (loaded(&address), loaded(&address));
-    one.commit(&[Change::Started { epoch: 1 }]).unwrap();
-    assert!(is_deposed(&two.commit(&[Change::Started { epoch: 1 }])));
-    one.commit(&[Change::Registered { client: 9, incarnation: 1 }]).unwrap();
+    store_tests::tells_two_starts_apart(|| open(&address));
 }
 
 /// A store that has forgotten its last transaction, as if that were still to be sent.
 fn go_back(store: &mut EtcdStore, (head, next): (Option<Head>, Head)) {
-    (store.head, store.next, store.ended) = (head, next, None);
+    (store.head, store.next, store.ownership) = (head, next, Ownership::default());
+    store.ownership.note_loaded();
 }
 
 #[test]
@@ -148,8 +72,7 @@ fn a_transaction_whose_answer_was_lost_is_found_and_is_not_done_late() {
     let Some(cluster) = Cluster::start() else { return };
     let address = cluster.address("lost");
     let (mut store, _) = loaded(&address);
-    let register = Change::Registered { client: 9, incarnation: 1 };
-    store.commit(&[Change::Started { epoch: 1 }, register]).unwrap();
+    store.commit(&[Change::Started { epoch: 1 }, REGISTER]).unwrap();
     let before = (store.head, store.next);
     store.commit(&[put(1, 1)]).unwrap();
     go_back(&mut store, before);
@@ -182,9 +105,8 @@ fn a_cluster_that_hangs_for_a_moment_is_waited_for() {
     let Some(cluster) = Cluster::start() else { return };
     let address = cluster.address("hangs");
     let (mut store, mut expected) = loaded(&address);
-    let register = Change::Registered { client: 9, incarnation: 1 };
-    store.commit(&[Change::Started { epoch: 1 }, register]).unwrap();
-    apply(&mut expected, &[Change::Started { epoch: 1 }, register]);
+    store.commit(&[Change::Started { epoch: 1 }, REGISTER]).unwrap();
+    apply(&mut expected, &[Change::Started { epoch: 1 }, REGISTER]);
     thread::scope(|scope| {
         cluster.signal("-STOP");
         let commit = scope.spawn(|| store.commit(&[put(1, 1)]));
@@ -201,20 +123,7 @@ fn a_cluster_that_hangs_for_a_moment_is_waited_for() {
 fn a_history_has_each_start() {
     let Some(cluster) = Cluster::start() else { return };
     let address = cluster.address("history");
-    let mut marks = Vec::new();
-    for epoch in 1..4 {
-        let (mut store, _) = loaded(&address);
-        store.commit(&[Change::Started { epoch }]).unwrap();
-        marks.push(store.history().unwrap().unwrap().mark().unwrap());
-        let register = Change::Registered { client: 9, incarnation: epoch };
-        store.commit(&[register]).unwrap();
-        let history = store.history().unwrap().unwrap();
-        assert_eq!(history.mark().map(|mark| mark.commits), Some(2));
-        assert!(marks.iter().all(|mark| history.has(*mark)));
-        let first_start = marks.first().map(|mark: &Mark| mark.start);
-        assert_eq!(history.first_start(), first_start);
-        assert_eq!(store.snapshot().unwrap().first_start, first_start);
-    }
+    store_tests::counts_each_start_and_each_batch(|| open(&address));
 }
 
 #[test]
@@ -245,21 +154,8 @@ fn what_no_server_commits_is_not_loaded() {
 fn a_copy_becomes_a_store_of_its_own() {
     let Some(cluster) = Cluster::start() else { return };
     let (address, credentials) = (cluster.address("copy"), Credentials::default());
-    let first_start = 1 << 127 | 5;
-    let mut snapshot = Snapshot { first_start: Some(first_start), ..Snapshot::default() };
-    apply(&mut snapshot, &changes());
-    snapshot.rows.extend((0..500).map(|key| (key, key.into())));
-    EtcdStore::create(&address, &credentials, &snapshot).unwrap();
-    let (mut store, found) = loaded(&address);
-    assert_eq!(found, table(snapshot.clone()));
-    assert!(EtcdStore::create(&address, &credentials, &snapshot).is_err(), "it is there already");
-    store.commit(&[Change::Started { epoch: 3 }]).unwrap();
-    let history = store.history().unwrap().unwrap();
-    assert_eq!(history.first_start(), Some(first_start));
-    assert_eq!(store.snapshot().unwrap().first_start, Some(first_start));
-    let later = Mark { start: first_start, commits: 1 };
-    assert!(!history.has(later), "who has seen that finds an older store");
-    assert_eq!(loaded(&address).0.history().unwrap(), Some(history));
+    let create = |snapshot: &Snapshot| EtcdStore::create(&address, &credentials, snapshot);
+    store_tests::goes_on_from_a_copy(create, || open(&address));
 }
 
 /// Puts these keys, whatever is there.
@@ -287,7 +183,7 @@ fn a_place_that_was_not_finished_is_no_store_and_is_taken() {
     put_keys(&mut store, &sets);
     assert!(matches!(store.load(), Err(StoreError::Failed(_))));
     let mut snapshot = Snapshot::default();
-    apply(&mut snapshot, &changes()[..3]);
+    apply(&mut snapshot, &store_tests::changes()[..3]);
     EtcdStore::create(&address, &credentials, &snapshot).unwrap();
     assert_eq!(loaded(&address).1, snapshot);
 }
@@ -317,7 +213,8 @@ fn rows_in(numbers: usize, salt: u64) -> std::collections::BTreeMap<u64, Value> 
 /// A store with so many buckets and these rows, as no transaction of today makes it.
 fn put_store(address: &EtcdAddress, count: usize, snapshot: &Snapshot) {
     let mut store = open(address);
-    let head = Head { epoch: snapshot.epoch, buckets: count, owner: 1, salt: 5, ..Head::EMPTY };
+    let fence = Fence { epoch: snapshot.epoch, owner: 1, ..Fence::default() };
+    let head = Head { fence, salt: 5, buckets: count };
     let room = snapshot.room.map(|room| room.to_string());
     let buckets = Buckets::of_rows(head.salt, count, &snapshot.rows);
     let buckets = buckets.iter().enumerate().filter(|(_, rows)| !rows.is_empty());
@@ -416,7 +313,7 @@ fn a_full_table_is_loaded_in_a_moment() {
     let (mut store, _) = loaded(&address);
     let inserts = (0..65_536u64)
         .map(|at| judged(at + 1, Write::Insert(row(at << 20, &[7; 32])), Outcome::Applied));
-    let first = [Change::Started { epoch: 1 }, Change::Registered { client: 9, incarnation: 1 }];
+    let first = [Change::Started { epoch: 1 }, REGISTER];
     let all: Vec<Change> = first.into_iter().chain(inserts).collect();
     let begun = Instant::now();
     for batch in all.chunks(16_384) {

@@ -1,120 +1,36 @@
 //! What is committed is what is loaded, and who commits. They start a server of PostgreSQL.
 use super::*;
-use crate::database::Database;
-use krl::{Outcome, Row as Entry, Write};
+use krl::store_tests::{self, REGISTER, is_deposed, put};
+use krl_testing::database::Database;
 
-fn entry(key: u64, bytes: &[u8]) -> Entry {
-    Entry { key, value: Value::new(bytes).unwrap() }
-}
-
-fn judged(number: u64, write: Write, outcome: Outcome) -> Change {
-    Change::Judged { client: 9, number, write, outcome }
-}
-
-fn put(number: u64, value: u64) -> Change {
-    judged(number, Write::Put(Entry { key: 10, value: value.into() }), Outcome::Applied)
-}
-
-fn leased(longest: u64, unleased: u64) -> Change {
-    Change::Leased(LeaseRecord { longest, unleased: ClientSet::of_bits(unleased) })
-}
-
-const REGISTER: Change = Change::Registered { client: 9, incarnation: 1 };
-
-fn changes() -> Vec<Change> {
-    vec![
-        Change::Started { epoch: 1 },
-        Change::Registered { client: 9, incarnation: 5 },
-        Change::Registered { client: 2, incarnation: 7 },
-        judged(1, Write::Insert(entry(10, b"ten")), Outcome::Applied),
-        judged(2, Write::Insert(entry(10, b"other")), Outcome::Exists),
-        judged(3, Write::Insert(entry(krl::END - 1, &[0xff; 32])), Outcome::Applied),
-        judged(4, Write::Put(entry(10, b"")), Outcome::Applied),
-        Change::Left { client: 2 },
-        judged(5, Write::Delete(10), Outcome::Applied),
-        Change::Registered { client: 2, incarnation: u64::MAX },
-        Change::Registered { client: 9, incarnation: 6 },
-        leased(10_000_000_000, 1 << 63 | 5),
-        Change::Started { epoch: 2 },
-        leased(u64::MAX, 0),
-        Change::Room(Room::of(3).unwrap()),
-        Change::Room(Room::MAX),
-    ]
-}
-
-/// Makes the changes in the snapshot.
-fn apply(snapshot: &mut Snapshot, changes: &[Change]) {
-    for change in changes {
-        snapshot.apply(change);
-    }
-}
-
-/// The snapshot without the first start, which the store draws.
-fn table(snapshot: Snapshot) -> Snapshot {
-    Snapshot { first_start: None, ..snapshot }
+fn open(database: &Database) -> PostgresStore {
+    PostgresStore::open(&database.address(), None).unwrap()
 }
 
 fn loaded(database: &Database) -> (PostgresStore, Snapshot) {
-    let mut store = PostgresStore::open(&database.address(), None).unwrap();
-    let snapshot = table(store.load().unwrap());
-    (store, snapshot)
+    store_tests::loaded(&mut || open(database))
 }
 
 fn value(database: &Database) -> Option<Value> {
     loaded(database).1.rows.get(&10).copied()
 }
 
-fn is_deposed(committed: &Result<(), StoreError>) -> bool {
-    matches!(committed, Err(StoreError::Deposed(_)))
-}
-
 #[test]
 fn what_is_loaded_is_what_was_committed() {
     let Some(database) = Database::start() else { return };
-    let mut expected = Snapshot::default();
-    for change in changes() {
-        let (mut store, snapshot) = loaded(&database);
-        assert_eq!(snapshot, expected);
-        store.commit(&[change]).unwrap();
-        expected.apply(&change);
-        assert_eq!(table(store.snapshot().unwrap()), expected, "{change:?}");
-        assert_eq!(store.history().unwrap(), loaded(&database).0.history().unwrap());
-    }
-    let (mut store, _) = loaded(&database);
-    let batch = [put(6, 1), judged(7, Write::Delete(10), Outcome::Applied), put(8, 2), put(9, 3)];
-    store.commit(&batch).unwrap();
-    apply(&mut expected, &batch);
-    assert_eq!(loaded(&database).1, expected, "the last of several changes of a row counts");
+    store_tests::keeps_what_is_committed(|| open(&database));
 }
 
 #[test]
 fn an_older_server_is_deposed_for_good() {
     let Some(database) = Database::start() else { return };
-    let (mut old, _) = loaded(&database);
-    old.commit(&[Change::Started { epoch: 1 }, REGISTER]).unwrap();
-    old.commit(&[]).unwrap();
-    let (mut early, _) = loaded(&database);
-    early.commit(&[]).unwrap();
-    old.commit(&[put(1, 1)]).unwrap();
-    assert!(is_deposed(&early.commit(&[Change::Started { epoch: 2 }])), "it read before the put");
-    let (mut new, _) = loaded(&database);
-    new.commit(&[]).unwrap();
-    new.commit(&[Change::Started { epoch: 2 }]).unwrap();
-    assert!(is_deposed(&old.commit(&[])));
-    assert!(is_deposed(&old.commit(&[put(2, 2)])));
-    assert!(old.load().is_err() && old.snapshot().is_err(), "it never comes back");
-    assert_eq!(value(&database), Some(1.into()));
-    new.commit(&[put(2, 3)]).unwrap();
+    store_tests::deposes_an_older_value(|| open(&database));
 }
 
 #[test]
 fn two_that_start_at_once_are_told_apart() {
     let Some(database) = Database::start() else { return };
-    loaded(&database).0.commit(&[Change::Started { epoch: 1 }, REGISTER]).unwrap();
-    let ((mut one, _), (mut two, _)) = (loaded(&database), loaded(&database));
-    one.commit(&[Change::Started { epoch: 2 }]).unwrap();
-    assert!(is_deposed(&two.commit(&[Change::Started { epoch: 2 }])));
-    one.commit(&[put(1, 1)]).unwrap();
+    store_tests::tells_two_starts_apart(|| open(&database));
 }
 
 #[test]
@@ -135,19 +51,7 @@ fn a_commit_whose_answer_was_lost_is_found_and_is_not_done_late() {
 #[test]
 fn a_history_has_each_start() {
     let Some(database) = Database::start() else { return };
-    let mut marks = Vec::new();
-    for epoch in 1..4 {
-        let (mut store, _) = loaded(&database);
-        store.commit(&[Change::Started { epoch }]).unwrap();
-        marks.push(store.history().unwrap().unwrap().mark().unwrap());
-        store.commit(&[Change::Registered { client: 9, incarnation: epoch }]).unwrap();
-        let history = store.history().unwrap().unwrap();
-        assert_eq!(history.mark().map(|mark| mark.commits), Some(2));
-        assert!(marks.iter().all(|mark| history.has(*mark)));
-        let first_start = marks.first().map(|mark: &Mark| mark.start);
-        assert_eq!(history.first_start(), first_start);
-        assert_eq!(store.snapshot().unwrap().first_start, first_start);
-    }
+    store_tests::counts_each_start_and_each_batch(|| open(&database));
 }
 
 #[test]
@@ -164,7 +68,7 @@ fn a_database_that_ends_ends_the_store() {
 #[test]
 fn a_database_that_loses_what_it_answers_is_refused() {
     let Some(database) = Database::start_with(&["fsync=off"]) else { return };
-    let mut store = PostgresStore::open(&database.address(), None).unwrap();
+    let mut store = open(&database);
     let error = store.load().unwrap_err().to_string();
     assert!(error.contains("fsync"), "{error}");
 }
@@ -185,7 +89,7 @@ fn a_commit_is_synced_whatever_the_database_does_else() {
 #[test]
 fn a_database_that_is_not_there_is_told() {
     let Some(database) = Database::start() else { return };
-    let address = database.address().to_string().replace("/postgres", "/other").parse().unwrap();
+    let address = database.address::<String>().replace("/postgres", "/other").parse().unwrap();
     let error = PostgresStore::open(&address, None).unwrap().load().unwrap_err().to_string();
     assert!(error.contains("\"other\" does not exist"), "{error}");
 }
@@ -193,22 +97,8 @@ fn a_database_that_is_not_there_is_told() {
 #[test]
 fn a_copy_becomes_a_store_of_its_own() {
     let Some(database) = Database::start() else { return };
-    let first_start = 1 << 127 | 5;
-    let mut snapshot = Snapshot { first_start: Some(first_start), ..Snapshot::default() };
-    apply(&mut snapshot, &changes());
-    snapshot.rows.extend((0..500).map(|key| (key, key.into())));
-    PostgresStore::create(&database.address(), None, &snapshot).unwrap();
-    let (mut store, found) = loaded(&database);
-    assert_eq!(found, table(snapshot.clone()));
-    let again = PostgresStore::create(&database.address(), None, &snapshot);
-    assert!(again.unwrap_err().to_string().contains("already"));
-    store.commit(&[Change::Started { epoch: 3 }]).unwrap();
-    let history = store.history().unwrap().unwrap();
-    assert_eq!(history.first_start(), Some(first_start));
-    assert_eq!(store.snapshot().unwrap().first_start, Some(first_start));
-    let later = Mark { start: first_start, commits: 1 };
-    assert!(!history.has(later), "who has seen that finds an older store");
-    assert_eq!(loaded(&database).0.history().unwrap(), Some(history));
+    let create = |snapshot: &Snapshot| PostgresStore::create(&database.address(), None, snapshot);
+    store_tests::goes_on_from_a_copy(create, || open(&database));
 }
 
 #[test]
@@ -241,7 +131,7 @@ fn what_no_server_commits_is_not_loaded() {
         ("INSERT INTO krl.client VALUES (3, 0, 1, 0, 6, 0)", "DELETE FROM krl.client"),
     ] {
         sql.run(wrong);
-        let mut store = PostgresStore::open(&database.address(), None).unwrap();
+        let mut store = open(&database);
         let error = store.load().unwrap_err();
         assert!(matches!(error, StoreError::Failed(_)), "{wrong}: {error}");
         sql.run(right);
@@ -270,10 +160,10 @@ fn a_user_who_may_make_no_tables_serves_from_those_that_are_there() {
 #[test]
 fn a_database_that_is_away_is_waited_for_until_it_is_not_to_be() {
     let Some(mut database) = Database::start() else { return };
-    let mut store = PostgresStore::open(&database.address(), None).unwrap();
+    let mut store = open(&database);
     assert!(store.reach(|_| panic!("it answers")).unwrap());
     database.stop();
-    let mut store = PostgresStore::open(&database.address(), None).unwrap();
+    let mut store = open(&database);
     let mut told = 0;
     let goes_on = |why: &str| {
         assert!(why.contains("connect"), "{why}");

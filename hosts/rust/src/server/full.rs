@@ -91,14 +91,14 @@ mod tests {
         assert_eq!(heard(&[&hello[..3], &hello[3..], &[18, 0]]), refused);
         let mut message = 18u64.to_le_bytes().to_vec();
         message.extend([1; 18]);
-        assert_eq!(heard(&[&message]), []);
-        assert_eq!(heard(&[&u64::MAX.to_le_bytes()]), []);
+        assert!(heard(&[&message]).is_empty());
+        assert!(heard(&[&u64::MAX.to_le_bytes()]).is_empty());
     }
 
     #[test]
     fn a_peer_that_says_nothing_is_closed_in_its_time() {
         let begun = Instant::now();
-        assert_eq!(heard(&[]), []);
+        assert!(heard(&[]).is_empty());
         assert!(begun.elapsed() < 2 * PATIENCE, "{:?}", begun.elapsed());
     }
 }

@@ -1,5 +1,6 @@
 //! What a server shows of itself: to operators, and to programs that watch it.
 pub(crate) mod client_status;
+pub(crate) mod held_search;
 pub(crate) mod liveness;
 pub(crate) mod locks;
 pub(crate) mod metrics;

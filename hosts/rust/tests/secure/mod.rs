@@ -1,9 +1,9 @@
 //! A server by TLS, and clients of it, for tests.
 #![allow(dead_code, reason = "each test uses a part of it")]
-use crate::certificates::{Authority, Files};
 use krl::{
     Access, Address, Client, JoinError, Listener, MemoryStore, Server, Servers, Status, TlsConfig,
 };
+use krl_testing::certificates::{Authority, Files};
 use std::net::SocketAddr;
 use std::path::PathBuf;
 use std::thread;

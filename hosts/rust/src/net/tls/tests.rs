@@ -1,8 +1,5 @@
-#[path = "../../../tests/certificates/mod.rs"]
-mod certificates;
-
 use super::*;
-use certificates::{Authority, Files};
+use krl_testing::certificates::{Authority, Files};
 use std::path::PathBuf;
 
 struct Folder(PathBuf);

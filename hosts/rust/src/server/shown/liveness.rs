@@ -2,12 +2,15 @@
 use crate::model::change::Change;
 use crate::model::history::History;
 use crate::model::snapshot::Snapshot;
-use crate::server::shown::monitor::{LONGEST_TURN, Monitor};
 use crate::server::shown::timings::Timings;
 use crate::store::{Store, StoreError};
 use std::fmt;
 use std::sync::Arc;
 use std::time::Duration;
+
+/// The longest turn of a loop that does not wait for its store. Judging the longest report takes
+/// some seconds.
+pub(crate) const LONGEST_TURN: Duration = Duration::from_secs(30);
 
 /// A shorter wait for the store is not worth a word.
 const SHORT_WAIT: Duration = Duration::from_secs(1);
@@ -46,22 +49,17 @@ impl Liveness {
 
     /// The loop made its last step so long ago, and has waited for its store for so long, if it
     /// does, which may take so long.
-    fn judge(since_last_step: Duration, waited: Option<Duration>, longest: Duration) -> Liveness {
+    pub(crate) fn judge(
+        since_last_step: Duration,
+        waited: Option<Duration>,
+        longest: Duration,
+    ) -> Liveness {
         match waited {
             Some(waited) if waited > longest => Liveness::StoreHangs { waited, longest },
             Some(waited) if waited >= SHORT_WAIT => Liveness::WaitsForStore { waited },
             None if since_last_step > LONGEST_TURN => Liveness::Hangs { since_last_step },
             _ => Liveness::Turns,
         }
-    }
-}
-
-impl Monitor {
-    /// Whether the server's loop goes on, and if it stands, where.
-    #[must_use]
-    pub fn liveness(&self) -> Liveness {
-        let waited = self.timings.waits_for_store();
-        Liveness::judge(self.timings.since_last_step(), waited, self.longest_store_wait)
     }
 }
 

@@ -1,5 +1,4 @@
 //! A server's state and measurements in Prometheus' text format.
-use crate::server::shown::monitor::Monitor;
 use crate::server::shown::status::Status;
 use crate::server::shown::timings::{Counts, Measured};
 use crate::server::shown::watch::{HeldSlots, Wait};
@@ -13,15 +12,8 @@ enum Unit {
     Count,
 }
 
-impl Monitor {
-    /// What the server shows and has measured, in Prometheus' text format.
-    #[must_use]
-    pub fn metrics(&self) -> String {
-        metrics(&self.status(), &self.measured(), self.since_last_turn())
-    }
-}
-
-fn metrics(status: &Status, measured: &Measured, since_last_turn: Duration) -> String {
+/// What a server shows and has measured, in Prometheus' text format.
+pub(crate) fn metrics(status: &Status, measured: &Measured, since_last_turn: Duration) -> String {
     let mut page = Page(String::new());
     page.head("krl_build_info", "gauge", "The version of the krl host, as a label; always 1");
     page.line(format_args!("krl_build_info{{version=\"{}\"}} 1", env!("CARGO_PKG_VERSION")));

@@ -1,19 +1,16 @@
 //! What a server lets other threads see of it while it runs.
 use crate::model::snapshot::Snapshot;
-use crate::server::requests::{Request, Requests, Unanswered};
+use crate::server::requests::{BUSY, Request, Requests, Unanswered};
+use crate::server::shown::liveness::{LONGEST_TURN, Liveness};
+use crate::server::shown::locks::{Locks, LocksError, locks};
+use crate::server::shown::metrics::metrics;
 use crate::server::shown::status::Status;
 use crate::server::shown::timings::{Measured, Timings};
 use crate::store::StoreError;
 use std::fmt;
+use std::ops::RangeBounds;
 use std::sync::{Arc, Mutex, PoisonError};
 use std::time::Duration;
-
-/// The longest turn of a loop that does not wait for its store. Judging the longest report takes
-/// some seconds.
-pub(crate) const LONGEST_TURN: Duration = Duration::from_secs(30);
-
-/// What is said of a server whose loop does not answer.
-pub(crate) const BUSY: &str = "the server's loop did not answer in time: it is busy, or hangs";
 
 /// A view of a server that may live in another thread, and longer than the server.
 #[derive(Clone)]
@@ -69,6 +66,34 @@ impl Monitor {
         let longest = 2 * self.longest_store_wait + LONGEST_TURN;
         let answered = self.requests.answer(Request::Snapshot, longest);
         answered.map_err(SnapshotError::from)?.map_err(SnapshotError::Store)
+    }
+
+    /// Who holds which slots that meet this range, at most so many (64 if fewer are asked for), and
+    /// who waits there. Slots of a client are told one by one, even if neighbours have one mode.
+    ///
+    /// The server tells them between its turns, in pages of up to 1,024 slots and some milliseconds
+    /// each, so that its clients do not wait for that. It may look at its whole table for each
+    /// client.
+    ///
+    /// # Errors
+    ///
+    /// `BadRange` if the range begins above its end or ends above 2^63; `Ended` if the server has
+    /// ended; `Busy` if its loop does not answer within ten seconds.
+    pub fn locks(&self, points: impl RangeBounds<u64>, most: usize) -> Result<Locks, LocksError> {
+        locks(&self.requests, points, most)
+    }
+
+    /// Whether the server's loop goes on, and if it stands, where.
+    #[must_use]
+    pub fn liveness(&self) -> Liveness {
+        let waited = self.timings.waits_for_store();
+        Liveness::judge(self.timings.since_last_step(), waited, self.longest_store_wait)
+    }
+
+    /// What the server shows and has measured, in Prometheus' text format.
+    #[must_use]
+    pub fn metrics(&self) -> String {
+        metrics(&self.status(), &self.measured(), self.since_last_turn())
     }
 }
 

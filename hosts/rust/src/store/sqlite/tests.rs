@@ -1,34 +1,5 @@
 use super::*;
-
-fn row(key: u64, bytes: &[u8]) -> Row {
-    Row { key, value: Value::new(bytes).unwrap() }
-}
-
-fn leased(longest: u64, unleased: u64) -> Change {
-    Change::Leased(LeaseRecord { longest, unleased: ClientSet::of_bits(unleased) })
-}
-
-fn changes() -> Vec<Change> {
-    let judged = |number, write, outcome| Change::Judged { client: 9, number, write, outcome };
-    vec![
-        Change::Started { epoch: 1 },
-        Change::Registered { client: 9, incarnation: 5 },
-        Change::Registered { client: 2, incarnation: 7 },
-        judged(1, Write::Insert(row(10, b"ten")), Outcome::Applied),
-        judged(2, Write::Insert(row(10, b"other")), Outcome::Exists),
-        judged(3, Write::Insert(row(u64::MAX >> 1, &[0xff; 32])), Outcome::Applied),
-        judged(4, Write::Put(row(10, b"")), Outcome::Applied),
-        Change::Left { client: 2 },
-        judged(5, Write::Delete(10), Outcome::Applied),
-        Change::Registered { client: 2, incarnation: 8 },
-        Change::Registered { client: 9, incarnation: 6 },
-        leased(10_000_000_000, 1 << 63 | 5),
-        Change::Started { epoch: 2 },
-        leased(u64::MAX >> 1, 0),
-        Change::Room(Room::of(3).unwrap()),
-        Change::Room(Room::MAX),
-    ]
-}
+use crate::store::store_tests::{self, changes, row};
 
 /// What the store has, but for its first start, which it draws.
 fn table(store: &mut SqliteStore) -> Snapshot {
@@ -40,15 +11,11 @@ fn what_is_loaded_is_what_was_kept() {
     let folder = std::env::temp_dir().join(format!("krl-sqlite-{}", std::process::id()));
     std::fs::create_dir_all(&folder).unwrap();
     let file = folder.join("table.db");
-    let mut expected = Snapshot::default();
-    assert_eq!(SqliteStore::open(&file).unwrap().load().unwrap(), expected);
-    for change in changes() {
-        SqliteStore::open(&file).unwrap().commit(&[change]).unwrap();
-        expected.apply(&change);
-        assert_eq!(table(&mut SqliteStore::open(&file).unwrap()), expected, "{change:?}");
-    }
+    store_tests::keeps_what_is_committed(|| SqliteStore::open(&file).unwrap());
     let mut at_once = SqliteStore::open(folder.join("other.db")).unwrap();
     at_once.commit(&changes()).unwrap();
+    let mut expected = Snapshot::default();
+    store_tests::apply(&mut expected, &changes());
     assert_eq!(table(&mut at_once), expected);
     assert!(SqliteStore::open(folder.join("other.db")).is_err(), "one process at a time");
     std::fs::remove_dir_all(&folder).unwrap();
@@ -81,13 +48,32 @@ fn each_start_and_each_batch_is_counted() {
 }
 
 #[test]
+fn a_history_has_each_start() {
+    let folder = std::env::temp_dir().join(format!("krl-history-{}", std::process::id()));
+    std::fs::create_dir_all(&folder).unwrap();
+    let file = folder.join("table.db");
+    store_tests::counts_each_start_and_each_batch(|| SqliteStore::open(&file).unwrap());
+    std::fs::remove_dir_all(&folder).unwrap();
+}
+
+#[test]
+fn a_copy_becomes_a_store_of_its_own() {
+    let folder = std::env::temp_dir().join(format!("krl-copied-{}", std::process::id()));
+    std::fs::create_dir_all(&folder).unwrap();
+    let file = folder.join("table.db");
+    let create = |snapshot: &Snapshot| SqliteStore::create(&file, snapshot);
+    store_tests::goes_on_from_a_copy(create, || SqliteStore::open(&file).unwrap());
+    std::fs::remove_dir_all(&folder).unwrap();
+}
+
+#[test]
 fn a_batch_of_any_kind_is_counted_once_and_an_earlier_start_keeps_its_count() {
     let folder = std::env::temp_dir().join(format!("krl-counts-{}", std::process::id()));
     std::fs::create_dir_all(&folder).unwrap();
     let file = folder.join("table.db");
     let mut store = SqliteStore::open(&file).unwrap();
     let mut marks = Vec::new();
-    for batch in [&changes()[..1], &changes()[1..4], &changes()[11..12], &changes()[4..6]] {
+    for batch in [&changes()[..1], &changes()[1..4], &changes()[15..16], &changes()[4..6]] {
         store.commit(batch).unwrap();
         let mark = store.history().unwrap().unwrap().mark().unwrap();
         assert_eq!(progress::last_mark(&store.connection).unwrap(), Some(mark));
@@ -174,25 +160,9 @@ fn a_value_commits_nothing_behind_another_one() {
     let folder = std::env::temp_dir().join(format!("krl-behind-{}", std::process::id()));
     std::fs::create_dir_all(&folder).unwrap();
     // Without the file's lock two values may have it open.
-    let open = || SqliteStore::open_by(&folder.join("table.db"), "NORMAL").unwrap();
-    let is_deposed = |result| matches!(result, Err(StoreError::Deposed(_)));
-    let mut old = open();
-    old.commit(&[Change::Started { epoch: 1 }]).unwrap();
-    let (mut early, mut new) = (open(), open());
-    early.load().unwrap();
-    old.commit(&changes()[1..2]).unwrap();
-    assert!(is_deposed(early.commit(&[Change::Started { epoch: 2 }])), "it has read too early");
-    new.load().unwrap();
-    new.commit(&[Change::Started { epoch: 2 }]).unwrap();
-    assert!(is_deposed(old.commit(&changes()[2..3])) && is_deposed(old.commit(&[])));
-    new.commit(&changes()[2..3]).unwrap();
-    new.commit(&[]).unwrap();
-    let mut expected = Snapshot::default();
-    let kept = [changes()[0], changes()[1], Change::Started { epoch: 2 }, changes()[2]];
-    for change in &kept {
-        expected.apply(change);
-    }
-    assert_eq!(table(&mut open()), expected);
+    let open = |name: &str| SqliteStore::open_by(&folder.join(name), "NORMAL").unwrap();
+    store_tests::deposes_an_older_value(|| open("deposed.db"));
+    store_tests::tells_two_starts_apart(|| open("starts.db"));
     std::fs::remove_dir_all(&folder).unwrap();
 }
 

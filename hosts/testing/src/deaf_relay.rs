@@ -1,5 +1,4 @@
 //! A relay to a database, which can lose what the database answers, or swallow what comes.
-#![allow(dead_code, reason = "each test uses a part of it")]
 use std::io::{Read, Write};
 use std::net::{Ipv4Addr, Shutdown, SocketAddr, TcpListener, TcpStream};
 use std::sync::Arc;
@@ -11,7 +10,7 @@ const LOSES_NEXT: u8 = 1;
 const LOSES_ALL: u8 = 2;
 
 /// What connections share.
-#[derive(Default)]
+#[derive(Debug, Default)]
 struct Shared {
     loses: AtomicU8,
     has_lost: AtomicBool,
@@ -22,12 +21,14 @@ struct Shared {
 }
 
 /// A relay. It ends with the process.
+#[derive(Debug)]
 pub struct DeafRelay {
     at: SocketAddr,
     shared: Arc<Shared>,
 }
 
 impl DeafRelay {
+    /// A relay to this database.
     pub fn start(database: SocketAddr) -> DeafRelay {
         let listener = TcpListener::bind((Ipv4Addr::LOCALHOST, 0)).unwrap();
         let (at, shared) = (listener.local_addr().unwrap(), Arc::new(Shared::default()));
@@ -42,6 +43,7 @@ impl DeafRelay {
         relay
     }
 
+    /// Where it listens.
     pub fn address(&self) -> SocketAddr {
         self.at
     }
@@ -56,6 +58,7 @@ impl DeafRelay {
         self.shared.loses.store(LOSES_ALL, Ordering::SeqCst);
     }
 
+    /// Whether an answer got lost.
     pub fn has_lost(&self) -> bool {
         self.shared.has_lost.load(Ordering::SeqCst)
     }

@@ -1,5 +1,4 @@
 //! Certificates for tests.
-#![allow(dead_code, reason = "each test uses a part of it")]
 use openssl::asn1::Asn1Time;
 use openssl::bn::BigNum;
 use openssl::ec::{EcGroup, EcKey};
@@ -18,19 +17,25 @@ const DAY: i64 = 24 * 3600;
 static COUNT: AtomicU32 = AtomicU32::new(0);
 
 /// An authority that certifies who asks.
+#[derive(Debug)]
 pub struct Authority {
     certificate: X509,
     key: PKey<Private>,
 }
 
 /// A certificate with its key, and the authority that its holder believes.
+#[derive(Debug)]
 pub struct Files {
+    /// The certificate of the authority that the holder believes.
     pub authority: PathBuf,
+    /// The holder's certificate.
     pub certificate: PathBuf,
+    /// The holder's key.
     pub key: PathBuf,
 }
 
 impl Authority {
+    /// An authority of this name.
     pub fn new(name: &str) -> Authority {
         let (key, mut builder) = (new_key(), builder(1, 100));
         let name = name_of(name);

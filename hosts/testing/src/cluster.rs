@@ -1,20 +1,16 @@
-//! A cluster of one node, for tests.
-#![allow(dead_code, reason = "each test uses a part of it")]
-mod authority;
-
-pub use authority::Authority;
-use krl_etcd::EtcdAddress;
+//! A cluster of etcd, of one node.
+use crate::authority::Authority;
+use crate::{parsed, ports};
 use serde_json::Value as Json;
 use std::path::PathBuf;
 use std::process::{Child, Command, Stdio};
+use std::str::FromStr;
 use std::sync::atomic::{AtomicU32, Ordering};
 use std::thread;
 use std::time::{Duration, Instant};
 
-#[path = "../../../drive/src/ports.rs"]
-mod ports;
-
 /// A node of etcd that runs until this is dropped.
+#[derive(Debug)]
 pub struct Cluster {
     node: Child,
     folder: PathBuf,
@@ -57,9 +53,10 @@ impl Cluster {
         let count = COUNT.fetch_add(1, Ordering::Relaxed);
         let name = format!("krl-etcd-{}-{count}", std::process::id());
         let folder = std::env::temp_dir().join(name);
-        let (endpoint, peer) = (free_address(), format!("http://{}", free_address()));
+        let free = || ports::free_address().unwrap().to_string();
+        let (endpoint, peer) = (free(), format!("http://{}", free()));
         let scheme = if authority.is_some() { "https" } else { "http" };
-        let (client, health) = (format!("{scheme}://{endpoint}"), free_address());
+        let (client, health) = (format!("{scheme}://{endpoint}"), free());
         let mut command = Command::new("etcd");
         command.args(["--name", "one", "--log-level", "error", "--data-dir"]).arg(&folder);
         command.args(["--listen-client-urls", &client, "--advertise-client-urls", &client]);
@@ -96,9 +93,9 @@ impl Cluster {
     }
 
     /// The place of a table in the cluster.
-    pub fn address(&self, table: &str) -> EtcdAddress {
+    pub fn address<Address: FromStr>(&self, table: &str) -> Address {
         let scheme = if self.is_secure { "etcds" } else { "etcd" };
-        format!("{scheme}://{}/krl/{table}", self.endpoint).parse().unwrap()
+        parsed(&format!("{scheme}://{}/krl/{table}", self.endpoint))
     }
 
     /// Calls the node, which speaks no TLS.
@@ -129,11 +126,6 @@ impl Drop for Cluster {
         let _ = self.node.wait();
         let _ = std::fs::remove_dir_all(&self.folder);
     }
-}
-
-/// An address at which nobody listens.
-pub fn free_address() -> String {
-    ports::free_address().unwrap().to_string()
 }
 
 fn answer_to(request: ureq::Request, body: &Json) -> Json {

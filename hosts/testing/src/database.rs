@@ -1,10 +1,9 @@
-//! A server of PostgreSQL with an empty database, for tests.
-#![allow(dead_code, reason = "each test uses a part of it")]
-use crate::ports;
-use krl_postgres::PostgresAddress;
+//! A server of PostgreSQL with an empty database.
+use crate::{parsed, ports};
 use std::net::SocketAddr;
 use std::path::{Path, PathBuf};
 use std::process::{Child, Command, Stdio};
+use std::str::FromStr;
 use std::sync::atomic::{AtomicU32, Ordering};
 use std::thread;
 use std::time::{Duration, Instant};
@@ -16,6 +15,7 @@ const PROGRAMS: &str = "/usr/lib/postgresql";
 const USER: &str = "postgres";
 
 /// A server that runs until this is dropped.
+#[derive(Debug)]
 pub struct Database {
     server: Child,
     folder: PathBuf,
@@ -87,13 +87,13 @@ impl Database {
 
     fn is_answering(&self) -> bool {
         let runtime = tokio::runtime::Builder::new_current_thread().enable_all().build().unwrap();
-        let text = self.address().to_string();
+        let text: String = self.address();
         let connecting = tokio_postgres::connect(&text, tokio_postgres::NoTls);
         runtime.block_on(connecting).is_ok()
     }
 
     /// Where the table is.
-    pub fn address(&self) -> PostgresAddress {
+    pub fn address<Address: FromStr>(&self) -> Address {
         address_at(self.at)
     }
 
@@ -119,7 +119,7 @@ impl Database {
     /// A connection of its own.
     pub fn connect(&self) -> Sql {
         let runtime = tokio::runtime::Builder::new_current_thread().enable_all().build().unwrap();
-        let text = self.address().to_string();
+        let text: String = self.address();
         let (client, connection) =
             runtime.block_on(tokio_postgres::connect(&text, tokio_postgres::NoTls)).unwrap();
         runtime.spawn(connection);
@@ -187,6 +187,7 @@ impl Drop for Database {
 }
 
 /// A connection that runs statements.
+#[derive(Debug)]
 pub struct Sql {
     client: tokio_postgres::Client,
     runtime: tokio::runtime::Runtime,
@@ -227,8 +228,8 @@ impl Sql {
 }
 
 /// The table of the server that is reached there.
-pub fn address_at(at: SocketAddr) -> PostgresAddress {
-    format!("postgres://krl@{at}/postgres").parse().unwrap()
+pub fn address_at<Address: FromStr>(at: SocketAddr) -> Address {
+    parsed(&format!("postgres://krl@{at}/postgres"))
 }
 
 /// The server of these data, at this address.

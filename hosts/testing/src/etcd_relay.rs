@@ -1,6 +1,5 @@
 //! What stands between a server and the nodes of etcd, and holds back what the server asks: for a
 //! while, or until it comes late.
-#![allow(dead_code, reason = "each user takes a part of it")]
 use std::io::{self, BufRead, BufReader, Write};
 use std::net::{Shutdown, SocketAddr, TcpListener, TcpStream};
 use std::sync::{Arc, Condvar, Mutex, MutexGuard, PoisonError};
@@ -26,6 +25,7 @@ pub struct Relay {
 /// What is held back. What is held once stays so until all is let go, even if other requests pass.
 #[derive(Clone, Copy, Debug, Default, PartialEq, Eq)]
 pub enum Holds {
+    /// Nothing.
     #[default]
     Nothing,
     /// The next change of the store, and nothing behind it.

@@ -5,6 +5,7 @@ use std::sync::atomic::{AtomicU32, Ordering};
 
 /// An authority with a certificate for a node at 127.0.0.1, and one for a client. Its files are gone
 /// with this.
+#[derive(Debug)]
 pub struct Authority {
     folder: PathBuf,
 }

@@ -1,6 +1,5 @@
 //! A relay between a client and its server that fails as proxies, address translators and load
 //! balancers do: it swallows what passes, loses answers, ends connections, or answers by itself.
-#![allow(dead_code, reason = "each test uses a part of it")]
 use std::collections::VecDeque;
 use std::io::{Read, Write};
 use std::net::{Shutdown, SocketAddr, TcpListener, TcpStream};
@@ -20,12 +19,13 @@ pub enum Plan {
 }
 
 /// A relay to one server.
+#[derive(Debug)]
 pub struct Relay {
     at: SocketAddr,
     shared: Arc<Shared>,
 }
 
-#[derive(Default)]
+#[derive(Debug, Default)]
 struct Shared {
     /// The plans for the next connections. Those after them pass.
     plans: Mutex<VecDeque<Plan>>,
@@ -33,6 +33,7 @@ struct Shared {
 }
 
 /// One connection that came.
+#[derive(Debug)]
 struct Route {
     streams: Vec<TcpStream>,
     loses_requests: AtomicBool,
@@ -40,6 +41,7 @@ struct Route {
 }
 
 impl Relay {
+    /// A relay to this server.
     pub fn to(server: SocketAddr) -> Relay {
         let listener = TcpListener::bind("127.0.0.1:0").unwrap();
         let relay = Relay { at: listener.local_addr().unwrap(), shared: Arc::default() };
@@ -50,6 +52,7 @@ impl Relay {
         relay
     }
 
+    /// Where it listens.
     pub fn at(&self) -> SocketAddr {
         self.at
     }
