@@ -22,7 +22,7 @@ const NUMBER: usize = 8;
 /// The value of the mark of this filling.
 pub(crate) fn mark_of(identity: &OriginIdentity, filling: u64) -> Value {
     let bytes = [identity.as_bytes(), &filling.to_be_bytes()].concat();
-    Value::new(&bytes).expect("a value has room for an identity and a number")
+    Value::try_from(&bytes[..]).expect("a value has room for an identity and a number")
 }
 
 /// The number of a new filling: no two have the same.
@@ -94,7 +94,7 @@ mod tests {
             assert_eq!(filling_of(&mark, &identity(name)), Some(7));
             assert_eq!(filling_of(&mark, &identity("other")), None);
         }
-        let short = krl::Row { key: MARK, value: Value::new(b"short").unwrap() };
+        let short = krl::Row { key: MARK, value: Value::try_from("short").unwrap() };
         assert_eq!(filling_of(&short, &identity("")), None);
         assert!(OriginIdentity::new([0; 25]).is_none());
     }

@@ -38,7 +38,7 @@ impl Version {
 
     /// The value of a key's row in krl.
     pub(crate) fn value(self) -> Value {
-        Value::new(&self.0).expect("a value has room for a version")
+        Value::try_from(&self.0).expect("a value has room for a version")
     }
 
     /// The version that a row of krl has, or `None` if the cache did not write the row.

@@ -44,7 +44,7 @@ pub unsafe fn value(at: *const u8, length: usize) -> Result<Value, Fault> {
     }
     // SAFETY: the caller vouches for so many bytes.
     let bytes = unsafe { slice::from_raw_parts(at, length) };
-    Value::new(bytes).ok_or_else(|| too_long(length))
+    Value::try_from(bytes).map_err(|_| too_long(length))
 }
 
 fn too_long(length: impl std::fmt::Display) -> Fault {
@@ -113,7 +113,9 @@ pub unsafe fn rows(at: *const GivenRow, count: usize) -> Result<Vec<Row>, Fault>
 pub fn row_of(given: &GivenRow) -> Result<Row, Fault> {
     let length = usize::try_from(given.length).ok();
     let bytes = length.and_then(|length| given.bytes.get(..length));
-    let value = bytes.and_then(Value::new).ok_or_else(|| too_long(given.length))?;
+    let value = bytes
+        .and_then(|bytes| Value::try_from(bytes).ok())
+        .ok_or_else(|| too_long(given.length))?;
     Ok(Row { key: given.key, value })
 }
 

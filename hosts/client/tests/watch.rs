@@ -10,7 +10,7 @@ use std::time::Duration;
 use support::{World, signal};
 
 fn value(text: &str) -> Value {
-    Value::new(text.as_bytes()).unwrap()
+    Value::try_from(text).unwrap()
 }
 
 /// A watch, and the lines that it prints.

@@ -103,5 +103,5 @@ fn value_of(digits: &str) -> Result<Value, Box<dyn Error>> {
     let bytes: Result<Vec<u8>, _> = (0..digits.len() / 2)
         .map(|at| u8::from_str_radix(&digits[2 * at..2 * at + 2], 16))
         .collect();
-    Value::new(&bytes?).ok_or_else(|| "a value has at most 32 bytes".into())
+    Ok(Value::try_from(&bytes?[..])?)
 }

@@ -60,7 +60,7 @@ fn full() -> Snapshot {
 /// A value of 32 bytes for the key of this place, by what wrote it.
 fn value_of(place: u64, by: u64) -> Value {
     let words = [place, by, !place, !by].map(u64::to_be_bytes);
-    Value::new(words.as_flattened()).unwrap_or_default()
+    Value::try_from(words.as_flattened()).unwrap_or_default()
 }
 
 /// Tries a store, and tells how long each part took.

@@ -160,7 +160,7 @@ fn decode(bytes: &[u8]) -> Option<Bucket> {
         if !ascends || key >= krl::END {
             return None;
         }
-        rows.insert(key, Value::new(value)?);
+        rows.insert(key, Value::try_from(value).ok()?);
         rest = tail;
     }
     Some(rows)
@@ -181,7 +181,7 @@ mod tests {
             .zip(0u8..)
             .map(|(key, place)| {
                 let bytes = vec![place; usize::from(place % 33)];
-                (key, Value::new(&bytes).unwrap())
+                (key, Value::try_from(&bytes[..]).unwrap())
             })
             .collect();
         assert_eq!(rows.len(), 40);

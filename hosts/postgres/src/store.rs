@@ -215,7 +215,7 @@ fn snapshot(loaded: &Loaded, epoch: u64) -> Result<Snapshot, Failure> {
 
 fn entry(row: &Row) -> Result<(u64, Value), Failure> {
     let key: Option<i64> = row.try_get(0).ok();
-    let value = row.try_get(1).ok().and_then(Value::new);
+    let value = row.try_get(1).ok().and_then(|bytes: &[u8]| Value::try_from(bytes).ok());
     let key = key.map(i64::cast_unsigned).filter(|key| *key < krl::END);
     key.zip(value).ok_or_else(|| strange("entry"))
 }

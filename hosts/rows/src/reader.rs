@@ -199,7 +199,7 @@ mod tests {
     const FORMATS: [FileFormat; 2] = [FileFormat::Csv, FileFormat::JsonLines];
 
     fn row(key: u64, value: &[u8]) -> Row {
-        Row { key, value: Value::new(value).unwrap() }
+        Row { key, value: Value::try_from(value).unwrap() }
     }
 
     /// The rows of a text, and why it went no further, if it did not.

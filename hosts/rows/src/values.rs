@@ -40,7 +40,7 @@ impl ValueForm {
     /// If it is no word of this form, or has more than 32 bytes.
     pub fn read(self, word: &str) -> Result<Value, BadValue> {
         let bytes = self.bytes_of(word)?;
-        Value::new(&bytes).ok_or_else(|| {
+        Value::try_from(&bytes[..]).map_err(|_| {
             BadValue(format!("a value has at most 32 bytes, and '{word}' has {}", bytes.len()))
         })
     }
@@ -159,7 +159,7 @@ mod tests {
         ];
         for form in FORMS {
             for bytes in samples {
-                let value = Value::new(bytes).unwrap();
+                let value = Value::try_from(bytes).unwrap();
                 let word = form.show(&value);
                 assert_eq!(form.read(&word).unwrap(), value, "{form:?} {word}");
             }

@@ -19,6 +19,22 @@ const ROOT: u32 = 0;
 /// server's own user and the superuser may say all, and others what the list of users says. By
 /// **plain TCP** nobody can be told from anybody: whoever can connect may say all. So a server does
 /// not listen there at an address beyond the loopback, unless that is allowed.
+///
+/// # Examples
+///
+/// The user 1001 of this machine may be the clients 3 and 4, over a Unix socket:
+///
+/// ```
+/// # let socket = std::env::temp_dir().join(format!("krl-doc-access-{}", std::process::id()));
+/// # let address = format!("unix:{}", socket.display());
+/// use krl::{Access, Listener, MemoryStore, Server};
+///
+/// let access = Access::new().user(1001, "3,4".parse()?);
+/// let listener = Listener::bind(&address.parse()?)?; // as "unix:/run/krl.socket"
+/// let server = Server::builder(listener, MemoryStore::default()).access(access).start()?;
+/// server.stop()?;
+/// # Ok::<(), Box<dyn std::error::Error>>(())
+/// ```
 #[derive(Clone, Debug, Default)]
 #[must_use = "it lets nobody in before a server has it"]
 pub struct Access {

@@ -61,6 +61,27 @@ use std::time::{Duration, Instant};
 /// until the server has kept that. A process that ends without a Bye leaves what it held: other
 /// clients wait for that until a client of its number joins again or it is evicted.
 ///
+/// # Examples
+///
+/// ```
+/// # let folder = std::env::temp_dir().join(format!("krl-doc-client-{}", std::process::id()));
+/// # std::fs::create_dir_all(&folder)?;
+/// # let lock_file = folder.join("client-0.lock");
+/// use krl::{Client, MemoryStore, Outcome, Server, Value};
+///
+/// let listener = std::net::TcpListener::bind("127.0.0.1:0")?;
+/// let server = Server::start(listener, MemoryStore::default())?;
+/// let client = Client::join(server.address(), 0, lock_file)?;
+/// if client.insert(15, Value::from(5))? == Outcome::Exists {
+///     println!("there is a row already");
+/// }
+/// let rows = client.read(10..20)?;
+/// assert_eq!(client.cached(10..20), Some(rows)); // no message
+/// client.leave()?;
+/// # std::fs::remove_dir_all(&folder)?;
+/// # Ok::<(), Box<dyn std::error::Error>>(())
+/// ```
+///
 /// [`Refusal::OtherStore`]: crate::Refusal::OtherStore
 #[derive(Clone)]
 pub struct Client {
@@ -294,6 +315,20 @@ impl Client {
     /// # Errors
     ///
     /// Those of [`Client::pin_for_read`].
+    ///
+    /// # Examples
+    ///
+    /// Any number of clients may count so, and no count is lost:
+    ///
+    /// ```no_run
+    /// use krl::{Client, Error, Outcome, Value};
+    ///
+    /// fn count(client: &Client, key: u64) -> Result<Outcome, Error> {
+    ///     let (rows, pin) = client.pin_for_update(key..=key)?;
+    ///     let last = rows.first().and_then(|row| row.value.to_u64()).unwrap_or(0);
+    ///     pin.set(key, Value::from(last + 1)) // made while the pin holds, or never
+    /// }
+    /// ```
     pub fn pin_for_update(&self, keys: impl RangeBounds<u64>) -> Result<(Vec<Row>, Pin), Error> {
         self.within(self.timeout()).pin_for_update(keys)
     }

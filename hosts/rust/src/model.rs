@@ -13,6 +13,8 @@ pub(crate) mod reach;
 pub(crate) mod refusal;
 pub(crate) mod room;
 pub(crate) mod row;
+#[cfg(feature = "serde")]
+mod serialized;
 pub(crate) mod shard_bounds;
 pub(crate) mod shard_fence;
 pub(crate) mod snapshot;

@@ -71,7 +71,8 @@ impl Server {
         self.status.lock().unwrap_or_else(PoisonError::into_inner).clone()
     }
 
-    /// A view of the server that may live in another thread.
+    /// A view of the server that may live in another thread: of its status, and of all else that it
+    /// shows.
     #[must_use]
     pub fn monitor(&self) -> Monitor {
         Monitor {
@@ -87,12 +88,6 @@ impl Server {
     #[must_use]
     pub fn is_running(&self) -> bool {
         self.thread.as_ref().is_some_and(|thread| !thread.is_finished())
-    }
-
-    /// A reader of the status that may live in another thread.
-    pub fn status_reader(&self) -> impl Fn() -> Status + Send + use<> {
-        let status = Arc::clone(&self.status);
-        move || status.lock().unwrap_or_else(PoisonError::into_inner).clone()
     }
 
     /// Blocks until the server fails. It can't be stopped meanwhile: this call owns it.

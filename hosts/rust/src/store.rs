@@ -20,6 +20,57 @@ use std::time::Duration;
 /// [`StoreError::Deposed`]. That is all that keeps an older server from changing what a newer one
 /// serves: the first that a server commits is [`Change::Started`], and from then on every older
 /// one's changes are refused. A store that lets one process at a time open it has that by itself.
+///
+/// # Examples
+///
+/// A store with all parts but a disk. It is shared as a database is, and so compares who commits:
+///
+/// ```
+/// use krl::{Change, Server, Snapshot, Store, StoreError};
+/// use std::sync::{Arc, Mutex};
+///
+/// #[derive(Default)]
+/// struct Kept {
+///     snapshot: Snapshot,
+///     commits: u64,
+/// }
+///
+/// struct SharedStore {
+///     kept: Arc<Mutex<Kept>>,
+///     own: Snapshot,
+///     commits: u64,
+/// }
+///
+/// impl Store for SharedStore {
+///     fn load(&mut self) -> Result<Snapshot, StoreError> {
+///         let kept = self.kept.lock().unwrap();
+///         (self.own, self.commits) = (kept.snapshot.clone(), kept.commits);
+///         Ok(self.own.clone())
+///     }
+///
+///     fn commit(&mut self, changes: &[Change]) -> Result<(), StoreError> {
+///         let mut kept = self.kept.lock().unwrap();
+///         if kept.commits != self.commits {
+///             return Err(StoreError::Deposed("another server has committed".into()));
+///         }
+///         changes.iter().for_each(|change| self.own.apply(change));
+///         self.commits += 1;
+///         // Here a store on a disk writes the changes in one transaction, and syncs it.
+///         *kept = Kept { snapshot: self.own.clone(), commits: self.commits };
+///         Ok(())
+///     }
+///
+///     fn snapshot(&mut self) -> Result<Snapshot, StoreError> {
+///         Ok(self.own.clone())
+///     }
+/// }
+///
+/// let kept = Arc::new(Mutex::new(Kept::default()));
+/// let store = SharedStore { kept, own: Snapshot::default(), commits: 0 };
+/// let server = Server::start(std::net::TcpListener::bind("127.0.0.1:0")?, store)?;
+/// server.stop()?;
+/// # Ok::<(), Box<dyn std::error::Error>>(())
+/// ```
 pub trait Store: Send {
     /// All that was committed, once, before anything else. What is committed from then on rests on
     /// it.

@@ -36,7 +36,7 @@ fn server(address: &str) -> Server {
 }
 
 fn value(text: &str) -> Value {
-    Value::new(text.as_bytes()).unwrap()
+    Value::try_from(text).unwrap()
 }
 
 fn row(key: u64, text: &str) -> Row {

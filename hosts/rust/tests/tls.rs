@@ -207,7 +207,7 @@ fn what_is_replayed_is_no_message() {
     let servers = krl::Servers::from(Address::Tls(between));
     let servers = servers.with_tls(setup.config(&["krl:client:3"]));
     let client = Client::join(&servers, 3, setup.lock(3)).unwrap();
-    client.insert(10, Value::new(b"a value that nobody sees").unwrap()).unwrap();
+    client.insert(10, Value::try_from("a value that nobody sees").unwrap()).unwrap();
     client.leave().unwrap();
     let before = settled(&server);
     let recorded = heard.lock().unwrap().clone();

@@ -50,7 +50,7 @@ impl Span {
 /// A value of so many bytes, 32 at most.
 pub fn random_value(random: &mut impl Rng, size: u8) -> Value {
     let bytes: [u8; MAX_VALUE_BYTES] = random.r#gen();
-    Value::new(&bytes[..MAX_VALUE_BYTES.min(size.into())]).unwrap_or_default()
+    Value::try_from(&bytes[..MAX_VALUE_BYTES.min(size.into())]).unwrap_or_default()
 }
 
 impl Measured {

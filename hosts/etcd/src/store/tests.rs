@@ -207,7 +207,7 @@ fn a_cluster_that_takes_too_little_is_refused_before_anything_is_stored() {
 fn rows_in(numbers: usize, salt: u64) -> std::collections::BTreeMap<u64, Value> {
     let buckets = Buckets::empty(salt, bucket::FEWEST);
     let keys = (0..400 * bucket::FEWEST as u64).filter(|key| buckets.number_of(*key) < numbers);
-    keys.map(|key| (key, Value::new(&[7; 32]).unwrap())).collect()
+    keys.map(|key| (key, Value::try_from([7u8; 32]).unwrap())).collect()
 }
 
 /// A store with so many buckets and these rows, as no transaction of today makes it.

@@ -2,6 +2,7 @@
 use crate::client::jobs::{Asked, Jobs};
 use crate::client::link::Link;
 use crate::lease::boot_clock::Moment;
+use crate::log::span;
 use crate::model::batch::{self, BatchError, Judged, Mutation};
 use crate::model::change::{Outcome, Write};
 use crate::model::error::Error;
@@ -89,6 +90,8 @@ impl Shared {
         if write.key() >= END {
             return Err(Error::BadKey);
         }
+        let key = write.key();
+        let _span = span::of(name_of(write), self.number, &(key..key + 1));
         self.link.ask(end, |jobs| ask(jobs, write))
     }
 
@@ -100,7 +103,10 @@ impl Shared {
         ask: impl FnOnce(&mut Jobs, Vec<Mutation>) -> Asked<Judged>,
     ) -> Result<Vec<Outcome>, BatchError> {
         let count = writes.len();
-        let made = |writes| self.link.ask(end, |jobs| ask(jobs, writes));
+        let made = |writes: Vec<Mutation>| {
+            let _span = span::of("write_all", self.number, &hull(&writes));
+            self.link.ask(end, |jobs| ask(jobs, writes))
+        };
         let judged = batch::refused(&writes).map_or_else(|| made(writes), Ok);
         judged.unwrap_or_else(Judged::nothing).all(count)
     }
@@ -153,6 +159,20 @@ impl Drop for Shared {
     fn drop(&mut self) {
         self.end_by(Instant::now() + FAREWELL);
     }
+}
+
+fn name_of(write: Write) -> &'static str {
+    match write {
+        Write::Insert(_) => "insert",
+        Write::Put(_) => "put",
+        Write::Delete(_) => "delete",
+    }
+}
+
+/// The least range that has the keys of all these writes.
+fn hull(writes: &[Mutation]) -> Range<u64> {
+    let keys = || writes.iter().map(Mutation::key);
+    keys().min().unwrap_or(0)..keys().max().map_or(0, |last| last + 1)
 }
 
 fn nanoseconds(timeout: Duration) -> u64 {

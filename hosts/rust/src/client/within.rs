@@ -4,11 +4,12 @@ use crate::client::pin::Pin;
 use crate::client::scratch::with_room;
 use crate::client::set;
 use crate::client::shared::{MAX_WAIT, Shared};
+use crate::log::span;
 use crate::model::batch::{BatchError, Mutation};
 use crate::model::change::{Outcome, Write};
 use crate::model::error::Error;
 use crate::model::range::keys_of;
-use crate::model::row::{Row, Value};
+use crate::model::row::{END, Row, Value};
 use std::fmt;
 use std::ops::RangeBounds;
 use std::sync::Arc;
@@ -50,10 +51,11 @@ impl<'c> Within<'c> {
     /// [`Client::read`]: crate::Client::read
     pub fn read(self, keys: impl RangeBounds<u64>) -> Result<Vec<Row>, Error> {
         let keys = keys_of(&keys)?;
-        match with_room(|room| self.shared.scan(&keys, room).then(|| room.clone())) {
-            Some(rows) => Ok(rows),
-            None => self.ask(|jobs| jobs.read(keys)),
+        if let Some(rows) = with_room(|room| self.shared.scan(&keys, room).then(|| room.clone())) {
+            return Ok(rows);
         }
+        let _span = span::of("read", self.shared.number(), &keys);
+        self.ask(|jobs| jobs.read(keys))
     }
 
     /// Inserts a row, as [`Client::insert`] does.
@@ -127,7 +129,11 @@ impl<'c> Within<'c> {
     /// [`Client::forget`]: crate::Client::forget
     pub fn forget(self, keys: impl RangeBounds<u64>) -> Result<(), Error> {
         let keys = keys_of(&keys)?;
-        if keys.is_empty() { Ok(()) } else { self.ask(|jobs| jobs.forget(keys)) }
+        if keys.is_empty() {
+            return Ok(());
+        }
+        let _span = span::of("forget", self.shared.number(), &keys);
+        self.ask(|jobs| jobs.forget(keys))
     }
 
     /// Reads the range and pins it, as [`Client::pin_for_read`] does.
@@ -170,6 +176,7 @@ impl<'c> Within<'c> {
         if keys.is_empty() {
             return Err(Error::BadRange);
         }
+        let _span = span::of("pin", self.shared.number(), &keys);
         let Held { rows, pin } = self.ask(|jobs| jobs.hold(keys, purpose))?;
         Ok((rows, Pin::new(Arc::clone(self.shared), pin)))
     }
@@ -182,6 +189,7 @@ impl<'c> Within<'c> {
     ///
     /// [`Client::leave`]: crate::Client::leave
     pub fn leave(self) -> Result<(), Error> {
+        let _span = span::of("leave", self.shared.number(), &(0..END + 1));
         self.shared.finish_leaving(self.shared.begin_to_leave(), self.end())
     }
 

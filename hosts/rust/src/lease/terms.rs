@@ -26,6 +26,7 @@ pub struct Leases {
 
 /// Why leases can't be so.
 #[derive(Clone, Copy, Debug, PartialEq, Eq)]
+#[non_exhaustive]
 pub enum BadLeases {
     /// It is shorter than 300 milliseconds, or longer than a day.
     Length(Duration),
@@ -89,6 +90,7 @@ impl std::error::Error for BadLeases {}
 
 /// How long a lease still runs, by the server's clock.
 #[derive(Clone, Copy, Debug, PartialEq, Eq)]
+#[cfg_attr(feature = "serde", derive(serde::Serialize))]
 pub enum LeaseLeft {
     /// It does not end: only an operator evicts the client.
     Unending,

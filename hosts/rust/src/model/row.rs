@@ -1,5 +1,7 @@
 //! Rows: keys and values.
+use std::cmp::Ordering;
 use std::fmt;
+use std::hash::{Hash, Hasher};
 
 /// One past the greatest key, 2^63 - 1. Ranges of keys may end one past it.
 pub const END: u64 = (1 << 63) - 1;
@@ -7,9 +9,19 @@ pub const END: u64 = (1 << 63) - 1;
 /// The greatest number of bytes in a value.
 pub const MAX_VALUE_BYTES: usize = 32;
 
-/// A value: 0 to 32 bytes.
+/// A value: 0 to 32 bytes. Values are compared by their bytes, as byte strings are: `"aa"` is before
+/// `"b"`.
+///
+/// ```
+/// use krl::Value;
+///
+/// let (text, number) = (Value::try_from("five")?, Value::from(5));
+/// assert_eq!((text.as_bytes(), number.to_u64()), (&b"five"[..], Some(5)));
+/// assert!(Value::try_from([7u8; 33]).is_err());
+/// # Ok::<(), krl::TooLong>(())
+/// ```
 #[repr(C)]
-#[derive(Clone, Copy, PartialEq, Eq, Hash, PartialOrd, Ord)]
+#[derive(Clone, Copy)]
 pub struct Value {
     length: u64,
     bytes: [u8; MAX_VALUE_BYTES],
@@ -18,6 +30,7 @@ pub struct Value {
 /// A row of the table: a key below [`END`] and its value. In memory it is a `krl_row` of `krl.h`.
 #[repr(C)]
 #[derive(Clone, Copy, Debug, Default, PartialEq, Eq, Hash, PartialOrd, Ord)]
+#[cfg_attr(feature = "serde", derive(serde::Deserialize, serde::Serialize))]
 pub struct Row {
     /// The key.
     pub key: u64,
@@ -33,15 +46,6 @@ pub struct TooLong {
 }
 
 impl Value {
-    /// The value of these bytes, or `None` if there are more than 32.
-    #[must_use]
-    pub fn new(from: &[u8]) -> Option<Value> {
-        let mut bytes = [0; MAX_VALUE_BYTES];
-        bytes.get_mut(..from.len())?.copy_from_slice(from);
-        let length = from.len() as u64;
-        Some(Value { length, bytes })
-    }
-
     /// The bytes of the value.
     #[must_use]
     pub fn as_bytes(&self) -> &[u8] {
@@ -59,8 +63,27 @@ impl Value {
 impl TryFrom<&[u8]> for Value {
     type Error = TooLong;
 
-    fn try_from(bytes: &[u8]) -> Result<Value, TooLong> {
-        Value::new(bytes).ok_or(TooLong { length: bytes.len() })
+    fn try_from(from: &[u8]) -> Result<Value, TooLong> {
+        let mut bytes = [0; MAX_VALUE_BYTES];
+        let room = bytes.get_mut(..from.len()).ok_or(TooLong { length: from.len() })?;
+        room.copy_from_slice(from);
+        Ok(Value { length: from.len() as u64, bytes })
+    }
+}
+
+impl<const LENGTH: usize> TryFrom<&[u8; LENGTH]> for Value {
+    type Error = TooLong;
+
+    fn try_from(bytes: &[u8; LENGTH]) -> Result<Value, TooLong> {
+        bytes[..].try_into()
+    }
+}
+
+impl<const LENGTH: usize> TryFrom<[u8; LENGTH]> for Value {
+    type Error = TooLong;
+
+    fn try_from(bytes: [u8; LENGTH]) -> Result<Value, TooLong> {
+        bytes[..].try_into()
     }
 }
 
@@ -87,6 +110,32 @@ impl From<u64> for Value {
         let mut bytes = [0; MAX_VALUE_BYTES];
         bytes[..8].copy_from_slice(&number.to_be_bytes());
         Value { length: 8, bytes }
+    }
+}
+
+impl PartialEq for Value {
+    fn eq(&self, other: &Value) -> bool {
+        self.as_bytes() == other.as_bytes()
+    }
+}
+
+impl Eq for Value {}
+
+impl PartialOrd for Value {
+    fn partial_cmp(&self, other: &Value) -> Option<Ordering> {
+        Some(self.cmp(other))
+    }
+}
+
+impl Ord for Value {
+    fn cmp(&self, other: &Value) -> Ordering {
+        self.as_bytes().cmp(other.as_bytes())
+    }
+}
+
+impl Hash for Value {
+    fn hash<H: Hasher>(&self, state: &mut H) {
+        self.as_bytes().hash(state);
     }
 }
 
@@ -126,6 +175,18 @@ mod tests {
             TooLong { length: 33 }.to_string(),
             "a value has at most 32 bytes, and this one 33"
         );
+    }
+
+    #[test]
+    fn values_are_compared_by_their_bytes() {
+        let mut values = ["b", "aa", "", "a", "ab"].map(|text| Value::try_from(text).unwrap());
+        values.sort();
+        let texts = values.map(|value| String::from_utf8(value.as_bytes().to_vec()).unwrap());
+        assert_eq!(texts, ["", "a", "aa", "ab", "b"]);
+        // What is past the length counts for nothing.
+        let (mut one, other) = (Value::try_from("a").unwrap(), Value::try_from("a").unwrap());
+        one.bytes[1] = 7;
+        assert_eq!(one, other);
     }
 
     #[test]

@@ -149,6 +149,23 @@ impl Server {
 
     /// Says more of a server before it starts: whom it lets in, how many connections it takes, and the
     /// leases that it grants.
+    ///
+    /// # Examples
+    ///
+    /// ```
+    /// use krl::{Leases, Listener, MemoryStore, Room, Server};
+    /// use std::time::Duration;
+    ///
+    /// let listener = Listener::bind(&"127.0.0.1:0".parse()?)?;
+    /// let server = Server::builder(listener, MemoryStore::default())
+    ///     .leases(Leases::of(Duration::from_secs(10))?)
+    ///     .room(Room::of(100_000)?)
+    ///     .max_connections(80)
+    ///     .start()?;
+    /// println!("{}", server.monitor().status());
+    /// server.stop()?;
+    /// # Ok::<(), Box<dyn std::error::Error>>(())
+    /// ```
     pub fn builder<S: Store + 'static>(
         listener: impl Into<Listener>,
         store: S,

@@ -115,6 +115,14 @@ impl ClosedConnections {
     }
 }
 
+/// As a map from each reason to its count.
+#[cfg(feature = "serde")]
+impl serde::Serialize for ClosedConnections {
+    fn serialize<S: serde::Serializer>(&self, serializer: S) -> Result<S::Ok, S::Error> {
+        serializer.collect_map(self.counts())
+    }
+}
+
 #[cfg(test)]
 mod tests {
     use super::*;

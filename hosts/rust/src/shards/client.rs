@@ -32,6 +32,29 @@ use std::time::Duration;
 /// its own eight pins, and its own room for rows.
 ///
 /// A clone is the same client.
+///
+/// # Examples
+///
+/// ```
+/// # let folder = std::env::temp_dir().join(format!("krl-doc-sharded-{}", std::process::id()));
+/// # std::fs::create_dir_all(&folder)?;
+/// use krl::{MemoryStore, Server, Shard, ShardMap, ShardedClient, Value};
+/// use std::net::TcpListener;
+///
+/// let first = Server::start(TcpListener::bind("127.0.0.1:0")?, MemoryStore::default())?;
+/// let second = Server::start(TcpListener::bind("127.0.0.1:0")?, MemoryStore::default())?;
+/// let map = ShardMap::new(vec![
+///     Shard { first: 0, servers: first.address().into() },
+///     Shard { first: 1000, servers: second.address().into() },
+/// ])?;
+/// let client = ShardedClient::join(map, 0, &folder)?;
+/// client.insert(999, Value::from(1))?;
+/// client.insert(1000, Value::from(2))?;
+/// assert_eq!(client.read(990..1010)?.len(), 2); // both tables at one moment
+/// client.leave()?;
+/// # std::fs::remove_dir_all(&folder)?;
+/// # Ok::<(), Box<dyn std::error::Error>>(())
+/// ```
 #[derive(Clone, Debug)]
 pub struct ShardedClient {
     joined: Arc<Joined>,

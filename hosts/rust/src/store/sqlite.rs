@@ -404,8 +404,8 @@ fn run(
 
 fn row_of(row: &SqlRow<'_>) -> Result<Row, StoreError> {
     let bytes: Vec<u8> = row.get(1)?;
-    let value = Value::new(&bytes)
-        .ok_or_else(|| StoreError::says("a value in the store has more than 32 bytes"))?;
+    let value = Value::try_from(&bytes[..])
+        .map_err(|_| StoreError::says("a value in the store has more than 32 bytes"))?;
     Ok(Row { key: positive(row.get(0)?)?, value })
 }
 

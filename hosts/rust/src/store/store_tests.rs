@@ -28,7 +28,7 @@ pub const REGISTER: Change = Change::Registered { client: 9, incarnation: 1 };
 /// For more bytes.
 #[must_use]
 pub fn row(key: u64, bytes: &[u8]) -> Row {
-    Row { key, value: Value::new(bytes).expect("at most 32 bytes") }
+    Row { key, value: Value::try_from(bytes).expect("at most 32 bytes") }
 }
 
 /// A write of the client of [`REGISTER`] was judged.

@@ -27,6 +27,25 @@ use std::time::{SystemTime, UNIX_EPOCH};
 ///
 /// A clone shares what was read: [`TlsConfig::reload`] changes all clones, and two configurations
 /// are equal if one is a clone of the other and both are of one table.
+///
+/// # Examples
+///
+/// ```no_run
+/// use krl::{Access, Client, Listener, Server, Servers, SqliteStore, TlsConfig};
+///
+/// let shown = TlsConfig::from_files("authority.pem", "server.pem", "server.key")?;
+/// let listener = Listener::bind(&"tls:0.0.0.0:7400".parse()?)?;
+/// let server = Server::builder(listener, SqliteStore::open("table.db")?)
+///     .access(Access::new().tls(shown.clone()))
+///     .start()?;
+///
+/// let own = TlsConfig::from_files("authority.pem", "client-3.pem", "client-3.key")?;
+/// let servers: Servers = "tls:db1:7400".parse()?;
+/// let client = Client::join(servers.with_tls(own), 3, "client-3.lock")?;
+///
+/// shown.reload()?; // the next connections are shown what the files have now
+/// # Ok::<(), Box<dyn std::error::Error>>(())
+/// ```
 #[derive(Clone)]
 pub struct TlsConfig {
     shared: Arc<Shared>,

@@ -6,6 +6,7 @@ use std::time::{Duration, Instant};
 
 /// A client that is registered and has not left, at one moment.
 #[derive(Clone, Debug, PartialEq, Eq)]
+#[cfg_attr(feature = "serde", derive(serde::Serialize))]
 pub struct ClientStatus {
     /// Its number.
     pub client: u8,
@@ -19,6 +20,7 @@ pub struct ClientStatus {
 
 /// The connection of a client.
 #[derive(Clone, Copy, Debug, PartialEq, Eq)]
+#[cfg_attr(feature = "serde", derive(serde::Serialize))]
 pub struct ClientConnection {
     /// Who is at the other end.
     pub peer: PeerAddress,

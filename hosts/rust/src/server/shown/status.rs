@@ -9,6 +9,7 @@ use std::time::Duration;
 
 /// A server at one moment.
 #[derive(Clone, Debug, Default, PartialEq, Eq)]
+#[cfg_attr(feature = "serde", derive(serde::Serialize))]
 pub struct Status {
     /// How many times a server has started on this store.
     pub epoch: u64,

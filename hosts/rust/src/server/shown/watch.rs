@@ -6,6 +6,7 @@ use std::time::{Duration, Instant};
 
 /// A client that waits for a lock.
 #[derive(Clone, Debug, PartialEq, Eq)]
+#[cfg_attr(feature = "serde", derive(serde::Serialize))]
 pub struct Wait {
     /// The client.
     pub client: u8,
@@ -25,6 +26,7 @@ pub struct Wait {
 
 /// How much a client holds.
 #[derive(Clone, Copy, Debug, PartialEq, Eq)]
+#[cfg_attr(feature = "serde", derive(serde::Serialize))]
 pub struct HeldSlots {
     /// The client.
     pub client: u8,

@@ -133,7 +133,7 @@ mod tests {
     #[test]
     fn values_do_not_run_into_one_another() {
         let of = |first: &[u8], second: &[u8]| {
-            let value = |bytes| Value::new(bytes).unwrap();
+            let value = |bytes: &[u8]| Value::try_from(bytes).unwrap();
             let rows = [(1, value(first)), (2, value(second))].into();
             digest(&Snapshot { rows, ..Snapshot::default() })
         };

@@ -16,6 +16,7 @@ mod part;
 
 /// What a file has that is only read.
 #[derive(Clone, Debug, PartialEq, Eq)]
+#[non_exhaustive]
 pub struct StoreFile {
     /// The version of its tables: 0 in a file of before there were versions.
     pub version: i64,
@@ -269,7 +270,7 @@ pub(crate) mod tests {
     fn a_byte_of_a_value_that_changes_on_the_disk_is_noticed() {
         let folder = Folder::new("byte");
         let file = folder.0.join("copy.db");
-        let value = Value::new(b"a value that is easy to find").unwrap();
+        let value = Value::try_from("a value that is easy to find").unwrap();
         let rows = [(5, value)].into();
         SqliteStore::create(&file, &Snapshot { rows, ..snapshot() }).unwrap();
         let mut bytes = std::fs::read(&file).unwrap();
