@@ -4,6 +4,7 @@
 
 ghost use Rattle.std.specs.Prelude.{◌≡◌, None, true, IfOk};
 ghost use Rattle.krl_script.specs.RandomRuns.{random_line, WroteLineOf};
+ghost use Rattle.krl_nodes.specs.Deliveries.{seeds_of};
 ghost use Rattle.krl.specs.Statuses.{RanTo, DroveTo, CameToRest, random_status, rest_status};
 
 mod nodes;
@@ -207,7 +208,7 @@ fn nodes_by<
     G: Gate + Send + Drop,
     H: Gate + Drop,
 >(rt: &R, server: F, first: G, second: H, options: NodesOptions) -> Result<NodesReport, NotRun>
-    ensures { IfOk result (λ report. report.seed ≡ options.policy) }
+    ensures { IfOk result (λ report. report.seeds ≡ seeds_of options.policy) }
 {
     match options.policy {
         Some(seed) => run_nodes_by(rt, rt.alloc(), server, first, second, seed),

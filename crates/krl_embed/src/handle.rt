@@ -1,5 +1,6 @@
 //! Handles.
 ghost use Rattle.std.specs.Prelude.{◌≡◌, is_some, Some, None, IsNone, MatchOption};
+ghost use Rattle.std.specs.Thread.{IsSend};
 
 use crate::endpoint::Endpoint;
 use crate::owned::Owned;
@@ -36,7 +37,8 @@ pub(crate) fn take(alloc: Global, handle: &mut Handle) -> Option<Box<Endpoint>>
 
 // The value. It may go to another thread: no other value has a proof of this call's bound.
 fn crosses<T: Send>(value: T) -> T
-    ensures { result ≡ value }
+    ensures same { result ≡ value }
+    ensures sent { IsSend T.row }
 {
     value
 }

@@ -1,5 +1,6 @@
 //! Readers.
 ghost use Rattle.std.specs.Prelude.{◌≡◌, is_some};
+ghost use Rattle.std.specs.Thread.{IsSync};
 ghost use Rattle.krl_client.specs.Fields.{meaning};
 ghost use Rattle.krl_embed.specs.Clients as calls;
 ghost use Rattle.krl_embed.specs.Endpoints.{IsUntold, Shows, OfClient};
@@ -24,7 +25,8 @@ pub struct Reader {
 
 // The value. Several threads may read it at once: no other value has a proof of this call's bound.
 fn is_shared<T: Sync>(value: &T) -> &T
-    ensures { result.now ≡ value.now }
+    ensures same { result.now ≡ value.now }
+    ensures shared { IsSync T.row }
 {
     value
 }

@@ -1,9 +1,7 @@
 -- The rows of a scan that lasts are the index's at each of its moments.
-use Rattle.std.proofs.Common.{◌≡◌, ℕ, List, Ok, refl, ap, ◌∙◌}
+use Rattle.std.proofs.Common.{◌≡◌, ℕ, List, refl, ap, ◌∙◌}
 use Rattle.krl_messages.specs.Values.{Value}
-use Rattle.krl_steps.specs.declared.step.Step.TheVariants as step
 use Rattle.krl_steps.specs.declared.step.Command.TheVariants as command
-use Rattle.krl_steps.specs.declared.answer.Answer.TheVariants as answered
 use Rattle.krl_world.specs.States.{State, client_of}
 use Rattle.krl_steps.specs.Refusals.{refused_by_client}
 use Rattle.krl_world.specs.Steps.{Steps, of_client, if_runs, named, command_refusal}
@@ -26,6 +24,7 @@ lasts v c lo hi rows w r s (goes_on u x l m e) =
     (moved u w before.0 m, scans_still u.world w.world c lo hi rows e before.1)
 
 pub scans_last : ScansLast
+unfolding Steps
 scans_last v w c lo hi rows r s l =
     let end = lasts v c lo hi rows w r s l in
-    (headline w end.0).scans (step.Command c (command.Scan lo hi)) (Ok (answered.Rows rows)) w.world end.1
+    (headline w end.0).scans c lo hi rows w.world end.1

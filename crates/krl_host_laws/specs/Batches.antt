@@ -9,7 +9,7 @@ use Rattle.krl_messages.specs.Members.{In}
 use Rattle.krl_durable.specs.Registers.{record_of}
 use Rattle.krl_server.specs.Servers.{incarnation_or_0}
 use Rattle.krl_world.specs.declared.message.Message.TheVariants as message
-use Rattle.krl_world.specs.Promises.{answer_message}
+use Rattle.krl_world.specs.Runs.{answer_message}
 use Rattle.krl_world.specs.States.{State, index_of}
 use Rattle.krl_host_laws.specs.Hosts.{Host, HostWorld, IsReached, disk_of}
 

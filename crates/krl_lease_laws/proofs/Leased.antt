@@ -3,9 +3,6 @@ use Rattle.std.proofs.Common.{◌≡◌, inl, inr, ℕ, Bool, true, false, ◌&&
 use Rattle.std.specs.Prelude.{nat_eq}
 use Rattle.std.proofs.lemmas.Bool.{and_parts}
 use Rattle.krl_refinement.proofs.Server.Whole.{all_follow}
-use Rattle.krl_steps.specs.declared.step.Step.TheVariants as step
-use Rattle.krl_steps.specs.declared.step.Command.TheVariants as command
-use Rattle.krl_steps.specs.declared.answer.Answer.TheVariants as told
 use Rattle.krl_world.specs.Promises.{Headline}
 use Rattle.krl_world.specs.Steps.{Steps}
 use Rattle.krl_world.proofs.Functions.Shapes.{reachable_stays}
@@ -147,8 +144,9 @@ module _ (s : System) (f : Follows s) where
       (evicted_on limits (m c i) (v.leases c i) (w.leases c i) after.0 after.1 x) a
 
   they_are_index : ScansAreIndex s
+  unfolding Steps
   they_are_index limits m v w es c i lo hi rows agree h (inl read) r a =
-      (f.holds v.world (reached s f limits m v h)).scans (step.Command c (command.Scan lo hi)) (Ok (told.Rows rows)) (s.view v.world) read.1
+      (f.holds v.world (reached s f limits m v h)).scans c lo hi rows (s.view v.world) read.1
   they_are_index limits m v w es c i lo hi rows agree h (inr x) r a = absurd (too_late limits m v w es c i agree h x r a)
 
 pub scans_of_worlds : ScansAreIndex worlds

@@ -18,7 +18,7 @@ rows_are : (w : State) (opening rows : List (ℕ × Value)) (c lo hi : ℕ) (k :
 rows_are w opening rows c lo hi k low reach up due found =
     let none = is_client c _ low ∙ ap (λ o. if_runs o (λ x. named refused_by_client (command_refusal x (command.Scan lo hi)))) up ∙ ap (named refused_by_client) due in
     let taken : Steps w (step.Command c (command.Scan lo hi)) (Ok (told.Rows rows)) w = takes w w (step.Command c (command.Scan lo hi)) (told.Rows rows) none (k, up, (found, refl)) in
-    scans_before w w (step.Command c (command.Scan lo hi)) (Ok (told.Rows rows)) (by_run w reach.0) taken
+    scans_before w w (step.Command c (command.Scan lo hi)) (Ok (told.Rows rows)) (by_run w reach.0) taken c lo hi rows refl refl
 
 answer_is : (w : State) (opening : List (ℕ × Value)) (c lo hi : ℕ) (k : Client) (a : ScanAnswer) → c ≤ 63 → ReachableFrom opening w → client_of w c ≡ Some k → scan_refusal (span lo hi) ≡ None → Answers k (span lo hi) a → RowsAre (range (index_of w) lo hi) (Ok a)
 answer_is w opening c lo hi k (scanned.Rows rows) low reach up due found = rows_are w opening rows c lo hi k low reach up due found

@@ -8,6 +8,7 @@ use Rattle.krl_nodes.specs.Nodes.{SeatedServer, SeatedClient, ServerTurns, Clien
 use Rattle.krl_nodes.specs.declared.delivery.Delivery.{Delivery}
 use Rattle.krl_nodes.specs.declared.orders.ServerOrder.TheVariants as server_order
 use Rattle.krl_nodes.specs.declared.orders.ClientOrder.TheVariants as client_order
+use Rattle.krl_nodes.specs.declared.run.PolicySeeds.{PolicySeeds}
 use Rattle.krl_nodes.specs.declared.orders.Turn.{Turn}
 use Rattle.krl_nodes.specs.declared.orders.Turn.TheVariants.{Did, Idle, Lost}
 
@@ -15,6 +16,19 @@ use Rattle.krl_nodes.specs.declared.orders.Turn.TheVariants.{Did, Idle, Lost}
 abbrev pub policy_of : Option ℕ → ℕ → Option Lcg
 policy_of None number = None
 policy_of (Some seed) number = Some (generator_of ((seed + number) % 2 ^ 64))
+
+-- the seed from which it picks
+abbrev pub seed_of : Option ℕ → ℕ → Option ℕ
+seed_of None number = None
+seed_of (Some seed) number = Some ((seed + number) % 2 ^ 64)
+
+-- how the node of this number begins to come by its letters
+abbrev pub delivery_of : Option ℕ → ℕ → Delivery
+delivery_of seed number = record { policy = policy_of seed number; seed = seed_of seed number; may_lack = false }
+
+-- the seeds of the nodes of a run: the server has the number 0
+abbrev pub seeds_of : Option ℕ → PolicySeeds
+seeds_of seed = record { server = seed_of seed 0; writer = seed_of seed 1; reader = seed_of seed 2 }
 
 -- the turn found no letter
 abbrev pub is_idle : Result Turn Refused → Bool
@@ -40,12 +54,14 @@ pub record ClientReadsBy (d : Delivery) (n : SeatedClient) (found_none : Bool) (
   pub answer : Result Turn Refused
   pub fetches : ClientFetches d.policy n answer n' d'.policy
   pub none : found_none ≡ is_idle answer
+  pub seed : d'.seed ≡ d.seed
   pub may_lack : d'.may_lack ≡ (is_idle answer && is_some d.policy)
 
 -- so does the server
 pub record ServerReadsBy (d : Delivery) (n : SeatedServer) (d' : Delivery) (n' : SeatedServer) : Type 0 where
   pub answer : Result Turn Refused
   pub fetches : ServerFetches d.policy n answer n' d'.policy
+  pub seed : d'.seed ≡ d.seed
   pub may_lack : d'.may_lack ≡ (is_idle answer && is_some d.policy)
 
 -- which client the server nudges
@@ -60,7 +76,7 @@ pub record NudgesByTurns (is_second : Bool) (d : Delivery) (n : SeatedServer) (i
     (n' : SeatedServer) : Type 0 where
   pub nudges : ServerNudges is_second n n'
   pub other : is_second' ≡ not is_second
-  pub asked : d' ≡ record { policy = d.policy; may_lack = false }
+  pub asked : d' ≡ record { policy = d.policy; seed = d.seed; may_lack = false }
 
 -- the server nudges a client if a letter may be lost; else it reads one
 abbrev pub ServesOnce : Bool → Delivery → SeatedServer → Bool → Delivery → SeatedServer → Type 0

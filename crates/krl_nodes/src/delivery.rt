@@ -19,6 +19,8 @@ use std::sync::Wait;
 #[derive(Drop)]
 pub(crate) struct Delivery {
     policy: Option<Drawn>,
+    // What the policy was drawn from.
+    seed: Option<u64>,
     may_lack: bool,
 }
 
@@ -68,28 +70,38 @@ fn server_fetches<R: Wait>(
 impl Delivery {
     /// The oldest letter first.
     pub(crate) fn in_order() -> Delivery
-        ensures { result ≡ record { policy = None; may_lack = false } }
+        ensures { result ≡ record { policy = None; seed = None; may_lack = false } }
     {
         Delivery {
             policy: None,
+            seed: None,
             may_lack: false,
         }
     }
 
     /// By picks that are drawn from the seed.
     pub(crate) fn drawn(seed: u64) -> Delivery
-        ensures { result ≡ record { policy = Some (generator_of seed); may_lack = false } }
+        ensures { result
+            ≡ record { policy = Some (generator_of seed); seed = Some seed; may_lack = false } }
     {
         Delivery {
             policy: Some(Drawn::new(seed)),
+            seed: Some(seed),
             may_lack: false,
         }
+    }
+
+    /// The seed of its policy, if it has one.
+    pub(crate) fn seed(&self) -> Option<u64>
+        ensures { result ≡ self.now.seed }
+    {
+        self.seed
     }
 
     // Notes what the turn for a letter came to, and says whether there was none.
     fn note(&mut self, is_idle: bool) -> bool
         ensures idle { result ≡ is_idle }
-        ensures same { self.new.policy ≡ self.old.policy }
+        ensures same { (self.new.policy ≡ self.old.policy) × (self.new.seed ≡ self.old.seed) }
         ensures notes { self.new.may_lack ≡ (is_idle && is_some self.old.policy) }
     {
         self.may_lack = is_idle && self.policy.is_some();
@@ -99,7 +111,8 @@ impl Delivery {
     /// Whether the turn before found no letter, though one may be lost. It is asked once.
     pub(crate) fn may_lack(&mut self) -> bool
         ensures lacks { result ≡ self.old.may_lack }
-        ensures once { self.new ≡ record { policy = self.old.policy; may_lack = false } }
+        ensures once { self.new
+            ≡ record { policy = self.old.policy; seed = self.old.seed; may_lack = false } }
     {
         let may_lack = self.may_lack;
         self.may_lack = false;

@@ -33,5 +33,5 @@ pub use orders::{ClientOrder, ServerOrder, Turn};
 pub use policy::{Pick, Policy};
 pub use post::{Chair, Post, Reader};
 pub use refused::{NotClosed, NotRetired, NotSeated};
-pub use run::{NodesReport, NotRun, run_nodes, run_nodes_by};
+pub use run::{NodesReport, NotRun, PolicySeeds, run_nodes, run_nodes_by};
 pub use server::ServerNode;

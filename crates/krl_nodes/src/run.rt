@@ -2,7 +2,7 @@
 ghost use Rattle.std.specs.Prelude.{◌≡◌, ◌≤◌, false, None, Some, IfOk, IfSome};
 ghost use Rattle.krl_modes.specs.declared.point.TheConstants.{END};
 ghost use Rattle.krl_nodes.specs.Nodes.{IsSameServer, IsSameClient};
-ghost use Rattle.krl_nodes.specs.Deliveries.{policy_of};
+ghost use Rattle.krl_nodes.specs.Deliveries.{delivery_of, seeds_of};
 ghost use Rattle.krl_nodes.specs.RunRows.{IsFound, max_turns, seeds};
 ghost use Rattle.krl_nodes.specs.declared.work.TheConstants.{MAX_TURNS};
 
@@ -20,13 +20,23 @@ use std::sync::atomic::{AtomicU64, Ordering};
 use std::thread;
 use std::thread::Threads;
 
+/// From which seed each node drew its picks, if it had a policy.
+#[derive(Clone, Copy)]
+pub struct PolicySeeds {
+    pub server: Option<u64>,
+    /// Client 1.
+    pub writer: Option<u64>,
+    /// Client 2.
+    pub reader: Option<u64>,
+}
+
 /// What the second client read.
 #[derive(Drop)]
 pub struct NodesReport {
     /// The entries from 11 on below 21, with key 15 among them.
     pub rows: Rows,
-    /// The seed of the nodes' policies, if they had any.
-    pub seed: Option<u64>,
+    /// The seeds of the nodes' policies.
+    pub seeds: PolicySeeds,
 }
 
 /// Why there is no report.
@@ -75,7 +85,7 @@ pub(crate) struct Reader {
 impl Work<Office> for Serving {
     ghost ready = { λ s office. s.node.office ≡ office };
 
-    ghost done = { λ s t. IsSameServer s.node t.node };
+    ghost done = { λ s t. IsSameServer s.node t.node × (t.delivery.seed ≡ s.delivery.seed) };
 
     fn work<R: Wait, G: Gate>(
         self,
@@ -93,7 +103,7 @@ impl Work<Office> for Serving {
 impl Work<Office> for Writer {
     ghost ready = { λ w office. w.node.office ≡ office };
 
-    ghost done = { λ w v. IsSameClient w.node v.node };
+    ghost done = { λ w v. IsSameClient w.node v.node × (v.delivery.seed ≡ w.delivery.seed) };
 
     fn work<R: Wait, G: Gate>(
         self,
@@ -120,7 +130,8 @@ impl Work<Office> for Writer {
 impl Work<Office> for Reader {
     ghost ready = { λ r office. r.node.office ≡ office };
 
-    ghost done = { λ r s. IsSameClient r.node s.node × IfSome s.rows (IsFound r.node.opening) };
+    ghost done = { λ r s. IsSameClient r.node s.node × (s.delivery.seed ≡ r.delivery.seed)
+        × IfSome s.rows (IsFound r.node.opening) };
 
     fn work<R: Wait, G: Gate>(
         self,
@@ -219,7 +230,7 @@ fn seeds(alloc: Global) -> Result<Vec<(u64, Value)>, AllocError>
 
 // How the node of this number comes by its letters.
 fn delivery(seed: Option<u64>, number: u64) -> Delivery
-    ensures { result ≡ record { policy = policy_of seed number; may_lack = false } }
+    ensures { result ≡ delivery_of seed number }
 {
     match seed {
         Some(seed) => Delivery::drawn(seed.wrapping_add(number)),
@@ -237,7 +248,7 @@ fn run<R: Threads + Wait + Sync, F: Gate + Send + Drop, G: Gate + Send + Drop, H
     seed: Option<u64>,
 ) -> Result<NodesReport, NotRun>
     ensures found { IfOk result (λ report. IsFound seeds report.rows) }
-    ensures seed { IfOk result (λ report. report.seed ≡ seed) }
+    ensures seeds { IfOk result (λ report. report.seeds ≡ seeds_of seed) }
 {
     let Ok(entries) = seeds(alloc) else {
         return Err(NotRun::OutOfMemory);
@@ -266,14 +277,15 @@ fn run<R: Threads + Wait + Sync, F: Gate + Send + Drop, G: Gate + Send + Drop, H
         delivery: delivery(seed, 2),
         rows: None,
     };
-    let (_serving, (writer, reader)) = together(
+    let (serving, (writer, reader)) = together(
         rt, &office, serving, gate0, writer, gate1, reader, gate2, &ended,
     );
-    let Writer {
-        node: _,
-        delivery: _,
-        is_done,
-    } = writer;
+    let seeds = PolicySeeds {
+        server: serving.delivery.seed(),
+        writer: writer.delivery.seed(),
+        reader: reader.delivery.seed(),
+    };
+    let is_done = writer.is_done;
     let Reader {
         node: _,
         delivery: _,
@@ -282,7 +294,7 @@ fn run<R: Threads + Wait + Sync, F: Gate + Send + Drop, G: Gate + Send + Drop, H
     match rows {
         Some(rows) => {
             if is_done {
-                Ok(NodesReport { rows, seed })
+                Ok(NodesReport { rows, seeds })
             } else {
                 Err(NotRun::GaveUp)
             }
@@ -307,7 +319,7 @@ pub fn run_nodes<
 >(rt: &R, alloc: Global, gate0: F, gate1: G, gate2: H) -> Result<NodesReport, NotRun>
     ensures limit { MAX_TURNS ≡ max_turns }
     ensures found { IfOk result (λ report. IsFound seeds report.rows) }
-    ensures in_order { IfOk result (λ report. report.seed ≡ None) }
+    ensures in_order { IfOk result (λ report. report.seeds ≡ seeds_of None) }
 {
     run(rt, alloc, gate0, gate1, gate2, None)
 }
@@ -330,7 +342,7 @@ pub fn run_nodes_by<
     requires { seed ≤ END }
     ensures limit { MAX_TURNS ≡ max_turns }
     ensures found { IfOk result (λ report. IsFound seeds report.rows) }
-    ensures by_policy { IfOk result (λ report. report.seed ≡ Some seed) }
+    ensures by_policy { IfOk result (λ report. report.seeds ≡ seeds_of (Some seed)) }
 {
     run(rt, alloc, gate0, gate1, gate2, Some(seed))
 }

@@ -183,7 +183,8 @@ pub(crate) fn serve<R: Wait, G: Gate>(
     ended: &AtomicU64,
 ) -> ServerNode
     requires { node.office ≡ office.now }
-    ensures { IsSameServer node result }
+    ensures same { IsSameServer node result }
+    ensures seed { delivery.new.seed ≡ delivery.old.seed }
 {
     let mut is_second = false;
     for _ in rt.forever() {
@@ -214,7 +215,8 @@ pub(crate) fn insert<R: Wait, G: Gate>(
     gate: &mut G,
 ) -> (ClientNode, bool)
     requires { node.office ≡ office.now }
-    ensures { IsSameClient node result.0 }
+    ensures same { IsSameClient node result.0 }
+    ensures seed { delivery.new.seed ≡ delivery.old.seed }
 {
     let mut stage = Writing::Start;
     let mut is_read = false;
@@ -287,6 +289,7 @@ pub(crate) fn read<R: Wait, G: Gate>(
 ) -> (ClientNode, Option<Rows>)
     requires { node.office ≡ office.now }
     ensures node { IsSameClient node result.0 }
+    ensures seed { delivery.new.seed ≡ delivery.old.seed }
     ensures found { IfSome result.1 (IsFound node.opening) }
 {
     let mut stage = Reading::Start;

@@ -131,7 +131,7 @@ accepted_same k (push.Answer number o h) = (refl, refl, refl, refl)
 abbrev ReadsBy : State → ℕ → Pieces → Client → Case → Type 0
 ReadsBy u d ps k x = Goes u d k (receiver.after k x) (receiver.sends ps k x)
 
-client_goes : (u : State) (ps : Pieces) (k : Client) (m : ToClient) → In (message.ToClient m) u.sent → ReadsBy u m.client ps k (receiver.case_of k m)
+pub client_goes : (u : State) (ps : Pieces) (k : Client) (m : ToClient) → In (message.ToClient m) u.sent → ReadsBy u m.client ps k (receiver.case_of k m)
 client_goes u ps k m at = if_case (ReadsBy u m.client ps k) (nat_eq m.client k.number && nat_eq m.incarnation k.incarnation) _ Ignores (λ e. of_body (eqb-true m.incarnation k.incarnation (and_parts (nat_eq m.client k.number) (nat_eq m.incarnation k.incarnation) e).1) m.body refl) (λ e. quiet)
   where
     quiet : ReadsBy u m.client ps k Ignores
@@ -154,7 +154,7 @@ client_goes u ps k m at = if_case (ReadsBy u m.client ps k) (nat_eq m.client k.n
     of_body inc (told.Callback e s keep) is = if_case (ReadsBy u m.client ps k) _ (Lowers s keep) Ignores
         (λ e. same _ _ refl refl refl refl refl (one_asks k.number k.req (says_release k s keep) refl (omega arith))) (λ e. quiet)
 
-reads_number : (k : Client) (x : Case) → (receiver.after k x).writes ≡ k.writes
+pub reads_number : (k : Client) (x : Case) → (receiver.after k x).writes ≡ k.writes
 reads_number k Ignores = refl
 reads_number k AcksAgain = refl
 reads_number k (Adopts epoch) = refl
@@ -184,7 +184,7 @@ reads_silent ps k (Adopts epoch) = one_silent (says_report ps (joined k epoch)) 
 reads_silent ps k (Accepts what) = one_silent (says_ack (accepted k what)) refl
 reads_silent ps k (Lowers s keep) = one_silent (says_release k s keep) refl
 
-reads_write : (ps : Pieces) (k : Client) (m : ToClient) → WriteGoes k (receiver.after k (receiver.case_of k m)) (receiver.sends ps k (receiver.case_of k m))
+pub reads_write : (ps : Pieces) (k : Client) (m : ToClient) → WriteGoes k (receiver.after k (receiver.case_of k m)) (receiver.sends ps k (receiver.case_of k m))
 reads_write ps k m = record {
   follows = reads_follow k m;
   number = inl (reads_number k (receiver.case_of k m));

@@ -44,6 +44,7 @@ pub mod Registered
 pub mod Speaks
 pub mod Parts
 pub mod Manned
+pub mod QuietRounds
 pub mod Growing
 pub mod Outlasting
 mod Names

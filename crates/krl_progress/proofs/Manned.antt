@@ -60,15 +60,15 @@ AskersRun u s = (m : ToServer) (r : Request) (x : Record) → In (message.ToServ
 abbrev PartsRun : State → Server → Type 0
 PartsRun u s = (c : ℕ) → HasPart s c → RunsIn u c s.durable.epoch
 
-record Lasts (u : State) : Type 0 where
-  reached : IsReachable u
-  server : Server
-  up : u.server ≡ Up server
+pub record Lasts (u : State) : Type 0 where
+  pub reached : IsReachable u
+  pub server : Server
+  pub up : u.server ≡ Up server
   serves : is_recovering server.missing ≡ false
   here : PartsRun u server
   askers : AskersRun u server
 
-first : (w : State) → IsReachable w → IsManned w → Lasts w
+pub first : (w : State) → IsReachable w → IsManned w → Lasts w
 first w rw h = record {
   reached = rw;
   server = h.server;
@@ -148,7 +148,7 @@ module _ (u v : State) (step : Step) (answer : Answer) (calm : loses_a_node step
         askers = askers_then;
       }
 
-  lasts_on : Lasts u → Lasts v
+  pub lasts_on : Lasts u → Lasts v
   lasts_on h = by_way (way u v step answer taken.1)
     where
       by_way : Way u v step → Lasts v
@@ -168,7 +168,7 @@ module _ (u v : State) (step : Step) (answer : Answer) (calm : loses_a_node step
 -- Rounds
 
 module _ (reqs writes : ℕ → ℕ) where
-  undisturbed : (u : State) → Lasts u → AsksNoMore reqs writes u → IsUndisturbed reqs writes u
+  pub undisturbed : (u : State) → Lasts u → AsksNoMore reqs writes u → IsUndisturbed reqs writes u
   undisturbed u h quiet = record {
     server = h.server;
     up = h.up;
@@ -184,7 +184,7 @@ module _ (reqs writes : ℕ → ℕ) where
       let rest = run_lasts steps r.1 v (λ z i. safe z (inr i)) next r.3 all.1 in
       ((undisturbed r.1 next all.0, rest.0), rest.1)
 
-  rounds_last : (n from : ℕ) (u v : State) → Lasts u → RoundsWhile (AsksNoMore reqs writes) n from u v → RoundsWhile (IsUndisturbed reqs writes) n from u v
+  pub rounds_last : (n from : ℕ) (u v : State) → Lasts u → RoundsWhile (AsksNoMore reqs writes) n from u v → RoundsWhile (IsUndisturbed reqs writes) n from u v
   rounds_last zero from u v h r = r
   rounds_last (suc n) from u v h r =
       let one = run_lasts r.0 u r.1 r.2.stays h r.3 r.4 in

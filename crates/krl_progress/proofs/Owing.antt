@@ -22,7 +22,7 @@ abbrev pub count : Bool → ℕ
 count true = 1
 count false = 0
 
-count_low : (b : Bool) → count b ≤ 1
+pub count_low : (b : Bool) → count b ≤ 1
 count_low true = omega arith
 count_low false = omega arith
 
@@ -99,16 +99,16 @@ pays_away e k l away gone = pays_none e (Some k) (Some l) (waits_away e l gone) 
 
 -- A push that is awaited pays
 
-record PaysOne (k l : Client) : Type 0 where
-  waits : count (is_waiting l.asked) ≤ count (is_waiting k.asked)
-  writes : count (is_some (outstanding l.written)) ≤ count (is_some (outstanding k.written))
-  less : count (is_waiting l.asked) + count (is_some (outstanding l.written)) < count (is_waiting k.asked) + count (is_some (outstanding k.written))
+pub record PaysOne (k l : Client) : Type 0 where
+  pub waits : count (is_waiting l.asked) ≤ count (is_waiting k.asked)
+  pub writes : count (is_some (outstanding l.written)) ≤ count (is_some (outstanding k.written))
+  pub less : count (is_waiting l.asked) + count (is_some (outstanding l.written)) < count (is_waiting k.asked) + count (is_some (outstanding k.written))
 
 pays_reply : (k l : Client) → is_waiting k.asked ≡ true → is_waiting l.asked ≡ false → l.written ≡ k.written → PaysOne k l
 pays_reply k l w free alike = let a = ap count w in let b = ap count free in let c = ap (λ x. count (is_some (outstanding x))) alike in
     record { waits = omega (arith, a, b); writes = omega (arith, c); less = omega (arith, a, b, c) }
 
-accepted_pays : (k : Client) (b : PushBody) → IsAwaited k b → PaysOne k (accepted k b)
+pub accepted_pays : (k : Client) (b : PushBody) → IsAwaited k b → PaysOne k (accepted k b)
 accepted_pays k (push.Grant r hs) a = pays_reply k (accepted k (push.Grant r hs)) a.0 (replied k r Granted refl a.0 a.1) refl
 accepted_pays k (push.Absent r point) a = pays_reply k (accepted k (push.Absent r point)) a.0 (replied k r Absent refl a.0 a.1) refl
 accepted_pays k (push.Answer n o y) a =
@@ -119,7 +119,7 @@ accepted_pays k (push.Answer n o y) a =
 
 -- What becomes of a client
 
-no_more : (k l : Client) (ms : List ToServer) → WriteGoes k l ms → l.writes ≡ k.writes → count (is_some (outstanding l.written)) ≤ count (is_some (outstanding k.written))
+pub no_more : (k l : Client) (ms : List ToServer) → WriteGoes k l ms → l.writes ≡ k.writes → count (is_some (outstanding l.written)) ≤ count (is_some (outstanding k.written))
 no_more k l ms x alike = by_option (outstanding k.written) refl
   where
     by_option : (o : Option WriteOp) → outstanding k.written ≡ o → count (is_some (outstanding l.written)) ≤ count (is_some o)
@@ -148,7 +148,7 @@ module _ (e : ℕ) (u : State) (d : ℕ) (k : Client) (no_write : k.epoch ≢ e 
 
 -- A step of the world
 
-at_place : (u : State) (d : ℕ) (x : ClientPlace) (c : ℕ) (P : Option Client → Option Client → Type 0) → (c ≡ d → P (client_of u c) x.client) → ((o : Option Client) → P o o) → P (client_of u c) (if nat_eq c d then x else u.places c).client
+pub at_place : (u : State) (d : ℕ) (x : ClientPlace) (c : ℕ) (P : Option Client → Option Client → Type 0) → (c ≡ d → P (client_of u c) x.client) → ((o : Option Client) → P o o) → P (client_of u c) (if nat_eq c d then x else u.places c).client
 at_place u d x c P own other = eq_cases c d
     (λ f. subst (P (client_of u c)) (sym (ap (λ b. (if b then x else u.places c).client) (eq-eqb c d f))) (own f))
     (λ ne. subst (P (client_of u c)) (sym (ap (λ b. (if b then x else u.places c).client) (ne_eqb c d ne))) (other (client_of u c)))

@@ -1,5 +1,5 @@
 -- That lock requests are answered.
-use Rattle.std.specs.Prelude.{◌≡◌, ◌<◌, ℕ, false, Some, length}
+use Rattle.std.specs.Prelude.{◌≡◌, ◌<◌, ℕ, suc, false, Some, length}
 use Rattle.krl_modes.specs.declared.point.TheConstants.{END}
 use Rattle.krl_modes.specs.Spans.{Bounds}
 use Rattle.krl_durable.specs.Registers.{record_of}
@@ -59,3 +59,17 @@ MannedWorldsAnswerIn n =
     (reqs writes : ℕ → ℕ) (w v : State) (s : Server) (c : ℕ) (k : Client) → IsReachable w → IsManned w →
     AsksNoMore reqs writes w → RoundsWhile (AsksNoMore reqs writes) n (length w.sent) w v →
     v.server ≡ Up s → client_of v c ≡ Some k → k.epoch ≡ s.durable.epoch → is_waiting k.asked ≡ false
+
+-- no client pins, and each client of the server's epoch has two push numbers left
+abbrev pub HasRoom : State → Type 0
+HasRoom w =
+    (s : Server) (c : ℕ) (k : Client) → w.server ≡ Up s → client_of w c ≡ Some k →
+    ((span : Bounds) → meets_pin k span ≡ false) × (k.epoch ≡ s.durable.epoch → suc (suc k.seen) < END)
+
+-- From each manned world with room undisturbed good rounds can be made, as many as you like. So the laws of such rounds
+-- are not empty.
+abbrev pub UndisturbedRoundsCanBeMade : Type 0
+UndisturbedRoundsCanBeMade =
+    (w : State) (n : ℕ) → IsReachable w → IsManned w → HasRoom w →
+    (reqs : ℕ → ℕ) × (writes : ℕ → ℕ) × (v : State) × IsUndisturbed reqs writes w
+    × RoundsWhile (IsUndisturbed reqs writes) n (length w.sent) w v

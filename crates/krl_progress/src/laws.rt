@@ -9,6 +9,7 @@ ghost use Rattle.krl_progress.specs.FirstWaits.{FirstWaitsEndIn};
 ghost use Rattle.krl_progress.specs.Standstills.{NoStandstillIn};
 ghost use Rattle.krl_progress.specs.Calm.{SomebodyMovesOnIn};
 ghost use Rattle.krl_progress.specs.Locks.{LocksAreAnsweredIn, MannedWorldsAnswerIn};
+ghost use Rattle.krl_progress.specs.Locks.{UndisturbedRoundsCanBeMade};
 ghost use Rattle.krl_progress.specs.Pushes.{PushesArriveIn};
 ghost use Rattle.krl_progress.specs.Requests.{RequestsAreKnown, PushesAreAwaited};
 ghost use Rattle.krl_progress.specs.Requests.{RequestsAreRegistered};
@@ -46,6 +47,11 @@ pub fn writes_move_on()
 /// From each reachable world good rounds can be made, as many as you like.
 pub fn rounds_can_be_made()
     ensures { RoundsCanBeMade }
+{}
+
+/// From each manned world with room undisturbed good rounds can be made, as many as you like.
+pub fn undisturbed_rounds_can_be_made()
+    ensures { UndisturbedRoundsCanBeMade }
 {}
 
 /// In every reachable world: if the server runs, it and each client that runs in its epoch agree

@@ -27,7 +27,8 @@ use Rattle.krl_steps.specs.declared.answer.Answer.TheVariants as told
 use Rattle.krl_steps.specs.declared.refused.Refused.{Refused}
 use Rattle.krl_world.specs.States.{State, fresh, index_of, opened}
 use Rattle.krl_world.specs.Steps.{Steps}
-use Rattle.krl_world.specs.Promises.{IsCompatible, ScansIndex, CommandIsRange}
+use Rattle.krl_world.specs.Promises.{IsCompatible, ScansIndex}
+use Rattle.krl_script.specs.ScannedRows.{AnswerIsRange, CommandIsRange, RowsAreRange}
 use Rattle.krl_world.specs.Fields as world
 use Rattle.krl_world.specs.FieldParts as field_parts
 use Rattle.krl_script.specs.declared.random.RandomRun.{RandomRun}
@@ -72,7 +73,7 @@ unfolding Steps
 scan_stays w v c lo hi (Ok answer) t = t.1.2.1
 scan_stays w v c lo hi (Err e) t = t.0
 
-command_same : (w v : State) (c : ℕ) (what : Command) (r : Result Answer Refused) → Steps w (step.Command c what) r v → ScansIndex (index_of w) (step.Command c what) r → ScansIndex (index_of v) (step.Command c what) r
+command_same : (w v : State) (c : ℕ) (what : Command) (r : Result Answer Refused) → Steps w (step.Command c what) r v → RowsAreRange (index_of w) (step.Command c what) r → RowsAreRange (index_of v) (step.Command c what) r
 command_same w v c (command.Lock p hi m) (Ok answer) t h = tt
 command_same w v c (command.Write op) (Ok answer) t h = tt
 command_same w v c (command.Scan lo hi) (Ok answer) t h =
@@ -83,8 +84,21 @@ command_same w v c (command.Unpin id) (Ok answer) t h = tt
 command_same w v c command.Leave (Ok answer) t h = tt
 command_same w v c what (Err e) t h = tt
 
+answer_range : (m : Index) (c lo hi : ℕ) (answer : Answer) → ScansIndex m (step.Command c (command.Scan lo hi)) (Ok answer) → AnswerIsRange m lo hi answer
+answer_range m c lo hi (told.Rows rows) h = h c lo hi rows refl refl
+answer_range m c lo hi other h = tt
+
+command_range : (m : Index) (c : ℕ) (what : Command) (answer : Answer) → ScansIndex m (step.Command c what) (Ok answer) → CommandIsRange m what answer
+command_range m c (command.Scan lo hi) answer h = answer_range m c lo hi answer h
+command_range m c other answer h = tt
+
+-- what a world promises of a scan, case by case
+pub rows_range : (m : Index) (s : Step) (r : Result Answer Refused) → ScansIndex m s r → RowsAreRange m s r
+rows_range m (step.Command c what) (Ok answer) h = command_range m c what answer h
+rows_range m other r h = tt
+
 -- a scan's rows are the index's after it too
-pub scans_same : (w v : State) (what : Step) (r : Result Answer Refused) → Steps w what r v → ScansIndex (index_of w) what r → ScansIndex (index_of v) what r
+pub scans_same : (w v : State) (what : Step) (r : Result Answer Refused) → Steps w what r v → RowsAreRange (index_of w) what r → RowsAreRange (index_of v) what r
 scans_same w v (step.Deliver i) r t h = tt
 scans_same w v (step.Command c what) r t h = command_same w v c what r t h
 scans_same w v (step.Tick c) r t h = tt
@@ -105,7 +119,7 @@ pub sight_is : (w : world.Fields) (waits : Waits) (g : Lcg) (waiting : Option �
 sight_is w waits g waiting sent down oldest all none = rw (oldest, all, sent_is w, none, down_is w.server) refl
 
 -- a step was taken, and what it sent is counted
-pub taken : (w v : world.Fields) (waits passed counted : Waits) (g : Lcg) (what : Step) (r : Result Answer Refused) (sent : ℕ) → Steps (world.meaning w) what r (world.meaning v) → passed ≡ waits_since what r waits → sent ≡ length v.sent → counted ≡ sent_to passed sent → ScansIndex (index_of (world.meaning w)) what r → (taken : TakesDrawn (world.meaning w) waits what g (record { world = world.meaning v; waits = counted; generator = g })) × (taken.outcome ≡ r)
+pub taken : (w v : world.Fields) (waits passed counted : Waits) (g : Lcg) (what : Step) (r : Result Answer Refused) (sent : ℕ) → Steps (world.meaning w) what r (world.meaning v) → passed ≡ waits_since what r waits → sent ≡ length v.sent → counted ≡ sent_to passed sent → RowsAreRange (index_of (world.meaning w)) what r → (taken : TakesDrawn (world.meaning w) waits what g (record { world = world.meaning v; waits = counted; generator = g })) × (taken.outcome ≡ r)
 taken w v waits passed counted g what r sent t p e h s = (
   record {
     outcome = r;
@@ -207,17 +221,17 @@ module _ (p : ℕ × Value → Bool) (xs : List (List (ℕ × Value))) (rows lef
       append_cancel_left (filter p (flat (take i xs))) left (filter p x ++ filter p (flat (drop (i + 1) xs))) (sym h ∙ all ∙ whole)
 
 -- what a scan answered
-pub range_answered : (m : Index) (s : Step) (r : Result Answer Refused) (c : ℕ) (what : Command) (lo hi : ℕ) (answer : Answer) (rows shown entries : List (ℕ × Value)) → s ≡ step.Command c what → what ≡ command.Scan lo hi → r ≡ Ok answer → answer ≡ told.Rows rows → shown ≡ rows → entries ≡ map.entries m → ScansIndex m s r → shown ≡ filter (λ e. nat_le lo e.0 && nat_lt e.0 hi) entries
+pub range_answered : (m : Index) (s : Step) (r : Result Answer Refused) (c : ℕ) (what : Command) (lo hi : ℕ) (answer : Answer) (rows shown entries : List (ℕ × Value)) → s ≡ step.Command c what → what ≡ command.Scan lo hi → r ≡ Ok answer → answer ≡ told.Rows rows → shown ≡ rows → entries ≡ map.entries m → RowsAreRange m s r → shown ≡ filter (λ e. nat_le lo e.0 && nat_lt e.0 hi) entries
 range_answered m s r c what lo hi answer rows shown entries of_client scans ok gives same all h =
-    let of_scan : ScansIndex m (step.Command c (command.Scan lo hi)) r = subst (λ (x : Step). ScansIndex m x r) (of_client ∙ ap (λ (x : Command). step.Command c x) scans) h in
-    let range : ScansIndex m (step.Command c (command.Scan lo hi)) (Ok (told.Rows rows)) = subst (λ (x : Result Answer Refused). ScansIndex m (step.Command c (command.Scan lo hi)) x) (ok ∙ ap Ok gives) of_scan in
+    let of_scan : RowsAreRange m (step.Command c (command.Scan lo hi)) r = subst (λ (x : Step). RowsAreRange m x r) (of_client ∙ ap (λ (x : Command). step.Command c x) scans) h in
+    let range : RowsAreRange m (step.Command c (command.Scan lo hi)) (Ok (told.Rows rows)) = subst (λ (x : Result Answer Refused). RowsAreRange m (step.Command c (command.Scan lo hi)) x) (ok ∙ ap Ok gives) of_scan in
     same ∙ range ∙ ap (λ (xs : List (ℕ × Value)). filter (λ e. nat_le lo e.0 && nat_lt e.0 hi) xs) (sym all)
 
-pub answered_range : (m : Index) (s : Step) (r : Result Answer Refused) (c : ℕ) (what : Command) (lo hi : ℕ) (answer : Answer) (rows shown entries : List (ℕ × Value)) → s ≡ step.Command c what → what ≡ command.Scan lo hi → r ≡ Ok answer → answer ≡ told.Rows rows → shown ≡ rows → entries ≡ map.entries m → shown ≡ filter (λ e. nat_le lo e.0 && nat_lt e.0 hi) entries → ScansIndex m s r
+pub answered_range : (m : Index) (s : Step) (r : Result Answer Refused) (c : ℕ) (what : Command) (lo hi : ℕ) (answer : Answer) (rows shown entries : List (ℕ × Value)) → s ≡ step.Command c what → what ≡ command.Scan lo hi → r ≡ Ok answer → answer ≡ told.Rows rows → shown ≡ rows → entries ≡ map.entries m → shown ≡ filter (λ e. nat_le lo e.0 && nat_lt e.0 hi) entries → RowsAreRange m s r
 answered_range m s r c what lo hi answer rows shown entries of_client scans ok gives same all h =
-    let range : ScansIndex m (step.Command c (command.Scan lo hi)) (Ok (told.Rows rows)) = sym same ∙ h ∙ ap (λ (xs : List (ℕ × Value)). filter (λ e. nat_le lo e.0 && nat_lt e.0 hi) xs) all in
-    let of_scan : ScansIndex m (step.Command c (command.Scan lo hi)) r = subst (λ (x : Result Answer Refused). ScansIndex m (step.Command c (command.Scan lo hi)) x) (sym (ok ∙ ap Ok gives)) range in
-    subst (λ (x : Step). ScansIndex m x r) (sym (of_client ∙ ap (λ (x : Command). step.Command c x) scans)) of_scan
+    let range : RowsAreRange m (step.Command c (command.Scan lo hi)) (Ok (told.Rows rows)) = sym same ∙ h ∙ ap (λ (xs : List (ℕ × Value)). filter (λ e. nat_le lo e.0 && nat_lt e.0 hi) xs) all in
+    let of_scan : RowsAreRange m (step.Command c (command.Scan lo hi)) r = subst (λ (x : Result Answer Refused). RowsAreRange m (step.Command c (command.Scan lo hi)) x) (sym (ok ∙ ap Ok gives)) range in
+    subst (λ (x : Step). RowsAreRange m x r) (sym (of_client ∙ ap (λ (x : Command). step.Command c x) scans)) of_scan
 
 -- Deliveries of what is late
 

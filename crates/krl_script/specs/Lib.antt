@@ -4,5 +4,6 @@ pub mod Undelivered
 pub mod Transcripts
 pub mod Fields
 pub mod Runs
+pub mod ScannedRows
 pub mod RandomRuns
 pub mod Rests

@@ -8,7 +8,7 @@ use Rattle.krl_messages.specs.Values.{Value}
 use Rattle.krl_world.specs.States.{State, ServerPlace, Up, Down, fresh, index_of}
 use Rattle.krl_world.specs.Shown.{sent_count}
 use Rattle.krl_world.specs.Steps.{Steps}
-use Rattle.krl_world.specs.Promises.{ScansIndex}
+use Rattle.krl_script.specs.ScannedRows.{RowsAreRange}
 use Rattle.krl_world.specs.Fields as world
 use Rattle.krl_steps.specs.declared.step.Step.{Step}
 use Rattle.krl_steps.specs.declared.step.Step.TheVariants as step
@@ -69,7 +69,7 @@ pub record TakesDrawn (w : State) (waits : Waits) (what : Step) (generator : Lcg
   pub outcome : Result Answer Refused
   pub world : State
   pub steps : Steps w what outcome world
-  pub rows : ScansIndex (index_of world) what outcome
+  pub rows : RowsAreRange (index_of world) what outcome
   pub leaves : s' ≡ record {
     world = world;
     waits = sent_to (waits_since what outcome waits) (sent_count world);

@@ -2,7 +2,8 @@
 ghost use Rattle.std.specs.Prelude.{◌≡◌, ℕ, ◌≤◌, None, Some, true, IfOk, IsErrOf, is_none};
 ghost use Rattle.krl_world.specs.States.{index_of};
 ghost use Rattle.krl_world.specs.Fields.{meaning};
-ghost use Rattle.krl_world.specs.Promises.{IsCompatible, ScansIndex};
+ghost use Rattle.krl_world.specs.Promises.{IsCompatible};
+ghost use Rattle.krl_script.specs.ScannedRows.{RowsAreRange};
 ghost use Rattle.krl_world.specs.Steps.{IsReachable};
 ghost use Rattle.krl_text.specs.declared.limits.TheConstants.{MAX_STEPS};
 ghost use Rattle.krl_text.specs.Limits.{max_interruptions, max_steps};
@@ -118,10 +119,10 @@ impl RandomRun {
     // Whether what the step answered is what the index has, and the clients hold what goes
     // together.
     fn is_sound_after(&self, step: Step, outcome: &Result<Answer, Refused>) -> bool
-        ensures sound { ScansIndex (index_of (meaning self.now.world)) step outcome.now
+        ensures sound { RowsAreRange (index_of (meaning self.now.world)) step outcome.now
             → IsCompatible (meaning self.now.world) → result ≡ true }
         ensures rows { result ≡ true
-            → ScansIndex (index_of (meaning self.now.world)) step outcome.now }
+            → RowsAreRange (index_of (meaning self.now.world)) step outcome.now }
         ensures looks { result ≡ true
             → is_none (first_unsound (meaning self.now.world) 4 (numbers_below 64)) ≡ true }
     {
@@ -134,7 +135,7 @@ impl RandomRun {
             self.old.waiting step self.old.draws (stage_of self.new))
             × (taken.outcome ≡ outcome)) }
         ensures rows { IfOk result (λ outcome.
-            ScansIndex (index_of (meaning self.new.world)) step outcome) }
+            RowsAreRange (index_of (meaning self.new.world)) step outcome) }
         ensures sound { IfOk result (λ outcome. IsCompatible (meaning self.new.world)) }
     {
         // A copy: the prover takes a value that is handed on as moved.

@@ -6,7 +6,7 @@ ghost use Rattle.krl_blocks.specs.Runs.{runs_of};
 ghost use Rattle.krl_messages.specs.Values as values;
 ghost use Rattle.krl_world.specs.States.{index_of};
 ghost use Rattle.krl_world.specs.Fields.{meaning};
-ghost use Rattle.krl_world.specs.Promises.{ScansIndex};
+ghost use Rattle.krl_script.specs.ScannedRows.{RowsAreRange};
 
 use krl_blocks::Entries;
 use krl_messages::Value;
@@ -58,8 +58,8 @@ fn are_range(entries: &Entries<'_, Value>, rows: &[(u64, Value)], lo: u64, hi: u
 
 /// Whether what a step answered is what the index has, if it is a scan's rows.
 pub fn answers_index(world: &World, step: Step, outcome: &Result<Answer, Refused>) -> bool
-    ensures sound { ScansIndex (index_of (meaning world.now)) step outcome.now → result ≡ true }
-    ensures looks { result ≡ true → ScansIndex (index_of (meaning world.now)) step outcome.now }
+    ensures sound { RowsAreRange (index_of (meaning world.now)) step outcome.now → result ≡ true }
+    ensures looks { result ≡ true → RowsAreRange (index_of (meaning world.now)) step outcome.now }
 {
     let Step::Command(_, command) = step else {
         return true;

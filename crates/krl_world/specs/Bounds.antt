@@ -64,19 +64,12 @@ first_bound d = table_of (start d)
 -- the message that arrives registers this client anew, or marks it left
 abbrev pub clears_in : ServerPlace → Option Message → ℕ → Bool
 clears_in (Up s) (Some (message.ToServer m)) c = nat_eq c m.client && clears (case_of s m)
-clears_in (Up s) (Some (message.ToClient m)) c = false
-clears_in (Up s) None c = false
-clears_in (Down d) arrived c = false
+clears_in place arrived c = false
 
+-- the step registers this client anew, or marks it left
 abbrev pub step_clears : State → Step → ℕ → Bool
 step_clears w (step.Deliver i) c = clears_in w.server (message_at w.sent i) c
-step_clears w (step.Command d what) c = false
-step_clears w (step.Tick d) c = false
-step_clears w (step.Nudge d) c = false
-step_clears w (step.StartClient d) c = false
-step_clears w (step.CrashClient d) c = false
-step_clears w step.StartServer c = false
-step_clears w step.CrashServer c = false
+step_clears w other c = false
 
 -- while nobody serves the bound stays, but for those clients
 abbrev pub cleared : (ℕ → Bool) → Bound → Bound
@@ -86,6 +79,7 @@ cleared gone b = record {
   index = b.index;
 }
 
+-- the table of a server that serves, or else what was kept
 abbrev pub bound_at : ServerPlace → Bound → Bound
 bound_at (Up s) kept = if is_recovering s.missing then kept else table_of s
 bound_at (Down d) kept = kept
@@ -104,9 +98,11 @@ pub data HasBound : State → Bound → Type 0 where
 
 -- What lies within it
 
+-- the range part is at most the other one
 abbrev pub IsRangeWithin : RangePart → RangePart → Type 0
 IsRangeWithin r top = range_at_most r top ≡ true
 
+-- the key part is at most the other one
 abbrev pub IsKeyWithin : KeyPart → KeyPart → Type 0
 IsKeyWithin k top = key_at_most k top ≡ true
 
@@ -124,11 +120,13 @@ pub record IsHoldingWithin (b : Bound) (c : ℕ) (h : Holding) : Type 0 where
   pub range : (p : ℕ) → contains h.span p ≡ true → IsRangeWithin (range_of h.mode) (b.range_at c p)
   pub key : (p : ℕ) → contains h.span p ≡ true → is_last h.span p ≡ true → IsKeyWithin (key_of h.mode) (b.key_at c p)
 
+-- each holding of a push to the client
 abbrev pub IsPushWithin : Bound → ℕ → PushBody → Type 0
 IsPushWithin b c (push.Grant req hs) = AllByRecursion (IsHoldingWithin b c) hs
 IsPushWithin b c (push.Absent req point) = Unit {0}
 IsPushWithin b c (push.Answer number o h) = IsHoldingWithin b c h
 
+-- the push with this body
 abbrev pub push_message : ℕ → ℕ → ℕ → ℕ → PushBody → Message
 push_message c incarnation epoch number body =
     message.ToClient (record { client = c; incarnation = incarnation; body = told.Push epoch number body })
@@ -144,17 +142,19 @@ pub record IsBounded (w : State) (b : Bound) : Type 0 where
 
 -- Over restarts
 
+-- the epoch that a client names in a message, or 0
 abbrev pub epoch_said : ToServerBody → ℕ
-epoch_said said.Hello = 0
-epoch_said said.Bye = 0
 epoch_said (said.Report epoch pieces) = epoch
 epoch_said (said.Request request) = request.epoch
+epoch_said other = 0
 
+-- the epoch that a server names in a message
 abbrev pub epoch_told : ToClientBody → ℕ
 epoch_told (told.Epoch epoch) = epoch
 epoch_told (told.Push epoch number body) = epoch
 epoch_told (told.Callback epoch s keep) = epoch
 
+-- the report of these pieces
 abbrev pub report_message : ℕ → ℕ → ℕ → Pieces → Message
 report_message c incarnation epoch pieces =
     message.ToServer (record { client = c; incarnation = incarnation; body = said.Report epoch pieces })
@@ -188,6 +188,7 @@ pub record IsRecoveryWithin (w : State) (b : Bound) (s : Server) : Type 0 where
   pub taken_covers : (c : ℕ) (r : Record) (pieces : Pieces) → IsAwaited w s c r pieces → (d : ℕ) →
       lists (adopts s c pieces).missing d ≡ false → Covers (table_with s c pieces) w d
 
+-- what holds in each epoch, also while a server recovers
 pub record HoldsOverRestarts (w : State) (b : Bound) : Type 0 where
   -- no message has an epoch above the durable one
   pub said : (m : ToServer) → In (message.ToServer m) w.sent → epoch_said m.body ≤ (durable_of w.server).epoch

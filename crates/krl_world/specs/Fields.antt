@@ -19,17 +19,21 @@ pub record Fields : Type 0 where
   pub sent : List Message
   pub writes : List AppliedWrite
 
+-- the server that it stands for
 abbrev pub node_of : KeptNode → ServerPlace
 node_of (kept.Up s) = Up (server_state.meaning s)
 node_of (kept.Down d) = Down d
 
+-- the client, if there is one
 abbrev pub client_there : Option client_fields.Fields → Option clients.Client
 client_there None = None
 client_there (Some k) = Some (client_fields.meaning k)
 
+-- the place that it stands for
 abbrev pub place_of : KeptClientPlace → ClientPlace
 place_of x = record { last_incarnation = x.last_incarnation; client = client_there x.client }
 
+-- a place at which no client was started
 abbrev pub kept_nobody : KeptClientPlace
 kept_nobody = record { last_incarnation = 0; client = None }
 

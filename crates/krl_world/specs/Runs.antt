@@ -3,13 +3,16 @@ use Rattle.std.specs.Prelude.{◌≡◌, ◌≤◌, ℕ, true, [], ◌∷◌, No
 use Rattle.std.specs.FinMap as map
 use Rattle.krl_modes.specs.declared.mode.Mode.TheVariants as mode
 use Rattle.krl_messages.specs.declared.holding.Holding.{Holding}
+use Rattle.krl_messages.specs.declared.outcome.Outcome.{Outcome}
 use Rattle.krl_messages.specs.declared.outcome.Outcome.TheVariants as outcome
 use Rattle.krl_messages.specs.declared.write_op.WriteOp.TheVariants as write
 use Rattle.krl_messages.specs.declared.to_client.ToClientBody.TheVariants as told
+use Rattle.krl_messages.specs.declared.to_client.PushBody.TheVariants as push
 use Rattle.krl_messages.specs.declared.to_server.ToServerBody.TheVariants as said
 use Rattle.krl_messages.specs.declared.pieces.Pieces.{Pieces}
 use Rattle.krl_messages.specs.Members.{In}
 use Rattle.krl_durable.specs.Registers.{Durable}
+use Rattle.krl_world.specs.declared.message.Message.{Message}
 use Rattle.krl_world.specs.declared.message.Message.TheVariants as message
 use Rattle.krl_steps.specs.declared.step.Step.TheVariants as step
 use Rattle.krl_steps.specs.declared.step.Command.TheVariants as command
@@ -17,7 +20,6 @@ use Rattle.krl_steps.specs.declared.answer.Answer.TheVariants as answered
 use Rattle.krl_world.specs.States.{State, Down, durable_of, index_of}
 use Rattle.krl_world.specs.Shown.{is_serving}
 use Rattle.krl_world.specs.Steps.{span, Steps, IsReachable}
-use Rattle.krl_world.specs.Promises.{answer_message}
 
 -- a scan from a cache gives an entry
 abbrev pub ScansSomewhere : Type 0
@@ -30,6 +32,15 @@ abbrev pub ScansWhileDown : Type 0
 ScansWhileDown =
     (w : State) × (d : Durable) × IsReachable w × (w.server ≡ Down d)
     × Steps w (step.Command 0 (command.Scan 0 11)) (Ok (answered.Rows ((10, 1 ∷ []) ∷ []))) w
+
+-- the push of this epoch and number that tells the client the outcome of its write
+abbrev pub answer_message : ℕ → ℕ → ℕ → ℕ → ℕ → Outcome → Holding → Message
+answer_message c incarnation epoch push_number number o h =
+    message.ToClient (record {
+      client = c;
+      incarnation = incarnation;
+      body = told.Push epoch push_number (push.Answer number o h);
+    })
 
 -- a client was told that its insert is Applied, and it stands in the list of writes
 abbrev pub WritesSomewhere : Type 0

@@ -74,6 +74,7 @@ CannotMigrate d r =
 
 -- Refusals, apart from memory: the first reason in the written order
 
+-- a refusal by its name in a world
 abbrev pub named : {A : Type 0} → (A → Refused) → Option A → Option Refused
 named f None = None
 named f (Some r) = Some (f r)
@@ -101,18 +102,22 @@ message_at sent (suc i) = slice_get sent i
 abbrev pub of_client : ℕ → Option Refused → Option Refused
 of_client c r = if nat_le MAX_CLIENTS c then Some refused.BadClient else r
 
+-- Down if the client does not run
 abbrev pub if_runs : Option Client → (Client → Option Refused) → Option Refused
 if_runs None f = Some refused.Down
 if_runs (Some k) f = f k
 
+-- Down if no server runs
 abbrev pub server_down : ServerPlace → Option Refused
 server_down (Up s) = None
 server_down (Down d) = Some refused.Down
 
+-- why no server starts
 abbrev pub server_start : ServerPlace → Option Refused
 server_start (Up s) = Some refused.Running
 server_start (Down d) = if server.can_start d then None else Some refused.Spent
 
+-- why the step is refused, if it is
 abbrev pub refusal_of : State → Step → Option Refused
 refusal_of w (step.Deliver i) = if is_some (message_at w.sent i) then None else Some refused.NoMessage
 refusal_of w (step.Command c what) =
@@ -128,6 +133,7 @@ refusal_of w step.CrashServer = server_down w.server
 
 -- Deliveries
 
+-- the write, if this outcome is Applied
 abbrev pub if_applied : Outcome → AppliedWrite → List AppliedWrite
 if_applied outcome.Applied x = x ∷ []
 if_applied other x = []
@@ -153,6 +159,7 @@ ClientReads w (Some k) m w' =
     (receiver.sends ps k (receiver.case_of k m)))
 ClientReads w None m w' = w' ≡ w
 
+-- the message goes to its node
 abbrev pub Delivers : State → Option Message → State → Type 0
 Delivers w (Some (message.ToServer m)) w' = ServerReads w w.server m w'
 Delivers w (Some (message.ToClient m)) w' = ClientReads w (client_of w m.client) m w'
@@ -162,11 +169,10 @@ Delivers w None w' = ⊥
 
 -- what a client says of a scan is the answer
 abbrev pub ScanAnswers : Client → Bounds → Answer → Type 0
-ScanAnswers k s answered.Done = ⊥
-ScanAnswers k s (answered.Pinned id) = ⊥
 ScanAnswers k s (answered.Rows rows) = Commands.Answers k s (scan_answer.Rows rows)
 ScanAnswers k s (answered.Miss p) = Commands.Answers k s (scan_answer.Miss p)
 ScanAnswers k s (answered.Pending n) = Commands.Answers k s (scan_answer.Pending n)
+ScanAnswers k s other = ⊥
 
 -- a client that runs obeys a command
 abbrev pub Obeys : State → ℕ → Client → Command → Answer → State → Type 0
@@ -193,10 +199,12 @@ abbrev pub nudged : State → ServerPlace → ℕ → State
 nudged w (Up s) c = served w (Up s) (server.nudge s c) []
 nudged w (Down d) c = w
 
+-- a server starts on what the last one left
 abbrev pub started : State → ServerPlace → State
 started w (Up s) = w
 started w (Down d) = served w (Up (server.start d)) [] []
 
+-- a server that runs crashes
 abbrev pub crashed : State → ServerPlace → State
 crashed w (Up s) = served w (Down (server.crash s)) [] []
 crashed w (Down d) = w
@@ -229,23 +237,18 @@ Arrives w None = ⊥
 
 -- a scan takes memory for its rows alone
 abbrev pub CommandTakesMemory : Client → Command → Type 0
-CommandTakesMemory k (command.Lock point hi m) = Unit {0}
-CommandTakesMemory k (command.Write op) = Unit {0}
 CommandTakesMemory k (command.Scan lo hi) = (is_writing_in k (span lo hi) ≡ false) × CoversAll k.belief (span lo hi)
-CommandTakesMemory k (command.Lower lo hi keep) = Unit {0}
 CommandTakesMemory k (command.Pin lo hi) = ⊥
 CommandTakesMemory k (command.Unpin id) = ⊥
-CommandTakesMemory k command.Leave = Unit {0}
+CommandTakesMemory k other = Unit {0}
 
+-- the step takes memory, and may be refused for want of it
 abbrev pub TakesMemory : State → Step → Type 0
 TakesMemory w (step.Deliver i) = Arrives w (message_at w.sent i)
 TakesMemory w (step.Command c what) = (k : Client) × (client_of w c ≡ Some k) × CommandTakesMemory k what
-TakesMemory w (step.Tick c) = Unit {0}
-TakesMemory w (step.Nudge c) = Unit {0}
-TakesMemory w (step.StartClient c) = Unit {0}
 TakesMemory w (step.CrashClient c) = ⊥
-TakesMemory w step.StartServer = Unit {0}
 TakesMemory w step.CrashServer = ⊥
+TakesMemory w other = Unit {0}
 
 -- Runs
 

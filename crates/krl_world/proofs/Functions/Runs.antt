@@ -1,7 +1,11 @@
 -- What a step of a reachable world keeps, and what a run of steps is.
 use Rattle.krl_world.proofs.Names.{◌≡◌, ℕ, ◌+◌, ◌<◌, ◌≤◌, List, [], ◌∷◌, ◌++◌, length, drop, get_or, refl, sym, ap, subst, ◌∙◌, drop-cons, add-one, drop_of_length-le, append-nil, append_assoc}
 use Rattle.krl_world.proofs.Names.{Result, all_follow, Step, Answer, Refused, State, index_of, Steps, RunsWith, IsReachable, IsCompatible, ScansIndex, WritesOnce, Bound, HasBound, IsBounded}
-use Rattle.krl_world.proofs.Names.{HoldsOverRestarts, CanGoOn}
+use Rattle.krl_world.proofs.Names.{HoldsOverRestarts, CanGoOn, Takes}
+use Rattle.std.specs.Prelude.{Ok}
+use Rattle.krl_steps.specs.declared.step.Step.TheVariants as step
+use Rattle.krl_steps.specs.declared.step.Command.TheVariants as command
+use Rattle.krl_steps.specs.declared.answer.Answer.TheVariants as answered
 use Rattle.krl_world.proofs.Promises.Kept.{headline_holds, bounded_holds, restarts_holds}
 use Rattle.krl_world.proofs.Functions.Shapes.{reachable_stays}
 use Rattle.krl_world.proofs.Progress.CanGoOn.{can_go_on}
@@ -12,6 +16,11 @@ compatible_at v h = (headline_holds all_follow v h).compatible
 pub writes_at : (v : State) → IsReachable v → WritesOnce v
 writes_at v h = (headline_holds all_follow v h).writes
 
+-- a step that succeeds is taken
+taken_as : (w v : State) (s t : Step) (r : Result Answer Refused) (a : Answer) → s ≡ t → r ≡ Ok a → Steps w s r v → Takes w t a v
+unfolding Steps
+taken_as w v s t r a is ok h = subst (λ (x : Step). Steps w x (Ok a) v) is (subst (λ (x : Result Answer Refused). Steps w s x v) ok h)
+
 -- a step from one world to the next, of which the first is reachable
 module _ (w v : State) (s : Step) (r : Result Answer Refused) (h : IsReachable w) (t : Steps w s r v) where
   pub reachable_after : IsReachable v
@@ -21,7 +30,7 @@ module _ (w v : State) (s : Step) (r : Result Answer Refused) (h : IsReachable w
   compatible_after = compatible_at v reachable_after
 
   pub scans_before : ScansIndex (index_of w) s r
-  scans_before = (headline_holds all_follow w h).scans s r v t
+  scans_before c lo hi rows is ok = (headline_holds all_follow w h).scans c lo hi rows v (taken_as w v s (step.Command c (command.Scan lo hi)) r (answered.Rows rows) is ok t)
 
   pub writes_after : WritesOnce v
   writes_after = writes_at v reachable_after

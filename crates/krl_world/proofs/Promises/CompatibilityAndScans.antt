@@ -2,10 +2,9 @@
 use Rattle.krl_world.proofs.Names.{◌≡◌, ◌≢◌, ℕ, ◌≤◌, ◌<◌, ◌∙◌, Bool, true, false, ◌||◌, ◌&&◌, cond, Option, Some, None, List, ◌⊎◌, inl, inr, refl, sym, ap, subst, ⊎_elim, arith, nat_eq, leb-true}
 use Rattle.krl_world.proofs.Names.{eqb-true, eqb-false, and_parts, not-false, nat_cmp, find-where_key, is_sorted-where_key, END, TOP, RangePart, KeyPart, ranges_compatible, keys_compatible}
 use Rattle.krl_world.proofs.Names.{reads_key, reads_gap, Bounds, IsPointOf, contains, Value, Logged, ranges_agree_by_table, keys_agree_by_table, Index, Belief, is_covered, is_span, CoversAll}
-use Rattle.krl_world.proofs.Names.{AreRows, Client, is_writing_in, Answers, is_pending, finds_rows, misses, scan_refusal, ShowsClient, ShowsPlace, passed, Step, Command, Answer, Refused, ServerPlace}
-use Rattle.krl_world.proofs.Names.{Up, Down, State, durable_of, index_of, client_of, range_believed, key_believed, span, command_refusal, Steps, Obeys, refused_by_client, IsCompatible}
-use Rattle.krl_world.proofs.Names.{CommandIsRange, ScansIndex}
-use Rattle.std.specs.Prelude.{if◌then◌else◌, nat_lt, nat_le, Result, Ok, Err}
+use Rattle.krl_world.proofs.Names.{AreRows, Client, is_writing_in, Answers, is_pending, finds_rows, misses, scan_refusal, ShowsClient, ShowsPlace, passed, ServerPlace}
+use Rattle.krl_world.proofs.Names.{Up, Down, State, durable_of, index_of, client_of, range_believed, key_believed, span, command_refusal, Takes, refused_by_client, IsCompatible}
+use Rattle.std.specs.Prelude.{if◌then◌else◌, nat_lt, nat_le}
 use Rattle.std.specs.declared.cmp.Ordering.TheVariants.{Equal}
 use Rattle.std.specs.FinMap as map
 use Rattle.krl_modes.specs.declared.part.RangePart.TheVariants as range
@@ -140,27 +139,7 @@ rows_of_scan w of log c lo hi k m scan up is free covers =
     (λ p at. sym (value_is w of log c k (span lo hi) p (nat_eq p END) m scan place.1 free (covers p at) at top refl))
     (range_rows (index_of w) lo hi)
 
-command_range : (w v : State) (of : ℕ → Link) (log : List Logged) (c : ℕ) (k : Client) (what : Command) (answer : Answer) → Mirrors w of log → machine.ScanIsIndex (machine_of w.server of log) → client_of w c ≡ Some k → command_refusal k what ≡ None → Obeys w c k what answer v → CommandIsRange (index_of w) what answer
-command_range w v of log c k (command.Lock point hi m) answer h scan up ok d = tt
-command_range w v of log c k (command.Write op) answer h scan up ok d = tt
-command_range w v of log c k (command.Scan lo hi) told.Done h scan up ok d = tt
-command_range w v of log c k (command.Scan lo hi) (told.Pinned id) h scan up ok d = tt
-command_range w v of log c k (command.Scan lo hi) (told.Rows rows) h scan up ok d = scan_rows w of log c lo hi k rows (scanned.Rows rows) h scan up ok d.0 refl
-command_range w v of log c k (command.Scan lo hi) (told.Miss p) h scan up ok d = tt
-command_range w v of log c k (command.Scan lo hi) (told.Pending n) h scan up ok d = tt
-command_range w v of log c k (command.Lower lo hi keep) answer h scan up ok d = tt
-command_range w v of log c k (command.Pin lo hi) answer h scan up ok d = tt
-command_range w v of log c k (command.Unpin id) answer h scan up ok d = tt
-command_range w v of log c k command.Leave answer h scan up ok d = tt
-
-pub scans_world : (w : State) (of : ℕ → Link) (log : List Logged) → Mirrors w of log → machine.ScanIsIndex (machine_of w.server of log) → (s : Step) (r : Result Answer Refused) (v : State) → Steps w s r v → ScansIndex (index_of w) s r
-unfolding Steps
-scans_world w of log h scan (step.Deliver i) r v t = tt
-scans_world w of log h scan (step.Command c what) (Ok answer) v t = command_range w v of log c t.1.0 what answer h scan t.1.1 (not_named refused_by_client (command_refusal t.1.0 what) (runs_ok (client_of w c) t.1.0 _ t.1.1 (client_ok c _ t.0))) t.1.2
-scans_world w of log h scan (step.Command c what) (Err e) v t = tt
-scans_world w of log h scan (step.Tick c) r v t = tt
-scans_world w of log h scan (step.Nudge c) r v t = tt
-scans_world w of log h scan (step.StartClient c) r v t = tt
-scans_world w of log h scan (step.CrashClient c) r v t = tt
-scans_world w of log h scan step.StartServer r v t = tt
-scans_world w of log h scan step.CrashServer r v t = tt
+-- the rows of a scan that is taken
+pub scans_world : (w : State) (of : ℕ → Link) (log : List Logged) → Mirrors w of log → machine.ScanIsIndex (machine_of w.server of log) → (c lo hi : ℕ) (rows : List (ℕ × Value)) (v : State) → Takes w (step.Command c (command.Scan lo hi)) (told.Rows rows) v → rows ≡ index.range (index_of w) lo hi
+scans_world w of log h scan c lo hi rows v t = let k = t.1.0 in
+    scan_rows w of log c lo hi k rows (scanned.Rows rows) h scan t.1.1 (not_named refused_by_client (command_refusal k (command.Scan lo hi)) (runs_ok (client_of w c) k _ t.1.1 (client_ok c _ t.0))) t.1.2.0 refl

@@ -1,7 +1,8 @@
 -- What the machine promises of writes holds in each world that shows in it.
 use Rattle.krl_world.proofs.Names.{◌≡◌, ◌≢◌, ℕ, ◌∙◌, false, cond, Option, Some, None, List, [], ◌∷◌, ◌++◌, ◌⊎◌, inl, inr, refl, sym, ap, subst, ⊎_elim}
 use Rattle.krl_world.proofs.Names.{nat_cmp_total, Value, Outcome, WriteOp, In, in_both, Op, Link, Logged, entry_after, Index, written, op_of, is_applied, AppliedWrite, State, index_of, IsListed}
-use Rattle.krl_world.proofs.Names.{IsOnce, fold, IsDue, AreDue, WritesOnce}
+use Rattle.krl_world.proofs.Names.{IsOnce, replayed, IsDue, AreDue, WritesOnce, Message}
+use Rattle.krl_world.specs.Promises.{AsksFor, asks, TellsOutcome, tells}
 use Rattle.std.specs.Cmp.{unsigned_tied}
 use Rattle.std.specs.FinMap as map
 use Rattle.krl_messages.specs.declared.outcome.Outcome.TheVariants as outcome
@@ -61,7 +62,7 @@ once_is [] h = tt
 once_is (e ∷ es) h = once_snoc (oldest_first es) (as_applied e) (once_is es h.1)
     (λ x i c n m. let r = of_log es x i in let s = r.same in h.0 r.entry r.at (cc (c, ap (λ (d : AppliedWrite). d.client) s)) (cc (n, ap (λ (d : AppliedWrite). d.incarnation) s)) (cc (m, ap (λ (d : AppliedWrite). d.number) s)))
 
--- The index is the fold
+-- The index is what they make of the first one
 
 -- a write makes of a map what the machine makes of its look-ups
 written_at : (m : Index) (x : WriteOp) (q : ℕ) → map.get (written m x) q ≡ entry_after (op_of x) (map.get m q) q
@@ -74,17 +75,17 @@ there_and_back (links.Insert k v) = refl
 there_and_back (links.Put k v) = refl
 there_and_back (links.Delete k) = refl
 
-fold_snoc : (m : Index) (xs : List AppliedWrite) (y : AppliedWrite) → fold m (xs ++ (y ∷ [])) ≡ written (fold m xs) y.op
-fold_snoc m [] y = refl
-fold_snoc m (x ∷ xs) y = fold_snoc (written m x.op) xs y
+replayed_snoc : (m : Index) (xs : List AppliedWrite) (y : AppliedWrite) → replayed m (xs ++ (y ∷ [])) ≡ written (replayed m xs) y.op
+replayed_snoc m [] y = refl
+replayed_snoc m (x ∷ xs) y = replayed_snoc (written m x.op) xs y
 
-fold_is : (m : Index) (es : List Logged) (q : ℕ) → map.get (fold m (oldest_first es)) q ≡ machine.replay (map.get m) es q
-fold_is m [] q = refl
-fold_is m (e ∷ es) q =
-    ap (λ (n : Index). map.get n q) (fold_snoc m (oldest_first es) (as_applied e))
-    ∙ written_at (fold m (oldest_first es)) (op_back e.wrote.op) q
-    ∙ ap (λ x. entry_after x (map.get (fold m (oldest_first es)) q) q) (there_and_back e.wrote.op)
-    ∙ ap (λ o. entry_after e.wrote.op o q) (fold_is m es q)
+replayed_is : (m : Index) (es : List Logged) (q : ℕ) → map.get (replayed m (oldest_first es)) q ≡ machine.replay (map.get m) es q
+replayed_is m [] q = refl
+replayed_is m (e ∷ es) q =
+    ap (λ (n : Index). map.get n q) (replayed_snoc m (oldest_first es) (as_applied e))
+    ∙ written_at (replayed m (oldest_first es)) (op_back e.wrote.op) q
+    ∙ ap (λ x. entry_after x (map.get (replayed m (oldest_first es)) q) q) (there_and_back e.wrote.op)
+    ∙ ap (λ o. entry_after e.wrote.op o q) (replayed_is m es q)
 
 -- Each was due
 
@@ -93,32 +94,43 @@ due_same (links.Insert k v) m f h d = sym (h k) ∙ d
 due_same (links.Put k v) m f h d = (d.0, sym (h k) ∙ d.1)
 due_same (links.Delete k) m f h d = (d.0, sym (h k) ∙ d.1)
 
-due_snoc : (m : Index) (xs : List AppliedWrite) (y : AppliedWrite) → AreDue m xs → IsDue y.op (fold m xs) → AreDue m (xs ++ (y ∷ []))
+due_snoc : (m : Index) (xs : List AppliedWrite) (y : AppliedWrite) → AreDue m xs → IsDue y.op (replayed m xs) → AreDue m (xs ++ (y ∷ []))
 due_snoc m [] y h d = (d, tt)
 due_snoc m (x ∷ xs) y h d = (h.0, due_snoc (written m x.op) xs y h.1 d)
 
 due_is : (m : Index) (es : List Logged) → machine.IsProper (map.get m) es → AreDue m (oldest_first es)
 due_is m [] h = tt
-due_is m (e ∷ es) h = due_snoc m (oldest_first es) (as_applied e) (due_is m es h.1) (due_same e.wrote.op (fold m (oldest_first es)) (machine.replay (map.get m) es) (λ q. sym (fold_is m es q)) h.0)
+due_is m (e ∷ es) h = due_snoc m (oldest_first es) (as_applied e) (due_is m es h.1) (due_same e.wrote.op (replayed m (oldest_first es)) (machine.replay (map.get m) es) (λ q. sym (replayed_is m es q)) h.0)
 
-not_applied : (o : Outcome) → o ≢ outcome.Applied → is_applied o ≡ false
-not_applied outcome.Applied n = absurd (n refl)
-not_applied outcome.Exists n = refl
-not_applied outcome.Absent n = refl
-not_applied outcome.NotHeld n = refl
-not_applied outcome.Full n = refl
+-- What was asked and told
 
-pub writes_world : (w : State) (of : ℕ → Link) (log : List Logged) → Mirrors w of log → machine.WritesOnce (first_of w.opening) (machine_of w.server of log) → WritesOnce w
-writes_world w of log m h = record {
-  once = subst IsOnce (sym m.writes) (once_is log h.once);
-  fold = subst (λ xs. fold w.opening.index xs ≡ index_of w) (sym m.writes)
-      (map.same_map nat_cmp_total map.nat_cmp-IsAntisymmetric _ _ (λ q. fold_is w.opening.index log q ∙ h.fold q ∙ index_is w.server q));
-  due = subst (AreDue w.opening.index) (sym m.writes) (due_is w.opening.index log h.proper);
-  same = λ x i epoch seen op j. let r = of_log log x (subst (λ xs. In x xs) m.writes i) in let s = r.same in
+or_applied : (o : Outcome) → (is_applied o ≡ false → ⊥) → o ≡ outcome.Applied
+or_applied outcome.Applied n = refl
+or_applied outcome.Exists n = absurd (n refl)
+or_applied outcome.Absent n = absurd (n refl)
+or_applied outcome.NotHeld n = absurd (n refl)
+or_applied outcome.Full n = absurd (n refl)
+
+module _ (w : State) (of : ℕ → Link) (log : List Logged) (m : Mirrors w of log) (h : machine.WritesOnce (first_of w.opening) (machine_of w.server of log)) where
+  as_asked : (x : AppliedWrite) (op : WriteOp) (d : Message) → In x w.writes → In d w.sent → AsksFor x.client x.incarnation x.number op d → x.op ≡ op
+  as_asked x op _ i j (asks epoch seen) = let r = of_log log x (subst (λ xs. In x xs) m.writes i) in let s = r.same in
       let at = m.from _ j in
       let at' = subst (λ c. In (record { head = record { inc = x.incarnation; epoch = epoch; seen = seen }; number = x.number; op = op_of op }) (of c).writes) (ap (λ (d : AppliedWrite). d.client) s) at.1 in
       let e : op_of op ≡ r.entry.wrote.op = h.same r.entry r.at _ at' (ap (λ (d : AppliedWrite). d.incarnation) s) (ap (λ (d : AppliedWrite). d.number) s) in
-      ap (λ (d : AppliedWrite). d.op) s ∙ ap op_back (sym e) ∙ back_of op;
-  told = λ c inc epoch n number x i. let p = m.to _ i in listed_is w of log c inc number m (h.told c _ p.0 p.2 refl);
-  told_not = λ c inc epoch n number o x ne i l. let p = m.to _ i in h.told_not c _ p.0 p.2 (not_applied o ne) (is_listed w of log c inc number m l);
-}
+      ap (λ (d : AppliedWrite). d.op) s ∙ ap op_back (sym e) ∙ back_of op
+
+  as_told : (c inc number : ℕ) (o : Outcome) (d : Message) → In d w.sent → TellsOutcome c inc number o d → (o ≡ outcome.Applied → IsListed w.writes c inc number) × (IsListed w.writes c inc number → o ≡ outcome.Applied)
+  as_told c inc number o _ i (tells epoch n x) = let p = m.to _ i in (
+    (λ e. listed_is w of log c inc number m (h.told c _ p.0 p.2 (ap is_applied e))),
+    (λ l. or_applied o (λ ne. h.told_not c _ p.0 p.2 ne (is_listed w of log c inc number m l))),
+  )
+
+  pub writes_world : WritesOnce w
+  writes_world = record {
+    at_most_once = subst IsOnce (sym m.writes) (once_is log h.once);
+    index = subst (λ xs. replayed w.opening.index xs ≡ index_of w) (sym m.writes)
+        (map.same_map nat_cmp_total map.nat_cmp-IsAntisymmetric _ _ (λ q. replayed_is w.opening.index log q ∙ h.fold q ∙ index_is w.server q));
+    each_due = subst (AreDue w.opening.index) (sym m.writes) (due_is w.opening.index log h.proper);
+    operation = as_asked;
+    told = as_told;
+  }
