@@ -10,8 +10,8 @@
 # than its sources, is proved and built first.
 #
 # The simulator is a proved program. If it is proved and built, and none of its sources is newer, that program runs. If
-# it is not, the same sources run unproved, within about a minute. With --prove before the words, or alone, every crate
-# of the simulator is proved first, and the program is built.
+# it is not, the same sources run unproved, within about a minute. With --prove before the words, or by itself, every
+# crate of the simulator is proved first, and the program is built.
 #
 # Only what is to be proved, or runs unproved, needs `rt`, the command of the Rattle kit. What a build needs is looked
 # for before it begins; ./krl doctor prints it.
@@ -70,7 +70,7 @@ The simulator, in which a world of one server and up to 64 clients runs in one p
 
 Options:
   --prove        Prove and build the simulator first, and then run what follows, if something does
-  -h, --help     Print this; behind serve, client, script, random or nodes print the help of that
+  -h, --help     Print this; after serve, client, script, random or nodes print the help of that
   -V, --version  Print the version of the simulator
 
 The server and the client are built over a library whose proof takes some 20 minutes on four
@@ -162,7 +162,7 @@ by_chain() {
         }' | sort -rn | cut -d ' ' -f 2
 }
 
-# Calls rt in the folder $1 with the words behind $2, and keeps what it says as $2.log. If it fails, the end of that
+# Calls rt in the folder $1 with the words after $2, and keeps what it says as $2.log. If it fails, the end of that
 # is shown. All processors work for the crate for which the others wait; another takes what they leave.
 call_rt() {
     folder=$1 log=$work/$2.log lower=10

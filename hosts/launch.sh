@@ -84,7 +84,7 @@ run() {
     exec "$program" "$@"
 }
 
-# Builds the program $1 if it is older than the library or than what lies in the folders behind it. What is missing for
+# Builds the program $1 if it is older than the library or than what lies in the folders after it. What is missing for
 # that is reported before the proof begins.
 build_if_older() {
     host=$1

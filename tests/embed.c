@@ -2,7 +2,7 @@
  *
  *     embed N      the Nth allocation is refused (none if N is 0)
  *
- * A call that is refused for want of memory is made again, and must then be done; what is lost is said again by a tick.
+ * A call that is refused for want of memory is made again, and must then be done; what is lost is sent again by a tick.
  * In the end the client must have read and written what it has without a refusal. The status is 0 if it has, 1 if it
  * has not, and 2 if fewer than N allocations were made.
  * What the calls on leases answer is compared too: they take no memory.

@@ -45,7 +45,7 @@ def body_at(text, begin, end):
 
 def emptied(crate, path, text, changed, room):
     """The text, in which the body of each function that is not changed does nothing and never ends: its callers see
-    its contract alone, and the prover has no model of the body to make. A constant function keeps its body, since
+    only its contract, and the prover has no model of the body to make. A constant function keeps its body, since
     others compute with it."""
     for begin, end, function in sorted(functions_in(path, text), reverse=True):
         names, body = names_of(crate, function), body_at(text, begin, end)
@@ -150,7 +150,7 @@ def judge(edit, said, is_control):
 
 def tried(crate, edits, kit, is_control, log, kept):
     """Tries these edits, and returns each with its judgement: in one check, if the prover can read them together.
-    Edits that are read alone may not be read together, as when they make two functions call each other."""
+    Edits that are read by themselves may not be read together, as when they make two functions call each other."""
     changed = {it for edit in edits for it in edit.functions}
     said = check(crate, [] if is_control else edits, changed, kit, log, kept)
     if is_read(said):

@@ -1,6 +1,6 @@
 #!/bin/sh
 # What a client's cache costs: a scan of 100 rows, a lowering over 100 slots, and the adoption of one slot, in
-# ordered maps at 1,024 and at 65,536 entries, beside ordered maps in Rust, and in plain lists at 1,024.
+# ordered maps at 1,024 and at 65,536 entries, compared with ordered maps in Rust, and in plain lists at 1,024.
 #
 #   bench/cache/run.sh          needs rt and rustc on the path; some minutes, most of them proof
 #

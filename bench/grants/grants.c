@@ -1,4 +1,4 @@
-/* What grants of several slots cost, by the library alone: a server and its clients in one process. Each message is
+/* What grants of several slots cost, by the library only: a server and its clients in one process. Each message is
  * spelled and read, and handed over in memory.
  *
  *     grants reads REACH ROWS     a first scan of so many rows (lock, grant and acknowledgement, until the rows are

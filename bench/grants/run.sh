@@ -1,5 +1,5 @@
 #!/bin/sh
-# What grants of several slots cost, by the library alone, and how much memory those who wait for them take. It prints
+# What grants of several slots cost, by the library only, and how much memory those who wait for them take. It prints
 # the tables of docs/BENCH_SESSIONS.md, "Long grants".
 #
 #     bench/grants/run.sh [LIBRARY..]

@@ -1,6 +1,6 @@
 #!/bin/sh
-# Measures what a message and its answer take beside an echo over the same kind of socket, and what a message costs the
-# threads of a server.
+# Measures what a message and its answer take compared with an echo over the same kind of socket, and what a message
+# costs the threads of a server.
 #
 #   bench/hosts/trips.sh DRIVE [OTHER]    each is a krl_drive; with two of them, five runs of each by turns
 #

@@ -209,7 +209,7 @@ static void time_writes(struct sender *sender)
     expect(tell(batch, 1) == 0, "a release changes nothing that is kept");
 }
 
-/* The server starts anew on all rows, and waits for one client. */
+/* The server starts again on all rows, and waits for one client. */
 static void start(const krl_record *record, size_t records)
 {
     uint64_t begun = nanos_of(CLOCK_PROCESS_CPUTIME_ID);

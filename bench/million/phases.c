@@ -162,7 +162,7 @@ static void forget(uint64_t number, uint64_t lo, uint64_t hi)
     settle(number);
 }
 
-/* One lock, of all behind the last key, lets a client insert all rows of its part. */
+/* One lock, of all after the last key, lets a client insert all rows of its part. */
 static void fill_part(uint64_t part)
 {
     lock(part, part_begin(part), KRL_TOP, KRL_RANGE_X_X);
@@ -195,7 +195,7 @@ static void read_all(void)
     }
 }
 
-/* What a cache shows says nothing of the index of the server that has started again: each client reads it anew. */
+/* What a cache shows says nothing of the index of the server that has started again: each client reads it again. */
 static void read_anew(void)
 {
     for (uint64_t number = 0; number < CLIENTS; number++)

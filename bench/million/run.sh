@@ -11,13 +11,13 @@
 #
 #   begin              the program's own store of 1,000,000 rows is written to once: all later memory is beyond this
 #   open               the server, with room for 1,048,576 entries and none in it, and the clients
-#   fill               each client locks all behind the last key and inserts 15,625 rows with values of 32 bytes
+#   fill               each client locks all after the last key and inserts 15,625 rows with values of 32 bytes
 #   read               each client reads its rows for the first time: a lock for each 8 of them
 #   scan               each client scans its rows from its cache; they are compared with what was kept and written
 #   drop, start        the server is dropped, and started again on the rows and the records that were kept
 #   report             all clients report, and the server serves
 #   scan-again         as scan, from the caches of before
-#   read-anew          each client gives all back and reads its rows anew; scan-anew compares what the server has now
+#   read-anew          each client gives all back and reads its rows again; scan-anew compares what the server has now
 #   write-again        each client takes rows of another one's, puts one and inserts one; these are read again
 #   scan-last          as scan
 #

@@ -1,6 +1,6 @@
 // The twin in Rust of calls.c: a server over the maps of Rust's library, told the same, with the same lines.
 //
-// Its messages are no bytes. Its start builds the map of the index. Its report has the range alone, without a key part
+// Its messages are no bytes. Its start builds the map of the index. Its report has only the range, without a key part
 // for each row.
 #[path = "../clock.rs"]
 mod clock;

@@ -1,5 +1,5 @@
 #!/bin/sh
-# What compatible, at_most, join, meet and cap of krl_modes cost, beside tables written by hand in Rust.
+# What compatible, at_most, join, meet and cap of krl_modes cost, compared with tables written by hand in Rust.
 #
 #   bench/modes/run.sh          needs rt and rustc on the path; about two minutes, most of them proof
 #

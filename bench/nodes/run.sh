@@ -1,5 +1,5 @@
 #!/bin/sh
-# What a node's scan costs beside the server's turns, how many turns nodes take at once, and what a turn costs if
+# What a node's scan costs next to the server's turns, how many turns nodes take at once, and what a turn costs if
 # many letters wait for another node.
 #
 #   bench/nodes/run.sh        needs rt on the path; some minutes if krl_nodes is proved

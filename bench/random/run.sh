@@ -1,5 +1,5 @@
 #!/bin/sh
-# What a random run costs: 100,000 steps beside 50,000 of the same seed.
+# What a random run costs: 100,000 steps compared with 50,000 of the same seed.
 #
 #   bench/random/run.sh [PROGRAM]   the program that ./krl builds, or another; needs bash; about a minute
 #

@@ -1,5 +1,5 @@
 #!/bin/sh
-# How many scans of one client 1, 2 and 4 threads make, without and beside a client that calls back 10,000 times a
+# How many scans of one client 1, 2 and 4 threads make, without and next to a client that calls back 10,000 times a
 # second: by the gate of the Rust host, and by a mutex around the same client. It prints the table of
 # docs/BENCH_HOSTS.md.
 #

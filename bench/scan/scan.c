@@ -1,4 +1,4 @@
-/* What a scan of a client's own cache takes from C, by the call of the library alone: a client holds a table of 10,000
+/* What a scan of a client's own cache takes from C, only by the call of the library: a client holds a table of 10,000
  * rows with values of as many bytes as the first word says, and scans 100 of them at a time, at one place after
  * another. It prints the least and the middle one of 501 rounds, in nanoseconds of processor time for a scan, and those
  * of a scan of one row.

@@ -1,9 +1,10 @@
 #!/bin/sh
-# What a script costs: the proved program beside its twin in C, and 10,000 lines beside the first half of them.
+# What a script costs: the proved program compared with its twin in C, and 10,000 lines compared with the first half of
+# them.
 #
 #   bench/script/run.sh [PROGRAM]   the program that ./krl builds, or another; needs cc and bash; about a minute
 #
-# twin.c knows the words of these texts alone, and judges a lock at once, with no messages. Each text has 10,000 lines:
+# twin.c knows only the words of these texts, and judges a lock at once, with no messages. Each text has 10,000 lines:
 #
 #   scans     one client that knows all of 52 entries scans them, line by line
 #   clients   64 clients lock the four slots of an index, settle and scan in turn

@@ -1,5 +1,5 @@
 #!/bin/sh
-# What the server's steps cost at 1,024 and at 65,536 entries, beside a twin in Rust.
+# What the server's steps cost at 1,024 and at 65,536 entries, compared with a twin in Rust.
 #
 #   bench/server/run.sh         needs rt and rustc on the path; some minutes if krl_server is proved, else half an hour
 #

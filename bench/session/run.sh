@@ -1,5 +1,6 @@
 #!/bin/sh
-# What a scan of 100 rows costs through a client and a server, at 1,024 and at 65,536 entries, beside a twin in Rust.
+# What a scan of 100 rows costs through a client and a server, at 1,024 and at 65,536 entries, compared with a twin in
+# Rust.
 #
 #   bench/session/run.sh        needs rt and rustc on the path; some minutes if krl_client and krl_server are proved
 #

@@ -1,5 +1,5 @@
 #!/bin/sh
-# What the calls of the server's table cost over 1,023 and over 65,535 entries, beside a twin in Rust.
+# What the calls of the server's table cost over 1,023 and over 65,535 entries, compared with a twin in Rust.
 #
 #   bench/table/run.sh          needs rt and rustc on the path; some minutes, most of them proof
 #

@@ -1,5 +1,6 @@
 #!/bin/sh
-# What values cost beside earlier states of this repository: when they were numbers, and when the index was one list.
+# What values cost compared with earlier states of this repository: when they were numbers, and when the index was one
+# list.
 #
 #   bench/values/run.sh [COMMIT..]    needs rt and git; some minutes for each commit, most of them proof
 #

@@ -1,5 +1,5 @@
 #!/bin/sh
-# What a script costs over a large index: 10,000 lines beside the first half of them, over 60,000 entries.
+# What a script costs over a large index: 10,000 lines compared with the first half of them, over 60,000 entries.
 #
 #   bench/world/run.sh [PROGRAM]    the program that ./krl builds, or another; needs bash; some minutes
 #

@@ -34,7 +34,7 @@ uint32_t krl_version(void);
  * `krl_take`.
  */
 
-/* Starts a client of this number in a closed handle, and says Hello. The number is from 0 to 63, and the incarnation
+/* Starts a client of this number in a closed handle, and sends Hello. The number is from 0 to 63, and the incarnation
  * from 1 to KRL_END: greater than in any earlier start of that number. It is the first note of the handle: nothing can
  * be taken before the host has it on its disk and confirms it. Refused, in this order, by KRL_OPEN_ALREADY,
  * KRL_BAD_CLIENT, KRL_BAD_INCARNATION (0), KRL_SPENT (above KRL_END), KRL_OUT_OF_MEMORY. */
@@ -44,7 +44,7 @@ krl_reply krl_client_open(krl_handle *handle, uint64_t number, uint64_t incarnat
  * KRL_BAD_MESSAGE, KRL_OUT_OF_MEMORY. */
 krl_reply krl_client_step(krl_handle *handle, const uint8_t *bytes, size_t length);
 
-/* Says again what is not answered: Hello, a report, a lock request, a write. A client that only reads ticks too: a
+/* sends again what is not answered: Hello, a report, a lock request, a write. A client that only reads ticks too: a
  * server that has started again waits for its report. Refused by KRL_OUT_OF_MEMORY. */
 krl_reply krl_client_tick(krl_handle *handle);
 
@@ -62,7 +62,7 @@ krl_reply krl_client_put(krl_handle *handle, uint64_t key, const uint8_t *bytes,
 krl_reply krl_client_delete(krl_handle *handle, uint64_t key);
 
 /* Answers from the client's own cache, with no message, the entries with keys from `lo` on below `hi`, in key order:
- * that range of the server's index at this moment. They go into `rows`, and the detail is their count. Else
+ * that range of the server's index at this moment. They go into `rows`, and the detail is their count. Otherwise
  * KRL_MISS, KRL_PENDING, or KRL_TOO_SHORT if there are more than `room`. Refused by KRL_BAD_SPAN. It takes no
  * memory. */
 krl_reply krl_client_scan(krl_handle *handle, uint64_t lo, uint64_t hi, krl_row *rows, size_t room);
@@ -72,7 +72,7 @@ krl_reply krl_client_scan(krl_handle *handle, uint64_t lo, uint64_t hi, krl_row 
 krl_reply krl_client_forget(krl_handle *handle, uint64_t lo, uint64_t hi);
 
 /* Gives back, of what the client holds of the points from `lo` on below `hi`, all that is above the mode `keep`: at
- * each of these points the client goes on to hold the meet of what it held and `keep`. With KRL_N that is
+ * each of these points the client continues to hold the meet of what it held and `keep`. With KRL_N that is
  * `krl_client_forget`. A pin keeps all that is held of its points, so a span that meets one is refused whatever `keep`
  * is. Refused, in this order, by KRL_BAD_MODE, KRL_BAD_SPAN, KRL_NOT_JOINED, KRL_WRITING, KRL_PINNED,
  * KRL_OUT_OF_MEMORY; then nothing has changed. */
@@ -91,8 +91,8 @@ krl_held krl_client_held(krl_handle *handle, uint64_t point);
 /* What the client shows of itself. */
 krl_client_state krl_client_status(krl_handle *handle);
 
-/* Says Bye, which gives back all that the client holds. The client is gone then, and only this call, `krl_take` and
- * `krl_close` do anything more: this call says Bye again, which may be lost as any message. Refused by
+/* Sends Bye, which gives back all that the client holds. The client is gone then, and only this call, `krl_take` and
+ * `krl_close` do anything more: this call sends Bye again, which may be lost as any message. Refused by
  * KRL_OUT_OF_MEMORY. It never answers KRL_GONE. */
 krl_reply krl_client_leave(krl_handle *handle);
 
@@ -146,7 +146,7 @@ krl_reply krl_server_open(krl_handle *handle, size_t room, size_t reach, uint64_
  * KRL_ALARM, KRL_OUT_OF_MEMORY. */
 krl_stepped krl_server_step(krl_handle *handle, const uint8_t *bytes, size_t length);
 
-/* Says again to a client that seems stuck what it may have missed. It changes nothing. A number of 64 or more is no
+/* Sends again to a client that seems stuck what it may have missed. It changes nothing. A number of 64 or more is no
  * client: nothing is said. Refused by KRL_OUT_OF_MEMORY. */
 krl_reply krl_server_nudge(krl_handle *handle, uint64_t client);
 
@@ -167,7 +167,7 @@ krl_recorded krl_server_record(krl_handle *handle, uint64_t client);
 krl_waiting krl_server_waiter(krl_handle *handle, uint64_t client);
 
 /* The clients that a client waits for, in ascending order: at the slot at which it waits, those that wait before it,
- * and those that hold there what does not go beside what it wants. They go into `clients`, and the detail is their
+ * and those that hold there what does not go next to what it wants. They go into `clients`, and the detail is their
  * count: at most 64. None if it does not wait, or waits for nobody but itself to acknowledge a push. Refused by
  * KRL_TOO_SHORT. */
 krl_reply krl_server_waited_for(krl_handle *handle, uint64_t client, uint64_t *clients, size_t room);
@@ -177,7 +177,7 @@ krl_reply krl_server_waited_for(krl_handle *handle, uint64_t client, uint64_t *c
 krl_reply krl_server_held(krl_handle *handle, uint64_t client);
 
 /* What a client holds on the first slot, from the point `from` on, at which its mode is not N. A caller that
- * begins at 0 and goes on at `hi` each time sees all that the client holds. It takes time in proportion to the
+ * begins at 0 and continues at `hi` each time sees all that the client holds. It takes time in proportion to the
  * slots from `from` on, as far as that one, at which anybody holds or waits. */
 krl_held_slot krl_server_next_held(krl_handle *handle, uint64_t client, uint64_t from);
 
@@ -215,7 +215,7 @@ void krl_close(krl_handle *handle);
  * each other.
  */
 
-/* The lease of an incarnation that has no terms yet. It says no Hello before it has taken terms, so it holds
+/* The lease of an incarnation that has no terms yet. It sends no Hello before it has taken terms, so it holds
  * nothing. */
 krl_lease krl_lease_new(void);
 
@@ -224,7 +224,7 @@ krl_lease krl_lease_new(void);
  * `stamp` is not later than that of the terms taken before. Terms of an earlier connection must not be handed in. */
 void krl_lease_take_terms(krl_lease *lease, uint64_t stamp, uint64_t length, uint64_t now);
 
-/* Whether rows that were read from the cache may be handed over. `now` has to be read behind the rows. */
+/* Whether rows that were read from the cache may be handed over. `now` has to be read after the rows. */
 bool krl_lease_holds(const krl_lease *lease, uint64_t now);
 
 /* Until when a client may answer, by the server's clock. The server evicts it only at that moment or later. It is
@@ -234,7 +234,7 @@ bool krl_lease_holds(const krl_lease *lease, uint64_t now);
 uint64_t krl_until_register(const krl_terms *terms, uint64_t now);
 
 /* That of a client whose sign has come. `until` is the client's before. The sign says that the client lives by a lease
- * of the length `said`. `now` has to be read behind the sign, and the result has to stand before the server answers by
+ * of the length `said`. `now` has to be read after the sign, and the result has to stand before the server answers by
  * its terms. */
 uint64_t krl_until_sign(uint64_t until, const krl_terms *terms, uint64_t said, uint64_t now);
 
@@ -243,7 +243,7 @@ bool krl_until_has_come(uint64_t until, uint64_t now);
 
 /* Whether the Hello of another incarnation may be handed to the server. `until` is that of the registered one. It may:
  * if it is no greater one; if the registered one is known to be over; if its moment has come; or if it may answer for
- * ever, and an operator vouches that it is over. A host drops the Hello otherwise, and hears it when it is said again.
+ * ever, and an operator vouches that it is over. A host drops the Hello otherwise, and hears it when it is sent again.
  */
 bool krl_until_hears(uint64_t until, const krl_take_over *asks, uint64_t now);
 

@@ -52,7 +52,7 @@ enum krl_code {
     /* It is done. */
     KRL_DONE = 0,
     /* It is done, but memory for what it says was refused: nothing more waits to be sent, as if those messages had
-     * been lost. Ticks and nudges say again what matters. What a server's step changed is still told, and has to be
+     * been lost. Ticks and nudges send again what matters. What a server's step changed is still told, and has to be
      * kept. */
     KRL_UNSAID = 1,
     /* Memory was refused. */
@@ -98,7 +98,7 @@ enum krl_code {
     KRL_BAD_POINT = 21,
     /* A span that does not begin below its end, or ends above KRL_TOP. */
     KRL_BAD_SPAN = 22,
-    /* The client has been told no epoch yet. */
+    /* The client has learned no epoch yet. */
     KRL_NOT_JOINED = 23,
     /* The client waits for the answer to a lock request. */
     KRL_BUSY = 24,
@@ -148,9 +148,9 @@ enum krl_fault {
     KRL_FAULT_LENGTH = 8,
     /* A grant has no holding, or more than 128. */
     KRL_FAULT_COUNT = 9,
-    /* A holding does not lie behind the one before it. */
+    /* A holding does not lie after the one before it. */
     KRL_FAULT_ORDER = 10,
-    /* Bytes stand behind the message. */
+    /* Bytes follow the message. */
     KRL_FAULT_TRAILING = 11
 };
 
@@ -201,7 +201,7 @@ enum krl_change_kind {
     /* Nothing. */
     KRL_UNCHANGED = 0,
     /* The client registered with this incarnation. Its record is { client, incarnation, last 0, KRL_NO_OUTCOME, left
-     * 0 }, in the place of its older record, or behind all others. */
+     * 0 }, in the place of its older record, or after all others. */
     KRL_REGISTERED = 1,
     /* The client left: in its record `left` is 1. */
     KRL_LEFT = 2,
@@ -257,7 +257,7 @@ typedef struct krl_reply {
     uint64_t detail;
 } krl_reply;
 
-/* An entry of the index: its key, and a value of `length` bytes. The bytes behind them are zeros if the library
+/* An entry of the index: its key, and a value of `length` bytes. The bytes after them are zeros if the library
  * writes a row, and are not read if it is given one. */
 typedef struct krl_row {
     uint64_t key;
@@ -275,7 +275,7 @@ typedef struct krl_record {
     uint64_t last;
     /* How that write was judged, by a `krl_outcome`: KRL_NO_OUTCOME exactly if `last` is 0. */
     uint32_t outcome;
-    /* 1 if that incarnation has left, else 0. */
+    /* 1 if that incarnation has left, otherwise 0. */
     uint32_t left;
 } krl_record;
 
@@ -401,7 +401,7 @@ typedef struct krl_kept_lease {
 typedef struct krl_take_over {
     /* The incarnation that is registered and has not left. */
     uint64_t registered;
-    /* The one that says Hello. */
+    /* The one that sends Hello. */
     uint64_t incarnation;
     /* The incarnation of which its host knows that it answers no more, since no process of it is left. 0 if it knows
      * of none. */

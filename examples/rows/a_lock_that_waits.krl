@@ -22,7 +22,7 @@ hold 1 20
 scan 1 20 21
 scan 1 10 21
 scan 0 10 11
-# Client 2 asks for what goes beside all that is held, and waits behind client 1.
+# Client 2 asks for what is compatible with all that is held, and waits behind client 1.
 lock 2 5 RangeI-N
 settle
 hold 2 10

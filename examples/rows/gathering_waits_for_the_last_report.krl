@@ -1,4 +1,4 @@
-# A server that starts again serves nobody until each client has reported, or has begun anew.
+# A server that starts again serves nobody until each client has reported, or has started over.
 seed 10=1 20=2
 client 0
 client 1

@@ -1,4 +1,4 @@
-# Entries alone are asked for: END is none, so the grant ends before it. A range has to end above its point.
+# Only entries are asked for: END is none, so the grant ends before it. A range has to end above its point.
 seed 10=1 20=2
 client 0
 settle

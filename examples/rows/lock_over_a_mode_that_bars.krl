@@ -1,5 +1,5 @@
-# Another client's lock bars the third of five slots that are asked for: the grant ends before it, the slots behind stay
-# free, and nobody is called back. A mode that goes beside that lock is granted on it, and on the slots behind.
+# Another client's lock bars the third of five slots that are asked for: the grant ends before it, the slots after it stay
+# free, and nobody is called back. A mode that is compatible with that lock is granted on it, and on the slots after it.
 seed 10=1 20=2 30=3 40=4
 client 0
 client 1

@@ -1,4 +1,4 @@
-# Another client holds the second entry alone: the grant ends before it, and nobody is called back for it.
+# Another client holds the second entry for itself: the grant ends before it, and nobody is called back for it.
 seed 10=1 20=2
 client 0
 client 1

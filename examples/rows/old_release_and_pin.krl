@@ -1,4 +1,4 @@
-# A release that comes again, after the client has locked the slot anew, is passed over. While a span is
+# A release that comes again, after the client has locked the slot again, is passed over. While a span is
 # pinned no callback lowers it; a nudge calls back again. Message 10 is the release.
 seed 10=1 20=2
 client 0

@@ -1,4 +1,4 @@
-# A serializable scan goes beside a serializable update scan.
+# A serializable scan is compatible with a serializable update scan.
 seed 10=1 20=2
 client 0
 client 1

@@ -1,5 +1,5 @@
 # While a put is not answered a scan across its key is pending, though the index has changed already.
-# A scan beside it answers.
+# A scan next to it answers.
 seed 10=1 20=2
 client 0
 settle

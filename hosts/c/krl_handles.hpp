@@ -277,7 +277,7 @@ class client : public handle {
             return code::bad_message;
         return detail::ordinary("krl_client_step", reply);
     }
-    /* Says again what is not answered. */
+    /* sends again what is not answered. */
     code tick() { return detail::ordinary("krl_client_tick", krl_client_tick(get())); }
     code lock(std::uint64_t point, std::uint64_t hi, mode wanted) {
         auto number = static_cast<std::uint32_t>(wanted);
@@ -320,7 +320,7 @@ class client : public handle {
         detail::ordinary("krl_client_status", state.reply);
         return state;
     }
-    /* Says Bye, which gives back all that the client holds. */
+    /* Sends Bye, which gives back all that the client holds. */
     void leave() { detail::done("krl_client_leave", krl_client_leave(get())); }
 
   private:
@@ -334,7 +334,7 @@ class shared_client {
   public:
     explicit shared_client(client &&own) : client_(std::move(own)) {}
 
-    /* Scans the cache beside other scans. */
+    /* Scans the cache next to other scans. */
     scanned scan(std::uint64_t lo, std::uint64_t hi, std::vector<row> &room) const {
         std::shared_lock<std::shared_mutex> among(turns_);
         krl_reader reader = krl_reader_of(client_.get());
@@ -379,7 +379,7 @@ class server : public handle {
         detail::done("krl_server_step", stepped.reply);
         return stepped.change;
     }
-    /* Says again to a client what it may have missed. */
+    /* Sends again to a client what it may have missed. */
     void nudge(std::uint64_t client) { detail::done("krl_server_nudge", krl_server_nudge(get(), client)); }
     krl_server_state status() const {
         krl_server_state state = krl_server_status(get());

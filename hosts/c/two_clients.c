@@ -196,7 +196,7 @@ static bool holds_lease(int number)
     return krl_lease_holds(&clients[number].lease, client_clock(number));
 }
 
-/* Evicts a client: the next incarnation says Hello, and Bye. */
+/* Evicts a client: the next incarnation sends Hello, and Bye. */
 static void evict(uint64_t number)
 {
     uint64_t numbers[] = { number, known_clients[number].registered + 1 };
@@ -281,7 +281,7 @@ static void pass_time(void)
     settle();
 }
 
-/* Scans a client's cache, and locks what it lacks until the cache answers. The clock is read behind the rows. */
+/* Scans a client's cache, and locks what it lacks until the cache answers. The clock is read after the rows. */
 static void scan(int number, uint64_t lo, uint64_t hi)
 {
     krl_handle *handle = &clients[number].handle;

@@ -40,7 +40,7 @@ class Reader:
     def end(self) -> None:
         """Raises `ValueError` unless all is read."""
         if self._rest:
-            raise ValueError(f"{len(self._rest)} bytes stand behind the message")
+            raise ValueError(f"{len(self._rest)} bytes follow the message")
 
 
 class Field(NamedTuple):

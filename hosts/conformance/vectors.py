@@ -1,7 +1,7 @@
 #!/usr/bin/env python3
 """Makes `vectors.jsonl`, or compares it, by the decoders of the library.
 
-    vectors.py make         writes it anew
+    vectors.py make         writes it again
     vectors.py compare      fails if it is not what would be written
 
 Each line is a JSON value. `to` says who reads the bytes, `server` or `client`. If they are a

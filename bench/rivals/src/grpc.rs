@@ -34,7 +34,7 @@ pub struct Grpc {
     next_stream: u32,
     out: Vec<u8>,
     payload: Vec<u8>,
-    /// What came of the open stream and is no whole message yet, or behind one.
+    /// What came of the open stream and is no whole message yet, or after one.
     received: Vec<u8>,
     has_ended: bool,
 }

@@ -4,7 +4,7 @@ use std::collections::BTreeMap;
 use std::ops::Range;
 use std::sync::{Mutex, MutexGuard, PoisonError};
 
-/// Rows by key. The thread that reads the server's notices changes it beside the client's own.
+/// Rows by key. The thread that reads the server's notices changes it next to the client's own.
 #[derive(Debug, Default)]
 pub struct Local(Mutex<Rows>);
 

@@ -1,7 +1,7 @@
 //! Clients that read ranges and write to them, at once: 95 of a hundred calls read.
 //!
-//! Each key is written by one client alone, by ascending values. So a row is stale that shows a value older than the
-//! last one that was acknowledged before the read began.
+//! Each key is written by only one client, by ascending values. So a row is stale that shows a
+//! value older than the last one that was acknowledged before the read began.
 use crate::clients;
 use crate::measures::Plan;
 use crate::system::{Caching, Connection, Done, Found, System, number_of};
@@ -225,7 +225,7 @@ mod tests {
     use super::*;
     use krl::Value;
 
-    /// A cache that goes on to show what it has read first.
+    /// A cache that continues to show what it has read first.
     struct Stuck(Vec<u64>);
 
     impl Connection for Stuck {

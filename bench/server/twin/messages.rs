@@ -7,7 +7,8 @@ pub const RANGE_SS: Mode = Mode { range: 1, key: 1 };
 pub const RANGE_XX: Mode = Mode { range: 3, key: 2 };
 pub const X: Mode = Mode { range: 0, key: 2 };
 
-// A range part of N, S, I, X, and a key part of N, S, X: 0 is N, and each fits beside those whose bits it has.
+// A range part of N, S, I, X, and a key part of N, S, X: 0 is N, and each fits next to those whose
+// bits it has.
 #[derive(Clone, Copy, PartialEq, Eq)]
 pub struct Mode {
     pub range: u8,
@@ -29,7 +30,7 @@ impl Mode {
         Mode { range: RANGE_JOIN[self.range as usize][other.range as usize], key: self.key.max(other.key) }
     }
 
-    // The greatest mode that fits beside this one.
+    // The greatest mode that fits next to this one.
     pub fn cap(self) -> Mode {
         Mode { range: RANGE_CAP[self.range as usize], key: KEY_CAP[self.key as usize] }
     }

@@ -1,5 +1,5 @@
-// The twin in Rust of main.rt.txt: a client and a server over the maps of Rust's library, in one process, and the same
-// lines. The server and the cache are those of the twins beside this one.
+// The twin in Rust of main.rt.txt: a client and a server over the maps of Rust's library, in one
+// process, and the same lines. The server and the cache are those of the twins next to this one.
 // Not all that the others have is called here.
 #[allow(dead_code)]
 #[path = "../../cache/twin/cache.rs"]

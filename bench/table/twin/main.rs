@@ -1,4 +1,5 @@
-// The twin in Rust of main.rt.txt: the same calls of a table over the maps of Rust's library, and the same lines.
+// The twin in Rust of main.rt.txt: the same calls of a table over the maps of Rust's library, and
+// the same lines.
 #[path = "../../clock.rs"]
 mod clock;
 
@@ -13,7 +14,8 @@ const PLACES: u64 = 64;
 const END: u64 = u64::MAX - 1;
 const N: Mode = Mode { range: 0, key: 0 };
 
-// A range part of N, S, I, X, and a key part of N, S, X: 0 is N, and each fits beside those whose bits it has.
+// A range part of N, S, I, X, and a key part of N, S, X: 0 is N, and each fits next to those whose
+// bits it has.
 #[derive(Clone, Copy, PartialEq, Eq)]
 struct Mode {
     range: u8,

@@ -14,7 +14,7 @@ nodes_line (Ok report) = rows_line report.rows
 nodes_line (Err not_run.GaveUp) = codes "nodes gave up\n"
 nodes_line (Err not_run.OutOfMemory) = []
 
--- 0 if the rows were read, else 1
+-- 0 if the rows were read, otherwise 1
 abbrev pub nodes_status : Result NodesReport NotRun → ℕ
 nodes_status (Ok report) = 0
 nodes_status (Err why) = 1

@@ -11,18 +11,18 @@ use Rattle.krl_script.specs.declared.rest.Rest.TheVariants as rest
 use Rattle.krl_world.specs.States.{State}
 use Rattle.krl_world.specs.Steps.{IsReachable}
 
--- of a script: 0 if its last line was run, else 1
+-- of a script: 0 if its last line was run, otherwise 1
 abbrev pub script_status : Result (Unit {0}) ScriptFault → ℕ
 script_status (Ok done) = 0
 script_status (Err fault) = 1
 
--- of a random run: 0 if all was sound, else 1
+-- of a random run: 0 if all was sound, otherwise 1
 abbrev pub random_status : {A : Type 0} → Result (A × Bool) ScriptFault → ℕ
 random_status (Ok (w, true)) = 0
 random_status (Ok (w, false)) = 1
 random_status (Err fault) = 1
 
--- of the rounds after it: 0 if nobody waits, 3 if somebody still does, else 1
+-- of the rounds after it: 0 if nobody waits, 3 if somebody still does, otherwise 1
 abbrev pub rest_status : Result Rest ScriptFault → ℕ
 rest_status (Ok (rest.Reached n)) = 0
 rest_status (Ok rest.Missed) = 3

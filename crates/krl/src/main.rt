@@ -99,8 +99,8 @@ fn picture(rt: &HostRuntime, form: Form) -> u8 {
     }
 }
 
-// Runs the script that is read, writes its transcript, and says on standard error why it ended
-// before its last line; the text of the script serves that sentence alone.
+// Runs the script that is read, writes its transcript, and reports on standard error why it ended
+// before its last line; the text of the script serves only that sentence.
 fn run_over<H: Eprint + AllocGlobal, R: Source, W: Sink>(
     rt: &H,
     text: &[u8],
@@ -129,7 +129,8 @@ fn random(rt: &HostRuntime, options: &RandomOptions) -> u8 {
     }
 }
 
-// The exit status of a random run. If its line can't be written, that is said on standard error.
+// The exit status of a random run. If its line can't be written, that is reported on standard
+// error.
 fn status_of<H: Eprint + AllocGlobal, T>(rt: &H, ended: &Result<(T, bool), ScriptFault>) -> u8
     ensures { result ≡ random_status ended.now }
 {
@@ -168,7 +169,8 @@ fn drive<W: Sink, P: Progress>(
     }
 }
 
-// Takes the steps, writes the line of the run, and says on standard error why it can't be written.
+// Takes the steps, writes the line of the run, and reports on standard error why it can't be
+// written.
 fn random_over<H: Eprint + AllocGlobal, W: Sink, P: Progress>(
     rt: &H,
     writer: &mut W,

@@ -16,7 +16,7 @@ const PAUSE: u64 = 1;
 // How long it says nothing, in seconds.
 const SILENCE: u64 = 1;
 
-/// Passed at once; tells on standard error at which turn the client is, once a second at most,
+/// Passed at once; reports on standard error at which turn the client is, once a second at most,
 /// if anybody is to be told.
 #[derive(Drop)]
 pub struct Telling<'a, R> {
@@ -27,7 +27,7 @@ pub struct Telling<'a, R> {
 }
 
 impl<'a, R> Telling<'a, R> {
-    /// Tells of the client of this number.
+    /// Names the client of this number.
     pub fn new(rt: &'a R, client: u64, is_told: bool) -> Telling<'a, R> {
         Telling {
             rt,
@@ -79,7 +79,7 @@ fn line(alloc: Global, ended: &Result<NodesReport, NotRun>) -> Result<String, Al
 }
 
 /// Writes what came of nodes, and gives the exit status: 0 if the second client read its rows
-/// and they were written, else 1. What went wrong is said on standard error.
+/// and they were written, otherwise 1. What went wrong is reported on standard error.
 pub fn tell<R: Eprint + AllocGlobal, W: Sink>(
     rt: &R,
     writer: &mut W,

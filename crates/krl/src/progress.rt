@@ -1,7 +1,7 @@
 //! How far a random run is, on standard error.
 use krl_script::Progress;
 
-/// Tells on standard error, if anybody is to be told.
+/// Reports on standard error, if anybody is to be told.
 #[derive(Drop)]
 pub struct Told<'a, R> {
     rt: &'a R,
@@ -10,7 +10,7 @@ pub struct Told<'a, R> {
 }
 
 impl<'a, R> Told<'a, R> {
-    /// Tells of a run of so many steps.
+    /// Reports a run of so many steps.
     pub fn new(rt: &'a R, is_told: bool, all: u64) -> Told<'a, R> {
         Told { rt, is_told, all }
     }

@@ -5,7 +5,7 @@ ghost use Rattle.krl.specs.Statuses.{script_status, random_status, rest_status};
 use krl_script::Rest;
 use krl_text::ScriptFault;
 
-/// Of a script: 0 if its last line was run, else 1.
+/// Of a script: 0 if its last line was run, otherwise 1.
 pub fn of_script(ended: &Result<(), ScriptFault>) -> u8
     ensures { result ≡ script_status ended.now }
 {
@@ -15,7 +15,7 @@ pub fn of_script(ended: &Result<(), ScriptFault>) -> u8
     }
 }
 
-/// Of a random run: 0 if all was sound, else 1.
+/// Of a random run: 0 if all was sound, otherwise 1.
 pub fn of_random<T>(ended: &Result<(T, bool), ScriptFault>) -> u8
     ensures { result ≡ random_status ended.now }
 {
@@ -25,7 +25,7 @@ pub fn of_random<T>(ended: &Result<(T, bool), ScriptFault>) -> u8
     }
 }
 
-/// Of the rounds after it: 0 if nobody waits, 3 if somebody still does, else 1.
+/// Of the rounds after it: 0 if nobody waits, 3 if somebody still does, otherwise 1.
 pub fn of_rest(ended: &Result<Rest, ScriptFault>) -> u8
     ensures { result ≡ rest_status ended.now }
 {

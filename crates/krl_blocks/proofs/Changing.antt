@@ -73,7 +73,7 @@ module _ {V : Type 0} (o : Vec Spot) (sp : Vec ℕ) (c : Vec (ℕ × V)) (m : �
   apart = first_apart (places o.items) sp.items k.apart
 
   module _ (b : ℕ) (s : Spot) (e : Some s ≡ slice_get o.items b) where
-    -- the block at b is that of t, over cells that differ at its place alone
+    -- the block at b is that of t, over cells that differ only at its place
     other_block : (vs : List (ℕ × V)) (os : List Spot) (t : Spot) (How : List (ℕ × V) → List (ℕ × V) → Type 0) → os ≡ slice_set o.items b t → AreSameBut (64 * s.place) vs ws → How (entries_at ws s) (entries_at vs t) → IsOneOther (shown o.items ws) (shown os vs) b How
     other_block vs os t How f same how = record {
       block = entries_at ws s;

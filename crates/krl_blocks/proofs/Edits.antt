@@ -29,7 +29,7 @@ pub above_none : {V : Type 0} (k j : ℕ) (es : List (ℕ × V)) → k ≤ j →
 above_none k j [] le h = tt
 above_none k j (e ∷ es) le h = (λ f. omega (arith, f, le, h.0), above_none k j es le h.1)
 
--- an entry and those before and behind it
+-- an entry and those before and after it
 pub cut_there : {X : Type 0} (es : List X) (i : ℕ) (e : X) → Some e ≡ slice_get es i → es ≡ take i es ++ e ∷ drop (suc i) es
 cut_there [] i e h = absurd (let bad : Some e ≡ None = h in cc)
 cut_there {X = X} (x ∷ es) zero e h = let same : x ≡ e = cc in ap (λ (z : X). z ∷ es) same

@@ -1,4 +1,4 @@
--- A guess of how many of a list that rises lie below a point: a look at the last of these, and at the one behind it.
+-- A guess of how many of a list that rises lie below a point: a look at the last of these, and at the one after it.
 use Rattle.std.proofs.Common.{◌≡◌, ℕ, zero, suc, ◌-◌, ◌≤◌, ◌<◌, true, false, List, [], ◌∷◌, length, take, drop, Some, None, ap, ◌∙◌, arith}
 use Rattle.std.proofs.lemmas.Bool.{ltb-true, leb-true, lt-ltb, le-ltb}
 use Rattle.std.specs.Prelude.{nat_lt, nat_le}

@@ -116,7 +116,7 @@ module _ {V : Type 0} where
         (subst (λ (zs : List (List (ℕ × V))). AreThick 64 zs) (sym e) (thick_set 64 s.blocks b x y k.thick at le))
         (subst (λ (zs : List (List (ℕ × V))). AllByRecursion IsSmall zs) (sym e) (all_set IsSmall s.blocks b y k.small few))
 
-    -- a block of one entry comes behind the others
+    -- a block of one entry comes after the others
     pub append_kept : (y : List (ℕ × V)) → r.blocks ≡ s.blocks ++ y ∷ [] → length y ≡ 1 → 64 ≤ last_length 64 s.blocks → IsLaid 0 us.items r.blocks → IsKept us r
     append_kept y f one full laid =
         make laid

@@ -58,7 +58,7 @@ second_part : {X : Type 0} (P : X → Type 0) (xs ys : List X) → AllByRecursio
 second_part P [] ys h = h
 second_part P (x ∷ xs) ys h = second_part P xs ys h.1
 
--- Behind all blocks
+-- After all blocks
 
 laid_more : {V : Type 0} (low k : ℕ) (v : V) (b : ℕ) (ts : List ℕ) (xs : List (List (ℕ × V))) (y : List (ℕ × V)) → IsLaid low ts xs → AllByRecursion (λ t. nat_lt t k ≡ true) (take b ts) → None ≡ slice_get xs b → low ≤ k → y ≡ (k, v) ∷ [] → IsLaid low (ts ++ k ∷ []) (xs ++ y ∷ [])
 laid_more {V = V} low k v b [] [] y h f e le is = (subst (λ (es : List (ℕ × V)). EndsAt low es k) (sym is) (le, refl), tt)

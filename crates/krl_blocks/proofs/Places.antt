@@ -153,7 +153,7 @@ ends_last : {V : Type 0} (o : Option ℕ) (low : ℕ) (es : List (ℕ × V)) (t 
 ends_last o low [] t h = absurd h
 ends_last o low (e ∷ es) t h = after_last e.0 es t h.1
 
--- x is the block at b, and the blocks before it lie below p, those behind it not; its keys rise from
+-- x is the block at b, and the blocks before it lie below p, those after it not; its keys rise from
 -- low on up to top, which is not below p
 pub record IsAt {V : Type 0} (p : ℕ) (o : Option ℕ) (least : ℕ) (ts : List ℕ) (xs : List (List (ℕ × V))) (b : ℕ) (x : List (ℕ × V)) : Type 0 where
   pub front : List (ℕ × V)

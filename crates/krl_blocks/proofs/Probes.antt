@@ -30,7 +30,7 @@ module _ (p : ℕ) (ns : List ℕ) (part : IsPartitionedBy (λ t. nat_lt t p) ns
   low_to : (j : ℕ) → j < length ns → nat_lt (slice_index_or ns j 0) p ≡ true → Low (j + 1)
   low_to j l up k d a b = part k j d (omega (arith, b)) l (ap (λ x. nat_lt x p) (same_read ns j d 0 l) ∙ up)
 
-  -- and else those behind it are not either
+  -- and otherwise those after it are not either
   high_from : (j : ℕ) → j < length ns → nat_lt (slice_index_or ns j 0) p ≡ false → High j
   high_from j l down k d a b = by_test (nat_lt (slice_index_or ns k d) p) refl
     where

@@ -124,7 +124,7 @@ module _ {X : Type 0} where
       ∙ ap (λ k. take n (drop k ws)) is ∙ ap (take n) (sym (drop-drop i a ws))
       ∙ sym (drop-take i n (drop a ws)) ∙ ap (λ k. drop i (take k (drop a ws))) count
 
-  -- n entries are copied behind those of another place
+  -- n entries are copied after those of another place
   pub cells_joined : (ws us : List X) (a b k n len dest : ℕ) → dest ≡ a + k → k + n ≡ len → a + k ≤ length ws → b + n ≤ length ws → us ≡ over ws dest (drop b ws) n → take len (drop a us) ≡ take k (drop a ws) ++ take n (drop b ws)
   cells_joined ws us a b k n len dest is count fits some f =
       let left = length-drop b ws in
@@ -267,7 +267,7 @@ module _ {X : Type 0} where
       first_other (q ∷ ps) zero n m f h same = let one : n ≡ q = cc in h.0 (sym one ∙ same)
       first_other (q ∷ ps) (suc i) n m f h same = first_other ps i n m f h.1 same
 
-  -- more cells stand behind
+  -- more cells come after
   pub shown_longer : (ss : List Spot) (ws vs : List X) → AreSmall ss → AllByRecursion (λ p. 64 * p + 64 ≤ length ws) (places ss) → shown ss (ws ++ vs) ≡ shown ss ws
   shown_longer [] ws vs small within = refl
   shown_longer (s ∷ ss) ws vs small within =

@@ -40,8 +40,8 @@ pub record HasEntry {V : Type 0} (es : List (ℕ × V)) (k : ℕ) (v : V) : Type
   pub back : List (ℕ × V)
   pub whole : es ≡ front ++ (k, v) ∷ back
 
--- the entries below p stand in front, and the others behind; the last key in front is before, and
--- the list run begins what stands behind, with at least one entry if there is any
+-- the entries below p stand in front, and the others after; the last key in front is before, and
+-- the list run begins what comes after, with at least one entry if there is any
 pub record IsFound {V : Type 0} (es : List (ℕ × V)) (p : ℕ) (before : Option ℕ) (run : List (ℕ × V)) : Type 0 where
   pub front : List (ℕ × V)
   pub rest : List (ℕ × V)
@@ -60,7 +60,7 @@ pub record IsRun {V : Type 0} (es : List (ℕ × V)) (p : ℕ) (run : List (ℕ 
   pub from : AreFrom p (run ++ rest)
   pub some : run ≡ [] → rest ≡ []
 
--- the new entry stands behind those with lesser keys
+-- the new entry comes after those with lesser keys
 pub record IsInserted {V : Type 0} (es fs : List (ℕ × V)) (k : ℕ) (v : V) : Type 0 where
   pub front : List (ℕ × V)
   pub back : List (ℕ × V)

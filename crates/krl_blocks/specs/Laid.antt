@@ -119,7 +119,7 @@ pub record IsShort {V : Type 0} (ts : Vec ℕ) (s : Shelved V) (b : ℕ) : Type 
   pub small : AllByRecursion IsSmall was
   pub tops : s.most ≤ vec_capacity ts
 
--- nearly kept, and the blocks at j and behind it are the thin ones
+-- nearly kept, and the blocks at j and after it are the thin ones
 pub record IsMergeable {V : Type 0} (ts : Vec ℕ) (s : Shelved V) (j : ℕ) : Type 0 where
   pub b : ℕ
   pub nearly : IsNearly ts s b

@@ -24,14 +24,14 @@ pub record IsSplit {V : Type 0} (xs ys : List (List (ℕ × V))) (b i : ℕ) : T
   pub there : Some block ≡ slice_get xs b
   pub new : ys ≡ insert (slice_set xs b (take i block)) (suc b) (drop i block)
 
--- the block at b and the one behind it have at most 64 entries together
+-- the block at b and the one after it have at most 64 entries together
 abbrev pub AreFew : {V : Type 0} → List (List (ℕ × V)) → ℕ → Type 0
 AreFew [] b = Unit {0}
 AreFew (x ∷ []) b = Unit {0}
 AreFew (x ∷ y ∷ xs) zero = length x + length y ≤ 64
 AreFew (x ∷ y ∷ xs) (suc b) = AreFew (y ∷ xs) b
 
--- one block and the one behind it are one
+-- one block and the one after it are one
 pub record IsJoined {V : Type 0} (xs ys : List (List (ℕ × V))) (b : ℕ) : Type 0 where
   pub lower : List (ℕ × V)
   pub upper : List (ℕ × V)
@@ -69,7 +69,7 @@ pub record IsStored {V : Type 0} (order : Vec Spot) (spare : Vec ℕ) (cells : V
   pub spares : most ≤ vec_capacity spare
   pub room : 64 * most ≤ vec_capacity cells
 
--- a place that no block has: the last of the spare ones, or a new one behind all cells
+-- a place that no block has: the last of the spare ones, or a new one after all cells
 abbrev pub IsFree : {X : Type 0} → List ℕ → List ℕ → List X → List X → ℕ → X → Type 0
 IsFree spare left cells more place x =
     ((spare ≡ left ++ place ∷ []) × (more ≡ cells))

@@ -21,7 +21,7 @@ pub fn put_in<V: Copy + Drop>(shelf: &mut Shelf<V>, b: usize, key: u64, value: V
     shelf.insert_at(b, i, (key, value));
 }
 
-/// Puts the entry behind those of the block there, which has room for it.
+/// Puts the entry after those of the block there, which has room for it.
 pub fn push_in<V: Copy + Drop>(shelf: &mut Shelf<V>, b: usize, key: u64, value: V)
     requires within { b < length shelf.old.blocks }
     requires room { IfSome (slice_get shelf.old.blocks b) (λ x. length x < 64) }

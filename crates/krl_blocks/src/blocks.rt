@@ -121,7 +121,7 @@ impl<V: Copy + Drop> Blocks<V> {
     }
 
     /// The entries from the first at or above the point, as far as its block goes: there is at
-    /// least one, if there is any. A walk asks again behind the last of them.
+    /// least one, if there is any. A walk asks again after the last of them.
     pub fn run(&self, point: u64) -> &[(u64, V)]
         ensures { IsRun self.now.list point result.now }
     {
@@ -143,7 +143,7 @@ impl<V: Copy + Drop> Blocks<V> {
     }
 
     /// As `get`; and later searches begin where the key stands. So what is done next at the key, or
-    /// at the one behind it, needs no search.
+    /// at the one after it, needs no search.
     pub fn reach(&mut self, key: u64) -> Option<V>
         ensures value { MatchOption result (NoKey key self.old.list)
             (λ v. HasEntry self.old.list key v) }

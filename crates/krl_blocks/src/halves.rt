@@ -6,7 +6,7 @@ ghost use Rattle.krl_blocks.specs.Laid.{Rises};
 ghost use Rattle.krl_blocks.specs.Entries.{KeysRise};
 ghost use Rattle.krl_blocks.specs.Near.{AreNear, AreKeysNear};
 
-/// 1 if the first number is the lesser, and else 0. It takes no branch.
+/// 1 if the first number is the lesser, and otherwise 0. It takes no branch.
 fn lesser(a: u64, b: u64) -> usize
     requires { (a < 2 ^ 63) × (b < 2 ^ 63) }
     ensures { result ≡ (if nat_lt a b then 1 else 0) }

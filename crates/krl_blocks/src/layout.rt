@@ -171,7 +171,7 @@ impl<V: Copy + Drop> Layout<V> {
         self.tops.insert(b, top).unwrap();
     }
 
-    // Puts the entry into the block where its key belongs, which has room, or behind all blocks.
+    // Puts the entry into the block where its key belongs, which has room, or after all blocks.
     fn put(&mut self, b: usize, key: u64, value: V)
         requires kept { IsKept self.old.tops self.old.shelf }
         requires new { NoKey key (flat self.old.shelf.blocks) }
@@ -202,7 +202,7 @@ impl<V: Copy + Drop> Layout<V> {
         blocks == 0 || self.shelf.get(blocks - 1).len() >= MAX_IN_BLOCK
     }
 
-    // Puts the entry behind all others, into the last block, which has room.
+    // Puts the entry after all others, into the last block, which has room.
     fn push(&mut self, key: u64, value: V)
         requires kept { IsKept self.old.tops self.old.shelf }
         requires below { AllByRecursion (λ t. nat_lt t key ≡ true) self.old.tops.items }
@@ -217,7 +217,7 @@ impl<V: Copy + Drop> Layout<V> {
         self.tops[b] = key;
     }
 
-    // Puts the entry behind all others, into a block of its own.
+    // Puts the entry after all others, into a block of its own.
     fn append(&mut self, key: u64, value: V)
         requires kept { IsKept self.old.tops self.old.shelf }
         requires some { length self.old.shelf.blocks < self.old.shelf.most }
@@ -294,7 +294,7 @@ impl<V: Copy + Drop> Layout<V> {
         }
     }
 
-    // The block there and the one behind it have few entries together.
+    // The block there and the one after it have few entries together.
     fn is_thin(&self, j: usize) -> bool
         requires { j < length self.now.shelf.blocks }
         ensures { result ≡ is_thin self.now.shelf.blocks j }
@@ -306,7 +306,7 @@ impl<V: Copy + Drop> Layout<V> {
         self.shelf.get(j).len() + self.shelf.get(j + 1).len() <= FEW
     }
 
-    // Merges the block there and the one behind it.
+    // Merges the block there and the one after it.
     fn merge(&mut self, j: usize)
         requires mergeable { IsMergeable self.old.tops self.old.shelf j }
         ensures kept { IsKept self.new.tops self.new.shelf }

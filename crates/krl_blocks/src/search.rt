@@ -10,7 +10,7 @@ use crate::halves::{count_below, count_keys_below};
 const NEAR: u64 = 0x8000_0000_0000_0000;
 
 /// How many of the tops are below the point: they stand first. The guess is looked at first, and
-/// the place behind it.
+/// the place after it.
 pub fn count_tops(tops: &[u64], point: u64, guess: usize) -> usize
     requires { Rises tops.now }
     ensures within { result ≤ length tops.now }
@@ -28,7 +28,7 @@ pub fn count_tops(tops: &[u64], point: u64, guess: usize) -> usize
 }
 
 /// How many entries have keys below the point: they stand first. The guess is looked at first, and
-/// the place behind it.
+/// the place after it.
 pub fn count_keys<V>(entries: &[(u64, V)], point: u64, guess: usize) -> usize
     requires { KeysRise entries.now }
     ensures within { result ≤ length entries.now }

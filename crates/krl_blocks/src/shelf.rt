@@ -157,7 +157,7 @@ impl<V: Copy + Drop> Shelf<V> {
         self.cells[at] = entry;
     }
 
-    /// Puts a block of this one entry behind the others. There is room for it.
+    /// Puts a block of this one entry after the others. There is room for it.
     pub fn push(&mut self, entry: (u64, V))
         requires room { length self.old.blocks < self.old.most }
         ensures blocks { self.new.blocks ≡ self.old.blocks ++ (entry ∷ []) ∷ [] }
@@ -170,7 +170,7 @@ impl<V: Copy + Drop> Shelf<V> {
         self.order.push(Spot { place, len: 1 }).unwrap();
     }
 
-    /// Moves the entries from i on out of the block there, into a new block behind it. There is
+    /// Moves the entries from i on out of the block there, into a new block after it. There is
     /// room for it.
     pub fn split(&mut self, b: usize, i: usize)
         requires room { length self.old.blocks < self.old.most }
@@ -191,7 +191,7 @@ impl<V: Copy + Drop> Shelf<V> {
         self.order.insert(b + 1, Spot { place, len }).unwrap();
     }
 
-    /// Moves the entries of the block behind the one there into it, and takes that block out. They
+    /// Moves the entries of the block after the one there into it, and takes that block out. They
     /// have at most 64 entries together.
     pub fn join(&mut self, b: usize)
         requires within { suc b < length self.old.blocks }

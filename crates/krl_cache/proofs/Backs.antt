@@ -70,7 +70,7 @@ range_is_before p es r sorted e =
       past = λ q l. next_past (at es) 0 (p + 1) _ q next l;
     })
 
--- It goes on
+-- It continues
 
 pub record IsTaken (f : ℕ → Option RangePart) (end : ℕ) (ys : List (ℕ × RangePart)) (e : ℕ × RangePart) : Type 0 where
   pub below : e.0 < end

@@ -31,7 +31,7 @@ no_other v part before ne e same = ne (let is : part ≡ v = cc in is ∙ same)
 pub anew_here : (f : ℕ → Option RangePart) (p : ℕ) (part before : RangePart) → f p ≡ Some part → HoldsBefore f p before → (part ≡ before → ⊥) → BeginsAnew f p
 anew_here f p part before here h ne v is hv = no_other v part before ne (sym here ∙ is) (before_one f p v before hv h)
 
--- Outside a span nothing changed, and at its points and its end each start begins anew
+-- Outside a span nothing changed, and at its points and its end each start begins again
 pub anew_span : (f g : ℕ → Option RangePart) (lo hi : ℕ) → lo < hi → ((q : ℕ) → lies_in lo hi q ≡ false → part_at g q ≡ part_at f q) → ((q : ℕ) (v : RangePart) → (q < lo) ⊎ (hi < q) → g q ≡ Some v → f q ≡ Some v) → ((q : ℕ) → lo ≤ q → q ≤ hi → BeginsAnew g q) → AreStartsMerged f → AreStartsMerged g
 anew_span f g lo hi l same stay within merged q =
     elim (leb_tells lo q) [
@@ -58,7 +58,8 @@ filled_else : (lo hi q : ℕ) (part : RangePart) (o : Option RangePart) → lo <
 filled_else lo hi q part o l (inl a) = grind (arith, nat_tests)
 filled_else lo hi q part o l (inr a) = grind (arith, nat_tests)
 
--- f with both ends marked is g, and n has one part begin on the span; k is n without what did not begin anew at the ends
+-- f with both ends marked is g, and n has one part begin on the span; k is n without what did not begin again at the
+-- ends
 pub anew_adopted : (f g n k : ℕ → Option RangePart) (lo hi : ℕ) (part : RangePart) → lo < hi → HasEnds f g lo hi → ((q : ℕ) → n q ≡ cond (nat_eq q lo) (Some part) (cond (lies_in lo hi q) None (g q))) → KeepsParts n k → ((p : ℕ) → part_at k p ≡ cond (lies_in lo hi p) part (part_at f p)) → BeginsAnew k lo → BeginsAnew k hi → AreStartsMerged f → AreStartsMerged k
 anew_adopted f g n k lo hi part l ends new kept parts low high merged =
     anew_span f k lo hi l
@@ -82,7 +83,7 @@ anew_adopted f g n k lo hi part l ends new kept parts low high merged =
           ]
         ]
 
--- f with both ends marked is g, and n has the parts of the span lowered; k is n without what did not begin anew there
+-- f with both ends marked is g, and n has the parts of the span lowered; k is n without what did not begin again there
 pub anew_lowered : (f g n k : ℕ → Option RangePart) (lo hi : ℕ) (keep : RangePart) (m : ℕ → RangePart) → lo < hi → HasEnds f g lo hi → IsChanged (lowered_part keep) g n lo hi → KeepsParts n k → ((p : ℕ) → part_at k p ≡ cond (lies_in lo hi p) (m p) (part_at f p)) → ((q : ℕ) → lo ≤ q → q ≤ hi → BeginsAnew k q) → AreStartsMerged f → AreStartsMerged k
 anew_lowered f g n k lo hi keep m l ends new kept parts within merged =
     anew_span f k lo hi l
@@ -100,7 +101,7 @@ anew_lowered f g n k lo hi keep m l ends new kept parts within merged =
     outside : (q : ℕ) → (q < lo) ⊎ (hi < q) → n q ≡ f q
     outside q out = new.each q ∙ elsewhere q _ (g q) out ∙ as_before q out
 
--- one part is put on its span, if both ends begin: between the ends of other spans, starts begin anew still
+-- one part is put on its span, if both ends begin: between the ends of other spans, starts begin still
 pub anew_filled : (f g : ℕ → Option RangePart) (lo hi q : ℕ) (part : RangePart) → lo < hi → ((p : ℕ) → g p ≡ cond (nat_eq p lo) (Some part) (cond (lies_in lo hi p) None (f p))) → ((p : ℕ) → part_at g p ≡ cond (lies_in lo hi p) part (part_at f p)) → q ≢ lo → q ≢ hi → BeginsAnew f q → BeginsAnew g q
 anew_filled f g lo hi q part l new parts a b anew =
     elim (leb_tells lo q) [
@@ -123,7 +124,7 @@ anew_filled f g lo hi q part l new parts a b anew =
     high : hi ≤ q → q ≢ hi → lies_in lo hi (q - 1) ≡ false
     high x y = grind (arith, nat_tests)
 
--- The next start begins anew, and none stands between it and those that did
+-- The next start begins again, and none stands between it and those that did
 pub anew_next : (f g : ℕ → Option RangePart) (lo p start q : ℕ) → ((k : ℕ) → lo ≤ k → k < p → BeginsAnew f k) → IsFree f p start → KeepsParts f g → BeginsAnew g start → lo ≤ q → q ≤ start → BeginsAnew g q
 anew_next f g lo p start q before free kept here a b =
     elim (leb_tells p q) [

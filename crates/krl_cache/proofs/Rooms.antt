@@ -166,7 +166,7 @@ filling_goes hs f0 d0 h rest f g d e x starts entries =
 
 -- Merging
 
--- the ends of the first span begin anew now, and those that did do still
+-- the ends of the first span begin again now, and those that did do still
 pub anew_more : (hs : List Holding) (h : Holding) (rest : List Holding) (f m k : ℕ → Option RangePart) → ((q : ℕ) → is_end_of hs q ≡ true → is_end_of (h ∷ rest) q ≡ false → BeginsAnew f q) → KeepsParts f m → BeginsAnew m h.span.lo → KeepsParts m k → BeginsAnew k h.span.hi → (q : ℕ) → is_end_of hs q ≡ true → is_end_of rest q ≡ false → BeginsAnew k q
 anew_more hs h rest f m k before first low second high q e out =
     elim (eqb_tells q h.span.lo) [
@@ -177,7 +177,7 @@ anew_more hs h rest f m k before first low second high q e out =
       ]
     ]
 
--- the ends begin anew, and all else did
+-- the ends begin again, and all else did
 pub anew_all : (hs : List Holding) (n k : ℕ → Option RangePart) → KeepsParts n k → ((q : ℕ) → is_end_of hs q ≡ true → BeginsAnew k q) → AreMergedBetween hs n → AreStartsMerged k
 anew_all hs n k kept ends between q = by_test (is_end_of hs q) refl
   where

@@ -76,7 +76,7 @@ marked_next f g p (inr h) = ap (λ (o : Option RangePart). unwrap_or o (part_at 
 pub part_marked : (f g : ℕ → Option RangePart) (p : ℕ) → IsMarked f g → part_at g p ≡ part_at f p
 part_marked f g p m = part_is g (part_at f) (marked_first f g (m.each 0)) (λ q. marked_next f g q (m.each (suc q))) p
 
--- The same part begins anew
+-- The same part begins again
 
 -- g is f without the key k, if the part that begins there held before
 pub record IsMerged (f g : ℕ → Option RangePart) (k : ℕ) : Type 0 where

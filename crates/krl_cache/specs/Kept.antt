@@ -13,7 +13,7 @@ use Rattle.krl_messages.specs.declared.key_pieces.KeyPiece.{KeyPiece}
 use Rattle.krl_messages.specs.declared.pieces.Pieces.{Pieces}
 use Rattle.krl_cache.specs.Beliefs.{Belief}
 
--- What lists say of a point: the first that speaks of it, else N
+-- What lists say of a point: the first that speaks of it, otherwise N
 
 abbrev pub range_reported_at : List RangePiece → ℕ → RangePart
 range_reported_at [] p = range.N

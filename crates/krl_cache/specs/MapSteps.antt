@@ -54,7 +54,7 @@ pub record IsFirst {V : Type 0} (f : ℕ → Option V) (lo hi : ℕ) (e : ℕ ×
   pub here : f e.0 ≡ Some e.1
   pub free : IsFree f lo e.0
 
--- the key was put into the map if it was fresh, and else stood in it already
+-- the key was put into the map if it was fresh, and otherwise stood in it already
 abbrev pub IsPlaced : {V : Type 0} → BTreeMap ℕ V → BTreeMap ℕ V → ℕ → V → Bool → Type 0
 IsPlaced old new key value fresh =
     MatchBool fresh ((at old.entries key ≡ None) × IsOrdered nat_cmp old

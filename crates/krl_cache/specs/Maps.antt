@@ -15,7 +15,7 @@ use Rattle.krl_cache.specs.Lists.{belief_by}
 abbrev pub at : {V : Type 0} → List (ℕ × V) → ℕ → Option V
 at es q = lookup (is_at (nat_cmp q)) es
 
--- the part at a point: the one that begins there, else that of the point before
+-- the part at a point: the one that begins there, otherwise that of the point before
 unfoldable pub part_at : (ℕ → Option RangePart) → ℕ → RangePart
 part_at f zero = unwrap_or (f 0) range.N
 part_at f (suc p) = unwrap_or (f (suc p)) (part_at f p)

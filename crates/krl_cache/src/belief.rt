@@ -67,7 +67,7 @@ pub trait Belief {
             (laws.IsBelief (believed self.old) → laws.IsBelief (believed self.new)) }
         ensures err { OnErr result (self.new ≡ self.old) };
 
-    /// The entries of the span, if each of its points is known; else the least point that is
+    /// The entries of the span, if each of its points is known; otherwise the least point that is
     /// not.
     ///
     /// # Errors

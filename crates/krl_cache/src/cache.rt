@@ -33,7 +33,7 @@ use std::marker::Model;
 /// A cache in two ordered maps: the range parts by the points where they begin to hold, and the
 /// entries by their points. Neighbours with the same part are one.
 ///
-/// A look-up is one search. A scan searches where the span begins alone, and walks once over the
+/// A look-up is one search. A scan searches only where the span begins, and walks once over the
 /// parts and the entries that lie in it. Lowering searches at both ends of the span, and walks
 /// twice over the parts and once over the entries in it. Adopting walks back from the end of the
 /// span, by one search, to what stands before it; searches once for each end that changes, and
@@ -163,7 +163,7 @@ impl Cache {
         }
     }
 
-    /// The entries of the span, if each of its points is known; else the least point that is
+    /// The entries of the span, if each of its points is known; otherwise the least point that is
     /// not. They are read where they stand, so that it takes no memory.
     pub fn find(&self, span: Span) -> Found<'_>
         ensures { beliefs.Scans (maps_believe self.now) span (scanned_of result) }

@@ -31,7 +31,7 @@ pub fn part_at(starts: &BTreeMap<u64, RangePart>, p: u64) -> RangePart
     }
 }
 
-// The first pair from `lo` on. A range with no end searches for its beginning alone.
+// The first pair from `lo` on. A range with no end searches only for its beginning.
 fn first_from<V: Copy>(map: &BTreeMap<u64, V>, lo: u64) -> Option<(u64, V)>
     ensures { MatchOption result (IsFreeFrom (at map.now.entries) lo)
         (λ e. IsFirst (at map.now.entries) lo (suc e.0) e) }

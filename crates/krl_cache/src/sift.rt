@@ -12,7 +12,7 @@ use std::alloc::Global;
 use std::collections::btree_map::ExtractIf;
 use std::ops::Range;
 
-// Goes on to the end: each pair that its test picks goes, and the others stay as the test leaves
+// Continues to the end: each pair that its test picks goes, and the others stay as the test leaves
 // them.
 pub fn run_out<V: Copy + Drop, F: Copy + FnMut(&u64, &mut V) -> bool>(
     walk: &mut ExtractIf<'_, u64, V, Range<u64>, F, Global>,

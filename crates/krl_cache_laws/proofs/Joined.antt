@@ -1,4 +1,4 @@
--- Pieces that are put behind others: neighbours that say the same are one, and none says N.
+-- Pieces that are put after others: neighbours that say the same are one, and none says N.
 use Rattle.std.proofs.Common.{◌≡◌, ◌≢◌, ℕ, ◌≤◌, ◌<◌, Bool, true, false, ◌||◌, cond, List, [], ◌∷◌, ◌++◌, refl, sym, ap, subst, ◌∙◌, arith, append_assoc}
 use Rattle.std.proofs.lemmas.Bool.Decides.{nat_tests}
 use Rattle.krl_modes.specs.declared.point.TheConstants.{TOP}
@@ -35,7 +35,7 @@ adds_none old x e = record {
   merged = λ m. m;
 }
 
--- A piece that goes on with the last
+-- A piece that continues with the last
 
 stand_both : (a b : ℕ) (xs : List RangePiece) (last x both : RangePiece) (ys : List RangePiece) → IsBoth last x both → StandWithin a b ((xs ++ last ∷ []) ++ x ∷ ys) → StandWithin a b ((xs ++ both ∷ []) ++ ys)
 stand_both a b [] last x both ys i h =
@@ -79,7 +79,7 @@ adds_both old init last x both mid new is same made i =
       merged = λ m. merged_both init last both i.lo (i.part ∙ sym i.on.1) m;
     }))
 
--- A piece behind the last
+-- A piece after the last
 
 merged_behind : (xs : List RangePiece) (last x : RangePiece) → x.part ≢ range.N → (GoesOn last x → ⊥) → AreMerged (xs ++ last ∷ []) → AreMerged ((xs ++ last ∷ []) ++ x ∷ [])
 merged_behind [] last x e apart m = (m.0, λ meets same. apart (sym meets, sym same), (e, tt, tt))

@@ -39,7 +39,7 @@ pub record AreKept (x : Lists) : Type 0 where
   pub merged : AreMerged x.ranges
   pub entries : ArePlaced x.entries
 
--- the piece goes on where the other ends, and says the same
+-- the piece continues where the other ends, and says the same
 abbrev pub GoesOn : RangePiece → RangePiece → Type 0
 GoesOn x y = (x.span.hi ≡ y.span.lo) × (x.part ≡ y.part)
 
@@ -50,7 +50,7 @@ pub record IsBoth (x y both : RangePiece) : Type 0 where
   pub hi : both.span.hi ≡ y.span.hi
   pub part : both.part ≡ y.part
 
--- with the piece behind the old ones the new ones say the same, whatever follows, and are merged
+-- with the piece after the old ones the new ones say the same, whatever follows, and are merged
 pub record AddsBehind (old : List RangePiece) (x : RangePiece) (new : List RangePiece) : Type 0 where
   pub stand : (rest : List RangePiece) → StandWithin 0 TOP (old ++ x ∷ rest) → StandWithin 0 TOP (new ++ rest)
   pub said :

@@ -1,4 +1,4 @@
-//! What holds of every cache: a plain form beside the one that is used, and runs of calls, which
+//! What holds of every cache: a plain form next to the one that is used, and runs of calls, which
 //! both answer alike.
 #![tactic(auto)]
 

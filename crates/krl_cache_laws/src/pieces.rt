@@ -52,14 +52,14 @@ fn add_pieces(
     Ok(())
 }
 
-// Whether the second piece goes on where the first ends, and says the same.
+// Whether the second piece continues where the first ends, and says the same.
 fn goes_on(first: &RangePiece, second: &RangePiece) -> bool
     ensures { IsTrue result ↔ GoesOn first.now second.now }
 {
     first.span.hi() == second.span.lo() && first.part == second.part
 }
 
-// The piece that covers both, if the second goes on with the first.
+// The piece that covers both, if the second continues with the first.
 fn both(first: &RangePiece, second: &RangePiece) -> Option<RangePiece>
     requires { first.now.span.lo ≤ second.now.span.lo }
     ensures { MatchOption result (¬ GoesOn first.now second.now) (IsBoth first.now second.now) }
@@ -79,7 +79,7 @@ fn says_none(piece: &RangePiece) -> bool
     matches!(piece.part, RangePart::N)
 }
 
-// Adds a piece behind the others. It is one with the last, if it goes on with it, and is left
+// Adds a piece after the others. It is one with the last, if it continues with it, and is left
 // out if it says N.
 fn add_behind(list: &mut Vec<RangePiece>, piece: RangePiece) -> Result<(), AllocError>
     requires { (rest : List RangePiece) × StandWithin 0 TOP (list.old.items ++ piece ∷ rest) }

@@ -53,7 +53,7 @@ begun number incarnation = record {
   pins = no_pins;
 }
 
--- the client has been told an epoch
+-- the client has learned an epoch
 abbrev pub has_joined : Client → Bool
 has_joined k = nat_lt 0 k.epoch
 

@@ -136,7 +136,7 @@ says_bye k = from k said.Bye
 
 -- Scans
 
--- Pending exactly if the outstanding write's key lies in the span; else what the cache finds
+-- Pending exactly if the outstanding write's key lies in the span; otherwise what the cache finds
 pub data Answers (k : Client) (s : Bounds) : ScanAnswer → Type 0 where
   is_pending :
       (change : WriteOp)

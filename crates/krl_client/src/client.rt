@@ -75,7 +75,7 @@ impl Client {
     ///
     /// # Errors
     ///
-    /// `BadClient` if the number is above 63; else `Spent` if the incarnation is above END.
+    /// `BadClient` if the number is above 63; otherwise `Spent` if the incarnation is above END.
     pub fn start(
         alloc: Global,
         number: u64,

@@ -79,8 +79,8 @@ impl Client {
     }
 
     /// What its own cache says of the points from `lo` on below `hi`: their entries, if it knows
-    /// each of these points; else the least that it does not know. If the key of its outstanding
-    /// write is one of them, that key. Only entries take memory.
+    /// each of these points; otherwise the least that it does not know. If the key of its
+    /// outstanding write is one of them, that key. Only entries take memory.
     ///
     /// # Errors
     ///

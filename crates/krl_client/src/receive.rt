@@ -103,7 +103,7 @@ impl Client {
         Ok(list)
     }
 
-    // Hears that there is no entry to lock. The point is named in the contract alone.
+    // Hears that there is no entry to lock. The point is named only in the contract.
     fn accept_absent(&mut self, req: u64, _point: u64) -> Result<Vec<ToServer>, AllocError>
         requires last { suc (self.old).seen ≤ END }
         ensures unchanged { OnErr result (self.new ≡ self.old) }

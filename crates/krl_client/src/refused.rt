@@ -16,7 +16,7 @@ pub enum CommandRefused {
     BadPoint,
     /// A span that does not begin below its end, or that ends above TOP.
     BadSpan,
-    /// The client has not been told an epoch yet.
+    /// The client has not learned an epoch yet.
     NotJoined,
     /// The client waits for the answer to a lock request.
     Busy,

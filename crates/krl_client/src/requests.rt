@@ -43,12 +43,12 @@ impl Client {
 
     /// Asks for a lock of this mode on the slot of the point, from 0 to END, and on the slots after
     /// it that begin below `hi`, as far as they are free. The request waits for its answer, and
-    /// each tick says it again.
+    /// each tick sends it again.
     ///
     /// # Errors
     ///
     /// In this order: `BadPoint` if the point is above END; `BadSpan` if `hi` is not above
-    /// the point, or is above TOP; `NotJoined` before the client was told an epoch; `Busy` while a
+    /// the point, or is above TOP; `NotJoined` before the client learned an epoch; `Busy` while a
     /// request waits; `Spent` if no number is left for it; `OutOfMemory`. The client is as it
     /// was.
     pub fn lock(&mut self, point: u64, hi: u64, mode: Mode) -> Result<Vec<ToServer>, CommandRefused>
@@ -121,7 +121,7 @@ impl Client {
     }
 
     /// Asks for a change of the index. The write is outstanding until it is answered, across epochs
-    /// too, and each tick says it again. It needs what lets its holder make the change alone: for
+    /// too, and each tick sends it again. It needs what lets its holder make the change alone: for
     /// an insert a range part of I or X at the key; for a put the key part X there; for a delete
     /// the key part X, and the range part X both at the key and one past it.
     ///
@@ -183,7 +183,7 @@ impl Client {
     }
 
     /// Gives back, of what it holds of the points from `lo` on below `hi`, all that is above
-    /// `keep`: at each of them it goes on to hold the meet of what it held and `keep`. Outside
+    /// `keep`: at each of them it continues to hold the meet of what it held and `keep`. Outside
     /// these points it holds what it held. The one message that it gives is the Release that says
     /// so.
     ///
@@ -192,7 +192,7 @@ impl Client {
     /// # Errors
     ///
     /// In this order: `BadSpan` if `lo` is not below `hi`, or `hi` is above TOP; `NotJoined`
-    /// before the client was told an epoch; `Writing` if the outstanding write's key is one of
+    /// before the client learned an epoch; `Writing` if the outstanding write's key is one of
     /// the points; `Pinned` if a pin has one of them; `OutOfMemory`. The client is as it was.
     pub fn lower(&mut self, lo: u64, hi: u64, keep: Mode) -> Result<Vec<ToServer>, CommandRefused>
         ensures due { IfErr result
@@ -240,7 +240,7 @@ impl Client {
         self.lower(lo, hi, Mode::N)
     }
 
-    /// Leaves: says Bye, which gives back all that it holds, and is gone.
+    /// Leaves: sends Bye, which gives back all that it holds, and is gone.
     ///
     /// # Errors
     ///

@@ -66,7 +66,7 @@ impl Client {
     }
 
     // What it says first in an epoch that it has joined: its Report if it has accepted no push
-    // of it, else an Ack.
+    // of it, otherwise an Ack.
     fn opening(&self) -> Result<ToServer, AllocError>
         ensures { IfOk result (IsOpening (meaning self.now)) }
     {
@@ -76,7 +76,7 @@ impl Client {
         Ok(self.requests(RequestBody::Ack))
     }
 
-    /// What it says again and again: before it has joined an epoch, Hello; after that its Report
+    /// What it sends again and again: before it has joined an epoch, Hello; after that its Report
     /// if it has accepted no push of the epoch, and otherwise an Ack, then its waiting lock
     /// request and its outstanding write.
     ///

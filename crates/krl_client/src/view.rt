@@ -65,7 +65,7 @@ impl Client {
         }))
     }
 
-    // Whether it has been told an epoch.
+    // Whether it has learned an epoch.
     pub(crate) fn has_joined(&self) -> bool
         ensures { result ≡ clients.has_joined (meaning self.now) }
     {

@@ -177,7 +177,7 @@ fn answers<B: Belief>(alloc: Global, cache: &mut B, ask: &Ask, expected: &Gives)
     }
 }
 
-// Whether each call of the rows gives what stands beside it.
+// Whether each call of the rows gives what stands next to it.
 pub fn all_give<B: Belief>(alloc: Global, cache: &mut B, rows: &[(Ask, Gives)]) -> bool {
     for (ask, expected) in rows {
         if !answers(alloc, cache, ask, expected) {

@@ -10,7 +10,7 @@ use krl_messages::{ToServer, ToServerBody};
 use krl_modes::END;
 use std::alloc::{AllocError, Global};
 
-// A client that has said its Hello.
+// A client that has sent its Hello.
 fn started(alloc: Global) -> Option<Client> {
     let Ok((client, hello)) = Client::start(alloc, 3, 2) else {
         return None;

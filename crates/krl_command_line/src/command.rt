@@ -19,7 +19,7 @@ pub struct RandomOptions {
     pub steps: u64,
     /// Whether it delivers the oldest messages after each step, until few wait.
     pub busy: bool,
-    /// Whether it goes on by good rounds then, until nobody waits.
+    /// Whether it continues by good rounds then, until nobody waits.
     pub rest: bool,
     /// Whether it tells how far it is, wherever standard error goes.
     pub progress: bool,

@@ -12,7 +12,7 @@ use std::io;
 /// The exit status of a command line that asks for no run.
 pub const NO_RUN: u8 = 2;
 
-// The exit status of words that ask for no run: 1 if memory ran out, else 2, for help and the
+// The exit status of words that ask for no run: 1 if memory ran out, otherwise 2, for help and the
 // version too.
 fn status_of(error: &Error) -> u8
     ensures { result ≡ words_status (kind_of error.now) }
@@ -39,7 +39,7 @@ fn complain<R: Eprint>(rt: &R, error: &Error) {
 /// # Errors
 ///
 /// The exit status of words that ask for no run, even if standard error can't be written to: 1
-/// if memory ran out, else 2.
+/// if memory ran out, otherwise 2.
 pub fn read<R: Eprint + AllocGlobal>(rt: &R, words: &[String]) -> Result<Request, u8>
     ensures { IfErr result (λ status. (kind : ErrorKind) × (status ≡ words_status kind)) }
 {

@@ -1,4 +1,4 @@
-//! The command line of `krl`: its words, and what is said on standard error of a run that ended
+//! The command line of `krl`: its words, and what is reported on standard error of a run that ended
 //! early.
 #![tactic(auto)]
 

@@ -11,7 +11,7 @@ fn say<R: Eprint>(rt: &R, fault: ScriptFault, word: Option<&str>, advice: &str) 
     };
 }
 
-/// Says on standard error why the script of this text ended before its last line, which of its
+/// Reports on standard error why the script of this text ended before its last line, which of its
 /// words that is about, and what can be done. The text is empty if it could not be read.
 pub fn say_of_script<R: Eprint>(rt: &R, fault: ScriptFault, text: &[u8]) {
     let word = match fault {
@@ -21,7 +21,7 @@ pub fn say_of_script<R: Eprint>(rt: &R, fault: ScriptFault, text: &[u8]) {
     say(rt, fault, word, advice::for_fault(fault));
 }
 
-/// Says on standard error why a run that reads no script ended early, and what can be done.
+/// Reports on standard error why a run that reads no script ended early, and what can be done.
 pub fn say_of_run<R: Eprint>(rt: &R, fault: ScriptFault) {
     say(rt, fault, None, advice::for_run(fault));
 }

@@ -4,7 +4,7 @@ use Rattle.std.proofs.lemmas.List.{append-nil, take_more_set}
 use Rattle.rand_pcg.specs.Lcg.{Lcg}
 use Rattle.krl_draws.specs.Generator as draw
 
--- what is drawn next stands behind the others
+-- what is drawn next comes after the others
 pub more_drawn : (len i b : ℕ) (buf : List ℕ) (whole : List ℕ × Lcg) (g h : Lcg) → i < len → i < length buf → (let got : ℕ × Lcg = (b, h) in got) ≡ draw.below 256 g → whole ≡ (take i buf ++ (draw.bytes (len - i) g).0, (draw.bytes (len - i) g).1) →
     whole ≡ (take (i + 1) (set buf i b) ++ (draw.bytes (len - (i + 1)) h).0, (draw.bytes (len - (i + 1)) h).1)
 more_drawn len i b buf whole g h below inside drawn was =

@@ -18,7 +18,7 @@ use Rattle.krl_draws.specs.declared.generator.Observed.{Observed}
 abbrev pub Draw : Type 0 → Type 0
 Draw A = Lcg → A × Lcg
 
--- draw, and go on by what was drawn
+-- draw, and continue by what was drawn
 infixl 10 ◌>>=◌
 abbrev pub ◌>>=◌ : {A B : Type 0} → Draw A → (A → Draw B) → Draw B
 d >>= f = λ g. f (d g).0 (d g).1

@@ -30,7 +30,7 @@ module _ {V : Type 0} where
       ap (λ b. b || has_key (take i es) (key_of_entry es i)) (less_apart e.0 (key_of_entry es i) (key_above e.0 es i h.0 (omega (arith, lt))))
       ∙ not_before es i h.1 (omega (arith, lt))
 
--- entries in order, below END and not too many, are refused for want of memory alone
+-- entries in order, below END and not too many, are refused only for want of memory
 for_memory : (room : ℕ) (es : List (ℕ × Value)) → Rises es → AreBelowEnd es → length es ≤ room → (e : EntriesRefused) → Refuses room es e → e ≡ refused.OutOfMemory
 for_memory room es rise below few refused.OutOfMemory h = refl
 for_memory room es rise below few refused.Full h = absurd (omega (arith, few, h))

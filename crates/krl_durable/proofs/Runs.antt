@@ -51,7 +51,7 @@ no_end : (es : List (ℕ × Value)) → AreBelowEnd es → NoKey END es
 no_end [] h = tt
 no_end (e ∷ es) h = ((λ same. absurd (let lt : e.0 < END = grind (arith, nat_tests, h.0) in omega (arith, lt, same))), no_end es h.1)
 
--- what stands behind a key in a sorted list is not below it
+-- what comes after a key in a sorted list is not below it
 not_below_rest : (k : ℕ) (v : Value) (es front back : List (ℕ × Value)) → is_sorted nat_cmp es ≡ true → es ≡ front ++ (k, v) ∷ back → AreFrom k back
 not_below_rest k v es front back sorted whole = not_above k back (last_part front (subst (λ (xs : List (ℕ × Value)). Rises xs) whole (rises es sorted))).0
   where
@@ -63,7 +63,7 @@ all_without_front : (front : List (ℕ × Value)) (e : ℕ × Value) (back : Lis
 all_without_front [] e back h = h.0
 all_without_front (x ∷ front) e back h = all_without_front front e back h.1
 
--- the list, cut behind its front
+-- the list, cut after its front
 module _ (p : ℕ) (es front back : List (ℕ × Value)) (m : map.FinMap nat_cmp Value) (sorted : is_sorted nat_cmp es ≡ true) (seen : map.from_sorted es ≡ m) (whole : es ≡ front ++ back) (below : AreBelow p front) (from : AreFrom p back) where
   pub fronts : take (length front) es ≡ front
   fronts = ap (take (length front)) whole ∙ take-append_seam front back

@@ -1,4 +1,4 @@
--- The slot of a point is the least at or above it; the span of a slot begins behind the slot before it.
+-- The slot of a point is the least at or above it; the span of a slot begins after the slot before it.
 use Rattle.krl_durable.proofs.Names.{◌≡◌, ◌≢◌, ℕ, suc, ◌≤◌, ◌<◌, Bool, true, false, List, [], ◌∷◌, Option, Some, None, ◌↔◌, refl, sym, ap, subst, ◌∙◌, ⊎_elim, arith, ◌||◌, nat_eq, ltb-true}
 use Rattle.krl_durable.proofs.Names.{ltb-false, ne_eqb, nat_tests, filter, nat_cmp, eq_by_cmp, find, is_sorted, END, Value, Index, first_or_end, after_keys, slot_of, low_of, is_slot, IsSlotOf}
 use Rattle.krl_durable.proofs.Names.{IsSpanOf, AreBelowEnd}

@@ -2,7 +2,7 @@
 use Rattle.std.specs.Prelude.{◌≡◌, ◌≤◌, ◌<◌, ℕ, suc, true, false, Option, None, Some}
 use Rattle.krl_durable.specs.Index.{Index, is_slot}
 
--- the point behind a key, or 0
+-- the point after a key, or 0
 abbrev pub behind : Option ℕ → ℕ
 behind None = 0
 behind (Some k) = suc k
@@ -13,7 +13,7 @@ pub record IsSlotOf (m : Index) (p n : ℕ) : Type 0 where
   pub above : p ≤ n
   pub least : (k : ℕ) → p ≤ k → k < n → is_slot m k ≡ false
 
--- the points from low on up to the slot n hold no slot before it, and low is 0 or comes behind a slot
+-- the points from low on up to the slot n hold no slot before it, and low is 0 or comes after a slot
 pub record IsSpanOf (m : Index) (n low : ℕ) : Type 0 where
   pub up_to : low ≤ n
   pub alone : (k : ℕ) → low ≤ k → k < n → is_slot m k ≡ false

@@ -18,7 +18,7 @@ pub enum Change {
         client: u64,
     },
     /// The next write of a registered client is judged. It changes the index if it is Applied,
-    /// and else the client's record alone.
+    /// and otherwise only the client's record.
     Judged {
         /// The client's number.
         client: u64,

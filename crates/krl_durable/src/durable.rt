@@ -91,8 +91,8 @@ impl Durable {
     ///
     /// # Errors
     ///
-    /// `Full` above 65,536 entries; else the first bad entry in order, by `BadKey` if its key is
-    /// END or more, or by `Twice` if its key stands before; and `OutOfMemory` at any point.
+    /// `Full` above 65,536 entries; otherwise the first bad entry in order, by `BadKey` if its key
+    /// is END or more, or by `Twice` if its key stands before; and `OutOfMemory` at any point.
     pub fn new(alloc: Global, entries: &[(u64, Value)]) -> Result<Durable, EntriesRefused>
         ensures { MatchResult result
             (λ d. (length entries.now ≤ max_entries) × AreGood entries.now (length entries.now)
@@ -117,7 +117,7 @@ impl Durable {
     ///
     /// # Errors
     ///
-    /// As of `new`: `Full` if there are more than the room; else the first bad entry in order,
+    /// As of `new`: `Full` if there are more than the room; otherwise the first bad entry in order,
     /// by `BadKey` if its key is END or more, or by `Twice` if its key stands before; and
     /// `OutOfMemory` at any point.
     pub fn from_parts(
@@ -233,7 +233,7 @@ impl Durable {
     }
 
     /// The entries from the first at or above the point, as far as their block goes: there is at
-    /// least one, if there is any. A walk asks again behind the last of them.
+    /// least one, if there is any. A walk asks again after the last of them.
     pub fn run(&self, point: u64) -> &[(u64, Value)]
         ensures { IsRun (map.entries self.now.index) point result.now }
     {
@@ -306,7 +306,7 @@ impl Durable {
 
     /// The records, in order of first registration. With the entries, the epoch, and any limits
     /// that leave room for the entries, `from_parts` makes of them what survives here, with those
-    /// limits. It refuses them for want of memory alone.
+    /// limits. It refuses them only for want of memory.
     ///
     /// # Errors
     ///

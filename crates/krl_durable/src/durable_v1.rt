@@ -54,8 +54,8 @@ impl DurableV1 {
     ///
     /// # Errors
     ///
-    /// `Full` above 65,536 entries; else the first bad entry in order, by `BadKey` if its key is
-    /// END or more, or by `Twice` if its key stands before; and `OutOfMemory` at any point.
+    /// `Full` above 65,536 entries; otherwise the first bad entry in order, by `BadKey` if its key
+    /// is END or more, or by `Twice` if its key stands before; and `OutOfMemory` at any point.
     pub fn new(alloc: Global, entries: &[(u64, u64)]) -> Result<DurableV1, EntriesRefused>
         ensures { MatchResult result
             (λ d. (length entries.now ≤ max_entries) × AreGood entries.now (length entries.now)

@@ -1,4 +1,4 @@
--- What a client says waits to be sent, and so a call has done what it should.
+-- What a client sends waits to be sent, and so a call has done what it should.
 use Rattle.std.proofs.Common.{◌≡◌, ◌∙◌, ℕ, List, [], ◌∷◌, Option, Some, None, Result, Ok, Err, ap, sym, subst}
 use Rattle.std.specs.Prelude.{IfOk, IfErr, OnOk, OnErr}
 use Rattle.std.specs.Global.{Vec}

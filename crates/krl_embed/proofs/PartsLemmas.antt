@@ -1,4 +1,4 @@
--- Rows of parts, one behind another.
+-- Rows of parts, one after another.
 use Rattle.std.proofs.Common.{◌≡◌, ℕ, ◌+◌, ◌<◌, ◌≤◌, ◌∙◌, List, [], ◌∷◌, ◌++◌, length, get_or, take, drop, map}
 use Rattle.std.proofs.Common.{set, sym, ap, subst, arith, add-one, append_assoc, drop-cons, length-take-le}
 use Rattle.std.proofs.Common.{Option, Some, None}

@@ -1,4 +1,4 @@
--- Records behind others, and the first that is bad.
+-- Records after others, and the first that is bad.
 use Rattle.std.proofs.Common.{◌≡◌, ℕ, ◌∙◌, sym, ap, refl, subst, List, [], ◌∷◌, ◌++◌, take, map, Bool, false, nat_eq, Option, Some}
 use Rattle.std.specs.Prelude.{◌||◌, slice_get}
 use Rattle.std.specs.List.{IsDistinct, list_any}

@@ -1,4 +1,4 @@
--- Rows of entries, one behind another.
+-- Rows of entries, one after another.
 use Rattle.std.proofs.Common.{◌≡◌, ℕ, suc, ◌+◌, ◌-◌, ◌<◌, ◌≤◌, ◌∙◌, List, [], ◌∷◌, ◌++◌, length, get_or, take, drop}
 use Rattle.std.proofs.Common.{map, set, sym, ap, subst, arith, add-one, append_assoc, drop-cons, length-take-le}
 use Rattle.std.proofs.Math.Seq.{set-append_seam, take-length}

@@ -86,7 +86,7 @@ HearsRead bytes (Ok m) k old l new r =
 abbrev pub Hears : List ℕ → Fields → List ℕ → Fields → List ℕ → Reply → Type 0
 Hears bytes k old l new r = HearsRead bytes (reading.to_client_of bytes) k old l new r
 
--- it says again what is not answered
+-- it sends again what is not answered
 abbrev pub Ticks : Fields → List ℕ → Fields → List ℕ → Reply → Type 0
 Ticks k old l new r =
     (r.detail ≡ 0) × Did (λ x list. (x ≡ k) × IsTick (meaning k) list) k old l new (code_of r)
@@ -96,7 +96,7 @@ abbrev pub SaidOr : Result (Vec ToServer) CommandRefused → List ℕ → List �
 SaidOr (Ok list) old new c = WaitsBy (said_frames list.items) old new c
 SaidOr (Err r) old new c = (new ≡ old) × (c ≡ Some (refusal_code r))
 
--- a command is refused for what is due; else it is done, and makes this client and says this message
+-- a command is refused for what is due; otherwise it is done, and makes this client and says this message
 abbrev pub Commanded : Option CommandRefused → Client → ToServer
     → Fields → List ℕ → Fields → List ℕ → Option Code → Type 0
 Commanded (Some due) next m k old l new c = Refused (refusal_code due) k old l new c
@@ -139,7 +139,7 @@ Lowers s (Some keep) k old l new r =
     × Commanded (commands.lower_refusal (meaning k) s) (commands.lowered (meaning k) s keep)
     (commands.says_release (meaning k) s keep) k old l new (code_of r)
 
--- a pin is refused for what is due; else the detail is the pin
+-- a pin is refused for what is due; otherwise the detail is the pin
 abbrev pub PinsAs : Option CommandRefused → Bounds → Fields → List ℕ → Fields → List ℕ → Reply → Type 0
 PinsAs (Some due) s k old l new r = (r.detail ≡ 0) × Refused (refusal_code due) k old l new (code_of r)
 PinsAs None s k old l new r =

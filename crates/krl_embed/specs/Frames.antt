@@ -1,4 +1,4 @@
--- What waits to be sent: each message behind its length.
+-- What waits to be sent: each message after its length.
 use Rattle.std.specs.Prelude.{◌≡◌, ℕ, List, ◌++◌, length, Option, Some, None}
 use Rattle.std.specs.List.{flat_map}
 use Rattle.krl_messages.specs.declared.to_server.ToServer.{ToServer}
@@ -17,7 +17,7 @@ said_frame m = frame (to_server m)
 abbrev pub told_frame : ToClient → List ℕ
 told_frame m = frame (to_client m)
 
--- what a client says, and what a server says
+-- what a client sends, and what a server sends
 abbrev pub said_frames : List ToServer → List ℕ
 said_frames ms = flat_map said_frame ms
 

@@ -51,13 +51,13 @@ is_record r =
 abbrev pub is_bad_behind : List (ℕ × Record) → RecordRow → Bool
 is_bad_behind rows r = not (is_record r) || list_any (λ row. nat_eq r.client row.0) rows
 
--- why a row does not go behind these
+-- why a row does not go after these
 abbrev pub RefusesRow : List (ℕ × Record) → RecordRow → Code → Type 0
 RefusesRow rows r code.BadRecord = is_bad_behind rows r ≡ true
 RefusesRow rows r code.OutOfMemory = Unit {0}
 RefusesRow rows r _ = ⊥
 
--- the row at this place is the first that is bad behind those before it
+-- the row at this place is the first that is bad after those before it
 pub record IsFirstBad (rows : List RecordRow) (i : ℕ) : Type 0 where
   pub before : AreRows (map record_of (take i rows))
   pub row : RecordRow

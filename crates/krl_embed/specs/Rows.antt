@@ -10,7 +10,7 @@ use Rattle.krl_embed.specs.declared.code.Code.{Code}
 use Rattle.krl_embed.specs.declared.code.Code.TheVariants as code
 use Rattle.krl_embed.specs.Replies.{code_of}
 
--- the row of an entry: zeros stand behind the value's bytes
+-- the row of an entry: zeros follow the value's bytes
 abbrev pub row_of : ℕ × Value → Row
 row_of e = record { key = e.0; length = length e.1; bytes = padded e.1 }
 

@@ -95,7 +95,7 @@ fn say_again(alloc: Global, client: &Client, outgoing: &mut Frames) -> Reply
     }
 }
 
-/// Says again what is not answered.
+/// sends again what is not answered.
 pub(crate) fn tick(alloc: Global, endpoint: &mut Endpoint) -> Reply
     ensures does { OnClient calls.Ticks endpoint.old endpoint.new result }
     ensures notes { endpoint.new.notes ≡ endpoint.old.notes }
@@ -277,7 +277,7 @@ fn gone(role: Role) -> (Role, Code)
     }
 }
 
-/// Says Bye: the client is gone. One that is gone already says it again.
+/// Sends Bye: the client is gone. One that is gone already sends it again.
 pub(crate) fn leave(alloc: Global, endpoint: &mut Endpoint) -> Reply
     ensures does { Leaves endpoint.old endpoint.new result }
     ensures notes { endpoint.new.notes ≡ endpoint.old.notes }

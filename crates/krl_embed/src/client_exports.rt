@@ -101,7 +101,7 @@ pub extern "C" fn krl_client_step(alloc: Global, handle: &mut Handle, bytes: &[u
     reply
 }
 
-/// Says again what is not answered.
+/// sends again what is not answered.
 #[unsafe(no_mangle)]
 pub extern "C" fn krl_client_tick(alloc: Global, handle: &mut Handle) -> Reply
     ensures does { OnHandle IsCode (OnClient calls.Ticks)
@@ -332,7 +332,7 @@ pub extern "C" fn krl_client_status(alloc: Global, handle: &mut Handle) -> Clien
     state
 }
 
-/// Says Bye. A client that has left says it again.
+/// Sends Bye. A client that has left sends it again.
 #[unsafe(no_mangle)]
 pub extern "C" fn krl_client_leave(alloc: Global, handle: &mut Handle) -> Reply
     ensures does { OnHandle IsCode shown.Leaves handle.old.owned.value handle.new.owned.value result }

@@ -53,7 +53,7 @@ pub enum Code {
     BadPoint,
     /// A span that does not begin below its end, or ends above TOP.
     BadSpan,
-    /// The client has been told no epoch yet.
+    /// The client has learned no epoch yet.
     NotJoined,
     /// The client waits for the answer to a lock request.
     Busy,

@@ -1,4 +1,4 @@
-//! Exports on either, and on messages alone.
+//! Exports on either, and on messages only.
 ghost use Rattle.std.specs.Prelude.{◌≡◌, ◌≤◌, None, length};
 ghost use Rattle.krl_embed.specs.Endpoints.{IsCode, IsUntold, OnHandle};
 ghost use Rattle.krl_wire.specs.Reading as reading;
@@ -33,8 +33,8 @@ pub extern "C" fn krl_confirm(alloc: Global, handle: &mut Handle, count: u64) ->
     }
 }
 
-// So many bytes of what waits go into `bytes`: Done; or TooShort, and none is taken. The detail is how
-// many bytes that is.
+// So many bytes of what waits go into `bytes`: Done; or TooShort, and none is taken. The detail is
+// how many bytes that is.
 fn take_ready(endpoint: &mut Endpoint, ready: usize, bytes: &mut [u8]) -> Reply
     requires { ready ≤ length endpoint.old.outgoing }
     ensures { TakesReady ready bytes.old bytes.new endpoint.old endpoint.new result }
@@ -47,7 +47,8 @@ fn take_ready(endpoint: &mut Endpoint, ready: usize, bytes: &mut [u8]) -> Reply
     Reply::with(Code::Done, ready as u64)
 }
 
-// Takes what rests on confirmed notes only: Done; or Unkept, if that is nothing, and something waits.
+// Takes what rests on confirmed notes only: Done; or Unkept, if that is nothing, and something
+// waits.
 fn take_confirmed(endpoint: &mut Endpoint, bytes: &mut [u8]) -> Reply
     ensures { Takes bytes.old bytes.new endpoint.old endpoint.new result }
 {

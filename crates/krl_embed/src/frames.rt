@@ -91,7 +91,7 @@ impl Frames {
         }
     }
 
-    /// What a client says waits behind all others: Done; or else nothing more waits: Unsaid.
+    /// What a client sends waits behind all others: Done; or else nothing more waits: Unsaid.
     pub(crate) fn say(&mut self, alloc: Global, messages: &[ToServer]) -> Code
         ensures { Waits (said_frames messages.now) self.old self.new result }
     {
@@ -101,7 +101,7 @@ impl Frames {
         }
     }
 
-    /// What a server says waits behind all others: Done; or else nothing more waits: Unsaid.
+    /// What a server sends waits behind all others: Done; or else nothing more waits: Unsaid.
     pub(crate) fn tell(&mut self, alloc: Global, messages: &[ToClient]) -> Code
         ensures { Waits (told_frames messages.now) self.old self.new result }
     {

@@ -19,7 +19,7 @@ use krl_modes::END;
 use krl_server::{Server, ServerNotStarted};
 use std::alloc::Global;
 
-// Why the record at this place is refused. A bad one is told by its place.
+// Why the record at this place is refused. A bad one is named by its place.
 fn record_refused(code: Code, place: u64) -> Reply
     ensures code { code_of result ≡ Some code }
     ensures detail { result.detail ≡ place_said code place }
@@ -30,7 +30,7 @@ fn record_refused(code: Code, place: u64) -> Reply
     }
 }
 
-// The records of these rows, in their order. A bad one is told by its place.
+// The records of these rows, in their order. A bad one is named by its place.
 fn records_of(alloc: Global, rows: &[RecordRow]) -> Result<Vec<(u64, Record)>, Reply>
     ensures rows { IfOk result (λ records. AreRows records.items) }
     ensures records { IfOk result (λ records. records.items ≡ map record_of rows.now) }

@@ -125,7 +125,7 @@ fn is_there(rows: &[(u64, Record)], client: u64) -> bool
     rows.iter().any(|row| client == row.0)
 }
 
-/// Puts the record behind the others, if it is one, and its client has none before.
+/// Puts the record after the others, if it is one, and its client has none before.
 ///
 /// # Errors
 ///

@@ -42,7 +42,7 @@ impl Row {
         }
     }
 
-    /// The entry's row: zeros stand behind the value's bytes.
+    /// The entry's row: zeros follow the value's bytes.
     #[inline(always)]
     pub(crate) fn of(key: u64, value: &Value) -> Row
         ensures { result ≡ row_of (key, value.now) }

@@ -174,7 +174,7 @@ fn say_again(alloc: Global, server: &Server, outgoing: &mut Frames, client: u64)
     }
 }
 
-/// Says again to a client what it may have missed.
+/// Sends again to a client what it may have missed.
 pub(crate) fn nudge(alloc: Global, endpoint: &mut Endpoint, client: u64) -> Reply
     ensures does { OnServer IsCode (calls.Nudges client) endpoint.old endpoint.new result }
     ensures notes { endpoint.new.notes ≡ endpoint.old.notes }

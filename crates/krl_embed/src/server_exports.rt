@@ -21,8 +21,8 @@ use crate::server_calls::{self, Recorded, ServerState, Stepped};
 use crate::server_shows::{self, HeldSlot, Waiting};
 use std::alloc::Global;
 
-/// Starts a server on what was kept, with room for so many entries and grants of up to so many slots,
-/// in a closed handle. The detail is its epoch.
+/// Starts a server on what was kept, with room for so many entries and grants of up to so many
+/// slots, in a closed handle. The detail is its epoch.
 #[unsafe(no_mangle)]
 pub extern "C" fn krl_server_open(
     alloc: Global,
@@ -85,7 +85,7 @@ pub extern "C" fn krl_server_step(alloc: Global, handle: &mut Handle, bytes: &[u
     stepped
 }
 
-/// Says again to a client what it may have missed.
+/// Sends again to a client what it may have missed.
 #[unsafe(no_mangle)]
 pub extern "C" fn krl_server_nudge(alloc: Global, handle: &mut Handle, client: u64) -> Reply
     ensures does { OnHandle IsCode (OnServer IsCode (calls.Nudges client))

@@ -9,7 +9,7 @@ use Rattle.krl_failover.specs.Fenced.{Kept, kept_of, Fenced, IsHere, Turned, her
 use Rattle.krl_failover.specs.Steps.{FencedStep, runs, takes_over, old_takes_report, old_finishes, FencedReachable, went, FencedSteps, stays_so, on_then}
 use Rattle.krl_failover.proofs.Witness.{links5, old5, f5, reach5, lost, rest4, same_both}
 
--- the client of epoch 1 is told epoch 2, and joins it
+-- the client of epoch 1 learns epoch 2, and joins it
 abbrev invited : Link
 invited = record (links5 0) { notices = record { inc = 1; epoch = 2 } ∷ (links5 0).notices }
 

@@ -1,4 +1,4 @@
--- A run in which an old server goes on: a client in its epoch comes to hold a lock after another server has started.
+-- A run in which an old server continues: a client in its epoch comes to hold a lock after another server has started.
 use Rattle.std.specs.Bool.{◌==◌}
 use Rattle.krl_failover.proofs.Names.{◌≡◌, ◌≢◌, ℕ, ◌<◌, true, false, Bool, Some, None, [], ◌∷◌, inl, inr, refl, sym, ap, subst, ◌∙◌, ⊎_elim, true≢false, arith, nat_eq, eq-eqb, ne_eqb, if◌then◌else◌, Mode, RangesAgree, KeysAgree, Down, Recovering, Serving}
 use Rattle.krl_failover.proofs.Names.{Said, Push, Shared, Link, LinkStep, adopted, MaySay, IsSlot, InSpan, no_range, no_key, starts, joins, accepts, speaks, registers, range_at, key_at, at_link, blank_link, reads_bound, inserts_bound, rank_bound}

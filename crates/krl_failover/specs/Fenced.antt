@@ -1,7 +1,7 @@
 -- Many servers over one fenced store. The store keeps what survives: the epoch, the index, and of each client the
 -- registered incarnation, whether it left, and its last judged write. It accepts a change only from the server whose
 -- epoch is the store's, and a start raises that epoch. So one server, the store's server, takes the steps of
--- krl_machine. The server of each earlier epoch goes on for ever, with its own table, on any message that was ever
+-- krl_machine. The server of each earlier epoch continues for ever, with its own table, on any message that was ever
 -- sent; only its steps that change what survives are refused. A server that has crashed is one that takes no more
 -- steps.
 use Rattle.std.specs.Prelude.{◌≡◌, ◌≢◌, ℕ, suc, Bool, true, false, Option, None, ◌⊎◌}

@@ -31,7 +31,7 @@ pub data FencedStep (f : Fenced) : Fenced → Type 0 where
         old = f.old;
         copy = f.copy;
       })
-  -- a server starts, in whatever phase the one before is: that one is fenced, and goes on as an old server
+  -- a server starts, in whatever phase the one before is: that one is fenced, and continues as an old server
   takes_over : (missing : ℕ → Bool) → ((c : ℕ) → IsMissing (f.world.links c) (missing c)) →
       FencedStep f (record {
         world = record {
@@ -82,7 +82,7 @@ pub data FencedStep (f : Fenced) : Fenced → Type 0 where
       IsRow (seen_by f f.bound) range key →
       Changed f.world.links links c (record (f.world.links c) { top_range = range; top_key = key }) →
       FencedStep f (record f { world = record f.world { links = links } })
-  -- it makes the next push, from its rows and its own copy of the index; an answer said again is one too
+  -- it makes the next push, from its rows and its own copy of the index; an answer sent again is one too
   old_pushes : (c : ℕ) (p : Push) (links : ℕ → Link) (old : ℕ → ℕ → Kept) →
       f.world.shared.phase ≡ Recovering → IsHere (f.world.links c) (f.old f.bound c) →
       MayPush (f.world.links c) f.bound (f.old f.bound c) p →

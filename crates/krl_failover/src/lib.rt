@@ -1,4 +1,4 @@
-//! Failover over one fenced store: servers of earlier epochs go on for ever, and only their
+//! Failover over one fenced store: servers of earlier epochs continue for ever, and only their
 //! changes are refused. Each function has an empty body: its contract is a theorem.
 #![tactic(auto)]
 
@@ -30,20 +30,20 @@ pub fn once()
 {}
 
 /// What a client believes is at most its row of the table of the latest server that ever served,
-/// as that server goes on.
+/// as that server continues.
 pub fn bounded()
     ensures { (index : ℕ → Option Value) (end : ℕ) (f : Fenced) → FencedReachable index end f
         → IsBounded f.world }
 {}
 
-/// The store's server, which recovers while old servers go on, never finds two reports in
+/// The store's server, which recovers while old servers continue, never finds two reports in
 /// conflict.
 pub fn no_alarm()
     ensures { (index : ℕ → Option Value) (end : ℕ) (f : Fenced) → FencedReachable index end f
         → NoAlarm f.world }
 {}
 
-/// An old server does go on: after a server has started in epoch 2, a client that is still in
+/// An old server does continue: after a server has started in epoch 2, a client that is still in
 /// epoch 1 comes to hold a lock that it did not hold.
 pub fn goes_on()
     ensures { (f g : Fenced) × FencedReachable (λ q. None) 9 f × FencedSteps f g

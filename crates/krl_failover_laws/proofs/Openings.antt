@@ -1,5 +1,5 @@
--- A world that krl_machine reaches, and in which a server is up, many servers reach: each crash with its start is a start that
--- fences.
+-- A world that krl_machine reaches, and in which a server is up, many servers reach: each crash with its start is a
+-- start that fences.
 use Rattle.std.proofs.Common.{◌≡◌, ◌≢◌, ℕ, suc, Bool, true, Option, refl, sym, ap, subst, ◌∙◌}
 use Rattle.krl_modes.specs.declared.point.TheConstants.{END}
 use Rattle.krl_messages.specs.Values.{Value}
@@ -55,7 +55,7 @@ serves_up p e d = let x = sym e ∙ d in cc
 recovers_up : (p : Phase) → p ≡ Recovering → p ≢ Down
 recovers_up p e d = let x = sym e ∙ d in cc
 
--- while nobody is up, a link has steps of its client alone
+-- while nobody is up, a link has steps of its client only
 client_step : (s r : Shared) (l m : Link) → s.phase ≡ Down → LinkStep s l m → LinkStep r l m
 client_step s r l m d (starts a) = starts a
 client_step s r l m d crashes = crashes

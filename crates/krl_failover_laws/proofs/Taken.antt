@@ -32,7 +32,7 @@ module _ (w : FencedWorld) (h : Shown w) where
   place_at : (c : ℕ) (k : Option Client) → client_of w.world c ≡ k → ShowsPlace c (w.world.places c).last_incarnation k (h.of c)
   place_at c k e = subst (λ x. ShowsPlace c (w.world.places c).last_incarnation x (h.of c)) e (h.world.places c)
 
-  -- the client of c goes on as k, or no longer, and sends these
+  -- the client of c continues as k, or no longer, and sends these
   on_client : (v : State) (c : ℕ) (k : Option Client) (ms : List ToServer) → Leads (shared_of w.world.server) (h.of c) c (w.world.places c).last_incarnation k ms → v ≡ with_client w.world c k ms → To v
   on_client v c k ms g e = subst To (sym e) (client_shown w h c (record { last_incarnation = (w.world.places c).last_incarnation; client = k }) ms g)
 

@@ -19,7 +19,7 @@ use Rattle.krl_world.specs.Steps.{CanOpen, Takes}
 
 pub record FencedWorld : Type 0 where
   pub world : State  -- the server of the store's epoch, which runs, the clients, and every message that was sent
-  pub old : ℕ → Option Server  -- the server of each earlier epoch, as it goes on
+  pub old : ℕ → Option Server  -- the server of each earlier epoch, as it continues
 
 -- the old servers with this one of that epoch
 abbrev pub set_old : (ℕ → Option Server) → ℕ → Server → ℕ → Option Server
@@ -30,7 +30,7 @@ pub data Moves (w : FencedWorld) : FencedWorld → Type 0 where
   takes : (s : Step) (answer : Answer) (v : State) → s ≢ step.CrashServer → Takes w.world s answer v →
       Moves w (record w { world = v })
   -- a server starts on what survives the store's server s, with limits that leave room for it. The server s is fenced
-  -- and goes on as an old one
+  -- and continues as an old one
   starts : (s : Server) (l : Limits) → w.world.server ≡ Up s → Fits l (crash s) → can_start (crash s) ≡ true →
       Moves w (record {
         world = served w.world (Up (start (sized l (crash s)))) [] [];

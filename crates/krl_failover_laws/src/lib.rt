@@ -1,4 +1,4 @@
-//! The headline over one fenced store, while old servers go on for ever: laws of the code of the
+//! The headline over one fenced store, while old servers continue for ever: laws of the code of the
 //! servers and the clients. Each function has an empty body: its contract is a theorem.
 #![tactic(auto)]
 
@@ -19,15 +19,15 @@ pub fn headline()
     ensures { (w : FencedWorld) → IsReached w → Headline w.world }
 {}
 
-/// And on no message that was sent does the store's server say Alarm.
+/// And on no message that was sent does the store's server report Alarm.
 pub fn no_alarm()
     ensures { (w : FencedWorld) → IsReached w → (s : Server) → w.world.server ≡ Up s
         → (m : ToServer)
         → In (message.ToServer m) w.world.sent → alarms s m ≡ false }
 {}
 
-/// These laws are not empty: after a server has started in epoch 2, a client comes to hold a lock by
-/// a grant of the one before.
+/// These laws are not empty: after a server has started in epoch 2, a client comes to hold a lock
+/// by a grant of the one before.
 pub fn goes_on()
     ensures { OldGrants }
 {}

@@ -33,7 +33,7 @@ use Rattle.krl_server.proofs.Invariant.RowsSound.{lowered_others, adopted_others
 use Rattle.krl_server.proofs.Invariant.Sounds.{effect_sound}
 use Rattle.krl_failover_world.specs.Follows.{HoldsNothing, AreEmpty}
 
--- by the register alone
+-- by the register only
 abbrev EmptyIn : Register → Rows → Type 0
 EmptyIn es rows = (d : ℕ) (r : Record) → record_of es d ≡ Some r → r.left ≡ true → HoldsNothing rows d
 

@@ -1,4 +1,4 @@
--- An old server tells its epoch, counts a push as acknowledged, makes the next push.
+-- An old server sends its epoch, counts a push as acknowledged, makes the next push.
 use Rattle.krl_failover_world.proofs.Names.{◌≡◌, ℕ, suc, ◌≤◌, inl, inr, true, false, nat_lt, Option, Some, None, [], ◌∷◌, refl, sym, ap, subst, ◌∙◌, none-some, same_Some, END, In}
 use Rattle.krl_failover_world.proofs.Names.{PushBody, ToClient, Record, record_of, Head, Notice, Push, Link, put, put_changed, Session, Server, set_session, incarnation_or_0, Done, silent}
 use Rattle.krl_failover_world.proofs.Names.{with_session, acknowledged, epoch_to, push_to, pushes, session_here, session_other, if_case, WasSent, IsTold, push_of, Grows, grows_not, Kept, Fenced}
@@ -8,7 +8,7 @@ use Rattle.krl_refinement.proofs.Server.Follows.{one_sent}
 use Rattle.krl_failover.specs.Steps.{old_notifies, old_hears}
 use Rattle.krl_failover_world.proofs.Beside.{Beside, beside_self, beside_on, steps_after, keep, keep_turned, Moved, moved_beside, ShowsRest, moved_shows}
 
--- the machine goes on to a world that shows the old server after what it did
+-- the machine continues to a world that shows the old server after what it did
 pub record Goes (s : Server) (f : Fenced) (done : Done) : Type 0 where
   pub fenced : Fenced
   pub steps : FencedSteps f fenced
@@ -46,7 +46,7 @@ rest_stays s f c x h = record {
   rebuilt = λ lt d ne. h.rebuilds lt d;
 }
 
--- It tells its epoch
+-- It sends its epoch
 
 pub tells : (s : Server) (f : Fenced) (c : ℕ) → 1 ≤ s.durable.epoch → ShowsOld s f → Goes s f (record { server = s; outs = epoch_to s c ∷ [] })
 tells s f c begun h =

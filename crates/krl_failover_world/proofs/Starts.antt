@@ -1,4 +1,4 @@
--- A start on what survives the store's server, which goes on as an old server.
+-- A start on what survives the store's server, which continues as an old server.
 use Rattle.krl_failover_world.proofs.Names.{◌≡◌, ◌≢◌, ℕ, suc, ◌<◌, ◌⊎◌, inl, inr, ⊎_elim, Bool, true, false, Option, Some, None, List, [], ◌∷◌, refl, sym, ap, ◌∙◌, subst, arith, if◌then◌else◌, eq-eqb, ne_eqb, END, In}
 use Rattle.krl_failover_world.proofs.Names.{Waiter, Record, record_of, range_at, key_at, Recovering, Serving, is_recovering, Grows, sent_stays, IsHere, FencedReachable, IsRecordKept, CountsAre, IsHeardBy, IsBlankRow, BoundIs, RebuiltIs, ShowsOld}
 use Rattle.krl_messages.specs.declared.to_client.ToClientBody.TheVariants as told
@@ -25,7 +25,7 @@ pub record Was (f g : Fenced) (s : Server) (of : ℕ → Link) : Type 0 where
   pub old : (e c : ℕ) → e ≢ s.durable.epoch → g.old e c ≡ f.old e c
   pub copies : (e : ℕ) → e ≢ s.durable.epoch → g.copy e ≡ f.copy e
 
--- the machine goes on to a world that shows the server t, and s is an old server
+-- the machine continues to a world that shows the server t, and s is an old server
 pub record Begins (f : Fenced) (s t : Server) (of : ℕ → Link) (log : List Logged) : Type 0 where
   pub fenced : Fenced
   pub after : ℕ → Link

@@ -52,7 +52,7 @@ reached_on index end f g r (on_then {g = m} a b) = went m g (reached_on index en
 abbrev pub IsBlankWorld : World → Type 0
 IsBlankWorld w = (c : ℕ) → IsBlankLeft (w.links c)
 
--- the machine of many servers goes on to the world u, and old servers are as they were
+-- the machine of many servers continues to the world u, and old servers are as they were
 pub record Goes (f : Fenced) (u : World) : Type 0 where
   pub fenced : Fenced
   pub steps : FencedSteps f fenced

@@ -61,7 +61,7 @@ pub record IsFenced (f g : Fenced) (s : Server) (of : ℕ → Link) : Type 0 whe
 
 -- The store's server
 
--- the machine goes on to a world that shows the server t, if these messages stand
+-- the machine continues to a world that shows the server t, if these messages stand
 pub record Follows (first : ℕ → Option Value) (f : Fenced) (of : ℕ → Link) (t : Server) (outs : List ToClient)
     (log_after : List Logged) : Type 0 where
   pub fenced : Fenced
@@ -78,20 +78,20 @@ pub record StoreFollows : Type 0 where
       (m : ToServer) (outs : List ToClient) → Mirrors first f s of log → Stands (of m.client) m.incarnation m.body →
       ServerStep s m t outs →
       (x : Follows first f of t outs (logged m (case_of s m) log)) × OldStay f x.fenced
-  -- and does not say Alarm then
+  -- and does not report Alarm then
   pub no_alarm : (first : ℕ → Option Value) (f : Fenced) (s : Server) (of : ℕ → Link) (log : List Logged)
       (m : ToServer) → Mirrors first f s of log → Stands (of m.client) m.incarnation m.body → alarms s m ≡ false
   -- it is nudged
   pub nudge : (first : ℕ → Option Value) (f : Fenced) (s : Server) (of : ℕ → Link) (log : List Logged) (c : ℕ) →
       Mirrors first f s of log → (x : Follows first f of s (nudge s c) log) × OldStay f x.fenced
-  -- a server starts on what survives it, and it goes on as an old server
+  -- a server starts on what survives it, and it continues as an old server
   pub start : (first : ℕ → Option Value) (f : Fenced) (s : Server) (of : ℕ → Link) (log : List Logged) →
       Mirrors first f s of log → can_start (crash s) ≡ true →
       (x : Follows first f of (start (crash s)) [] log) × IsFenced f x.fenced s of
 
 -- Clients
 
--- the machine goes on to a world in which the client of c shows this place, and these messages of it stand
+-- the machine continues to a world in which the client of c shows this place, and these messages of it stand
 pub record ClientFollows (first : ℕ → Option Value) (f : Fenced) (s : Server) (of : ℕ → Link) (log : List Logged)
     (c greatest : ℕ) (k : Option Client) (ms : List ToServer) : Type 0 where
   pub fenced : Fenced

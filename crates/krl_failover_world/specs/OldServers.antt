@@ -17,8 +17,8 @@ use Rattle.krl_failover.specs.Steps.{FencedSteps}
 use Rattle.krl_failover_world.specs.OldShows.{ShowsOld}
 use Rattle.krl_failover_world.specs.Follows.{Mirrors}
 
--- the machine goes on to a world in which the old server is t, and these messages stand. The store's server is what it
--- was
+-- the machine continues to a world in which the old server is t, and these messages stand. The store's server is what
+-- it was
 pub record OldFollows (first : ℕ → Option Value) (f : Fenced) (store : Server) (of : ℕ → Link) (log : List Logged)
     (s t : Server) (outs : List ToClient) : Type 0 where
   pub fenced : Fenced

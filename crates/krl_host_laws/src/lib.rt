@@ -37,13 +37,13 @@ pub fn scans_last()
     ensures { ScansLast }
 {}
 
-/// A host that evicts a client is such a host: the Hello and the Bye that it makes for it are those of
-/// an incarnation that starts and leaves at once.
+/// A host that evicts a client is such a host: the Hello and the Bye that it makes for it are those
+/// of an incarnation that starts and leaves at once.
 pub fn evictions_are_moves()
     ensures { EvictionsAreMoves }
 {}
 
-/// On no message that has left a client does the server in memory say Alarm.
+/// On no message that has left a client does the server in memory report Alarm.
 pub fn never_alarms()
     ensures { (w : HostWorld) → IsReached w → NeverAlarms w }
 {}

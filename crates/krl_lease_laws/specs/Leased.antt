@@ -43,8 +43,8 @@ Changes s limits m w c i e w' =
 abbrev pub IsRunning : State → ℕ → ℕ → Type 0
 IsRunning w c i = (k : Client) × (client_of w c ≡ Some k) × (k.incarnation ≡ i)
 
--- The system goes on without the incarnation: it stays as it is, or makes one move, and the incarnation does not run in
--- it. Its process may run on, but is no part of the system any more
+-- The system continues without the incarnation: it stays as it is, or makes one move, and the incarnation does not run
+-- in it. Its process may run on, but is no part of the system any more
 abbrev pub GoesWithout : (s : System) → s.World → ℕ → ℕ → s.World → Type 0
 GoesWithout s w c i w' = ((w' ≡ w) ⊎ s.Moves w w') × (IsRunning (s.view w') c i → ⊥)
 

@@ -104,7 +104,7 @@ connects limits clocks w s e h =
       evicted = λ r g l. h.evicted r g (lives_still w g l);
     }
 
--- It says a sign
+-- It sends a sign
 
 abbrev new_sign : State → Sign
 new_sign w = record { moment = w.now; said = w.lease.length }
@@ -190,7 +190,7 @@ takes_terms limits clocks w g i t h = record {
   evicted = λ r x l. h.evicted r x (lives_by_taken clocks w g x i l);
 }
 
--- It says a Hello
+-- It sends a Hello
 
 abbrev pub greeting : State → State
 greeting w = record w { says_hello = true }

@@ -4,7 +4,7 @@ use Rattle.krl_leases.specs.declared.length.TheConstants.{FOR_EVER}
 use Rattle.krl_leases.specs.declared.lease.Lease.{Lease}
 use Rattle.krl_leases.specs.Lengths.{later}
 
--- no terms yet. A client without terms says no Hello, so it holds nothing
+-- no terms yet. A client without terms sends no Hello, so it holds nothing
 abbrev pub no_terms : Lease
 no_terms = record { end = FOR_EVER; length = 0; stamp = 0 }
 

@@ -1,4 +1,4 @@
--- Moments and lengths, in nanoseconds. A clock has no moment behind FOR_EVER.
+-- Moments and lengths, in nanoseconds. A clock has no moment after FOR_EVER.
 use Rattle.std.specs.Prelude.{ℕ, ◌+◌, ◌*◌, ◌/◌, min}
 use Rattle.krl_leases.specs.declared.length.TheConstants.{FOR_EVER}
 

@@ -147,7 +147,7 @@ started clocks w machine terms =
 abbrev pub kept_anew : Clocks → State → Server → State
 kept_anew clocks w s = record w { kept = revised w.kept s.terms s.old s.until (clocks.server s.machine w.now) }
 
--- What may happen, and what it leaves. The client says a Hello only if it took terms on this connection. A server
+-- What may happen, and what it leaves. The client sends a Hello only if it took terms on this connection. A server
 -- answers no incarnation that it evicted
 
 abbrev pub Goes : Limits → Clocks → State → Event → State → Type 0

@@ -17,7 +17,7 @@ pub struct Lease {
 }
 
 impl Lease {
-    /// That of an incarnation without terms. It must say no Hello before it has taken terms, so it
+    /// That of an incarnation without terms. It must send no Hello before it has taken terms, so it
     /// holds nothing.
     pub fn new() -> Lease
         ensures { result ≡ no_terms }
@@ -29,7 +29,7 @@ impl Lease {
         }
     }
 
-    /// Whether what was read from the cache may be handed over. `now` has to be read **behind** the
+    /// Whether what was read from the cache may be handed over. `now` has to be read **after** the
     /// rows.
     pub fn holds(&self, now: u64) -> bool
         ensures { result ≡ holds self.now now }

@@ -16,7 +16,7 @@ pub struct Until {
 pub struct TakeOver {
     /// The incarnation that is registered and has not left.
     pub registered: u64,
-    /// The one that says Hello.
+    /// The one that sends Hello.
     pub incarnation: u64,
     /// The incarnation of which its host knows that it answers no more: it stood in the lock file.
     pub over: u64,
@@ -40,7 +40,7 @@ impl Until {
     }
 
     /// A client's sign has come, which says that it lives by a lease of the length `said`. This has
-    /// to be known before the client is answered by the terms. `now` is read behind the sign.
+    /// to be known before the client is answered by the terms. `now` is read after the sign.
     pub fn sign(self, terms: Terms, said: u64, now: u64) -> Until
         ensures { result ≡ servers.signed terms self said now }
     {

@@ -21,7 +21,7 @@ pub world_steps : (u w : World) → Steps u w → WorldInv u → WorldInv w
 world_steps u w none i = i
 world_steps u w (more {v = v} a b) i = world_kept v w b (world_steps u v a i)
 
--- links that are another at c alone
+-- links that are another at c only
 abbrev pub put : (ℕ → Link) → ℕ → Link → ℕ → Link
 put links c l d = cond (nat_eq d c) l (links d)
 

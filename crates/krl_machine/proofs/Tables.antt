@@ -32,7 +32,7 @@ slot_from_spec s (suc d) q e = by_entry (s.index q) refl (slot_from_spec s d (su
 pub slot_of_spec : (s : Shared) (q : ℕ) → q ≤ s.end → IsSlot s (slot_of s q) × InSpan s (slot_of s q) q
 slot_of_spec s q le = slot_from_spec s (s.end - q) q (omega arith)
 
--- and there is one such slot alone
+-- and there is only one such slot
 pub slot_unique : (s : Shared) (n m q : ℕ) → IsSlot s n → IsSlot s m → InSpan s n q → InSpan s m q → n ≡ m
 slot_unique s n m q sn sm a b = ⊎_elim
     (λ (lt : n < m). let h = b.1 n a.0 lt in absurd (sn h.1 h.0))
@@ -204,8 +204,8 @@ module _ (s : Shared) (near : KeysNear s) (index : ℕ → Option Value) (gone :
       (e, key_off (record s { index = index }) near_again modes q ne (gone q none) ∙ ap off_slot e ∙ sym (key_off s near modes q ne none)))
       (λ slot. (range_slot (record s { index = index }) near_again modes q (slot_again q slot) ∙ sym (range_slot s near modes q slot), key_slot (record s { index = index }) near_again modes q (slot_again q slot) ∙ sym (key_slot s near modes q slot)))
 
--- a table that has at each slot n the least mode at or above the parts that are reported of its span and its key: joined n
--- is the least part above those of the span
+-- a table that has at each slot n the least mode at or above the parts that are reported of its span and its key:
+-- joined n is the least part above those of the span
 pub report_rebuilds : (s : Shared) (near : KeysNear s) (r : Report) (modes : ℕ → Mode) (joined : ℕ → RangePart) → ((n q : ℕ) → IsSlot s n → InSpan s n q → RangeAtMost (r.range q) (joined n)) → ((n : ℕ) (a : RangePart) → IsSlot s n → ((q : ℕ) → InSpan s n q → RangeAtMost (r.range q) a) → RangeAtMost (joined n) a) → ((n : ℕ) → IsSlot s n → modes n ≡ at_or_above (joined n) (r.key n)) → IsRebuilt s r (range_at s modes) (key_at s modes)
 report_rebuilds s near r modes joined above least h = record {
   row = table_row s near modes;
@@ -233,7 +233,8 @@ release_lowers s near r l old new rt kt n slot (inr low) = cut low.0
 near_changed : (s : Shared) (near : KeysNear s) (k : ℕ) (index : ℕ → Option Value) → k < s.end → ((q : ℕ) → q ≢ k → index q ≡ s.index q) → KeysNear (record s { index = index })
 near_changed s near k index lt rest q le = rest q (λ e. omega (arith, e, lt, le)) ∙ near q le
 
--- a split at k, if the new slot's range part is the old one there: no range part changes, and of the key parts only that at k
+-- a split at k, if the new slot's range part is the old one there: no range part changes, and of the key parts only
+-- that at k
 module _ (s : Shared) (near : KeysNear s) (k : ℕ) (v : Value) (index : ℕ → Option Value) (old new : ℕ → Mode) (lt : k < s.end) (absent : s.index k ≡ None) (at : index k ≡ Some v) (rest : (q : ℕ) → q ≢ k → index q ≡ s.index q) (part : (range_of (new k)) ≡ range_at s old k) (others : (n : ℕ) → n ≢ k → (range_of (new n) ≡ range_of (old n)) × (key_of (new n) ≡ key_of (old n))) where
   grown : Shared
   grown = record s { index = index }
@@ -267,7 +268,8 @@ module _ (s : Shared) (near : KeysNear s) (k : ℕ) (v : Value) (index : ℕ →
   pub split_here : key_at (record s { index = index }) new k ≡ key_of (new k)
   split_here = key_slot (record s { index = index }) (near_changed s near k index lt rest) new k (λ far none. none-some v (sym none ∙ at))
 
--- a merge of k into the next slot, if both have the same range part and k's key part is what that part gives: no range part and no key part changes
+-- a merge of k into the next slot, if both have the same range part and k's key part is what that part gives: no range
+-- part and no key part changes
 module _ (s : Shared) (near : KeysNear s) (k : ℕ) (u : Value) (index : ℕ → Option Value) (modes : ℕ → Mode) (lt : k < s.end) (present : s.index k ≡ Some u) (at : index k ≡ None) (rest : (q : ℕ) → q ≢ k → index q ≡ s.index q) (same : range_at s modes k ≡ range_at s modes (suc k)) (x : key_at s modes k ≡ off_slot (range_at s modes k)) where
   slot_less : (n : ℕ) → IsSlot (record s { index = index }) n → IsSlot s n
   slot_less n slot far none = eq_cases n k (λ e. none-some u (sym none ∙ ap s.index e ∙ present)) (λ ne. slot far (rest n ne ∙ none))

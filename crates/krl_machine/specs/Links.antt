@@ -119,7 +119,7 @@ pub record Link : Type 0 where
   pub acked : Bool  -- that push counts as acknowledged
   pub new_range : ℕ → RangePart  -- the row that a recovery rebuilds
   pub new_key : ℕ → KeyPart
-  -- the bound: its row of the table while the server serves, else that of the last moment at which one served
+  -- the bound: its row of the table while the server serves, otherwise that of the last moment at which one served
   pub top_range : ℕ → RangePart
   pub top_key : ℕ → KeyPart
   -- every message ever sent. Nothing is taken out: a message may be delivered never, late, or many times
@@ -239,7 +239,7 @@ pub record IsRebuilt (s : Shared) (r : Report) (range : ℕ → RangePart) (key 
       ((q : ℕ) → InSpan s n q → RangeAtMost (r.range q) a) → KeyAtMost (r.key n) k →
       RangeAtMost (range n) a × KeyAtMost (key n) k
 
--- The steps of one link: of the client, or of the server on this link alone
+-- The steps of one link: of the client, or of the server on this link only
 pub data LinkStep (s : Shared) (l : Link) : Link → Type 0 where
   -- a client that is down starts, with the next incarnation: it holds nothing, and sends Hello
   starts : l.up ≡ false →

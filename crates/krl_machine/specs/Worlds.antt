@@ -53,7 +53,7 @@ abbrev pub wrote_by : Link → Write → Wrote
 wrote_by l m = record { inc = l.reg; number = suc l.done; op = m.op }
 
 pub data Step (w : World) : World → Type 0 where
-  -- a step of the client c, or of the server on its link alone
+  -- a step of the client c, or of the server on its link only
   at_link : (c : ℕ) (l : Link) (links : ℕ → Link) →
       LinkStep w.shared (w.links c) l → Changed w.links links c l →
       Step w (record w { links = links })
@@ -281,7 +281,7 @@ NoAlarm w = (c : ℕ) (r : Report) (ranges : ℕ → RangePart) (keys : ℕ → 
     (d : ℕ) → d ≢ c → (q : ℕ) →
     RangesAgree (ranges q) ((w.links d).new_range q) × KeysAgree (keys q) ((w.links d).new_key q)
 
--- beside compatibility: the bound, and the epochs of the messages
+-- next to compatibility: the bound, and the epochs of the messages
 pub record Restarts (w : World) : Type 0 where
   -- the bound of each client is a row over the present slots
   pub rows : (c : ℕ) → IsRow w.shared (w.links c).top_range (w.links c).top_key
@@ -309,7 +309,7 @@ pub record Restarts (w : World) : Type 0 where
       × KeyAtMost ((w.links c).key q) ((w.links c).new_key q)
 
 -- the bound of a client after a step to a moment at which nobody serves: as before, or blank, if it was registered
--- anew or left
+-- again or left
 pub data BoundAfter (l m : Link) : Type 0 where
   stays : ((q : ℕ) → (m.top_range q ≡ l.top_range q) × (m.top_key q ≡ l.top_key q)) → BoundAfter l m
   blanked : (l.reg < m.reg) ⊎ (m.left ≡ true) → ((q : ℕ) → (m.top_range q ≡ range.N) × (m.top_key q ≡ key.N)) →

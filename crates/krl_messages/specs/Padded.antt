@@ -1,4 +1,4 @@
--- How a value is kept: its bytes, and zeros behind them.
+-- How a value is kept: its bytes, and zeros after them.
 use Rattle.std.specs.Prelude.{◌≡◌, ℕ, ◌≤◌, ◌-◌, List, ◌++◌, length, take, drop, replicate}
 use Rattle.krl_modes.specs.declared.limits.TheConstants.{MAX_VALUE_BYTES}
 use Rattle.std.proofs.Common.{sym, ap, ◌∙◌, arith, take-append-drop, length-take-le}
@@ -7,7 +7,7 @@ use Rattle.std.proofs.Common.{sym, ap, ◌∙◌, arith, take-append-drop, lengt
 abbrev pub padded : List ℕ → List ℕ
 padded bytes = bytes ++ replicate (MAX_VALUE_BYTES - length bytes) 0
 
--- so many bytes come first, and zeros behind them
+-- so many bytes come first, and zeros after them
 pub record IsPadded (len : ℕ) (bytes : List ℕ) : Type 0 where
   pub few : len ≤ MAX_VALUE_BYTES
   pub whole : length bytes ≡ MAX_VALUE_BYTES

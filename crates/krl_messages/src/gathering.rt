@@ -41,7 +41,7 @@ impl Gathering {
         Ok(Gathering { items })
     }
 
-    /// Puts the holding of a slot behind all others. It takes no memory.
+    /// Puts the holding of a slot after all others. It takes no memory.
     pub fn push(&mut self, holding: Holding)
         requires { length self.old.holdings < self.old.room }
         ensures holdings { self.new.holdings ≡ self.old.holdings ++ holding ∷ [] }

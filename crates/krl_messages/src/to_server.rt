@@ -17,7 +17,7 @@ pub struct ToServer {
     pub body: ToServerBody,
 }
 
-/// What a client says to the server.
+/// What a client sends to the server.
 #[derive(PartialEq, Eq, Drop)]
 pub enum ToServerBody {
     /// Sent by a client that has joined no epoch yet, again and again until it hears of one.
@@ -25,7 +25,7 @@ pub enum ToServerBody {
     /// Sent by a client as it leaves: all that it held is given back. The client is gone then.
     Bye,
     /// Sent by a client that has adopted a new epoch, again and again until it accepts a push of
-    /// that epoch: what it holds. From these reports a server that has started anew makes its
+    /// that epoch: what it holds. From these reports a server that has started again makes its
     /// table.
     Report {
         /// The epoch that the client has adopted.
@@ -61,7 +61,7 @@ pub enum RequestBody {
         point: u64,
         /// One past the last point that is asked for: above `point`, and at most TOP.
         hi: u64,
-        /// The mode that is asked for, beside what the client holds.
+        /// The mode that is asked for, next to what the client holds.
         mode: Mode,
     },
     /// Asks for a change of the index. A client sends it again until it is answered, over a restart

@@ -11,7 +11,7 @@ use std::marker::Model;
 /// The value of an entry: 0 to 32 bytes, seen as a list.
 #[derive(Clone, Copy, PartialEq, Eq)]
 pub struct Value {
-    // The bytes, and zeros behind them.
+    // The bytes, and zeros after them.
     bytes: [u8; MAX_VALUE_BYTES],
     len: u8,
 }
@@ -84,7 +84,7 @@ impl Value {
         &self.bytes[..self.len as usize]
     }
 
-    /// The bytes, and zeros behind them: 32 in all.
+    /// The bytes, and zeros after them: 32 in all.
     pub fn padded(&self) -> [u8; MAX_VALUE_BYTES]
         ensures { result ≡ padded self.now }
     {

@@ -44,7 +44,7 @@ key_of mode.RangeXX = key.X
 abbrev pub at_most : Mode → Mode → Bool
 at_most a b = range_at_most (range_of a) (range_of b) && key_at_most (key_of a) (key_of b)
 
--- two clients may hold these modes on one slot: both parts may be held beside each other
+-- two clients may hold these modes on one slot: both parts may be held together
 abbrev pub compatible : Mode → Mode → Bool
 compatible a b = ranges_compatible (range_of a) (range_of b) && keys_compatible (key_of a) (key_of b)
 
@@ -75,7 +75,7 @@ join a b = at_or_above (range_join (range_of a) (range_of b)) (key_join (key_of 
 abbrev pub meet : Mode → Mode → Mode
 meet a b = at_or_above (range_meet (range_of a) (range_of b)) (key_meet (key_of a) (key_of b))
 
--- the greatest mode that another client may hold beside this one
+-- the greatest mode that another client may hold next to this one
 abbrev pub cap : Mode → Mode
 cap mode.N = mode.RangeXX
 cap mode.S = mode.RangeXU
@@ -91,6 +91,6 @@ cap mode.RangeXS = mode.U
 cap mode.RangeXU = mode.S
 cap mode.RangeXX = mode.N
 
--- it asks for an entry alone, so there has to be one: S, U or X
+-- it asks only for an entry, so there has to be one: S, U or X
 abbrev pub needs_entry : Mode → Bool
 needs_entry m = range_at_most (range_of m) range.N && reads_key (key_of m)

@@ -37,7 +37,7 @@ key_at_most key.X key.S = false
 key_at_most key.X key.U = false
 key_at_most key.X key.X = true
 
--- two clients may hold these parts of one gap: N beside all, S beside S, I beside I
+-- two clients may hold these parts of one gap: N with all, S with S, I with I
 abbrev pub ranges_compatible : RangePart → RangePart → Bool
 ranges_compatible range.N b = true
 ranges_compatible range.S range.N = true
@@ -53,7 +53,7 @@ ranges_compatible range.X range.S = false
 ranges_compatible range.X range.I = false
 ranges_compatible range.X range.X = false
 
--- two clients may hold these parts of one key: N beside all, S beside S and U
+-- two clients may hold these parts of one key: N with all, S with S and U
 abbrev pub keys_compatible : KeyPart → KeyPart → Bool
 keys_compatible key.N b = true
 keys_compatible key.S key.N = true

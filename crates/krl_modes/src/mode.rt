@@ -181,7 +181,7 @@ impl Mode {
         Mode::at_or_above(range.meet(other_range), key.meet(other_key))
     }
 
-    /// The greatest mode that is compatible with this one: what another client may keep beside it.
+    /// The greatest mode that is compatible with this one: what another client may keep next to it.
     /// A mode is at most this one exactly if it is compatible with `self`.
     pub fn cap(self) -> Mode
         ensures cap { result ≡ cap self }
@@ -204,7 +204,7 @@ impl Mode {
         }
     }
 
-    /// Whether the mode asks for an entry alone, so that there has to be one: S, U or X. Such a
+    /// Whether the mode asks only for an entry, so that there has to be one: S, U or X. Such a
     /// lock is answered `Absent` if there is no entry.
     pub fn needs_entry(self) -> bool
         ensures { result ≡ needs_entry self }

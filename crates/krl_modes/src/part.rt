@@ -18,9 +18,9 @@ pub enum RangePart {
     N,
     /// The gap is read: nobody else may insert into it.
     S,
-    /// The holder may insert into the gap, beside others that may.
+    /// The holder may insert into the gap, next to others that may.
     I,
-    /// The holder alone reads the gap and inserts into it.
+    /// Only the holder reads the gap and inserts into it.
     X,
 }
 
@@ -29,11 +29,11 @@ pub enum RangePart {
 pub enum KeyPart {
     /// Nothing.
     N,
-    /// The entry is read, beside others that read it.
+    /// The entry is read, next to others that read it.
     S,
-    /// The entry is read, and its holder alone may go on to change it.
+    /// The entry is read, and only its holder may change it afterwards.
     U,
-    /// The holder alone reads and changes the entry.
+    /// Only the holder reads and changes the entry.
     X,
 }
 
@@ -84,7 +84,7 @@ impl RangePart {
         RANGE_AT_MOST[self as usize][other as usize]
     }
 
-    /// Whether two clients may hold these parts of one gap: N beside all, S beside S, I beside I.
+    /// Whether two clients may hold these parts of one gap: N with all, S with S, I with I.
     pub fn compatible(self, other: RangePart) -> bool
         ensures compatible { result ≡ ranges_compatible self other }
         ensures relation { IsCompatibility range_at_most ranges_compatible }
@@ -130,7 +130,7 @@ impl KeyPart {
         self as u8 <= other as u8
     }
 
-    /// Whether two clients may hold these parts of one entry: N beside all, S beside S and U.
+    /// Whether two clients may hold these parts of one entry: N with all, S with S and U.
     pub fn compatible(self, other: KeyPart) -> bool
         ensures compatible { result ≡ keys_compatible self other }
         ensures relation { IsCompatibility key_at_most keys_compatible }

@@ -16,7 +16,7 @@ index_is [] c l lt e = absurd (omega (arith, lt))
 index_is (x ∷ b) zero l lt e = sym e
 index_is (x ∷ b) (suc c) l lt e = index_is b c l (omega (arith, lt)) e
 
--- nothing behind the letters
+-- nothing after the letters
 bare : {A : Type 0} (xs ys : List A) → ys ≡ [] → xs ++ ys ≡ xs
 bare xs ys e = ap (λ l. xs ++ l) e ∙ append-nil xs
 

@@ -1,11 +1,11 @@
--- What was sent, put behind the letters to each node.
+-- What was sent, put after the letters to each node.
 use Rattle.krl_nodes.proofs.Names.{◌≡◌, ◌≢◌, ℕ, zero, suc, ◌+◌, ◌<◌, List, [], ◌∷◌, ◌++◌, length, Bool, true, false, cond, Some, refl, sym, ap, ◌∙◌, arith, nat_eq, eq-eqb, ne_eqb, set, append_assoc}
 use Rattle.krl_nodes.proofs.Names.{slice_get, slice_index_or, Value, ToServer, ToClient, Message, from_clients, from_server, from_client, by_server, only_to, sorted, mail_of, with_said, with_sent}
 use Rattle.krl_nodes.proofs.Names.{IsPut, HasOne, HasNone, is_for, Chair}
 use Rattle.krl_world.specs.declared.message.Message.TheVariants as message
 use Rattle.krl_nodes.specs.declared.post.Reader.TheVariants as reader
 
--- Messages behind others
+-- Messages after others
 
 from_more : (xs : List Message) (ys : List ToServer) → from_client (xs ++ from_clients ys) ≡ from_client xs ++ ys
 from_more [] [] = refl
@@ -72,7 +72,7 @@ set_box k c [] l ms lt = absurd (omega (arith, lt))
 set_box k zero (x ∷ b) l ms lt = let e : k ≡ k + 0 = omega arith in ap (λ j. (l ++ only_to j ms) ∷ sorted (suc k) b ms) e
 set_box k (suc c) (x ∷ b) l ms lt = let e : suc k + c ≡ k + suc c = omega arith in ap (λ (r : List (List ToClient)). (x ++ only_to k ms) ∷ r) (set_box (suc k) c b l ms (omega (arith, lt)) ∙ ap (λ j. set (sorted (suc k) b ms) c (l ++ only_to j ms)) e)
 
--- One message is put behind the letters to its reader
+-- One message is put after the letters to its reader
 
 only_here : (c : ℕ) (m : ToClient) (ms : List ToClient) → m.client ≡ c → only_to c (m ∷ ms) ≡ m ∷ only_to c ms
 only_here c m ms e = ap (λ b. cond b (m ∷ only_to c ms) (only_to c ms)) (eq-eqb m.client c e)

@@ -37,7 +37,7 @@ is_idle (Ok Idle) = true
 is_idle (Ok Lost) = false
 is_idle (Err e) = false
 
--- a turn for a letter: the oldest, if there is no policy, else the one that it picks
+-- a turn for a letter: the oldest, if there is no policy, otherwise the one that it picks
 abbrev pub ClientFetches : Option Lcg → SeatedClient → Result Turn Refused → SeatedClient → Option Lcg → Type 0
 ClientFetches None n r n' p' = (p' ≡ None) × ClientTurns client_order.Letter n r n'
 ClientFetches (Some q) n r n' p' =
@@ -78,12 +78,12 @@ pub record NudgesByTurns (is_second : Bool) (d : Delivery) (n : SeatedServer) (i
   pub other : is_second' ≡ not is_second
   pub asked : d' ≡ record { policy = d.policy; seed = d.seed; may_lack = false }
 
--- the server nudges a client if a letter may be lost; else it reads one
+-- the server nudges a client if a letter may be lost; otherwise it reads one
 abbrev pub ServesOnce : Bool → Delivery → SeatedServer → Bool → Delivery → SeatedServer → Type 0
 ServesOnce is_second d n is_second' d' n' = MatchBool d.may_lack
     (NudgesByTurns is_second d n is_second' d' n')
     ((is_second' ≡ is_second) × ServerReadsBy d n d' n')
 
--- the client says again what is not answered
+-- the client sends again what is not answered
 abbrev pub ClientTicks : SeatedClient → SeatedClient → Type 0
 ClientTicks n n' = (r : Result Turn Refused) × ClientTurns client_order.Tick n r n'

@@ -51,7 +51,7 @@ abbrev pub only_to : ℕ → List ToClient → List ToClient
 only_to c [] = []
 only_to c (m ∷ ms) = cond (nat_eq m.client c) (m ∷ only_to c ms) (only_to c ms)
 
--- each client's letters with those of the messages that are to it behind them, from client c on
+-- each client's letters with those of the messages that are to it after them, from client c on
 abbrev pub sorted : ℕ → List (List ToClient) → List ToClient → List (List ToClient)
 sorted c [] ms = []
 sorted c (xs ∷ rest) ms = (xs ++ only_to c ms) ∷ sorted (suc c) rest ms
@@ -110,7 +110,7 @@ with_sent mail outs = record {
   chairs = mail.chairs;
 }
 
--- what is sorted, and behind it what was sent last
+-- what is sorted, and after it what was sent last
 abbrev pub mail_of : List (ℕ × Value) → List ToServer → List (List ToClient) → List Message → List Chair → Mail
 mail_of opening to_server to_clients unsorted chairs = record {
   opening = opening;

@@ -1,4 +1,4 @@
--- How what was sent last is put behind the letters to each node.
+-- How what was sent last is put after the letters to each node.
 use Rattle.std.specs.Prelude.{◌≡◌, ◌<◌, ℕ, Bool, true, false, nat_eq, List, [], ◌∷◌, ◌++◌, length, reverse, replicate, Some}
 use Rattle.std.specs.Prelude.{slice_get, Result, Ok, Err}
 use Rattle.krl_modes.specs.declared.limits.TheConstants.{MAX_CLIENTS}
@@ -21,7 +21,7 @@ use Rattle.krl_nodes.specs.Turns.{ServerReads, ClientReads}
 use Rattle.krl_nodes.specs.declared.post.Reader.{Reader}
 use Rattle.krl_nodes.specs.declared.post.Reader.TheVariants as reader
 
--- the letters with the messages behind them are the same letters with those messages
+-- the letters with the messages after them are the same letters with those messages
 pub record AreSorted (a : List ToServer) (b : List (List ToClient)) (ms : List Message) (a' : List ToServer)
     (b' : List (List ToClient)) (ms' : List Message) : Type 0 where
   pub to_server : a' ++ from_client ms' ≡ a ++ from_client ms
@@ -32,7 +32,7 @@ abbrev pub AreSortedBack : List ToServer → List (List ToClient) → List Messa
     List (List ToClient) → List Message → Type 0
 AreSortedBack a b ms a' b' ms' = AreSorted a b (reverse ms) a' b' (reverse ms')
 
--- the message is put behind the letters to its reader, whatever comes after it
+-- the message is put after the letters to its reader, whatever comes after it
 abbrev pub IsPut : List ToServer → List (List ToClient) → Message → List ToServer → List (List ToClient) → Type 0
 IsPut a b m a' b' = (rest : List Message) → AreSorted a b (m ∷ rest) a' b' rest
 
@@ -50,7 +50,7 @@ HasOne r ms = (i : ℕ) × (m : Message) × (slice_get ms i ≡ Some m) × (is_f
 abbrev pub HasNone : Reader → List Message → Type 0
 HasNone r ms = (i : ℕ) (m : Message) → slice_get ms i ≡ Some m → is_for r m ≡ false
 
--- the server read the letter, and what it sent stands behind the messages
+-- the server read the letter, and what it sent comes after the messages
 pub record HasHeard (d : ServerPlace) (m : ToServer) (d' : ServerPlace) (old new : List Message) : Type 0 where
   pub outs : List ToClient
   pub reads : ServerReads d m d' outs

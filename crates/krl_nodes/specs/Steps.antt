@@ -29,7 +29,7 @@ first_view opening d = view_of opening (Server d) None 0
 abbrev pub holding : View → Mail → View
 holding v mail = record { opening = v.opening; held = Some mail; node = v.node; last = v.last; given = v.given }
 
--- that of a new seat beside it
+-- that of a new seat next to it
 abbrev pub blank_of : View → View
 blank_of v = view_of v.opening Blank None 0
 
@@ -91,7 +91,7 @@ ClientMoves w n n' w' =
     × (w'.places c ≡ x')
     × ((d : ℕ) → d ≢ c → w'.places d ≡ w.places d)
 
--- the nodes of the world differ at this one alone
+-- the nodes of the world differ only at this one
 abbrev pub IsMove : State → Shown → Shown → State → Type 0
 IsMove w n n' w' = ServerMoves w n n' w' ⊎ ClientMoves w n n' w'
 

@@ -189,7 +189,7 @@ pub record Ticks (mail : Mail) (x : ClientPlace) (mail' : Mail) (x' : ClientPlac
   pub tick : IsTick client list
   pub post : mail' ≡ with_said mail list
 
--- the client said again what is not answered
+-- the client sent again what is not answered
 abbrev pub HasTicked : Client → Mail → Mail → Type 0
 HasTicked k mail mail' = (list : List ToServer) × IsTick k list × (mail' ≡ with_said mail list)
 

@@ -215,8 +215,8 @@ impl ClientNode {
     ///
     /// # Errors
     ///
-    /// `Down` if the client does not run; else `BadSpan` if `lo` is not below `hi`, or `hi`
-    /// is above TOP; else `OutOfMemory` if the memory for the rows is refused.
+    /// `Down` if the client does not run; otherwise `BadSpan` if `lo` is not below `hi`, or `hi`
+    /// is above TOP; otherwise `OutOfMemory` if the memory for the rows is refused.
     pub fn scan(&self, lo: u64, hi: u64) -> Result<ScanAnswer, Refused>
         ensures answers { ScansAs (client_of_node self.now) lo hi result }
         ensures there { ScansIndex self.now lo hi result }

@@ -14,7 +14,7 @@ use krl_world::Refused;
 use std::sync::Wait;
 
 /// How a node of a run comes by its letters: the oldest first, or as a policy picks. If a policy
-/// may have lost one, a turn that found none is followed by one that says again what is not
+/// may have lost one, a turn that found none is followed by one that sends again what is not
 /// answered.
 #[derive(Drop)]
 pub(crate) struct Delivery {

@@ -48,7 +48,7 @@ impl<T> Inbox<T> {
         &self.letters[at]
     }
 
-    /// Puts a letter behind the others. It comes back if memory is refused.
+    /// Puts a letter after the others. It comes back if memory is refused.
     pub(crate) fn push(&mut self, letter: T) -> Result<(), AllocFailed<T>>
         ensures { MatchResult result
             (λ _. self.new ≡ self.old ++ letter ∷ [])

@@ -1,7 +1,7 @@
 //! A server and its clients, each node on a thread of its own.
 //!
 //! Nodes share an `Office`: a post with the letters that wait, which one node at a time takes, and
-//! no more. A node keeps its own state, and a scan reads that alone. At each moment the nodes and
+//! no more. A node keeps its own state, and a scan reads only that. At each moment the nodes and
 //! the post are the state of a world that some list of steps leads to, so all that is promised of
 //! such worlds holds of the nodes, however many threads use them.
 #![tactic(auto)]

@@ -21,7 +21,7 @@ pub enum ClientOrder {
     Letter,
     /// Obey the command.
     Command(Command),
-    /// Say again what is not answered.
+    /// Send again what is not answered.
     Tick,
     /// Run, with a new incarnation.
     Start,

@@ -117,7 +117,7 @@ fn any_for(messages: &[Message], reader: Reader) -> bool
     false
 }
 
-// The server reads the letter, and what it sends goes behind the messages. One that is down loses
+// The server reads the letter, and what it sends goes after the messages. One that is down loses
 // the letter.
 fn hear(
     alloc: Global,
@@ -264,7 +264,7 @@ impl Post {
         chair
     }
 
-    /// Puts what was sent last behind the letters to each node, as far as memory allows. Contracts
+    /// Puts what was sent last after the letters to each node, as far as memory allows. Contracts
     /// see nothing of it.
     pub(crate) fn sort(&mut self)
         ensures { self.new ≡ self.old }
@@ -361,7 +361,7 @@ impl Post {
     ///
     /// # Errors
     ///
-    /// `Down` if none runs, else what the client refuses. Nothing has changed then.
+    /// `Down` if none runs, otherwise what the client refuses. Nothing has changed then.
     pub(crate) fn obey(&mut self, seat: &mut ClientPlace, what: Command) -> Result<Answer, Refused>
         ensures { (p : Pick) (c : ℕ) → ClientActs p (client_order.Command what) c self.old
             (place_of seat.old) self.new (place_of seat.new) (did_of result) }
@@ -369,7 +369,7 @@ impl Post {
         client_steps::obey(seat, &mut self.unsorted, what)
     }
 
-    /// The client says again what is not answered.
+    /// The client sends again what is not answered.
     ///
     /// # Errors
     ///

@@ -326,8 +326,8 @@ pub fn run_nodes<
 
 /// Runs the same server and clients, and each reads its letters by a policy of its own: one letter
 /// in eight is lost, two are repeated, and any that waits may be the next, as drawn from the seed
-/// and the node's number, which is 0 for the server. So a node that found no letter says again what
-/// is not answered: a client by a tick, the server by a nudge of client 1 or 2, by turns.
+/// and the node's number, which is 0 for the server. So a node that found no letter sends again
+/// what is not answered: a client by a tick, the server by a nudge of client 1 or 2, by turns.
 ///
 /// # Errors
 ///

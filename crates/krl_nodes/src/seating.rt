@@ -33,8 +33,8 @@ impl Office {
     ///
     /// # Errors
     ///
-    /// `Full` above 65,536 entries; else the first bad entry in order, by `BadKey` if its key is
-    /// END or more, or by `Twice` if its key stands before; and `OutOfMemory` at any point.
+    /// `Full` above 65,536 entries; otherwise the first bad entry in order, by `BadKey` if its key
+    /// is END or more, or by `Twice` if its key stands before; and `OutOfMemory` at any point.
     pub fn open(alloc: Global, entries: Vec<(u64, Value)>) -> Result<(Office, ServerNode), Refused>
         ensures { MatchResult result
             (λ r. CanBegin entries.items × IsOpened r.0 entries.items r.1)
@@ -68,7 +68,7 @@ impl Office {
         Ok((Office { table }, node))
     }
 
-    // A blank seat beside a node's.
+    // A blank seat next to a node's.
     fn blank(&self, ticket: &mut Ticket) -> Ticket
         requires own { ticket.old.table_id ≡ self.now }
         requires live { IsLive (shown ticket.old.me.0.node) }
@@ -122,7 +122,7 @@ impl Office {
     ///
     /// # Errors
     ///
-    /// `BadClient` if the number is above 63, else `Seated` if the post notes the client as
+    /// `BadClient` if the number is above 63, otherwise `Seated` if the post notes the client as
     /// seated. Nothing has changed then.
     pub fn seat_client<R: Wait>(
         &self,

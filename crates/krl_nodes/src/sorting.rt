@@ -1,4 +1,4 @@
-//! Puts what was sent behind the letters to each node.
+//! Puts what was sent after the letters to each node.
 ghost use Rattle.std.specs.Prelude.{◌≡◌, length, MatchResult};
 ghost use Rattle.krl_nodes.specs.Sorting.{IsPut, AreSorted, AreSortedBack};
 
@@ -6,7 +6,7 @@ use crate::inbox::Inbox;
 use krl_messages::{ToClient, ToServer};
 use krl_world::Message;
 
-// Puts the message behind the letters to its reader, and drops one that no client reads. It comes
+// Puts the message after the letters to its reader, and drops one that no client reads. It comes
 // back if memory is refused.
 fn put(
     to_server: &mut Inbox<ToServer>,
@@ -58,7 +58,7 @@ fn put_back(
     }
 }
 
-/// Puts messages behind the letters to their readers, the oldest first, until memory is refused.
+/// Puts messages after the letters to their readers, the oldest first, until memory is refused.
 pub(crate) fn sort_all(
     to_server: &mut Inbox<ToServer>,
     to_clients: &mut Vec<Inbox<ToClient>>,

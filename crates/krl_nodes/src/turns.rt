@@ -83,7 +83,7 @@ pub(crate) fn do_server_order(
     }
 }
 
-// The client says again what is not answered.
+// The client sends again what is not answered.
 fn tick(post: &mut Post, seat: &ClientPlace) -> Result<Turn, Refused>
     ensures { (p : Pick) (c : ℕ) → ClientActs p to_client.Tick c post.old (place_of seat.now)
         post.new (place_of seat.now) result }

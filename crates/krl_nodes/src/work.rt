@@ -62,7 +62,7 @@ fn was_not_held(status: Option<Status>) -> bool {
 }
 
 impl Writing {
-    // A write that was not held begins anew.
+    // A write that was not held begins again.
     fn seen(self, status: Option<Status>) -> Writing {
         match self {
             Writing::Forget if was_not_held(status) => Writing::Lock,
@@ -196,7 +196,7 @@ pub(crate) fn serve<R: Wait, G: Gate>(
     unreachable!()
 }
 
-// Says again what is not answered.
+// sends again what is not answered.
 fn tick<R: Wait>(rt: &R, office: &Office, node: &mut ClientNode)
     requires { node.old.office ≡ office.now }
     ensures same { IsSameClient node.old node.new }

@@ -21,7 +21,7 @@ pub enum Who {
 }
 
 /// An office, its server, and two clients, each if it has a seat. Contracts see nothing of it: a
-/// test looks at answers alone.
+/// test looks only at answers.
 pub struct Scene {
     office: Office,
     server: ServerNode,

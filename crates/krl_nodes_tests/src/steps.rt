@@ -19,7 +19,7 @@ pub enum Told {
     Insert(u64, u64),
     /// To give everything back, and end.
     Leave,
-    /// To say again what is not answered.
+    /// To send again what is not answered.
     Tick,
     /// To run.
     Start,

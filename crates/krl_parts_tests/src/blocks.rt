@@ -1,4 +1,4 @@
-//! Ordered maps in blocks, beside a list with a place for each key: 10,000 keys come in no order,
+//! Ordered maps in blocks, next to a list with a place for each key: 10,000 keys come in no order,
 //! two of three go, and the others are walked, found and reached, four times over. If room is
 //! refused it is asked for again, so that each run ends the same, whichever requests for memory are
 //! refused. No later call asks for memory.
@@ -19,7 +19,7 @@ fn key_at(n: u64) -> u64 {
     n.wrapping_mul(STEP) % KEYS
 }
 
-// What stands beside for the key.
+// What stands next to the key.
 fn held(beside: &[Option<u64>], key: u64) -> Option<u64> {
     match beside.get(key as usize) {
         None => None,
@@ -84,7 +84,7 @@ fn thins(blocks: &mut Blocks<u64>, beside: &mut [Option<u64>], round: u64) -> bo
     true
 }
 
-// At how many keys something stands beside.
+// At how many keys something stands next to it.
 fn count(beside: &[Option<u64>]) -> usize {
     let mut count = 0usize;
     for value in beside {
@@ -95,7 +95,7 @@ fn count(beside: &[Option<u64>]) -> usize {
     count
 }
 
-// Whether a walk by runs meets just what stands beside, in key order.
+// Whether a walk by runs meets just what stands next to each, in key order.
 fn is_walked(blocks: &Blocks<u64>, beside: &[Option<u64>]) -> bool {
     let entries = blocks.entries();
     let mut low = 0u64;
@@ -112,7 +112,7 @@ fn is_walked(blocks: &Blocks<u64>, beside: &[Option<u64>]) -> bool {
     met == blocks.len() && met == count(beside)
 }
 
-// Whether a search finds what stands beside at the key, and the key before it.
+// Whether a search finds what stands next to the key, and the key before it.
 fn is_found(blocks: &Blocks<u64>, key: u64, before: Option<u64>, here: Option<u64>) -> bool {
     let found = blocks.find(key);
     let first = match found.run.first() {
@@ -136,8 +136,8 @@ fn are_found(blocks: &Blocks<u64>, beside: &[Option<u64>]) -> bool {
     true
 }
 
-// Whether each key is reached, in no order, as it stands beside; and what is looked for then, the
-// key itself and the one behind it.
+// Whether each key is reached, in no order, as it stands there; and what is looked for then, the
+// key itself and the one after it.
 fn are_reached(blocks: &mut Blocks<u64>, beside: &[Option<u64>]) -> bool
     ensures { blocks.new.room ≡ blocks.old.room }
 {

@@ -212,7 +212,7 @@ static PARTS: [Ask; 7] = [
     Ask::Recorded(5, Some(SILENT)),
     Ask::Recorded(2, Some(LEFT)),
     Ask::Recorded(3, None),
-    // It goes on from there.
+    // It continues from there.
     Ask::Writes(2, FIVE_AT_15, true, Outcome::Applied),
 ];
 

@@ -155,7 +155,7 @@ fn refusal(alloc: Global, entries: &[(u64, u64)]) -> Option<EntriesRefused> {
     DurableV1::new(alloc, entries).err()
 }
 
-// What never served: these entries alone. None if they are refused.
+// What never served: only these entries. None if they are refused.
 fn unused(alloc: Global, entries: &[(u64, u64)]) -> Option<DurableV1> {
     for _ in 0..CALLS {
         if let Ok(old) = DurableV1::new(alloc, entries) {

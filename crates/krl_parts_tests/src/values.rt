@@ -12,7 +12,7 @@ pub fn first_bytes(len: usize) -> &'static [u8] {
     BYTES.get(..len).unwrap_or(&BYTES)
 }
 
-/// The least and the greatest length of a value, that of a number, and lengths beside them.
+/// The least and the greatest length of a value, that of a number, and lengths next to them.
 pub static LENGTHS: [usize; 7] = [0, 1, 7, 8, 9, 31, 32];
 
 /// Numbers, and their eight bytes.

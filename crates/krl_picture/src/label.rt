@@ -101,7 +101,7 @@ fn push_span(alloc: Global, out: &mut String, span: Span) -> Result<(), AllocErr
     out.push_str(&text)
 }
 
-// A value: a number if it is one, and else its bytes.
+// A value: a number if it is one, and otherwise its bytes.
 fn push_value(alloc: Global, out: &mut String, value: &Value) -> Result<(), AllocError> {
     out.push('=')?;
     if let Some(number) = value.as_u64() {

@@ -143,8 +143,8 @@ fn fate_words(fate: Fate) -> (&'static str, &'static str) {
     }
 }
 
-// A line that ends with a tip if the message arrives, and else with a cross: on its way if it is
-// lost.
+// A line that ends with a tip if the message arrives, and otherwise with a cross: on its way if it
+// is lost.
 fn line(alloc: Global, x1: usize, x2: usize, y: usize, fate: Fate) -> Result<String, AllocError> {
     let end = if fate == Fate::Lost {
         x1 / 2 + x2 / 2

@@ -38,7 +38,7 @@ use Rattle.krl_progress.proofs.Knowing.{Current}
 
 -- What the server makes of a request
 
--- the server hears the request, or says again the push that the client has not accepted
+-- the server hears the request, or sends again the push that the client has not accepted
 pub data Hears (s : Server) (c : ℕ) (k : Client) (b : RequestBody) (x : Case) : Type 0 where
   hears : (r : Record) → record_of s.durable.register c ≡ Some r → x ≡ case_of_request s c r b → (s.sessions c).last_push ≡ k.seen → Hears s c k b x
   again : (p : PushBody) → x ≡ Repeats p → (s.sessions c).unacked ≡ Some p → (s.sessions c).last_push ≡ suc k.seen → Hears s c k b x
@@ -205,7 +205,7 @@ module _ (c inc epoch seen0 : ℕ) (some : 1 ≤ epoch) (room : seen0 < END) (n 
 
   -- The request that a tick says
 
-  -- the message stands behind number n
+  -- the message comes after number n
   pub record Sent (m : Message) (u : State) : Type 0 where
     pub index : ℕ
     pub above : n < index
@@ -280,7 +280,7 @@ module _ (c inc epoch seen0 : ℕ) (some : 1 ≤ epoch) (room : seen0 < END) (n 
       let there = position_in u.sent (from_clients (tick d.2.0 d.0)) (said_by says.0) (to_clients (request_from c inc epoch seen0 says.0) (tick d.2.0 d.0) (subst (λ y. In y (tick d.2.0 d.0)) is says.1)) in
       inr (record { body = says.0; sent = record { index = suc there.0; above = (let a = there.1 in let b = h.live.at.long in omega (arith, a, b)); sent = subst (λ xs. slice_get xs there.0 ≡ Some (said_by says.0)) (sym (ap (λ (y : State). y.sent) d.2.2)) there.2 } })
 
-  -- The push that the server says again
+  -- The push that the server sends again
 
   abbrev pub pushed : PushBody → Message
   pushed b = message.ToClient (record { client = c; incarnation = inc; body = told.Push epoch (suc seen0) b })

@@ -182,7 +182,7 @@ module _ (b : Block) (waiter_inc blocker_inc epoch : ℕ) (some : 1 ≤ epoch) w
   abbrev With : ℕ → Message → (State → Type 0) → State → Type 0
   With i x Z u = (message_at u.sent i ≡ Some x) × Z u
 
-  -- what is sent behind number n, and handed over in the next round
+  -- what is sent after number n, and handed over in the next round
   one : (n m : ℕ) (x : Message) (Z Y : State → Type 0) (w v : State) (steps : List Step) → Lasts b waiter_inc blocker_inc epoch some m Z → Lasts b waiter_inc blocker_inc epoch some m Y → ((i : ℕ) → Hits b waiter_inc blocker_inc epoch some m (With i x Z) (step.Deliver i) Y) → AlongAt m w → Sent n x w → Z w → IsRound w n steps → (r : Runs w steps v) → Throughout (IsBlocked b) w steps v r → AlongAt m v × Y v
   one n m x Z Y w v steps z_lasts y_lasts hits h sent z round r all =
       hits_in b waiter_inc blocker_inc epoch some m (With sent.index x Z) Y (step.Deliver sent.index)

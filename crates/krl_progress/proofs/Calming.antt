@@ -32,7 +32,7 @@ later_while P (suc m) from more w v le r = (r.0, r.1, record { stays = r.2.stays
 abbrev pub IsSafe : List Step → Type 0
 IsSafe steps = (s : Step) → In s steps → loses_a_node s ≡ false
 
--- the end of a round, and three calm rounds behind it
+-- the end of a round, and three calm rounds after it
 pub record Behind (R : Requests) (seen : ℕ → ℕ) (x : State) : Type 0 where
   pub end : State
   pub reached : IsReachable x
@@ -153,7 +153,7 @@ module _ (R : Requests) (seen : ℕ → ℕ) (room : (c : ℕ) → seen c < END)
       let later : IsSafe steps = λ z i. safe z (inr i) in
       (quiet_at steps r.1 e next later all.0 r.3 all.1 calm_end b, run_quiet steps r.1 e next later r.3 all.1 calm_end b)
 
-  -- the first three of some rounds, as those behind the round before
+  -- the first three of some rounds, as those after the round before
   pub three_behind : (n from : ℕ) (x v : State) → IsReachable x → from ≤ length x.sent → RoundsWhile (IsCalm R seen) (suc (suc (suc n))) from x v → Behind R seen x
   three_behind n from x v rx le r = let r2 = r.5 in let r3 = r2.5 in record {
     end = r3.1;

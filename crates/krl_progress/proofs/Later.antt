@@ -12,7 +12,7 @@ use Rattle.krl_server.proofs.Invariant.Kept.{server_keeps}
 use Rattle.krl_progress.proofs.AtOnce.{turn_sessions}
 use Rattle.krl_progress.proofs.Knowing.{other_inc, other_session, turn_pushes, judged_inc, left_same}
 
--- from s to t the client is registered anew; or no push is made to it; or its pushes go on
+-- from s to t the client is registered again; or no push is made to it; or its pushes continue
 pub data Later (s t : Server) (c : ℕ) : Type 0 where
   anew : incarnation_of s c < incarnation_of t c → Later s t c
   kept : incarnation_of t c ≡ incarnation_of s c → (t.sessions c).last_push ≡ (s.sessions c).last_push → ((b : PushBody) → (t.sessions c).unacked ≡ Some b → (s.sessions c).unacked ≡ Some b) → Later s t c

@@ -119,7 +119,7 @@ from_client c inc b = message.ToServer (record { client = c; incarnation = inc; 
 abbrev epoch_message : ℕ → ℕ → ℕ → ToClient
 epoch_message c inc epoch = record { client = c; incarnation = inc; body = told.Epoch epoch }
 
--- the client said such a thing, behind the message of number n
+-- the client said such a thing, after the message of number n
 record Said (c inc n : ℕ) (B : ToServerBody → Type 0) (u : State) : Type 0 where
   index : ℕ
   body : ToServerBody
@@ -127,7 +127,7 @@ record Said (c inc n : ℕ) (B : ToServerBody → Type 0) (u : State) : Type 0 w
   sent : message_at u.sent index ≡ Some (from_client c inc body)
   is : B body
 
--- the client was told the epoch
+-- the client learned the epoch
 record Told (c inc epoch n : ℕ) (u : State) : Type 0 where
   index : ℕ
   above : n < index
@@ -227,7 +227,7 @@ module _ (c inc epoch n : ℕ) where
       by_test true e = refl
       by_test false e = absurd (let x = reachable_nobody u h.reachable c (ltb-false c 64 e) in let bad : Some h.client ≡ None = sym h.runs ∙ x in cc)
 
-  -- what the server makes of a call: it hears of the client, or tells it the epoch
+  -- what the server makes of a call: it hears of the client, or sends it the epoch
   hit_call : (i : ℕ) (b : ToServerBody) → IsCall epoch b → (u v : State) (answer : Answer) → At c inc epoch n u → message_at u.sent i ≡ Some (from_client c inc b) → Takes u (step.Deliver i) answer v → Heard c v ⊎ (Told c inc epoch n v × (epoch_said b ≢ epoch))
   hit_call i b call u v answer h sent t =
       let reads : ServerReads u (Up h.server) m v = subst (λ x. ServerReads u x m v) h.up (subst (λ o. Delivers u o v) sent t.1.1) in

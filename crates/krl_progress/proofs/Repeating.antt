@@ -56,7 +56,7 @@ module _ (c inc epoch seen : ℕ) (some : 1 ≤ epoch) (n : ℕ) where
   abbrev pub lock_said : ℕ → ℕ → ℕ → Mode → Message
   lock_said req point hi g = message.ToServer (request_from c inc epoch seen (asked.Lock req point hi g))
 
-  -- it was said behind number n
+  -- it was said after number n
   pub record LockSaid (u : State) : Type 0 where
     pub req : ℕ
     pub point : ℕ

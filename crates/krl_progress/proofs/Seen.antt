@@ -1,4 +1,4 @@
--- What a client says that has accepted every push, and how the server hears it.
+-- What a client sends that has accepted every push, and how the server hears it.
 use Rattle.krl_progress.proofs.Names.{◌≡◌, ℕ, suc, ◌≤◌, ◌<◌, ◌∙◌, false, Some, List, ◌++◌, length, slice_get, sym, ap, subst, arith}
 use Rattle.krl_progress.proofs.Names.{In, Client, Message, Record, Server, is_recovering, Step, Answer, Up, State, message_at, Takes, case_of}
 use Rattle.krl_messages.specs.declared.to_server.ToServerBody.TheVariants as said
@@ -14,7 +14,7 @@ use Rattle.krl_progress.proofs.Recovers.{same_up, At, near}
 use Rattle.krl_progress.proofs.WriteSteps.{position_in}
 use Rattle.krl_progress.proofs.Arrivals.{request_from, Hears, hears, again, request_hears}
 
--- Messages behind number n
+-- Messages after number n
 
 pub record Sent (n : ℕ) (m : Message) (u : State) : Type 0 where
   pub index : ℕ

@@ -34,7 +34,7 @@ none_of k x at = absurd at
 both_of : (k : Client) (xs ys : List ToServer) → AreOf k xs → AreOf k ys → AreOf k (xs ++ ys)
 both_of k xs ys h g m at = ⊎_elim (λ (a : In m xs). h m a) (λ (a : In m ys). g m a) (in_both xs ys m at)
 
--- What a client says
+-- What a client sends
 
 read_of : (ps : Pieces) (k : Client) (x : Case) → AreOf k (receiver.sends ps k x)
 read_of ps k Ignores = none_of k

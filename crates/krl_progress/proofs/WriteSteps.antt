@@ -166,7 +166,7 @@ module _ (c inc epoch seen0 number : ℕ) (op : WriteOp) (some : 1 ≤ epoch) (r
   abbrev pub write_said : Message
   write_said = message.ToServer the_write
 
-  -- the message stands behind number n
+  -- the message comes after number n
   pub record Sent (m : Message) (u : State) : Type 0 where
     pub index : ℕ
     pub above : n < index
@@ -194,7 +194,7 @@ module _ (c inc epoch seen0 number : ℕ) (op : WriteOp) (some : 1 ≤ epoch) (r
 
   -- What the server makes of it
 
-  -- the server answers the write, or says again the push that the client has not accepted
+  -- the server answers the write, or sends again the push that the client has not accepted
   pub data Does (s : Server) (x : Case) : Type 0 where
     answers : (o : Outcome) → answered_write x ≡ Some (number, o) → (s.sessions c).last_push ≡ seen0 → Does s x
     again : (b : PushBody) → x ≡ Repeats b → (s.sessions c).unacked ≡ Some b → (s.sessions c).last_push ≡ suc seen0 → Does s x

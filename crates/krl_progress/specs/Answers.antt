@@ -47,7 +47,7 @@ AnswersAtOnce =
     ((effect s m (case_of s m)).server.rows n).queue ≡ u ∷ us →
     is_answerable (effect s m (case_of s m)).server n u ≡ true → IsAnswered t u outs
 
--- d alone blocks the first waiter u of the slot n, whose client has acknowledged every push
+-- only d blocks the first waiter u of the slot n, whose client has acknowledged every push
 pub record IsLastBlocker (s : Server) (n : ℕ) (u : Waiter) (us : List Waiter) (d : ℕ) : Type 0 where
   pub serves : is_recovering s.missing ≡ false
   pub slot : is_slot s.durable.index n ≡ true

@@ -14,7 +14,7 @@ use Rattle.krl_progress.specs.Rounds.{IsRound}
 
 -- Rounds in which something holds all the time
 
--- each world behind the first one of the run has P
+-- each world after the first one of the run has P
 abbrev pub Throughout : (State → Type 0) → (u : State) → (steps : List Step) → (v : State) → Runs u steps v → Type 0
 Throughout P u [] v r = v ≡ u
 Throughout P u (s ∷ steps) v r = P r.1 × Throughout P r.1 steps v r.3

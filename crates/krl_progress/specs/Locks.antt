@@ -19,7 +19,7 @@ pub record IsUndisturbedFor (reqs writes : ℕ) (k : Client) : Type 0 where
   pub room : k.seen < END
 
 -- In this world the server serves, each client that holds something or waits for something runs in its epoch, and no
--- client of its epoch asks for a further lock, writes anew, or pins.
+-- client of its epoch asks for a further lock, writes again, or pins.
 pub record IsUndisturbed (reqs writes : ℕ → ℕ) (w : State) : Type 0 where
   pub server : Server
   pub up : w.server ≡ Up server
@@ -40,7 +40,7 @@ pub record IsManned (w : State) : Type 0 where
   pub registered : (c : ℕ) (r : Record) → record_of server.durable.register c ≡ Some r → r.left ≡ false →
       (k : Client) × (client_of w c ≡ Some k) × (k.incarnation ≡ r.incarnation)
 
--- no client of the server's epoch asks for a further lock, writes anew, or pins
+-- no client of the server's epoch asks for a further lock, writes again, or pins
 abbrev pub AsksNoMore : (ℕ → ℕ) → (ℕ → ℕ) → State → Type 0
 AsksNoMore reqs writes w =
     (s : Server) (c : ℕ) (k : Client) → w.server ≡ Up s → client_of w c ≡ Some k → k.epoch ≡ s.durable.epoch →

@@ -24,7 +24,7 @@ WritesAreAnsweredIn n =
     client_of w c ≡ Some k → outstanding k.written ≡ Some op → suc k.seen < END → Rounds n (length w.sent) w v →
     client_of v c ≡ Some l → l.req ≡ k.req → l.writes ≡ k.writes → outstanding l.written ≡ None
 
--- the client has asked for no further lock in the epoch that it is in, if it counts anew if it has joined it since
+-- the client has asked for no further lock in the epoch that it is in, if it counts again if it has joined it since
 abbrev pub HasAskedNoMore : Client → Client → Type 0
 HasAskedNoMore k l = (l.epoch ≡ k.epoch → l.req ≡ k.req) × (k.epoch < l.epoch → l.req ≡ 0)
 

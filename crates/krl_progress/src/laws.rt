@@ -78,8 +78,8 @@ pub fn pushes_arrive()
     ensures { PushesArriveIn 3 }
 {}
 
-/// After any past: no block of a first waiter lasts four good rounds in which nothing else moves it:
-/// no push to the waiter or to the blocker, no change of the slot, no write and no pin of the
+/// After any past: no block of a first waiter lasts four good rounds in which nothing else moves
+/// it: no push to the waiter or to the blocker, no change of the slot, no write and no pin of the
 /// blocker there.
 pub fn blocks_end()
     ensures { BlocksEndIn 4 }
@@ -93,22 +93,22 @@ pub fn first_waits_end()
 {}
 
 /// After any past: nobody waits through four good rounds in which no push comes, every lock request
-/// is taken, no write is outstanding, nobody pins, and each client that holds or waits for something
-/// runs. Push numbers are not spent.
+/// is taken, no write is outstanding, nobody pins, and each client that holds or waits for
+/// something runs. Push numbers are not spent.
 pub fn no_standstill()
     ensures { NoStandstillIn 4 }
 {}
 
-/// After any past: if a client waits for a lock, some client accepts a push within nine good rounds,
-/// if meanwhile the server serves, nobody asks for a further lock or pins, and each client that
-/// holds or waits for something runs. Push numbers are not spent.
+/// After any past: if a client waits for a lock, some client accepts a push within nine good
+/// rounds, if meanwhile the server serves, nobody asks for a further lock or pins, and each client
+/// that holds or waits for something runs. Push numbers are not spent.
 pub fn somebody_moves_on()
     ensures { SomebodyMovesOnIn 9 }
 {}
 
-/// After any past: nobody waits for a lock after 1161 good rounds in which the server serves, nobody
-/// asks for a further lock, writes anew or pins, and each client that holds or waits for something
-/// runs. Push numbers are not spent.
+/// After any past: nobody waits for a lock after 1161 good rounds in which the server serves,
+/// nobody asks for a further lock, writes again or pins, and each client that holds or waits for
+/// something runs. Push numbers are not spent.
 pub fn locks_are_answered()
     ensures { LocksAreAnsweredIn 1161 }
 {}
@@ -120,9 +120,9 @@ pub fn requests_are_registered()
 {}
 
 /// After any past: if the server serves, each client that holds or waits for something runs in its
-/// epoch, and each registered client that has not left runs, then nobody waits for a lock after 1161
-/// good rounds in which nobody asks for a further lock, writes anew or pins. Push numbers are not
-/// spent.
+/// epoch, and each registered client that has not left runs, then nobody waits for a lock after
+/// 1161 good rounds in which nobody asks for a further lock, writes again or pins. Push numbers are
+/// not spent.
 pub fn manned_worlds_answer()
     ensures { MannedWorldsAnswerIn 1161 }
 {}

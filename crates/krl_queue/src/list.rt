@@ -17,7 +17,7 @@ use std::mem::{replace, swap};
 /// The waiters of one slot, in the order in which they are answered. Dropping the list frees the
 /// memory of every waiter in it.
 ///
-/// The nodes are linked both ways, and the list takes no memory beside theirs. So no call can be
+/// The nodes are linked both ways, and the list takes no memory next to theirs. So no call can be
 /// refused.
 pub struct WaitList {
     head: NodePtr,
@@ -73,7 +73,7 @@ impl WaitList {
         self.head.is_null()
     }
 
-    /// Puts the node behind all others. It takes constant time.
+    /// Puts the node after all others. It takes constant time.
     pub fn push_back(&mut self, node: WaitNode)
         ensures pushed { self.new ≡ self.old ++ node ∷ [] }
     {
@@ -182,7 +182,7 @@ impl WaitList {
         self.append(list);
     }
 
-    /// The list of this node alone.
+    /// The list of this node only.
     fn of(node: WaitNode) -> WaitList
         ensures { result ≡ node ∷ [] }
     {
@@ -195,7 +195,7 @@ impl WaitList {
         }
     }
 
-    /// Puts the whole list behind this one.
+    /// Puts the whole list after this one.
     fn append(&mut self, list: WaitList)
         ensures { self.new ≡ self.old ++ list }
     {

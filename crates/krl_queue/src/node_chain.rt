@@ -48,7 +48,7 @@ impl NodeChain {
         let NodeChain { mark: _ } = self;
     }
 
-    /// A chain of this node alone.
+    /// A chain of this node only.
     pub(crate) fn one(cell: DetachedBox<Node, Global>) -> (NodePtr, NodeChain)
         ensures spots { result.1.spots ≡ spot result.0.ptr cell.value.waiter cell.value.alloc ∷ [] }
         ensures place { IsPlace result.0.ptr }
@@ -61,7 +61,7 @@ impl NodeChain {
         (NodePtr { ptr: at }, NodeChain { mark: PhantomData })
     }
 
-    /// The node of a chain that has one alone.
+    /// The node of a chain that has only one.
     pub(crate) fn into_one(self, at: NodePtr) -> DetachedBox<Node, Global>
         requires { (length self.spots ≡ 1) × (at.ptr ≡ first_or null_ptr self.spots) }
         ensures { waiters self.spots ≡ result.value.waiter ∷ [] }

@@ -46,7 +46,7 @@ unsafe impl Send for NodePtr {}
 
 unsafe impl Sync for NodePtr {}
 
-/// How many nodes of a chain lie before one. It takes no space, and clauses alone read it: so a
+/// How many nodes of a chain lie before one. It takes no space, and only clauses read it: so a
 /// chain may have more nodes than a `usize` counts.
 #[derive(Drop)]
 pub(crate) struct Index {

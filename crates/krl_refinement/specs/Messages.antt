@@ -53,7 +53,7 @@ report_of inc epoch pieces =
 
 -- Messages in a link
 
--- beside its head, which stands in the link, the request of this head stands there
+-- next to its head, which stands in the link, the request of this head stands there
 abbrev pub RequestStands : Link → Head → RequestBody → Type 0
 RequestStands l a (asked.Lock req point hi g) = Unit {0}
 RequestStands l a (asked.Write number op) = In (record { head = a; number = number; op = op_of op }) l.writes

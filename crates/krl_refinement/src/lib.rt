@@ -31,7 +31,7 @@ pub fn client_messages()
 {}
 
 /// Each step of a server, on a message that was sent, is some steps of the machine, and so
-/// are its nudges, its crash and its start. On such a message it never says Alarm; on one that
+/// are its nudges, its crash and its start. On such a message it never reports Alarm; on one that
 /// nobody sent it may.
 pub fn server_follows()
     ensures { ServerFollows }

@@ -137,7 +137,7 @@ taken w v waits passed counted g what r sent t p e h s = (
 drop_at : (es : List (ℕ × Value)) (i : ℕ) (d : ℕ × Value) → i < length es → drop i es ≡ get_or es i d ∷ drop (i + 1) es
 drop_at es i d l = drop-cons es i d l ∙ ap (λ (k : ℕ). get_or es i d ∷ drop k es) (sym (add-one i))
 
--- how two rows are compared: by their keys, by their values with the zeros behind them, and by how long these are
+-- how two rows are compared: by their keys, by their values with the zeros after them, and by how long these are
 abbrev pub same_row : ℕ × Value → ℕ × Value → Bool
 same_row r e = nat_eq r.0 e.0 && (pointwise nat_eq (padded r.1) (padded e.1) && nat_eq (length r.1) (length e.1))
 
@@ -203,7 +203,7 @@ same_first r e left xs b f said agrees = f ∙ ap (λ (x : ℕ × Value). x ∷ 
 
 -- the same over runs
 module _ (p : ℕ × Value → Bool) (xs : List (List (ℕ × Value))) (rows left : List (ℕ × Value)) (i : ℕ) (x : List (ℕ × Value)) (there : Some x ≡ slice_get xs i) (h : rows ≡ filter p (flat (take i xs)) ++ left) where
-  -- the rows go on with the range of the next run
+  -- the rows continue with the range of the next run
   pub runs_go_on : (rest : List (ℕ × Value)) → left ≡ filter p x ++ rest → rows ≡ filter p (flat (take (i + 1) xs)) ++ rest
   runs_go_on rest first =
       h ∙ ap (λ (es : List (ℕ × Value)). filter p (flat (take i xs)) ++ es) first ∙ sym (append_assoc (filter p (flat (take i xs))) (filter p x) rest)

@@ -1,4 +1,4 @@
--- How a script goes on from line to line.
+-- How a script continues from line to line.
 use Rattle.std.proofs.Common.{◌≡◌, ◌≢◌, ℕ, zero, suc, ◌+◌, ◌<◌, ◌≤◌, true, false, List, [], ◌∷◌, ◌++◌, length, None, Some, Result, Ok, Err, refl, sym, ap, subst, ◌∙◌, inl, inr, arith}
 use Rattle.std.proofs.lemmas.Bool.{le-ltb, lt-ltb}
 use Rattle.std.proofs.lemmas.List.{append-nil, append_assoc, nil_from_length}
@@ -99,7 +99,7 @@ some_line (Ok request) s n Rest rest =
     (o.0 ++ t.0, t.1, (o.0, t.0, o.1, o.2, t.2, refl))
 some_line (Err what) s n Rest rest = (fault_line n what, Some (n, what), (refl, refl))
 
--- some transcript goes on from each stage
+-- some transcript continues from each stage
 pub some_prints : (s : Stage) (n : ℕ) (ls : List (List ℕ)) → (out : List ℕ) × (end : End) × Prints s n ls out end
 some_prints s n [] = ([], None, (refl, refl))
 some_prints s n (line ∷ more) =

@@ -197,7 +197,7 @@ impl RandomRun {
         Ok(self.is_sound())
     }
 
-    // Draws the next step and takes it, goes on as the pace says, and says whether all was sound.
+    // Draws the next step and takes it, continues as the pace says, and says whether all was sound.
     fn go_at(&mut self, pace: Pace) -> Result<bool, AllocError>
         ensures goes { IfOk result (λ sound. GoesAt pace (stage_of self.old) (stage_of self.new)) }
         ensures sound { IsCompatible (meaning self.old.world) → IfOk result (λ sound.
@@ -213,7 +213,7 @@ impl RandomRun {
     }
 }
 
-// Tells of every 10,000th step.
+// Reports every 10,000th step.
 fn tell<P: Progress>(progress: &mut P, steps: u64) {
     if steps % STRIDE == 0 {
         progress.taken(steps);

@@ -12,7 +12,7 @@ use krl_blocks::Entries;
 use krl_messages::Value;
 use krl_world::{Answer, Command, Refused, Step, World};
 
-// The rows behind those of the entries with keys from lo on below hi; None if the rows do not
+// The rows after those of the entries with keys from lo on below hi; None if the rows do not
 // begin with them.
 fn rows_behind<'a>(
     entries: &[(u64, Value)],

@@ -80,7 +80,7 @@ AreSlotsAfter m low [] = Unit {0}
 AreSlotsAfter m low (n ∷ ns) = (low < n) × (is_slot m n ≡ true) × AreSlotsAfter m n ns
 
 module _ (m : Index) (u : Waiter) where
-  -- the grant goes on to the next slot
+  -- the grant continues to the next slot
   pub on_to : (rows : Rows) (n : ℕ) → goes_on m rows n u ≡ true → (n < slot_of m (suc n)) × (is_slot m (slot_of m (suc n)) ≡ true) × (is_wanted_compatible rows (slot_of m (suc n)) u ≡ true)
   on_to rows n e =
       let x = and_parts (nat_lt n END) (nat_lt (suc n) u.hi && can_take rows (slot_of m (suc n)) u) e in
@@ -90,7 +90,7 @@ module _ (m : Index) (u : Waiter) where
       let from = from_point (fin.entries m) (suc n) (omega (arith, lt)) in
       (omega (arith, from), slot_always m (suc n), (and_parts (is_wanted_compatible rows (slot_of m (suc n)) u) (not (needs_entry u.mode && nat_eq (slot_of m (suc n)) END)) z.1).0)
 
-  -- what each raise keeps, the grant keeps as it goes on
+  -- what each raise keeps, the grant keeps as it continues
   pub along : (P : Rows → Type 0) (low : ℕ) → ((rows : Rows) (n : ℕ) → low < n → is_slot m n ≡ true → is_wanted_compatible rows n u ≡ true → P rows → P (raised rows n u)) → (k n : ℕ) (rows : Rows) → low ≤ n → P rows → P (raised_on rows (taken_after m rows n u k) u)
   along P low step zero n rows le p = p
   along P low step (suc k) n rows le p = if_case (λ ns. P (raised_on rows ns u)) (goes_on m rows n u) (slot_of m (suc n) ∷ taken_after m (raised rows (slot_of m (suc n)) u) (slot_of m (suc n)) u k) []
@@ -134,7 +134,7 @@ granted_below r m rows n k lt = by_queue (rows n).queue refl
         (λ r j far slot is_compatible_there same. row_other r j (with_mode (r j) u.client (wanted (r j) u)) k (λ f. omega (arith, f, far, lt)) ∙ same)
         (r - 1) n (granted_first rows n) (omega arith) (row_other rows n (grant_first (rows n) (rows n).queue) k (λ f. omega (arith, f, lt)))
 
--- a row at which somebody waits stays, beside the grant's own
+-- a row at which somebody waits stays, next to the grant's own
 module _ (m : Index) (u : Waiter) (k : ℕ) (v : Waiter) (vs : List Waiter) where
   free_next : (rows : Rows) (n : ℕ) → goes_on m rows n u ≡ true → nobody_waits (rows (slot_of m (suc n))).queue ≡ true
   free_next rows n e =
@@ -167,7 +167,7 @@ granted_compatible r m rows n k v vs ne queue = by_queue (rows n).queue refl
 
 -- What a push tells of the slots
 
--- the span of a slot begins behind each slot below it
+-- the span of a slot begins after each slot below it
 span_behind : (m : Index) → ((q : ℕ) → END ≤ q → fin.get m q ≡ None) → (n k : ℕ) → is_slot m n ≡ true → is_slot m k ≡ true → n < k → suc n ≤ low_of m k
 span_behind m near n k here there lt = ⊎_elim
     (λ (a : low_of m k < suc n).

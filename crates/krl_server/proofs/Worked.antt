@@ -239,7 +239,7 @@ row_12_again : (m : Index) → case_of (record (restarted m) { missing = [] }) (
 unfolding max_clients
 row_12_again m = refl
 
--- Two that read one entry ask for it alone: the later goes to the front, and calls the earlier back
+-- Two that read one entry ask only for it: the later goes to the front, and calls the earlier back
 
 abbrev both_read : Index → Server
 both_read m = server m (λ n. if nat_eq n 10 then row mode.S mode.S [] else blank_row) (session 1 1)

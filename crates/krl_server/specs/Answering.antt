@@ -38,7 +38,7 @@ turn_among s (n ∷ ns) = turn_at s n (s.rows n).queue (turn_among s ns)
 abbrev pub next_turn : Server → Option Turn
 next_turn s = turn_among s (slots s.durable.index)
 
--- the waiter is told that there is no entry
+-- the waiter learns that there is no entry
 abbrev pub tells_absent : Server → Turn → Done
 tells_absent s t =
     pushes (with_rows s (dropped s.rows t.slot)) t.waiter.client (push.Absent t.waiter.req t.waiter.point)

@@ -92,7 +92,7 @@ abbrev pub case_of_late : ℕ → ℕ → Option PushBody → Case
 case_of_late seen last_push None = Ignored
 case_of_late seen last_push (Some body) = if nat_eq (suc seen) last_push then Repeats body else Ignored
 
--- 9 if the last push was seen, and else 8
+-- 9 if the last push was seen, and otherwise 8
 abbrev pub case_of_seen : Server → ℕ → Record → Request → Case
 case_of_seen s c r request =
     if nat_eq request.seen (s.sessions c).last_push then case_of_request s c r request.body
@@ -143,12 +143,12 @@ is_malformed m = not (nat_lt m.client max_clients) || (nat_eq m.incarnation 0 ||
 abbrev pub case_of : Server → ToServer → Case
 case_of s m = if is_malformed m then Ignored else case_of_record s m (record_of s.durable.register m.client)
 
--- the step says Alarm
+-- the step reports Alarm
 abbrev pub is_alarm : Case → Bool
 is_alarm Alarms = true
 is_alarm other = false
 
--- the case registers the message's client anew, or marks it left
+-- the case registers the message's client again, or marks it left
 abbrev pub clears : Case → Bool
 clears Registers = true
 clears Leaves = true

@@ -40,7 +40,7 @@ replayed [] d = d
 replayed (e ∷ es) d = replayed es (written_down e d)
 
 pub record ChangesReplay : Type 0 where
-  -- a start changes the epoch alone
+  -- a start changes only the epoch
   pub started : (d : Durable) → (start d).durable ≡ raised d
   -- after any events, what they make of what survived before them is what survives
   pub replays : (s t : Server) (es : List Event) → LivesThrough s es t → t.durable ≡ replayed es s.durable

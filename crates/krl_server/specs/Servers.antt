@@ -10,7 +10,7 @@ pub record Server : Type 0 where
   pub durable : Durable
   pub rows : Rows
   pub sessions : ℕ → Session  -- by client
-  -- who was registered at the start, and has since neither reported, nor registered anew, nor left
+  -- who was registered at the start, and has since neither reported, nor registered again, nor left
   pub missing : List ℕ
 
 abbrev pub blank_session : Session

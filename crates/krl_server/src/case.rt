@@ -15,7 +15,7 @@ pub(crate) enum Case {
     Registers,
     /// The client leaves.
     Leaves,
-    /// The client is told the epoch.
+    /// The client learns the epoch.
     Tells,
     /// A missing client reports.
     Reports,

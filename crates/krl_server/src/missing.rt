@@ -6,7 +6,7 @@ use std::alloc::{AllocError, Global};
 use std::marker::Model;
 
 /// The clients that were registered at the start and have since neither reported, nor registered
-/// anew, nor left, in order of first registration.
+/// again, nor left, in order of first registration.
 #[derive(Drop)]
 pub struct Missing {
     clients: Vec<u64>,

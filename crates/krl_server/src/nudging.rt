@@ -51,7 +51,7 @@ impl State {
         }
     }
 
-    /// While the server recovers, a missing client is told the epoch.
+    /// While the server recovers, a missing client learns the epoch.
     fn nudge_missing(&self, alloc: Global, client: u64) -> Result<Items<ToClient>, AllocError>
         ensures { IfOk result (λ outs. outs ≡ nudge_missing (meaning self.now) client) }
     {

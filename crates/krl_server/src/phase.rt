@@ -4,7 +4,7 @@
 #[derive(Clone, Copy, PartialEq, Eq)]
 pub enum Phase {
     /// Somebody is missing: a client that was registered at the start has since neither reported,
-    /// nor registered anew, nor left.
+    /// nor registered again, nor left.
     Recovering,
     /// Nobody is missing.
     Serving,

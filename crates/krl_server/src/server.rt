@@ -99,7 +99,7 @@ impl Server {
     ///
     /// # Errors
     ///
-    /// `NotStarted`, with what survived unchanged: `Spent` if the epoch is END, else
+    /// `NotStarted`, with what survived unchanged: `Spent` if the epoch is END, otherwise
     /// `OutOfMemory` if memory is refused.
     pub fn start(alloc: Global, durable: Durable) -> Result<Server, NotStarted>
         ensures { MatchResult result (λ s. IsStarted durable (meaning s)) (IsNotStarted durable) }
@@ -241,7 +241,7 @@ impl Server {
     /// The clients that the client waits for, in ascending order: at the slot at which it waits,
     /// those that wait before it, and those that hold what is not compatible with what it wants.
     /// Nobody if it does not wait, or if it waits for a push of its own to be acknowledged,
-    /// or, while the server recovers, for the missing alone. It takes no memory.
+    /// or, while the server recovers, only for the missing. It takes no memory.
     pub fn waited_for(&self, client: u64) -> ArrayVec<u64, MAX_CLIENTS>
         requires { client < MAX_CLIENTS }
         ensures { result.items ≡ waited_for (meaning self.now) client }
@@ -260,7 +260,7 @@ impl Server {
 
     /// What the client holds on the first slot from this point on where its mode is not N: the
     /// slot's span, the mode, and the entry's value if the mode reads it. None if there is no
-    /// such slot. So a caller that begins at 0, and goes on at the span's end each time, sees all
+    /// such slot. So a caller that begins at 0, and continues at the span's end each time, sees all
     /// that the client holds. It looks at the rows that the table keeps from the point on as far as
     /// that slot, and takes no memory.
     pub fn next_holding(&self, client: u64, from: u64) -> Option<Holding>

@@ -68,7 +68,7 @@ impl State {
         }
     }
 
-    /// Tells the client the epoch.
+    /// Sends the client the epoch.
     pub(crate) fn epoch_to(&self, client: u64) -> ToClient
         ensures { result ≡ epoch_to (meaning self.now) client }
     {

@@ -59,7 +59,7 @@ impl State {
         }
     }
 
-    /// Takes the report that a missing client makes, or says Alarm.
+    /// Takes the report that a missing client makes, or reports Alarm.
     ///
     /// # Errors
     ///

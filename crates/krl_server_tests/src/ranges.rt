@@ -5,7 +5,7 @@ use krl_messages::Outcome;
 use krl_modes::{END, KeyPart, Mode, RangePart, TOP};
 
 // On 10=1 and 20=2: one grant covers every slot that begins below the end that was asked for, in
-// ascending order, and is said again as it was.
+// ascending order, and is sent again as it was.
 pub static COVERS: [(Act, Gives); 9] = [
     (Act::Hello(A), Gives::Told(&[Told::Epoch(A, 1)])),
     (Act::Hello(B), Gives::Told(&[Told::Epoch(B, 1)])),
@@ -74,7 +74,7 @@ const ENTRIES: &[Held] = &[
 ];
 
 // On 10=1 and 20=2: a grant ends before a slot where another client's lock forbids it, though the
-// slot behind is free, and nobody is called back for it. If the first slot is such a one the
+// slot after it is free, and nobody is called back for it. If the first slot is such a one the
 // client waits there.
 pub static ENDS_BEFORE_A_HELD_SLOT: [(Act, Gives); 8] = [
     (Act::Hello(A), Gives::Told(&[Told::Epoch(A, 1)])),
@@ -93,7 +93,7 @@ pub static ENDS_BEFORE_A_HELD_SLOT: [(Act, Gives); 8] = [
         Act::Asks(B, 1, 1, Asked::LockTo(2, 11, TOP, Mode::RangeSS)),
         Gives::Told(&[Told::Callback(A, 11, 21, Mode::RangeSU)]),
     ),
-    // Once it is let in, it goes on over the slot behind.
+    // Once it is let in, it continues over the slot after it.
     (
         Act::Asks(A, 1, 1, Asked::Release(11, 21, Mode::N)),
         Gives::Told(&[Told::Grants(

@@ -17,7 +17,7 @@ const ALL_IN_NO_ORDER: [(u64, u64, RangePart); 3] = [
     (11, 21, RangePart::I),
 ];
 
-// After a restart: nothing is granted before each client has reported, has registered anew or has
+// After a restart: nothing is granted before each client has reported, has registered again or has
 // left; a second Hello is no report, and a report that contradicts another changes nothing.
 pub static RECOVERS: [(Act, Gives); 22] = [
     (Act::Missing, Gives::Missing(&[0, 2, 1])),
@@ -69,7 +69,7 @@ pub static RECOVERS: [(Act, Gives); 22] = [
 ];
 
 // On 10=1, if A and B were registered when it was kept: B reports what A holds. The server waits
-// for B until that registers anew, and then serves.
+// for B until that registers again, and then serves.
 pub static CONTRADICTS: [(Act, Gives); 8] = [
     (Act::Missing, Gives::Missing(&[0, 1])),
     (

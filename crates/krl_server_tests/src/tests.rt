@@ -239,7 +239,7 @@ fn recovers_before_it_serves(rt: HostRuntime) {
     assert!(rt; gives_over_a_crash(rt.alloc(), &two_entries(), &REGISTERS, &RECOVERS));
 }
 
-// A report from the last gap to the first, and one whose ranges all end behind the last entry: END
+// A report from the last gap to the first, and one whose ranges all end after the last entry: END
 // is a slot too.
 #[test]
 fn large_reports_in_any_order_are_taken_in_time(rt: HostRuntime) {

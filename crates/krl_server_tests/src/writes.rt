@@ -1,10 +1,10 @@
-//! Writes, and writes that are said again after a restart.
+//! Writes, and write that are sent again after a restart.
 use crate::acts::{Act, Asked, Change, Gives, Held, Told};
 use crate::named::{A, B, BOTH, DELETE, FIRST, LOCK_3, LOCK_5, SECOND};
 use krl_messages::Outcome;
 use krl_modes::{END, KeyPart, Mode, RangePart};
 
-// On 10=1 and 20=2: each outcome of a write, a write that is said again, and numbers that are none.
+// On 10=1 and 20=2: each outcome of a write, a write that is sent again, and numbers that are none.
 pub static WRITES: [(Act, Gives); 22] = [
     (Act::Hello(A), Gives::Told(&[Told::Epoch(A, 1)])),
     (Act::Hello(B), Gives::Told(&[Told::Epoch(B, 1)])),
@@ -131,7 +131,7 @@ pub static LOSES_AN_ANSWER: [(Act, Gives); 5] = [
     ),
 ];
 
-// A says its write again, and is answered with what became of it; B gets its lock once A has given
+// A sends its write again, and is answered with what became of it; B gets its lock once A has given
 // way.
 pub static ANSWERS_AGAIN: [(Act, Gives); 12] = [
     (
@@ -148,7 +148,7 @@ pub static ANSWERS_AGAIN: [(Act, Gives); 12] = [
         Act::Asks(B, 2, 0, LOCK_3),
         Gives::Told(&[Told::Callback(A, 0, 21, Mode::RangeSU)]),
     ),
-    // A's write is outstanding, so it does not give way yet: it reports, and says its write again.
+    // A's write is outstanding, so it does not give way yet: it reports, and sends its write again.
     (
         Act::Report(
             A,

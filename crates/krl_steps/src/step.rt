@@ -31,7 +31,7 @@ pub enum Command {
         lo: u64,
         /// One past the last point.
         hi: u64,
-        /// The greatest mode that the client goes on to hold there.
+        /// The greatest mode that the client continues to hold there.
         keep: Mode,
     },
     /// Keep what is held of the points from `lo` on below `hi`.
@@ -55,7 +55,7 @@ pub enum Step {
     Deliver(u64),
     /// The client of this number obeys the command.
     Command(u64, Command),
-    /// The client of this number says again what is not answered.
+    /// The client of this number sends again what is not answered.
     Tick(u64),
     /// The server sends the client of this number again what it has not heard, or calls back those
     /// who block it.

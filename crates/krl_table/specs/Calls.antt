@@ -34,7 +34,7 @@ unqueue c queue = filter (λ u. not (nat_eq c u.client)) queue
 abbrev pub cleared : Rows → ℕ → Rows
 cleared rows c n = record { modes = set_mode (rows n).modes c mode.N; queue = unqueue c (rows n).queue }
 
--- it stands behind all others, or before them if its client already holds a mode there
+-- it comes after all others, or before them if its client already holds a mode there
 abbrev pub queue_with : Row → Waiter → List Waiter
 queue_with row u = if at_most (row.modes u.client) mode.N then row.queue ++ u ∷ [] else u ∷ row.queue
 

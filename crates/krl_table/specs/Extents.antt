@@ -27,7 +27,7 @@ AreWider old new = (c n : ℕ) → Lies (extent_in old c) n → Lies (extent_in 
 abbrev pub IsFreeOf : Row → ℕ → Type 0
 IsFreeOf row c = (row.modes c ≡ mode.N) × (times c row.queue ≡ 0)
 
--- each client holds and waits in its extent alone
+-- each client holds and waits only in its extent
 abbrev pub AreWithin : List Extent → Kept → Type 0
 AreWithin extents t = (n c : ℕ) → c < MAX_CLIENTS → Lies (extent_in extents c) n ⊎ IsFreeOf (rows_of t n) c
 

@@ -35,7 +35,7 @@ first_reply_on n row (u ∷ us) =
     then Some reply.Absent
     else (if is_compatible_in_row row u.client (wanted row u) then Some reply.Grant else None)
 
--- the same, by the slot's row alone
+-- the same, by only the slot's row
 abbrev pub row_reply : ℕ → Row → Option Reply
 row_reply n row = first_reply_on n row row.queue
 

@@ -12,8 +12,8 @@ abbrev pub nobody_waits : List Waiter → Bool
 nobody_waits [] = true
 nobody_waits (u ∷ us) = false
 
--- beside its own slot the waiter may take this one: nobody waits there, what it wants there is compatible with what all
--- others hold, and it does not ask for an entry alone if there is none
+-- next to its own slot the waiter may take this one: nobody waits there, what it wants there is compatible with what
+-- all others hold, and it does not ask only for an entry if there is none
 abbrev pub can_take : Rows → ℕ → Waiter → Bool
 can_take rows n u =
     nobody_waits (rows n).queue && (is_wanted_compatible rows n u && not (needs_entry u.mode && nat_eq n END))

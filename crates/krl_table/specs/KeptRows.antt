@@ -62,7 +62,7 @@ cleared_row c row = record { modes = set_mode row.modes c mode.N; queue = withou
 abbrev pub HasRoom : MapWithRoom SlotRow → ℕ → Type 0
 HasRoom s n = map.get s.map n ≡ None → length (map.entries s.map) < s.room
 
--- beside its own slot the waiter may take slot n, by the row there
+-- next to its own slot the waiter may take slot n, by the row there
 abbrev pub row_takes : ℕ → Row → Waiter → Bool
 row_takes n row u =
     nobody_waits row.queue && (is_compatible_in_row row u.client (wanted row u) && not (needs_entry u.mode

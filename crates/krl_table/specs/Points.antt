@@ -9,7 +9,7 @@ use Rattle.krl_modes.specs.Modes.{range_of, key_of}
 use Rattle.krl_durable.specs.Index.{Index, slot_of, is_slot}
 use Rattle.krl_table.specs.Rows.{Rows, mode_at}
 
--- the key part at a point that is no slot, beside this range part: X beside X, else N
+-- the key part at a point that is no slot, next to this range part: X with X, otherwise N
 abbrev pub key_off_slot : RangePart → KeyPart
 key_off_slot range.N = key.N
 key_off_slot range.S = key.N

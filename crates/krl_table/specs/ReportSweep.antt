@@ -18,7 +18,7 @@ abbrev pub KeysOff : List KeyPiece → ℕ → ℕ → Type 0
 KeysOff [] at p = Unit {0}
 KeysOff (x ∷ xs) at p = ((x.point < at) ⊎ (p ≤ x.point)) × KeysOff xs at p
 
--- the point is 0, or comes behind a slot
+-- the point is 0, or comes after a slot
 abbrev pub BeginsSpan : Index → ℕ → Type 0
 BeginsSpan m at = (at ≡ 0) ⊎ ((n : ℕ) × (at ≡ suc n) × (is_slot m n ≡ true))
 
@@ -32,12 +32,12 @@ pub record IsNextReported (m : Index) (pieces : Pieces) (at slot : ℕ) : Type 0
   pub above : at ≤ slot
   pub between : (n : ℕ) → at ≤ n → n < slot → is_slot m n ≡ true → rebuilt m pieces n ≡ mode.N
 
--- each span begins at or behind the beginning of the one before, and the first at or above this point
+-- each span begins at or after the beginning of the one before, and the first at or above this point
 abbrev pub RangesRise : ℕ → List RangePiece → Type 0
 RangesRise low [] = Unit {0}
 RangesRise low (x ∷ xs) = (low ≤ x.span.lo) × RangesRise x.span.lo xs
 
--- each point lies at or behind the one before, and the first at or above this one
+-- each point lies at or after the one before, and the first at or above this one
 abbrev pub KeysRise : ℕ → List KeyPiece → Type 0
 KeysRise low [] = Unit {0}
 KeysRise low (x ∷ xs) = (low ≤ x.point) × KeysRise x.point xs

@@ -7,7 +7,7 @@ use crate::extent::Extent;
 use krl_modes::MAX_CLIENTS;
 
 /// For each client an extent in which it holds and waits. It may do so at few of these slots: an
-/// extent grows, and begins anew if the client is forgotten.
+/// extent grows, and begins again if the client is forgotten.
 #[derive(Drop)]
 pub(crate) struct Extents {
     pub(crate) by_client: [Extent; MAX_CLIENTS],

@@ -12,7 +12,7 @@ ghost use Rattle.krl_table.specs.ReportSweep.{SameKeys};
 use krl_messages::{KeyPiece, RangePiece};
 use krl_modes::{KeyPart, RangePart, Span};
 
-/// Whether each span begins at or behind the beginning of the one before.
+/// Whether each span begins at or after the beginning of the one before.
 pub(crate) fn ranges_rise(pieces: &[RangePiece]) -> bool
     ensures { result ≡ true → RangesRise 0 pieces.now }
 {
@@ -27,7 +27,7 @@ pub(crate) fn ranges_rise(pieces: &[RangePiece]) -> bool
     true
 }
 
-/// Whether each point lies at or behind the one before.
+/// Whether each point lies at or after the one before.
 pub(crate) fn keys_rise(pieces: &[KeyPiece]) -> bool
     ensures { IsTrue result ↔ KeysRise 0 pieces.now }
 {

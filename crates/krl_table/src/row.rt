@@ -101,7 +101,7 @@ impl SlotRow {
         let _waiter = self.queue.remove_client(client);
     }
 
-    /// Puts the waiter behind all others, or before them if its client holds a mode.
+    /// Puts the waiter after all others, or before them if its client holds a mode.
     pub(crate) fn enqueue(&mut self, node: WaitNode)
         requires { node.client < MAX_CLIENTS }
         ensures { self.new ≡ record self.old { queue = queue_with (row_of self.old) node } }

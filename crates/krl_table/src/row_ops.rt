@@ -106,7 +106,7 @@ pub(crate) fn set(rows: &mut ReservedMap<SlotRow>, slot: u64, client: u64, mode:
     put(rows, slot, row);
 }
 
-/// Puts the waiter behind all others there, or before them if its client holds a mode there.
+/// Puts the waiter after all others there, or before them if its client holds a mode there.
 pub(crate) fn enqueue(rows: &mut ReservedMap<SlotRow>, slot: u64, node: WaitNode)
     requires room { HasRoom rows.old slot }
     requires client { node.client < MAX_CLIENTS }

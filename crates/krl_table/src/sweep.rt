@@ -20,7 +20,7 @@ pub(crate) struct ReportedSlot {
     pub(crate) mode: Mode,
 }
 
-/// What is left of a report behind a point, seen as pieces. Of lists that ascend it looks at a
+/// What is left of a report after a point, seen as pieces. Of lists that ascend it looks at a
 /// piece once for each slot that the piece meets, and once to pass it; of others at each piece for
 /// each slot of which something is reported.
 #[derive(Drop)]
@@ -71,7 +71,7 @@ impl<'a> Sweep<'a> {
         self.keys = pieces::keys_from(self.keys, at);
     }
 
-    /// The next slot from `at` on, which is 0 or comes behind a slot, of which something is
+    /// The next slot from `at` on, which is 0 or comes after a slot, of which something is
     /// reported. It takes one search.
     pub(crate) fn next(&self, durable: &Durable, at: u64) -> Option<ReportedSlot>
         requires near { (n : ℕ) → END ≤ n → map.get durable.now.index n ≡ None }

@@ -222,7 +222,7 @@ impl Table {
         self.extents.forget(client);
     }
 
-    /// The waiter, of a client that has none, goes to the slot of its point: behind all others, or
+    /// The waiter, of a client that has none, goes to the slot of its point: after all others, or
     /// before them if its client holds a mode there. It takes no memory.
     pub fn enqueue(&mut self, durable: &Durable, node: WaitNode)
         requires over { IsOver durable.now.index self.old.map }
@@ -258,7 +258,7 @@ impl Table {
 
     /// Makes `key`, which is no slot yet, a slot. `client` writes it, and may insert there. The
     /// waiters up to it move there. It takes no memory. The write that makes it a key of the index,
-    /// which has room for it, comes behind.
+    /// which has room for it, comes after it.
     pub fn split(&mut self, durable: &Durable, key: Point, client: u64)
         requires over { IsOver durable.now.index self.old.map }
         requires client { client < MAX_CLIENTS }
@@ -288,7 +288,7 @@ impl Table {
     }
 
     /// The slot, whose entry some client may delete, goes, and its waiters stand before those of
-    /// the next. It takes no memory. The write that deletes the entry comes behind.
+    /// the next. It takes no memory. The write that deletes the entry comes after it.
     pub fn merge(&mut self, durable: &Durable, key: u64)
         requires over { IsOver durable.now.index self.old.map }
         requires there { is_slot durable.now.index key ≡ true }
@@ -317,8 +317,8 @@ impl Table {
     /// memory. It looks at the rows that are kept from the first on if the client held or waited
     /// since it was cleared, and at the slots of which something is reported, with a search for
     /// each. If the pieces of both lists come in order it reads a piece once for each slot that
-    /// it meets, and once to pass it; else each piece for each of those slots. `in_order` makes a
-    /// report that is in order.
+    /// it meets, and once to pass it; otherwise each piece for each of those slots. `in_order`
+    /// makes a report that is in order.
     ///
     /// # Errors
     ///

@@ -1,4 +1,4 @@
-//! A table beside what survives, as one value: tests ask it for locks and writes, and look at what
+//! A table next to what survives, as one value: tests ask it for locks and writes, and look at what
 //! it answers.
 ghost use Rattle.std.specs.Prelude.{◌≡◌, ◌<◌, true, IfSome, IsSomeAnd};
 ghost use Rattle.krl_modes.specs.declared.point.TheConstants.{END};
@@ -28,7 +28,7 @@ static REGISTERED: [(u64, Record); 1] = [(
 )];
 
 /// A table, and what survives, whose slots its rows stand at. Contracts see nothing of it: a test
-/// looks at answers alone.
+/// looks only at answers.
 pub struct Bench {
     durable: Durable,
     table: Table,

@@ -28,7 +28,7 @@ pub static ORDERS: [(Report, Report); 6] = [
             &[(9, KeyPart::X), (END, KeyPart::S)],
         ),
     ),
-    // One begins in the other, and ends behind it.
+    // One begins in the other, and ends after it.
     (
         Report(&[(0, 11, RangePart::S), (5, 15, RangePart::I)], &[]),
         Report(
@@ -40,7 +40,7 @@ pub static ORDERS: [(Report, Report); 6] = [
             &[],
         ),
     ),
-    // One lies in the other, which comes behind it.
+    // One lies in the other, which comes after it.
     (
         Report(&[(5, 7, RangePart::I), (0, TOP, RangePart::S)], &[]),
         Report(

@@ -18,7 +18,7 @@ left_took None now after k given count l w = tt
 left_took (Some n) None after k given count l w = absurd l
 left_took (Some n) (Some m) after k given count l w = rw w.1 l
 
--- a write to a steady writer fails by an interruption alone
+-- a write to a steady writer fails only by an interruption
 pub only_interrupted : (first now after : Option ℕ) (k given : ℕ) (e : Error) → Left first now k → IsSteady first → WritesOn now after given (Err e) → error_kind e ≡ Interrupted
 only_interrupted None now after k given e l s w = absurd s
 only_interrupted (Some n) None after k given e l s w = absurd l

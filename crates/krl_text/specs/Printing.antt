@@ -45,7 +45,7 @@ abbrev pub number_or_bytes : Option ℕ → Value → List ℕ
 number_or_bytes (Some n) v = decimal n
 number_or_bytes None v = codes "x" ++ encode_lower v
 
--- a value: its number if it has eight bytes; else 'x' and its bytes as two hexadecimal digits each
+-- a value: its number if it has eight bytes; otherwise 'x' and its bytes as two hexadecimal digits each
 abbrev pub value_text : Value → List ℕ
 value_text v = number_or_bytes (number_of v) v
 

@@ -37,7 +37,7 @@ use Rattle.krl_text.specs.declared.fault.SyntaxFault.TheVariants.{TooManyLines, 
 use Rattle.krl_text.specs.declared.fault.LineFault.{LineFault}
 use Rattle.krl_text.specs.declared.fault.LineFault.TheVariants as line_fault
 
--- go on with what was read, or keep the fault
+-- continue with what was read, or keep the fault
 infixl 10 ◌>>=◌
 abbrev pub ◌>>=◌ : {A B : Type 0} → Result A SyntaxFault →
     (A → Result B SyntaxFault) → Result B SyntaxFault

@@ -28,7 +28,7 @@ pub fn refused(alloc: Global, refused: Refused) -> Result<String, AllocError>
     format!(in alloc; "refused {name}\n")
 }
 
-/// The text of a value: its number if it has eight bytes, else x and two digits for each byte.
+/// The text of a value: its number if it has eight bytes, otherwise x and two digits for each byte.
 fn value(alloc: Global, value: &Value) -> Result<String, AllocError>
     ensures { IfOk result (λ text. text.bytes.items ≡ value_text value.now) }
 {

@@ -51,7 +51,7 @@ ended_ok x rest y e =
     let g = held (eqb (length rest) 0) fault.Trailing (Ok x) y e in
     (nil_from_length rest (eqb-true _ _ g.0), ok_is x y g.1)
 
--- a whole message: its head, two numbers, a body of its kind, and nothing behind it
+-- a whole message: its head, two numbers, a body of its kind, and nothing after it
 module _ {B M : Type 0} (first last : ℕ) (read : ℕ → List ℕ → Result (B × List ℕ) Fault) (kind_of : B → ℕ)
     (spell : B → List ℕ) (Fits : B → Type 0) (make : ℕ → ℕ → B → M) where
   abbrev pub read_whole : List ℕ → Result M Fault

@@ -46,7 +46,7 @@ holding_again h rest fits = three_again span_codec mode_codec optional_codec hol
 pub holding_codec : IsCodec holding holding_at FitsHolding
 holding_codec = record { takes = holding_takes; again = holding_again }
 
--- ---- holdings, each behind the one before
+-- ---- holdings, each after the one before
 
 -- the first at this point or later
 abbrev Rises : ℕ → List Holding → Type 0

@@ -112,7 +112,7 @@ from_least least bytes h after e =
     let is : a.0.0 ≡ h = ap (λ (q : Holding × List ℕ). q.0) (ok_is a.0 (h, after) g.1) in
     subst (λ (x : Holding). least ≤ x.span.lo) is (ltb-false _ _ g.0)
 
--- what lies behind the last holding lies behind all
+-- what lies after the last holding lies after all
 pub ascend_more : (hs : List Holding) (h k : Holding) → Ascend (hs ++ h ∷ []) → h.span.hi ≤ k.span.lo
     → Ascend ((hs ++ h ∷ []) ++ k ∷ [])
 ascend_more [] h k up le = (le, (tt, tt))

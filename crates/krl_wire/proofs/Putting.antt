@@ -1,4 +1,4 @@
--- What is written behind what was written before.
+-- What is written after what was written before.
 use Rattle.std.proofs.Common.{◌≡◌, ℕ, ◌+◌, ◌<◌, List, [], ◌∷◌, ◌++◌, length, get_or, take, Result, Ok, Err, sym, ap, ◌∙◌, append_assoc}
 use Rattle.std.specs.Prelude.{OnOk}
 use Rattle.std.specs.List.{flat_map}
@@ -19,7 +19,7 @@ one_more {X} f xs i x out before after lt is was now =
     now ∙ ap (λ (b : List ℕ). b ++ f x) was ∙ append_assoc out (flat_map f (take i xs)) (f x)
     ∙ ap (λ (w : List ℕ). out ++ w) (sym more)
 
--- the rest behind the head
+-- the rest after the head
 pub behind : {E T : Type 0} (r : Result T E) (out middle after head rest : List ℕ) → middle ≡ out ++ head
     → OnOk r (after ≡ middle ++ rest) → OnOk r (after ≡ out ++ (head ++ rest))
 behind (Ok u) out middle after head rest was now = now ∙ ap (λ (w : List ℕ). w ++ rest) was

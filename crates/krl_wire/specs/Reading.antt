@@ -119,7 +119,7 @@ holding_from least bytes = do
   h ← holding_at bytes
   if nat_lt h.0.span.lo least then Err fault.Order else Ok (h.0, h.1)
 
--- so many holdings, the first at this point or later, each of the others behind the one before
+-- so many holdings, the first at this point or later, each of the others after the one before
 unfoldable pub holdings_from : ℕ → ℕ → List ℕ → Result (List Holding × List ℕ) Fault
 holdings_from zero least bytes = Ok ([], bytes)
 holdings_from (suc n) least bytes = do

@@ -38,10 +38,10 @@ pub enum Fault {
     /// A grant has no holding, or more than 128.
     #[error("a grant has 1 to 128 holdings")]
     Count,
-    /// A holding does not lie behind the one before it.
+    /// A holding does not lie after the one before it.
     #[error("holdings ascend, and no point lies in two of them")]
     Order,
-    /// Bytes stand behind the message.
+    /// Bytes follow the message.
     #[error("bytes stand behind the message")]
     Trailing,
 }

@@ -208,7 +208,7 @@ fn put_to_server(out: &mut Vec<u8>, message: &ToServer) -> Result<(), AllocError
     put_to_server_body(out, &message.body)
 }
 
-/// The message's spelling. `has_counts` tells whether it has one.
+/// The message's spelling. `has_counts` reports whether it has one.
 ///
 /// # Errors
 ///

@@ -30,7 +30,7 @@ fn holding_from(reader: &mut Reader<'_>, least: u64) -> Result<Holding, Fault>
     Ok(holding)
 }
 
-// So many holdings, each behind the one before.
+// So many holdings, each after the one before.
 fn several(reader: &mut Reader<'_>, alloc: Global, count: u8) -> Result<Holdings, ReadError>
     requires some { 1 ≤ count }
     requires few { count ≤ 128 }
@@ -48,7 +48,7 @@ fn several(reader: &mut Reader<'_>, alloc: Global, count: u8) -> Result<Holdings
     Ok(gathering.into_holdings())
 }
 
-/// 1 to 128 holdings, each behind the one before.
+/// 1 to 128 holdings, each after the one before.
 #[tactic(auto, unfolding(crate::specs::Reading::holdings_at))]
 pub fn holdings(reader: &mut Reader<'_>, alloc: Global) -> Result<Holdings, ReadError>
     ensures { ReadsIfRoom result reader.new (holdings_at reader.old) }

@@ -34,7 +34,7 @@ static TO_SERVER: [(&str, &str, Fault); 14] = [
     ("01 08", "0000", Fault::Trailing),
 ];
 
-// The same of a report, behind its epoch.
+// The same of a report, after its epoch.
 static REPORTS: [(&str, Fault); 6] = [
     ("ffffffff 00000000", Fault::Short),
     ("00000000 ffffffff", Fault::Short),
@@ -50,7 +50,7 @@ static REPORTS: [(&str, Fault); 6] = [
     ),
 ];
 
-// The same of a push, behind its number.
+// The same of a push, after its number.
 static PUSHES: [(&str, &str, Fault); 10] = [
     ("01 08", "", Fault::Kind),
     ("01 15", "", Fault::Kind),

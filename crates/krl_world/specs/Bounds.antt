@@ -1,5 +1,5 @@
 -- The bound table: the server's table while it serves; from a crash on, the table of the last moment at which a server
--- served, in which a client that has since been registered anew, or marked left, holds N. And what lies within it.
+-- served, in which a client that has since been registered again, or marked left, holds N. And what lies within it.
 use Rattle.std.specs.Prelude.{◌≡◌, ℕ, suc, ◌≤◌, ◌&&◌, Bool, true, false, nat_eq, List, [], ◌∷◌, Option, Some, None, if◌then◌else◌}
 use Rattle.std.specs.List.{AllByRecursion}
 use Rattle.krl_modes.specs.declared.part.RangePart.{RangePart}
@@ -61,12 +61,12 @@ table_of s = record {
 abbrev pub first_bound : Durable → Bound
 first_bound d = table_of (start d)
 
--- the message that arrives registers this client anew, or marks it left
+-- the message that arrives registers this client again, or marks it left
 abbrev pub clears_in : ServerPlace → Option Message → ℕ → Bool
 clears_in (Up s) (Some (message.ToServer m)) c = nat_eq c m.client && clears (case_of s m)
 clears_in place arrived c = false
 
--- the step registers this client anew, or marks it left
+-- the step registers this client again, or marks it left
 abbrev pub step_clears : State → Step → ℕ → Bool
 step_clears w (step.Deliver i) c = clears_in w.server (message_at w.sent i) c
 step_clears w other c = false

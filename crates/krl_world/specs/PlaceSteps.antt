@@ -34,7 +34,7 @@ IsRefused due takes r = (due ≡ Some r) ⊎ ((due ≡ None) × (r ≡ refused.O
 
 -- Commands
 
--- a client that obeys a command, and goes on as this one, or no longer; and all that was sent, before and after
+-- a client that obeys a command, and continues as this one, or no longer; and all that was sent, before and after
 abbrev pub Does : Client → Command → Answer → Option Client → List Message → List Message → Type 0
 Does k (command.Lock point hi m) answer next old new =
     (answer ≡ answered.Done) × (next ≡ Some (Commands.locked k point hi m))
@@ -88,7 +88,7 @@ pub record Ticked (k : Client) (old new : List Message) : Type 0 where
   pub tick : IsTick k list
   pub sent : new ≡ old ++ from_clients list
 
--- the client read the message, and goes on as this one
+-- the client read the message, and continues as this one
 pub record HasRead (k : Client) (m : ToClient) (next : Client) (old new : List Message) : Type 0 where
   pub list : List ToServer
   pub follows : Follows k (receiver.case_of k m) next list

@@ -209,7 +209,7 @@ abbrev pub crashed : State → ServerPlace → State
 crashed w (Up s) = served w (Down (server.crash s)) [] []
 crashed w (Down d) = w
 
--- a client that runs says again what is not answered
+-- a client that runs sends again what is not answered
 abbrev pub Ticks : State → ℕ → Client → State → Type 0
 Ticks w c k w' = (ps : Pieces) × Describes ps k.belief × (w' ≡ with_client w c (Some k) (tick ps k))
 
@@ -235,7 +235,7 @@ Arrives w (Some (message.ToServer m)) = server_down w.server ≡ None
 Arrives w (Some (message.ToClient m)) = is_some (client_of w m.client) ≡ true
 Arrives w None = ⊥
 
--- a scan takes memory for its rows alone
+-- a scan takes memory only for its rows
 abbrev pub CommandTakesMemory : Client → Command → Type 0
 CommandTakesMemory k (command.Scan lo hi) = (is_writing_in k (span lo hi) ≡ false) × CoversAll k.belief (span lo hi)
 CommandTakesMemory k (command.Pin lo hi) = ⊥

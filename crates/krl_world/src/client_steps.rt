@@ -166,7 +166,7 @@ pub fn obey(
     }
 }
 
-/// The client says again what is not answered.
+/// The client sends again what is not answered.
 pub fn tick(client: &Client, sent: &mut Vec<Message>) -> Result<(), AllocError>
     ensures ok { OnOk result (Ticked (meaning client.now) sent.old.items sent.new.items) }
     ensures err { OnErr result (sent.new.items ≡ sent.old.items) }

@@ -3,7 +3,7 @@
 //! Whoever drives a `World` says what happens next: which message is delivered, how late and how
 //! often, what a client is told to do, who crashes and who starts. After every list of steps no two
 //! clients hold incompatible parts at one point; the rows that answer a scan are those of the
-//! index, though the client read its own cache alone; and each numbered write changed the index at
+//! index, though the client reads only its own cache; and each numbered write changed the index at
 //! most once, and once if its client was told Applied. `laws` says this and more of all worlds.
 #![tactic(auto)]
 

@@ -11,7 +11,7 @@ pub const MAX_OF_A_CLIENT: usize = 3;
 /// The most messages that a step of a server sends.
 pub const MAX_OF_A_SERVER: usize = 4097;
 
-/// Puts what a client sent behind all that was sent. There is room.
+/// Puts what a client sent after all that was sent. There is room.
 pub fn send_to_server(sent: &mut Vec<Message>, messages: Vec<ToServer>)
     requires { vec_len sent.old + length messages.items ≤ vec_capacity sent.old }
     ensures { sent.new.items ≡ sent.old.items ++ from_clients messages.items }
@@ -21,7 +21,7 @@ pub fn send_to_server(sent: &mut Vec<Message>, messages: Vec<ToServer>)
     }
 }
 
-/// Puts what a server sent behind all that was sent. There is room.
+/// Puts what a server sent after all that was sent. There is room.
 pub fn send_to_clients(sent: &mut Vec<Message>, messages: Items<ToClient>)
     requires { vec_len sent.old + length messages ≤ vec_capacity sent.old }
     ensures { sent.new.items ≡ sent.old.items ++ from_server messages }

@@ -56,8 +56,8 @@ impl World {
     ///
     /// # Errors
     ///
-    /// `Full` above 65,536 entries; else the first bad entry in order, by `BadKey` if its key is
-    /// END or more, or by `Twice` if its key stands before; and `OutOfMemory` at any point.
+    /// `Full` above 65,536 entries; otherwise the first bad entry in order, by `BadKey` if its key
+    /// is END or more, or by `Twice` if its key stands before; and `OutOfMemory` at any point.
     pub fn new(alloc: Global, entries: Vec<(u64, Value)>) -> Result<World, Refused>
         ensures { MatchResult result
             (λ w. CanBegin entries.items × (meaning w ≡ fresh entries.items))
@@ -87,7 +87,7 @@ impl World {
     }
 
     /// Takes one step. The rows that answer a scan are the entries of the index in its span, though
-    /// the client reads its own cache alone.
+    /// the client reads only its own cache.
     ///
     /// # Errors
     ///

@@ -124,7 +124,7 @@ fn has_bytes(world: &World, key: u64, bytes: &[u8]) -> bool {
     }
 }
 
-/// Whether the world goes on in epoch 5 from what survived epoch 4 if all have left.
+/// Whether the world continues in epoch 5 from what survived epoch 4 if all have left.
 fn goes_on(world: &mut World) -> bool {
     serves_in(world, 5)
         && has_bytes(world, 10, &[0, 0, 0, 0, 0, 0, 1, 2])

@@ -20,7 +20,7 @@ fn deliver_all(world: &mut World) {
     }
 }
 
-/// The client asks for the slot of point 10 alone.
+/// The client asks for the slot of point 10 only.
 fn asks(world: &mut World, client: u64) {
     let (point, hi, mode) = (10, 11, Mode::X);
     let _ = world.step(Step::Command(client, Command::Lock { point, hi, mode }));
@@ -94,7 +94,7 @@ fn puts(world: &mut World) {
     let _ = world.step(Step::Command(0, Command::Write(WriteOp::Put { key: 10, value })));
 }
 
-/// Whether client 0's lost write is judged. In three rounds the client says it again, the server
+/// Whether client 0's lost write is judged. In three rounds the client sends it again, the server
 /// judges it, and the answer arrives.
 fn says_a_write_again(alloc: Global) -> Result<bool, Refused> {
     let mut world = held(alloc)?;

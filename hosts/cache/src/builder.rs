@@ -11,7 +11,7 @@ use std::fmt;
 use std::sync::atomic::AtomicU64;
 use std::time::Duration;
 
-/// How long a call goes on to try, by default.
+/// How long a call continues to try, by default.
 const TIMEOUT: Duration = Duration::from_secs(10);
 
 /// How many bytes of bodies a process keeps, by default.
@@ -40,7 +40,7 @@ impl<O: Origin> Builder<O> {
         Builder { memory: bytes, ..self }
     }
 
-    /// How long a call goes on to try: ten seconds by default. A single request to krl or to the
+    /// How long a call continues to try: ten seconds by default. A single request to krl or to the
     /// database takes as long as the timeouts of krl's clients and of the origin allow.
     pub fn timeout(self, timeout: Duration) -> Builder<O> {
         Builder { timeout, ..self }
@@ -78,8 +78,8 @@ impl<O: Origin> Builder<O> {
 
     /// Opens the cache over a database that has another identity than the one from which krl was
     /// filled, and has each commit that was answered: an operator's call after a replica was
-    /// promoted that lacks none. krl's versions stay as they are. Processes that have the cache open
-    /// have to open it again.
+    /// promoted that lacks none. krl's versions stay as they are. Processes that have the cache
+    /// open have to open it again.
     ///
     /// **If the database lacks a commit that was answered, nothing that the cache promises holds**:
     /// call [`Builder::fill_and_open`] then.

@@ -35,8 +35,8 @@ impl<O: Origin> Cache<O> {
     /// on: one that reads and one that writes.
     ///
     /// A client has one lock request at a time. With one client for both, the request of a thread
-    /// that reads could wait for another process while a thread that writes cannot go on, and two
-    /// processes could wait for each other.
+    /// that reads could wait for another process while a thread that writes cannot continue, and
+    /// two processes could wait for each other.
     pub fn builder(reader: Client, writer: Client, origin: O) -> Builder<O> {
         Builder::new(reader, writer, origin)
     }

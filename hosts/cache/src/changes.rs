@@ -36,7 +36,7 @@ impl<O: Origin> Changes<'_, O> {
     ///
     /// # Errors
     ///
-    /// Those of [`Cache::range`]. A later call goes on.
+    /// Those of [`Cache::range`]. A later call continues.
     pub fn next_within(&mut self, time: Duration) -> Result<Option<Vec<Row<O::Body>>>, CacheError> {
         let end = Instant::now() + time;
         loop {

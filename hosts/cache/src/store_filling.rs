@@ -12,8 +12,8 @@ use std::fmt;
 /// It is for a first filling, and for tables that take long to fill by [`Cache::fill`]: no server
 /// serves the store meanwhile, so its rows are written at once. Whoever writes the store calls
 /// [`StoreFilling::confirm`] after it, and discards the store if that fails. No process of the
-/// application may run: one that has joined the server of an older store would go on to answer from
-/// its memory until its lease has ended.
+/// application may run: one that has joined the server of an older store would continue to answer
+/// from its memory until its lease has ended.
 ///
 /// [`Cache::fill`]: crate::Cache::fill
 pub struct StoreFilling<'t, O: Origin + 't> {

@@ -31,7 +31,7 @@ fn dies_after(step: Step, is_committed: bool) {
     } else {
         expected([(10, "old"), (12, "gone")])
     };
-    // The process goes on: only the thread has ended.
+    // The process continues: only the thread has ended.
     for cache in [&writer, &reader] {
         assert_eq!(texts(cache, 0..20), found, "{step:?}");
     }

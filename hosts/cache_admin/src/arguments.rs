@@ -117,7 +117,7 @@ pub struct Destination {
     /// A new store, which is filled at once. Start krl-server over it afterwards
     #[arg(long, value_name = "FILE", conflicts_with = "krl", requires = "clients_are_stopped")]
     pub store: Option<PathBuf>,
-    /// No process of the application runs: one that does would go on to answer from its memory
+    /// No process of the application runs: one that does would continue to answer from its memory
     #[arg(long, requires = "store")]
     pub clients_are_stopped: bool,
     #[command(flatten)]

@@ -62,7 +62,7 @@ pub trait CachedTable {
     /// Fills a server that these two clients have joined, and answers how many rows the table has.
     fn fill_server(self: Box<Self>, reader: Client, writer: Client) -> Result<usize, Failure>;
 
-    /// Goes on with a database that has another identity and lacks nothing.
+    /// Continues with a database that has another identity and lacks nothing.
     fn accept(self: Box<Self>, reader: Client, writer: Client) -> Result<(), Failure>;
 
     /// Writes a new store, and answers how many rows the table has.

@@ -40,7 +40,7 @@ fn run(command: Command) -> Result<ExitCode, Failure> {
         Command::Accept { database, table, krl, nothing_is_lost: _, clients } => {
             let (reader, writer) = clients.join(krl)?;
             database.open(table.table())?.accept(reader, writer)?;
-            output::print(&format!("{}: krl goes on with this database\n", table.name))?;
+            output::print(&format!("{}: krl continues with this database\n", table.name))?;
         }
         Command::Fill { database, table, to } => {
             let rows = fill::fill(&database, &table, &to)?;

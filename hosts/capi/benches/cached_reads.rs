@@ -28,7 +28,7 @@ fn main() {
     for key in 0..100 {
         client.insert(key, Value::from(key)).unwrap();
     }
-    // What was written is held alone.
+    // Only what was written is held.
     client.forget(..).unwrap();
     for (rows, reads) in SIZES {
         let (mut rust, mut c) = ([f64::MAX; 2], [f64::MAX; 2]);

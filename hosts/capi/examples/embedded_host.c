@@ -2,7 +2,7 @@
  *
  *     embedded_host PORT LOCK_FILE        writes a row, reads its range, and watches it until it changes
  *
- * The server listens at PORT of 127.0.0.1. If the connection breaks, the loop makes it again, and the calls go on.
+ * The server listens at PORT of 127.0.0.1. If the connection breaks, the loop makes it again, and the calls continue.
  */
 #define _GNU_SOURCE
 #include <arpa/inet.h>
@@ -21,7 +21,7 @@ enum { SECOND = 1000000000 };
 static krlh_client *client;
 static bool is_over;
 
-/* The clock goes on while the machine is suspended: leases rest on that. */
+/* The clock continues while the machine is suspended: leases rest on that. */
 static uint64_t moment(void) {
     struct timespec time;
     clock_gettime(CLOCK_BOOTTIME, &time);

@@ -386,7 +386,7 @@ inline answer<void> evict(const options &wanted) {
 
 /* The states of a range, one after the other, of a client that outlives this. The first is that of the first call. Each
  * later one is that of a later moment and differs from the one before: states in between may be missed, and the last
- * one is not. An error ends nothing, and the next call goes on. */
+ * one is not. An error ends nothing, and the next call continues. */
 class changes {
   public:
     changes(krlc_client *client, std::uint64_t lo, std::uint64_t hi) : client_(client), lo_(lo), hi_(hi) {}

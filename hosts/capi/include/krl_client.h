@@ -324,7 +324,7 @@ KRLC_NODISCARD uint32_t krlc_join(const krlc_options *options, krlc_client **cli
  *
  * A client with a lease is evicted when that ends: this call waits a minute at most for it. A client that lives is not
  * evicted, since its lease does not end. *The process of a client without a lease has to be dead*: one that runs may
- * go on to answer from its cache what is no longer so. Errors: those of `krlc_join`; KRLC_UNSERVED, by
+ * continue to answer from its cache what is no longer so. Errors: those of `krlc_join`; KRLC_UNSERVED, by
  * KRLC_REASON_LEASE_RUNS, if the lease does not end in time. */
 KRLC_NODISCARD uint32_t krlc_evict(const krlc_options *options, krlc_error *error);
 

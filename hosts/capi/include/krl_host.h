@@ -16,7 +16,7 @@
  *             krlh_received(client, now, bytes, length, &error); krlh_proceed(client, now, &error)
  *         close the connection, and wait until krlh_disconnected(client, now)
  *
- * Time. A moment is in nanoseconds, at most 2^62, by a clock that goes on while the machine is suspended, as
+ * Time. A moment is in nanoseconds, at most 2^62, by a clock that continues while the machine is suspended, as
  * CLOCK_BOOTTIME: leases rest on it. `now` is read after the bytes that the call takes have come. A moment that is
  * earlier than that of the call before counts as that one.
  *

@@ -44,7 +44,7 @@ impl Joined {
         Ok(OwnPin::of_read(&self.table, keys, purpose, self.table.timeout_of(timeout_ms))?)
     }
 
-    /// Leaves. While it has pins the table stays, so it is told to leave before.
+    /// Leaves. While it has pins the table stays, so it has to leave before.
     pub fn end(self) {
         if Arc::strong_count(&self.table) > 1 {
             let _ = self.table.leave(FAREWELL);

@@ -21,7 +21,7 @@ extern "C" fn note_fork() {
     FORKS.fetch_add(1, Ordering::Relaxed);
 }
 
-/// A process, as far as forks tell it from its ancestors.
+/// A process, as far as forks distinguish it from its ancestors.
 #[derive(Clone, Copy, Debug, PartialEq, Eq)]
 pub struct Process(u32);
 

@@ -267,7 +267,7 @@ impl Host {
         self.on_connection(now, |client, now| client.received(now, bytes))
     }
 
-    /// Goes on. Without a connection it only ends calls whose time is over.
+    /// Continues. Without a connection it only ends calls whose time is over.
     pub fn proceed(&self, now: u64) -> Result<Code, Fault> {
         if !self.state().is_connected {
             return self.drive(|state| {

@@ -93,7 +93,7 @@ pub struct Options {
         default_value = "127.0.0.1:7400"
     )]
     pub server: Servers,
-    /// A file that tells which servers have which keys, in place of one server
+    /// A file that states which servers have which keys, in place of one server
     #[arg(long, global = true, env = "KRL_MAP", value_name = "FILE")]
     pub map: Option<PathBuf>,
     /// By TLS: the certificate of the authority that certified the server, as PEM
@@ -196,7 +196,7 @@ pub enum Format {
     Json,
 }
 
-/// Commands are typed as they stand behind krl-client. Quotes keep spaces, and # begins a comment.
+/// Commands are typed as they come after krl-client. Quotes keep spaces, and # begins a comment.
 #[derive(Debug, Parser)]
 #[command(multicall = true)]
 pub struct Line {
@@ -267,7 +267,7 @@ pub enum ClientCommand {
         #[command(flatten)]
         range: OptionalRangeWords,
     },
-    /// Tell how long each server takes to answer: it reads the greatest key there
+    /// Report how long each server takes to answer: it reads the greatest key there
     Ping,
     /// Print a range, and again whenever it changes, until Ctrl-C
     Watch {

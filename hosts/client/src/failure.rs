@@ -1,4 +1,4 @@
-//! Why a command did not do what it should, and the exit status that tells it.
+//! Why a command did not do what it should, and the exit status that reports it.
 use crate::output;
 use krl::{Error, JoinError, LockFileError, Refusal, ShardError};
 use krl_rows::{BadFile, BadValue};
@@ -47,7 +47,7 @@ impl Failure {
         }
     }
 
-    /// Tells standard error what failed. If nobody reads the output any more, that is no news.
+    /// Reports on standard error what failed. If nobody reads the output any more, that is no news.
     pub fn tell(&self) {
         match self {
             Failure::Output(error) if error.kind() == io::ErrorKind::BrokenPipe => {}

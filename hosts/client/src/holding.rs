@@ -24,7 +24,7 @@ pub fn hold(
 ) -> Result<u8, Failure> {
     let pin = context.session.table.pin(keys, for_update)?;
     let [name, arguments @ ..] = words else {
-        return Err(Failure::Usage("a command is expected behind --".into()));
+        return Err(Failure::Usage("a command is expected after --".into()));
     };
     let incarnation = context.session.table.incarnation();
     let start = || Command::new(name).args(arguments).env(INCARNATION, &incarnation).spawn();

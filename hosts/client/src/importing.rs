@@ -12,7 +12,7 @@ use std::sync::atomic::{AtomicUsize, Ordering};
 use std::sync::{Mutex, MutexGuard, PoisonError};
 use std::thread;
 
-/// What has become of the rows of a file, as the clients go on.
+/// What has become of the rows of a file, as the clients continue.
 #[derive(Default)]
 struct Imported {
     written: AtomicUsize,

@@ -43,10 +43,10 @@ fn main() -> ExitCode {
     ExitCode::from(ended)
 }
 
-/// Tells what was wrong with the words, or prints the help that they ask for, and ends.
+/// Reports what was wrong with the words, or prints the help that they ask for, and ends.
 fn misunderstood(error: &clap::Error) -> ! {
     let suggestion = suggestion::of(error, &Arguments::command());
-    // If nobody takes it, the exit status tells enough.
+    // If nobody takes it, the exit status is enough.
     let _ = error.print();
     if let Some(suggestion) = suggestion {
         output::tell(&suggestion);

@@ -33,7 +33,7 @@ impl Printer {
                 print_json(&json!({ "outcome": outcome.to_string().to_lowercase() }))
             }
             (Format::Text, Outcome::Applied) => print("applied\n"),
-            // The sentence on standard error tells it.
+            // The sentence on standard error reports it.
             (Format::Text, _) => Ok(()),
         }
     }
@@ -88,7 +88,7 @@ pub fn rows(count: usize) -> String {
     format!("{count} {}", if count == 1 { "row" } else { "rows" })
 }
 
-/// Tells the user a sentence, on standard error. If nobody takes it, the exit status tells enough.
+/// Shows the user a sentence, on standard error. If nobody takes it, the exit status is enough.
 pub fn tell(sentence: &str) {
     let _ = writeln!(io::stderr(), "krl-client: {sentence}");
 }

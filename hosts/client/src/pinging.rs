@@ -13,7 +13,7 @@ pub fn ping(context: &Context<'_>) -> Result<(), Failure> {
     context.session.place.stations().iter().try_for_each(|station| ping_one(context, station))
 }
 
-/// The greatest key is read anew, which asks the server whatever the cache has.
+/// The greatest key is read again, which asks the server whatever the cache has.
 fn ping_one(context: &Context<'_>, station: &Station<'_>) -> Result<(), Failure> {
     let (table, probed) = (&context.session.table, station.point..station.point + 1);
     table.forget(probed.clone())?;

@@ -69,7 +69,7 @@ impl Session {
         if sessions.len() < count { Err(none_is_free(options)) } else { Ok(sessions) }
     }
 
-    /// Gives all back. If the server does not answer, it tells what others may notice.
+    /// Gives all back. If the server does not answer, it reports what others may notice.
     pub fn leave(self) {
         let timeout = self.table.timeout();
         Session::leave_all(vec![self], timeout);
@@ -101,12 +101,12 @@ enum Tried {
     Joined(Session),
     /// Another process of this user has it.
     Taken,
-    /// The server tells that another user or machine has it.
+    /// The server reports that another user or machine has it.
     InUse,
 }
 
-/// Joins as the client of this number. If there is a choice, it leaves a number that another process
-/// has.
+/// Joins as the client of this number. If there is a choice, it leaves a number that another
+/// process has.
 fn try_number(
     options: &Options,
     place: &Place,

@@ -112,7 +112,7 @@ impl Table {
         }
     }
 
-    /// Reads the range and pins it, for an update or to read it alone.
+    /// Reads the range and pins it, for an update or only to read it.
     pub fn pin(&self, keys: Range<u64>, for_update: bool) -> Answer<TablePin> {
         Ok(match (self, for_update) {
             (Table::One(client), true) => TablePin::One(client.pin_for_update(keys)?.1),

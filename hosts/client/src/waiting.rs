@@ -5,7 +5,7 @@ use std::sync::mpsc::{RecvTimeoutError, channel};
 use std::thread;
 use std::time::Duration;
 
-/// Who waits longer is told for what.
+/// Who waits longer is reported, and for what.
 const LONG: Duration = Duration::from_secs(1);
 
 /// Does something. A user at a terminal is told what it waits for, if that takes long.

@@ -50,7 +50,7 @@ impl Prompt {
         self.keyboard.write_all(text.as_bytes()).unwrap();
     }
 
-    /// Waits until the terminal shows this text, behind what was seen before.
+    /// Waits until the terminal shows this text, after what was seen before.
     fn shows(&mut self, text: &str) {
         loop {
             if let Some(place) = self.seen.find(text) {

@@ -29,7 +29,7 @@ impl Shards {
         Shards { map: map.to_str().unwrap().into(), world, upper }
     }
 
-    /// The words, behind those that name the map.
+    /// The words, after those that name the map.
     fn words<'w>(&'w self, words: &[&'w str]) -> Vec<&'w str> {
         [&["--map", &self.map], words].concat()
     }

@@ -39,7 +39,7 @@ const LEASE: Duration = Duration::from_secs(2);
 /// A process may stand still for so long in a transaction: longer than its lease.
 const IDLE_IN_TRANSACTION: Duration = Duration::from_secs(4);
 
-/// How long calls of workers go on to try.
+/// How long calls of workers continue to try.
 const TIMEOUT: Duration = Duration::from_secs(8);
 
 /// At the end nothing more befalls the workers for so long: what is left undone is mended then.
@@ -120,7 +120,7 @@ impl fmt::Display for Faults {
 struct Worker {
     process: Process,
     spawn: u64,
-    /// When it goes on, if it was stopped.
+    /// When it continues, if it was stopped.
     goes_on: Option<Instant>,
 }
 
@@ -203,7 +203,7 @@ impl Drive {
         Ok(())
     }
 
-    /// Starts again who has ended, and lets go on who was stopped.
+    /// Starts again who has ended, and lets continue who was stopped.
     fn tend_for(&mut self, time: Duration) -> Result<(), Box<dyn Error>> {
         let end = Instant::now() + time;
         while Instant::now() < end {
@@ -311,7 +311,7 @@ fn wait_for_database(address: &str) -> Result<(), Box<dyn Error>> {
     Ok(())
 }
 
-/// A cache of this number, from 0 to 31, and how long its calls go on to try.
+/// A cache of this number, from 0 to 31, and how long its calls continue to try.
 fn open(
     number: u8,
     database: &str,

@@ -23,7 +23,7 @@ const LEAST_READS: u64 = 20;
 /// A busy machine may take so long for what a round has to come to.
 const ROUND: Duration = Duration::from_secs(10);
 
-/// Clients that have taken longer in so many rounds are not waited for any more: beside a wrong
+/// Clients that have taken longer in so many rounds are not waited for any more: next to a wrong
 /// server some may come to nothing.
 const MAX_IN_VAIN: u32 = 2;
 
@@ -89,8 +89,8 @@ impl Drop for Process {
     }
 }
 
-/// The clients that are other programs' than this one: their numbers, and the program of each. It does
-/// what `nodes` does.
+/// The clients that are other programs' than this one: their numbers, and the program of each. It
+/// does what `nodes` does.
 pub type Others = BTreeMap<u8, PathBuf>;
 
 /// The clients of a drive.
@@ -257,7 +257,7 @@ pub fn wait_for(client: &mut Process, end: Instant) -> Result<Option<String>, Bo
     Ok(Some("does not end".to_string()))
 }
 
-/// This program with these words, and the folder behind them.
+/// This program with these words, and the folder after them.
 pub fn this(words: &[&str], folder: &Path) -> std::io::Result<Command> {
     Ok(command(std::env::current_exe()?, words, folder))
 }

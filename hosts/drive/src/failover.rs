@@ -2,8 +2,8 @@
 //! killed, frozen or cut off, calls of the store are delayed, or a node of etcd is killed, while
 //! four clients read and write.
 //!
-//! A server that was frozen or cut off goes on behind another one that serves. If the servers are
-//! *heedless*, no lease and no timeout ends them: then the store alone tells them apart.
+//! A server that was frozen or cut off continues after another one that serves. If the servers are
+//! *heedless*, no lease and no timeout ends them: then only the store tells them apart.
 use crate::Found;
 use crate::clients::{Clients, ENDING, judge};
 use crate::fault::Fault;
@@ -22,7 +22,7 @@ use std::rc::Rc;
 use std::thread;
 use std::time::{Duration, Instant};
 
-/// How long the clients go on after a fault.
+/// How long the clients continue after a fault.
 const PAUSE: Duration = Duration::from_secs(1);
 
 /// How often the drive looks whether a write was answered.
@@ -31,7 +31,7 @@ const LOOK_AT_ANSWERS: Duration = Duration::from_millis(50);
 /// How long others write before a frozen server wakes up.
 const FROZEN: Duration = Duration::from_millis(700);
 
-/// How long a server that woke up runs beside the one that serves, before that dies. What the old
+/// How long a server that woke up runs next to the one that serves, before that dies. What the old
 /// one wrote meanwhile is what the next one loads.
 const BESIDE: Duration = Duration::from_millis(25);
 
@@ -192,7 +192,7 @@ impl Drive {
         heal(machines, old)
     }
 
-    /// What the server asks of the store meanwhile comes behind what the other one did.
+    /// What the server asks of the store meanwhile comes after what the other one did.
     fn delay(&mut self, fault: Fault, old: usize) -> Done {
         let from = now();
         self.servers.relay(old).hold(Holds::Everything);
@@ -203,7 +203,7 @@ impl Drive {
         Ok(())
     }
 
-    /// The change that comes late is one that the server has made since, and others behind it.
+    /// The change that comes late is one that the server has made since, and others after it.
     fn late(&mut self, fault: Fault, old: usize) -> Done {
         self.servers.relay(old).hold(Holds::NextChange);
         self.wait_until_held(&[old])?;
@@ -214,7 +214,7 @@ impl Drive {
     }
 
     /// One of the others loads the store, and is stopped before its start is committed. The other
-    /// one starts then; the first one's start comes behind that, and it goes on.
+    /// one starts then; the first one's start comes after that, and it continues.
     fn cross(&mut self, fault: Fault, old: usize) -> Done {
         let [one, two] = [1, 2].map(|step| (old + step) % 3);
         for place in [one, two] {

@@ -5,7 +5,7 @@ use std::str::FromStr;
 pub enum Fault {
     /// The server that serves is killed.
     Kill,
-    /// It is stopped until another one serves, and goes on then.
+    /// It is stopped until another one serves, and continues then.
     Freeze,
     /// The same, and the other one is killed at once.
     Wake,
@@ -15,7 +15,7 @@ pub enum Fault {
     Delay,
     /// Its machine reaches nobody until another one serves.
     Isolate,
-    /// A change of the store is held back, the server asks again and goes on; the first one comes
+    /// A change of the store is held back, the server asks again and continues; the first one comes
     /// late, and the server is killed then.
     Late,
     /// Two servers start at once: the first one's start comes to the store after the second one's.

@@ -1,4 +1,4 @@
-//! A client that reads alone, and whose server is frozen: how long it takes until another server
+//! A client that only reads, and whose server is frozen: how long it takes until another server
 //! answers it.
 use crate::Found;
 use crate::clients::ENDING;
@@ -56,7 +56,7 @@ fn fill(client: &Client, ranges: u64) -> Result<(), Box<dyn Error>> {
     Ok(())
 }
 
-/// Freezes the server behind a first read, and answers how long the second one takes.
+/// Freezes the server after a first read, and answers how long the second one takes.
 fn freeze(
     servers: &mut StandBys,
     reader: &Client,

@@ -34,7 +34,7 @@ impl Gateway {
         Ok(line.trim_end().to_string())
     }
 
-    /// What stands behind the first line of an answer: its body.
+    /// What comes after the first line of an answer: its body.
     fn rest(&mut self) -> Result<String, Box<dyn Error>> {
         let mut length = None;
         loop {
@@ -58,7 +58,7 @@ impl Gateway {
         Ok(String::from_utf8(bytes)?)
     }
 
-    /// A body in chunks, and the fields behind it.
+    /// A body in chunks, and the fields after it.
     fn chunks(&mut self) -> Result<String, Box<dyn Error>> {
         let mut body = String::new();
         loop {

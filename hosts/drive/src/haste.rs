@@ -1,4 +1,4 @@
-//! How long a patient client waits beside a hasty one, which always has a lock request on its way,
+//! How long a patient client waits next to a hasty one, which always has a lock request on its way,
 //! over a network that loses nothing.
 use crate::Found;
 use crate::delayed;
@@ -22,7 +22,7 @@ const KEY: u64 = 50;
 const MANY_ROWS: Range<u64> = 2000..2128;
 const OTHER_ROWS: Range<u64> = 3000..3128;
 
-/// A run ends when the hasty client has been granted so much, or behind this time.
+/// A run ends when the hasty client has been granted so much, or after this time.
 const GRANTS: u64 = 10_000;
 const LONGEST: Duration = Duration::from_secs(6);
 
@@ -87,7 +87,7 @@ impl Run {
             || self.begun.elapsed() > LONGEST
     }
 
-    /// The hasty client reads a range again and again, and does this behind each read.
+    /// The hasty client reads a range again and again, and does this after each read.
     fn read_again(
         &self,
         client: &Client,

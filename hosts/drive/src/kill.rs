@@ -39,7 +39,7 @@ const LEASE: u64 = 2000;
 /// client.
 const LONGER_BY_TLS: u32 = 3;
 
-/// And so much longer if messages are lost: a lost greeting is said again after 200 milliseconds.
+/// And so much longer if messages are lost: a lost greeting is sent again after 200 milliseconds.
 const LONGER_BY_LOSS: u32 = 2;
 
 /// Each client of another program has to note so many lines: one that does nothing says nothing.
@@ -51,8 +51,8 @@ pub fn beside(folder: &Path, rounds: u64, program: &Path, net: &str) -> Found {
     drive(folder, rounds, "sqlite", net, others.into())
 }
 
-/// The clients 0 to 3 are those of four programs, in this order, of which `-` stands for this one, and
-/// all else is as in `run`.
+/// The clients 0 to 3 are those of four programs, in this order, of which `-` stands for this one,
+/// and all else is as in `run`.
 pub fn among(folder: &Path, rounds: u64, net: &str, programs: [&str; 4]) -> Found {
     let others = (0..).zip(programs).filter(|(_, program)| *program != "-");
     let others = others.map(|(number, program)| (number, PathBuf::from(program)));

@@ -1,5 +1,6 @@
 //! Stores of the greatest room, over SQLite, etcd and PostgreSQL: each is restored, loaded, written
-//! by large batches, loaded again and compared; then two servers serve from it, one after the other.
+//! by large batches, loaded again and compared; then two servers serve from it, one after the
+//! other.
 use crate::Found;
 use crate::cluster::Cluster;
 use crate::site::Site;
@@ -63,7 +64,7 @@ fn value_of(place: u64, by: u64) -> Value {
     Value::try_from(words.as_flattened()).unwrap_or_default()
 }
 
-/// Tries a store, and tells how long each part took.
+/// Tries a store, and reports how long each part took.
 fn is_right(
     name: &str,
     folder: &Path,

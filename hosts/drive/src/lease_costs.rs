@@ -1,4 +1,4 @@
-//! What leases cost: a look at the clock behind each scan of the cache, and signs.
+//! What leases cost: a look at the clock after each scan of the cache, and signs.
 use crate::Found;
 use krl::{Client, Leases, Listener, MemoryStore, Row, Server, Value};
 use std::error::Error;

@@ -1,4 +1,5 @@
-//! The drive of leases: clients and servers are stopped, go on, and die, and no operator is there.
+//! The drive of leases: clients and servers are stopped, continue, and die, and no operator is
+//! there.
 use crate::Found;
 use crate::clients::{Clients, Process, judge};
 use crate::kill::start_server;
@@ -75,7 +76,7 @@ pub fn run(folder: &Path, rounds: u64, net: &str) -> Found {
     let hung = drive.clients.end()?;
     drive.server.kill()?;
     let snapshot = SqliteStore::open(store_file(folder))?.load()?;
-    // A server is down for moments alone, which nobody notes.
+    // A server is down only for moments, which nobody notes.
     let tally = drive.clients.compare(&snapshot, &[(0, u64::MAX)])?;
     println!(
         "{rounds} faults with leases of {LEASE} ms: {} ranges read, {} keys in them compared; {} \

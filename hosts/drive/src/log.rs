@@ -56,7 +56,7 @@ impl Note {
     }
 }
 
-/// A log that is open at its end. A process that takes the place of a killed one goes on in its
+/// A log that is open at its end. A process that takes the place of a killed one continues in its
 /// log.
 pub struct Log(File);
 

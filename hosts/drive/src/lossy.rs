@@ -6,7 +6,7 @@ use std::net::{Shutdown, SocketAddr, TcpListener, TcpStream};
 use std::thread;
 use std::time::Duration;
 
-/// One message in so many is dropped, one repeated, and one sent behind the next.
+/// One message in so many is dropped, one repeated, and one sent after the next.
 const ONE_IN: u64 = 10;
 
 /// The longest message that is passed on.

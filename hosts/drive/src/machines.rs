@@ -99,7 +99,7 @@ impl Machines {
     }
 
     /// What the other machines send to this one gets lost, or does so no more: then none of their
-    /// connections goes on.
+    /// connections continues.
     fn routes(&self, place: usize, action: &str) -> Result<(), Box<dyn Error>> {
         let lost = self.address(place).to_string();
         let others = (0..self.count).filter(|other| *other != place);

@@ -19,13 +19,13 @@
 //! krl_drive conform ADDRESS NUMBER LOCK_FILE SECONDS              is a client for hosts/conformance
 //! krl_drive bench FOLDER                                          takes measurements
 //! krl_drive lease-costs FOLDER                                    measures what leases cost
-//! krl_drive stores FOLDER ROUNDS                                  measures stores beside each other
-//! krl_drive trips FOLDER [tcp|unix]                               measures beside an echo
+//! krl_drive stores FOLDER ROUNDS                                  measures stores by turns
+//! krl_drive trips FOLDER [tcp|unix]                               measures next to an echo
 //! ```
 //!
-//! FAULTS are names as `kill,freeze,cut`: see `fault.rs`. Each server of `failover` has a machine of
-//! its own, a network namespace, if this user can make one, and not if one HOW is `here`. Its clients
-//! have leases, and not if one is `leaseless`.
+//! FAULTS are names as `kill,freeze,cut`: see `fault.rs`. Each server of `failover` has a machine
+//! of its own, a network namespace, if this user can make one, and not if one HOW is `here`. Its
+//! clients have leases, and not if one is `leaseless`.
 //!
 //! The status is 0 if all is well, 3 if something wrong was read or lost, and 1 if the
 //! drive itself failed.

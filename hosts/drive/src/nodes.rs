@@ -14,7 +14,7 @@ use std::sync::{Mutex, PoisonError};
 use std::thread;
 use std::time::Duration;
 
-/// The numbers of the clients that read alone, and of those that write too.
+/// The numbers of the clients that only read, and of those that write too.
 pub const READERS: [u8; 2] = [0, 2];
 pub const WRITERS: [u8; 2] = [1, 3];
 
@@ -78,7 +78,7 @@ fn join(number: u8, servers: &str, folder: &Path) -> Result<Client, Box<dyn Erro
     Ok(Client::builder(servers).number(number).lock_file(lock).timeout(5 * TIMEOUT).join()?)
 }
 
-/// Reads every writer's ranges again and again, in two threads: one reads from the cache alone, and
+/// Reads every writer's ranges again and again, in two threads: one reads only from the cache, and
 /// never waits; the other asks the server for what the cache lacks.
 pub fn reader(number: u8, servers: &str, folder: &Path) -> Found {
     let client = join(number, servers, folder)?;
@@ -144,7 +144,7 @@ fn note_of(from: u64, keys: &Range<u64>, rows: &[Row]) -> Option<Note> {
 }
 
 /// Writes its keys, one after the other: an insert if there is no entry, now and then a delete,
-/// else a put. It reads the key from its cache then.
+/// otherwise a put. It reads the key from its cache then.
 pub fn writer(number: u8, servers: &str, folder: &Path) -> Found {
     let client = join(number, servers, folder)?;
     client.set_timeout(TIMEOUT);

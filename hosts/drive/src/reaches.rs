@@ -19,7 +19,7 @@ const SCAN: u64 = 100;
 const TURNS: u64 = 100;
 const READS_ALL_EVERY: u64 = 10;
 
-/// How long a call waits: on a busy machine no figure counts, and the drive goes on.
+/// How long a call waits: on a busy machine no figure counts, and the drive continues.
 const TIMEOUT: Duration = Duration::from_secs(60);
 
 type Done<T> = Result<T, Box<dyn Error>>;

@@ -155,7 +155,7 @@ impl Run {
         Ok(())
     }
 
-    /// Scans the caches alone, until the run is over.
+    /// Scans only the caches, until the run is over.
     fn scan_again(&self, client: &ShardedClient) -> Count {
         let (mut count, mut last) = (Count::default(), [0, 0]);
         while self.goes_on() {

@@ -1,5 +1,5 @@
-//! Where the servers of a drive and the nodes of etcd run: each pair on a machine of its own, or all
-//! on this one.
+//! Where the servers of a drive and the nodes of etcd run: each pair on a machine of its own, or
+//! all on this one.
 use crate::machines::{self, Machines};
 use krl_testing::ports::free_address;
 use std::fmt;
@@ -15,7 +15,7 @@ pub enum Site {
 }
 
 impl Site {
-    /// Machines if this system and user can make them, else this one machine.
+    /// Machines if this system and user can make them, otherwise this one machine.
     pub fn best(count: usize) -> Site {
         Machines::make(count).map_or_else(
             |error| {

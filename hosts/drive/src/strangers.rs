@@ -1,4 +1,4 @@
-//! Connections of strangers: the clients go on beside each of them.
+//! Connections of strangers: the clients continue next to each of them.
 use crate::Found;
 use krl::{Address, Client, Listener, MemoryStore, Outcome, Server, Value};
 use std::error::Error;
@@ -6,7 +6,7 @@ use std::io::{ErrorKind, Read, Write};
 use std::net::{SocketAddr, TcpStream};
 use std::time::{Duration, Instant};
 
-/// How long a client's write and read may take beside a stranger.
+/// How long a client's write and read may take next to a stranger.
 const SOON: Duration = Duration::from_secs(5);
 
 /// How much memory the strangers may cost, in bytes.

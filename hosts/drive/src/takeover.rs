@@ -1,4 +1,4 @@
-//! Who wants a range whose holder was killed or stopped has it soon behind the end of its lease.
+//! Who wants a range whose holder was killed or stopped has it soon after the end of its lease.
 use crate::Found;
 use crate::clients::{Process, this};
 use crate::kill::start_server;
@@ -11,7 +11,7 @@ use std::path::Path;
 use std::process::{ChildStdout, Stdio};
 use std::time::{Duration, Instant};
 
-/// What a holder prints: that it holds the range, and what its cache says behind a long stop.
+/// What a holder prints: that it holds the range, and what its cache says after a long stop.
 const HOLDS: &str = "holds";
 const ANSWERS: &str = "answers";
 const REFUSES: &str = "refuses";
@@ -21,7 +21,7 @@ const REFUSES: &str = "refuses";
 const BOUND: Duration = Duration::from_millis(LEASE + LEASE / 2);
 
 /// A process that holds a range, and asks its cache as often as it can. It prints what the first
-/// answer behind a stop is that is longer than a lease.
+/// answer after a stop is that is longer than a lease.
 pub fn hold(address: &str, folder: &Path) -> Found {
     let client = Client::join(address.parse::<Address>()?, 0, folder.join("client-0.lock"))?;
     hold_again(&client)?;

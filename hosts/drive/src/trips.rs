@@ -1,4 +1,4 @@
-//! What a message and its answer take, by hand: beside an echo over the same kind of socket, by
+//! What a message and its answer take, by hand: next to an echo over the same kind of socket, by
 //! turns, so that a busy machine is as busy for both.
 use crate::Found;
 use krl::{
@@ -63,7 +63,7 @@ fn row(place: u64) -> Change {
     Change::Judged { client: 0, number: 0, write, outcome: Outcome::Applied }
 }
 
-/// A stream on which the other side says again what it hears.
+/// A stream on which the other side sends again what it hears.
 type Echo = Box<dyn FnMut() -> std::io::Result<()>>;
 
 fn echo_over_tcp() -> Done<Echo> {
@@ -134,7 +134,7 @@ fn read(client: &Client, keys: Range<u64>) -> Done<()> {
     if found == rows { Ok(()) } else { Err("a read has its rows".into()) }
 }
 
-/// The keys of one row behind those of all scans.
+/// The keys of one row after those of all scans.
 fn one(place: u64) -> Range<u64> {
     let lo = STEP * (SCAN * SCANS * TURNS + 1 + 2 * place) + STEP;
     lo..lo + STEP

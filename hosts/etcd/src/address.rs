@@ -10,7 +10,7 @@ use std::str::FromStr;
 pub struct EtcdAddress {
     /// The endpoints, each a host and a port.
     pub endpoints: Vec<String>,
-    /// As `/krl/orders`, with no slash behind it.
+    /// As `/krl/orders`, with no slash after it.
     pub prefix: String,
     /// Whether the endpoints speak TLS.
     pub is_secure: bool,

@@ -164,7 +164,7 @@ impl Etcd {
     }
 }
 
-/// The body of an answer that is an error. The gateway puts fields behind it, at which reading
+/// The body of an answer that is an error. The gateway puts fields after it, at which reading
 /// fails: what came before that counts.
 fn read_body(answer: ureq::Response) -> String {
     let mut bytes = Vec::new();
@@ -172,7 +172,7 @@ fn read_body(answer: ureq::Response) -> String {
     String::from_utf8_lossy(&bytes).into_owned()
 }
 
-/// What an answer that is an error tells: a status of gRPC, and why.
+/// What an answer that is an error holds: a status of gRPC, and why.
 fn told(text: &str) -> (Option<u64>, String) {
     let json: Json = serde_json::from_str(text).unwrap_or_default();
     let why = json["message"].as_str().or(json["error"].as_str()).unwrap_or(text.trim());

@@ -83,7 +83,7 @@ impl Election {
     }
 
     /// Waits until the server has the place. Each time that another server's address is found in
-    /// the place, `tell` hears it; it answers whether to go on. None if it is not to go on.
+    /// the place, `tell` hears it; it answers whether to continue. None if it is not to continue.
     ///
     /// # Errors
     ///
@@ -221,7 +221,8 @@ impl Lease {
     }
 }
 
-/// Whether a lease that was granted for this long has run out by now, unless the cluster knows better.
+/// Whether a lease that was granted for this long has run out by now, unless the cluster knows
+/// better.
 fn may_have_run_out(alive: Instant, length: Duration, now: Instant) -> bool {
     now.saturating_duration_since(alive) > length
 }

@@ -40,7 +40,7 @@ pub(crate) fn attempt(why: String) -> String {
     } else if why.contains(HANDSHAKE) {
         format!("{why}; so does a node that speaks no TLS, and is reached by etcd://")
     } else {
-        format!("{why}; so does a node that speaks TLS alone, and is reached by etcds://")
+        format!("{why}; so does a node that speaks only TLS, and is reached by etcds://")
     }
 }
 

@@ -1,4 +1,4 @@
-//! The head: one key that every transaction compares, and sets anew.
+//! The head: one key that every transaction compares, and sets again.
 use crate::bucket;
 use krl::fence::Fence;
 use std::fmt;

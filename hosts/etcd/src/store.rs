@@ -34,7 +34,7 @@ const FEWEST_KEYS: usize = 64;
 /// A load is tried so often, if what it reads is compacted away.
 const LOADS: u32 = 4;
 
-/// How long a load goes on to ask for one part, and how long a commit, by default.
+/// How long a load continues to ask for one part, and how long a commit, by default.
 const LOAD_TIMEOUT: Duration = Duration::from_secs(30);
 const COMMIT_TIMEOUT: Duration = Duration::from_secs(5);
 
@@ -95,7 +95,7 @@ impl EtcdStore {
     }
 
     /// From now on a commit waits so long for the cluster. Longer than an election of etcd takes,
-    /// the server goes on over one.
+    /// the server continues over one.
     #[must_use]
     pub fn with_commit_timeout(self, commit_timeout: Duration) -> EtcdStore {
         EtcdStore { commit_timeout, ..self }
@@ -135,10 +135,10 @@ impl EtcdStore {
         Ok(self.table.snapshot(epoch, head))
     }
 
-    /// All that is stored, as it was at one moment: names behind the prefix, with their values.
+    /// All that is stored, as it was at one moment: names after the prefix, with their values.
     fn all_pairs(&mut self) -> Result<Vec<(String, Vec<u8>)>, Failure> {
         let folder = self.key("");
-        // What begins with the folder comes before what begins with the byte behind the slash.
+        // What begins with the folder comes before what begins with the byte after the slash.
         let last = format!("{}0", self.prefix);
         let (mut pairs, mut from, mut revision) = (Vec::new(), folder.clone().into_bytes(), 0);
         let mut limit = FEWEST_KEYS;
@@ -265,7 +265,7 @@ impl EtcdStore {
     }
 
     /// Adds buckets until there are as many as the room wants. Each part of them is a transaction,
-    /// which sets their number with their rows. If a server ends meanwhile, the next one goes on.
+    /// which sets their number with their rows. If a server ends meanwhile, the next one continues.
     fn grow(&mut self) -> Result<(), StoreError> {
         let wanted = bucket::count_for(self.table.room.unwrap_or_default());
         while self.next.buckets < wanted {
@@ -296,7 +296,7 @@ impl EtcdStore {
 
 impl Store for EtcdStore {
     /// A store is loaded once: what it commits rests on what it has loaded, and a server that
-    /// loads anew is a new one.
+    /// loads again is a new one.
     fn load(&mut self) -> Result<Snapshot, StoreError> {
         self.ownership.may_load()?;
         for _ in 1..LOADS {
@@ -315,8 +315,8 @@ impl Store for EtcdStore {
         Ok(snapshot)
     }
 
-    /// Each transaction sets 120 keys and 1 MiB at most. If the changes set more, they are committed
-    /// in several, in their order: after an error, the first ones may be kept.
+    /// Each transaction sets 120 keys and 1 MiB at most. If the changes set more, they are
+    /// committed in several, in their order: after an error, the first ones may be kept.
     fn commit(&mut self, changes: &[Change]) -> Result<(), StoreError> {
         self.ownership.may_commit()?;
         let end = Instant::now() + self.commit_timeout;

@@ -67,7 +67,7 @@ impl Table {
     }
 
     pub fn note_record(&mut self, change: &Change) {
-        // A snapshot without rows takes the change for the records alone.
+        // A snapshot without rows takes the change only for the records.
         let records = std::mem::take(&mut self.records);
         let mut snapshot = Snapshot { records, ..Snapshot::default() };
         snapshot.apply(change);

@@ -1,14 +1,14 @@
-//! The head: the one row that every commit compares, and sets anew. It is the fence, and a format.
+//! The head: the one row that every commit compares, and sets again. It is the fence, and a format.
 use krl::fence::Fence;
 use std::ops::RangeInclusive;
 use tokio_postgres::Row;
 
-/// The formats of the tables that this version reads. What it commits makes them of the last one, as
-/// `sql::COMMIT` says. Format 1 has no room.
+/// The formats of the tables that this version reads. What it commits makes them of the last one,
+/// as `sql::COMMIT` says. Format 1 has no room.
 const FORMATS: RangeInclusive<u64> = 1..=2;
 
-/// The fence of a row of `epoch, owner, transaction, commits, format`, if it is one that a server of
-/// this version sets.
+/// The fence of a row of `epoch, owner, transaction, commits, format`, if it is one that a server
+/// of this version sets.
 pub(crate) fn fence_of(row: &Row) -> Option<Fence> {
     let number = |at: usize| row.try_get(at).ok().map(i64::cast_unsigned);
     number(4).filter(|format| FORMATS.contains(format))?;

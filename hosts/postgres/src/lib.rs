@@ -1,6 +1,6 @@
 //! A store of krl in PostgreSQL.
 //!
-//! Each commit compares one row, the head, and sets it anew in one statement with what it changes.
+//! Each commit compares one row, the head, and sets it again in one statement with what it changes.
 //! Of two servers that both believe to serve, the older one's first change is refused, and it ends.
 //!
 //! **The store is only as safe as the failover of the database.** A replica that is promoted and

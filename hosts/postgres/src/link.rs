@@ -1,4 +1,4 @@
-//! A connection to the database, which is made anew when it ends.
+//! A connection to the database, which is made again when it ends.
 use crate::batch::Batch;
 use crate::connector::{Carrier, Connector};
 use crate::head::{fence_of, owner_text};

@@ -31,8 +31,8 @@ pub(crate) const TABLES: &str = "
     COMMIT;";
 
 /// A connection answers a commit when it is on the disk, and on the replicas that the database
-/// waits for. A statement that waited for the head's row compares the row anew. Both are so whatever
-/// the database's own settings are.
+/// waits for. A statement that waited for the head's row compares the row again. Both are so
+/// whatever the database's own settings are.
 pub(crate) const SESSION: &str = "
     SET synchronous_commit = on;
     SET default_transaction_isolation = 'read committed';";
@@ -50,8 +50,8 @@ pub(crate) const LEASES: &str = "SELECT longest, unleased FROM krl.lease";
 pub(crate) const ROOM: &str = "SELECT most_rows FROM krl.room";
 
 /// Commits a batch if the head is as it should be, and makes the format this version's, so that no
-/// server of before the room was kept passes it over. It is one statement, and so one transaction: the
-/// head's row is locked by it, and compared again once another one has let it go.
+/// server of before the room was kept passes it over. It is one statement, and so one transaction:
+/// the head's row is locked by it, and compared again once another one has let it go.
 pub(crate) const COMMIT: &str = "
     WITH fence AS (
         UPDATE krl.head SET epoch = $1, owner = $2, transaction = $3, commits = $4, format = 2

@@ -13,7 +13,7 @@ use std::thread;
 use std::time::{Duration, Instant};
 use tokio_postgres::Row;
 
-/// How long a load goes on to ask, how long a commit by default, and how long what makes a store.
+/// How long a load continues to ask, how long a commit by default, and how long what makes a store.
 const LOAD_TIMEOUT: Duration = Duration::from_secs(60);
 const COMMIT_TIMEOUT: Duration = Duration::from_secs(5);
 const CREATE_TIMEOUT: Duration = Duration::from_secs(120);
@@ -75,7 +75,7 @@ impl PostgresStore {
     }
 
     /// Connects to the database, and tries again until it answers. Each time that it does not,
-    /// `goes_on` hears why, and answers whether to try again. False if it is not to go on.
+    /// `goes_on` hears why, and answers whether to try again. False if it is not to continue.
     ///
     /// # Errors
     ///
@@ -153,7 +153,7 @@ impl PostgresStore {
 
 impl Store for PostgresStore {
     /// A store is loaded once: what it commits rests on what it has loaded, and a server that
-    /// loads anew is a new one.
+    /// loads again is a new one.
     fn load(&mut self) -> Result<Snapshot, StoreError> {
         self.ownership.may_load()?;
         self.load_once(Instant::now() + LOAD_TIMEOUT)?;

@@ -34,7 +34,7 @@ def main() -> None:
     with krl.join(servers, 0, lock_file) as client:
         for key in range(100):
             client.insert(key, str(key).encode())
-        # What was written is held alone.
+        # Only what was written is held.
         client.forget()
         client.read(0, 100)
         for rows, calls in ((1, 2000), (10, 1000), (100, 300)):

@@ -168,7 +168,7 @@ class Node:
 
 
 def reader(node: Node) -> None:
-    """Reads every writer's ranges again and again, in two threads: one reads from the cache alone,
+    """Reads every writer's ranges again and again, in two threads: one reads only from the cache,
     the other asks the server for what the cache lacks."""
     faults: list[BaseException] = []
 

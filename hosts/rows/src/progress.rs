@@ -6,8 +6,8 @@ use std::io::Read;
 /// How often the line is drawn at most, in times a second.
 const PER_SECOND: u8 = 10;
 
-/// A line on standard error that tells how far a work has come. It is shown only at a terminal, and is
-/// gone when this is.
+/// A line on standard error that shows how far a work has come. It is shown only at a terminal, and
+/// is gone when this is.
 #[derive(Debug)]
 pub struct Progress(ProgressBar);
 

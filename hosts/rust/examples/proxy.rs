@@ -47,7 +47,7 @@ fn serve(client: &Client, listener: &UnixListener) -> Done<()> {
     thread::scope(|scope| {
         for stream in listener.incoming() {
             let stream = stream?;
-            // Who goes away ends its own connection alone.
+            // Who goes away ends only its own connection.
             scope.spawn(move || answer_all(client, &stream));
         }
         Ok(())

@@ -9,7 +9,7 @@
 //!
 //! A server keeps a table of ten rows. Three processes, the nodes, each keep a range of it and read
 //! it a thousand times a second. A fourth process, the writer, counts up the values of four rows.
-//! Each second a node tells how many reads it has answered from its cache, for how many it asked
+//! Each second a node reports how many reads it has answered from its cache, for how many it asked
 //! the server, and what it read last:
 //!
 //! ```text
@@ -17,10 +17,10 @@
 //! ```
 //!
 //! Kill any of them by its process number, `kill -9 4711`. It is started again, and joins with a
-//! greater incarnation. While the server is down the nodes go on to answer from their caches, and
-//! no answer is stale: the writer can't write then. While a node is dead, the writer waits for it
-//! only if it held what the writer changes. With leases (`leased`, or `leased for 10`) a node that is
-//! stopped, and not killed, keeps the writer waiting no longer than its lease.
+//! greater incarnation. While the server is down the nodes continue to answer from their caches,
+//! and no answer is stale: the writer can't write then. While a node is dead, the writer waits for
+//! it only if it held what the writer changes. With leases (`leased`, or `leased for 10`) a node
+//! that is stopped, and not killed, keeps the writer waiting no longer than its lease.
 use krl::{Address, Client, Leases, Listener, Outcome, Row, Server, SqliteStore, Value};
 use std::error::Error;
 use std::ops::Range;
@@ -96,7 +96,7 @@ fn join(number: u8, folder: &Path) -> Result<Client, Box<dyn Error>> {
     Ok(Client::join(ADDRESS.parse::<Address>()?, number, lock)?)
 }
 
-/// Keeps a range, and answers reads of it. Each second it tells how.
+/// Keeps a range, and answers reads of it. Each second it reports how.
 fn node(number: u8, folder: &Path) -> Done {
     let keys = RANGES.get(usize::from(number)).ok_or("there is no such node")?;
     let client = join(number, folder)?;

@@ -51,7 +51,7 @@ pub(crate) enum Entry {
 }
 
 impl Access {
-    /// No certificate, no other users, and plain TCP on the loopback alone.
+    /// No certificate, no other users, and plain TCP on the loopback only.
     pub fn new() -> Access {
         Access::default()
     }

@@ -40,26 +40,26 @@ use std::sync::Arc;
 use std::time::{Duration, Instant};
 
 /// A client of a number from 0 to 63. Its calls may come from several threads; a thread of its own
-/// keeps the connection, makes it again when it breaks, and says again what is not answered.
+/// keeps the connection, makes it again when it breaks, and sends again what is not answered.
 ///
 /// A clone is the same client: it has the same cache, the same pins and the same timeout.
 ///
-/// If the server's store went back, since an older copy of it was brought back, the client drops its
-/// cache as if it had crashed, and joins anew: [`Error::StoreWentBack`] tells who waits just then.
-/// Until it has joined, `cached` answers `None`, and other calls wait. A store without a history
-/// tells nothing of it.
+/// If the server's store went back, since an older copy of it was brought back, the client drops
+/// its cache as if it had crashed, and joins again: those who wait just then get
+/// [`Error::StoreWentBack`]. Until it has joined, `cached` answers `None`, and other calls wait. A
+/// store without a history says nothing about it.
 ///
 /// If the server serves another store than the one that the client has seen, the client drops its
-/// cache too, and calls that wait just then end with `Unserved` by [`Refusal::OtherStore`]. It joins
-/// again when it finds a server of its own store, and no other one.
+/// cache too, and calls that wait just then end with `Unserved` by [`Refusal::OtherStore`]. It
+/// joins again when it finds a server of its own store, and no other one.
 ///
 /// A server with leases lets the client answer from its cache only for so long after its last word.
-/// When its lease ends the client drops its cache and joins anew, as above: only a write that is on
-/// its way is told so, by [`Error::LeaseEnded`], and all other calls go on.
+/// When its lease ends the client drops its cache and joins again, as above: only a write that is
+/// on its way is told so, by [`Error::LeaseEnded`], and all other calls continue.
 ///
-/// When its last clone and its last pin are dropped, the client says Bye, and waits a second at most
-/// until the server has kept that. A process that ends without a Bye leaves what it held: other
-/// clients wait for that until a client of its number joins again or it is evicted.
+/// When its last clone and its last pin are dropped, the client sends Bye, and waits a second at
+/// most until the server has kept that. A process that ends without a Bye leaves what it held:
+/// other clients wait for that until a client of its number joins again or it is evicted.
 ///
 /// # Examples
 ///
@@ -103,7 +103,7 @@ impl Client {
     }
 
     /// From now on, each call waits so long for an answer, a year at most. A call that waits
-    /// already goes on as it began.
+    /// already continues as it began.
     pub fn set_timeout(&self, timeout: Duration) {
         self.shared.set_timeout(timeout);
     }
@@ -135,8 +135,8 @@ impl Client {
     }
 
     /// The rows of the range: from the cache, with no message and no waiting, if the client holds
-    /// it; else it locks what it lacks and waits. They are that range of the server's table at one
-    /// moment of the call. An empty range has no rows.
+    /// it; otherwise it locks what it lacks and waits. They are that range of the server's table at
+    /// one moment of the call. An empty range has no rows.
     ///
     /// # Errors
     ///
@@ -146,10 +146,10 @@ impl Client {
         self.within(self.timeout()).read(keys)
     }
 
-    /// The rows of the range if the cache covers it, else `None`. It sends nothing, and waits for
-    /// nothing but one step of the client, some microseconds. The rows are that range of the
+    /// The rows of the range if the cache covers it, otherwise `None`. It sends nothing, and waits
+    /// for nothing but one step of the client, some microseconds. The rows are that range of the
     /// server's table at one moment of the call, also while the server is down. An empty range has
-    /// no rows; of a range that is none, as [`Client::read`] tells, the cache knows nothing.
+    /// no rows; of a range that is none, as [`Client::read`] reports, the cache knows nothing.
     ///
     /// Threads that make this call, or one of the next two, do not wait for one another.
     pub fn cached(&self, keys: impl RangeBounds<u64>) -> Option<Vec<Row>> {
@@ -184,9 +184,10 @@ impl Client {
     ///
     /// # Errors
     ///
-    /// `BadKey` for a key of 2^63 - 1 or more; `TimedOut`, `Unserved`, `StoreWentBack` or `Stopped`:
-    /// then the table may have changed or may still change; `LeaseEnded`: then it may have changed;
-    /// `TurnedAway` or `OtherShard`: the write was not sent and changes nothing; `OutOfMemory`.
+    /// `BadKey` for a key of 2^63 - 1 or more; `TimedOut`, `Unserved`, `StoreWentBack` or
+    /// `Stopped`: then the table may have changed or may still change; `LeaseEnded`: then it may
+    /// have changed; `TurnedAway` or `OtherShard`: the write was not sent and changes nothing;
+    /// `OutOfMemory`.
     pub fn insert(&self, key: u64, value: Value) -> Result<Outcome, Error> {
         self.within(self.timeout()).insert(key, value)
     }
@@ -223,9 +224,9 @@ impl Client {
         self.within(self.timeout()).delete(key)
     }
 
-    /// Makes several writes in one wait, one after the other in this order, and answers how each was
-    /// judged. A write that changes nothing, since its outcome is `Exists`, `Absent` or `Full`, ends
-    /// no other one.
+    /// Makes several writes in one wait, one after the other in this order, and answers how each
+    /// was judged. A write that changes nothing, since its outcome is `Exists`, `Absent` or `Full`,
+    /// ends no other one.
     ///
     /// **It is no transaction**: each is a write of its own. Other clients may see the first ones
     /// without the others, also after a crash between them, and may write in between. Writes of
@@ -233,8 +234,9 @@ impl Client {
     /// most.
     ///
     /// The client has one write on its way at a time, and sends the next one as soon as the server
-    /// has kept the one before: nobody else has to be woken for it. To take the locks of many writes
-    /// in a range by one request, call [`Client::pin_for_write`] first, and [`Pin::write_all`] then.
+    /// has kept the one before: nobody else has to be woken for it. To take the locks of many
+    /// writes in a range by one request, call [`Client::pin_for_write`] first, and
+    /// [`Pin::write_all`] then.
     ///
     /// ```no_run
     /// # use krl::{BatchError, Client, Mutation, Row, Value};
@@ -249,9 +251,9 @@ impl Client {
     ///
     /// # Errors
     ///
-    /// Those of `insert`, for the first write that was not judged. [`BatchError::fates`] tells which
-    /// writes were judged, and how; at most one is unknown, and those after it were not made and
-    /// will not be. With `BadKey` none was made.
+    /// Those of `insert`, for the first write that was not judged. [`BatchError::fates`] reports
+    /// which writes were judged, and how; at most one is unknown, and those after it were not made
+    /// and will not be. With `BadKey` none was made.
     pub fn write_all(
         &self,
         writes: impl IntoIterator<Item = Mutation>,
@@ -270,7 +272,7 @@ impl Client {
     /// # Errors
     ///
     /// `BadRange` if the range is empty, begins above its end, or ends above 2^63; `TooManyPins`;
-    /// `StoreWentBack`, `LeaseEnded` or `Unserved` while the client joins anew.
+    /// `StoreWentBack`, `LeaseEnded` or `Unserved` while the client joins again.
     pub fn pin(&self, keys: impl RangeBounds<u64>) -> Result<Pin, Error> {
         let keys = keys_of(&keys)?;
         let id = self.link().with_jobs(|jobs| jobs.pin(keys))?;
@@ -350,8 +352,8 @@ impl Client {
     }
 
     /// Waits until the client no longer knows that the range has these rows: another client's write
-    /// has taken a part of it from the cache, or a call of this client has changed it. If the client
-    /// does not hold the range, that is so at once.
+    /// has taken a part of it from the cache, or a call of this client has changed it. If the
+    /// client does not hold the range, that is so at once.
     ///
     /// It sends nothing. After [`Waited::Changed`], [`Client::read`] may have something new, or the
     /// rows may be what they were. [`Client::changes`] makes an iterator of the two.
@@ -375,8 +377,8 @@ impl Client {
     }
 
     /// The states of the range, one after the other: the rows now, and then after each change.
-    /// [`Changes`] describes what it promises. It has a clone of the client, which therefore does not
-    /// leave by itself before the iterator is dropped.
+    /// [`Changes`] describes what it promises. It has a clone of the client, which therefore does
+    /// not leave by itself before the iterator is dropped.
     ///
     /// ```no_run
     /// # fn watch(client: &krl::Client) -> Result<(), krl::Error> {
@@ -403,7 +405,7 @@ impl Client {
     ///
     /// # Errors
     ///
-    /// `Other` if the client has left; `StoreWentBack` while it joins anew.
+    /// `Other` if the client has left; `StoreWentBack` while it joins again.
     pub fn epoch(&self) -> Result<u64, Error> {
         self.link().with_jobs(Jobs::epoch).map_err(Code::into)
     }
@@ -414,8 +416,8 @@ impl Client {
         self.link().is_connected()
     }
 
-    /// The client's incarnation, of which the next one is greater: each end of a lease begins another
-    /// one. Who acts on something outside may take it for a fence there.
+    /// The client's incarnation, of which the next one is greater: each end of a lease begins
+    /// another one. Who acts on something outside may take it for a fence there.
     #[must_use]
     pub fn incarnation(&self) -> u64 {
         self.link().with_jobs(|jobs| jobs.incarnation())
@@ -448,8 +450,8 @@ impl Client {
     ///
     /// # Errors
     ///
-    /// `TimedOut` or `Unserved`, `TurnedAway` or `OtherShard`, `Stopped`: other clients may wait for
-    /// what this one held then, until it is evicted.
+    /// `TimedOut` or `Unserved`, `TurnedAway` or `OtherShard`, `Stopped`: other clients may wait
+    /// for what this one held then, until it is evicted.
     pub fn leave(&self) -> Result<(), Error> {
         self.within(self.timeout()).leave()
     }

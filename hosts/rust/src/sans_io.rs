@@ -1,8 +1,8 @@
-//! A client without sockets, threads and clocks, for hosts that have their own: bytes come in, bytes
-//! go out, and each call is told what time it is. The lock file of its number is inside.
+//! A client without sockets, threads and clocks, for hosts that have their own: bytes come in,
+//! bytes go out, and each call is told what time it is. The lock file of its number is inside.
 //!
-//! `hosts/capi` has it for C, by `krl_host.h`. Nothing here is a part of the interface in Rust, whose
-//! client is [`crate::Client`].
+//! `hosts/capi` has it for C, by `krl_host.h`. Nothing here is a part of the interface in Rust,
+//! whose client is [`crate::Client`].
 use crate::client::jobs::{Asked, Jobs};
 use crate::client::lock_file::LockFile;
 use crate::client::session::Session;
@@ -25,7 +25,7 @@ use std::time::Duration;
 
 pub use crate::client::jobs::{Held, Purpose};
 
-/// A client. A moment is a time by a clock that goes on while the machine is suspended, and never
+/// A client. A moment is a time by a clock that continues while the machine is suspended, and never
 /// back.
 pub struct Client {
     session: Session,
@@ -128,8 +128,8 @@ impl Client {
         self.session.place()
     }
 
-    /// A connection is made. If the client needs a greater incarnation, it has one from here on; and
-    /// its incarnation is on the disk before anything of it is to be sent.
+    /// A connection is made. If the client needs a greater incarnation, it has one from here on;
+    /// and its incarnation is on the disk before anything of it is to be sent.
     ///
     /// # Errors
     ///
@@ -162,7 +162,7 @@ impl Client {
         Ok(())
     }
 
-    /// Goes on with what it was asked.
+    /// Continues with what it was asked.
     ///
     /// # Errors
     ///
@@ -171,7 +171,7 @@ impl Client {
         self.at(now).proceed()
     }
 
-    /// When it has to go on again if nothing comes.
+    /// When it has to continue again if nothing comes.
     #[must_use]
     pub fn due(&self) -> Duration {
         self.now + self.session.due_in()

@@ -1,5 +1,5 @@
-//! What a client and a server decide, for a simulation of this workspace: it has their clocks, their
-//! network and their disks. Nothing here is a part of the interface.
+//! What a client and a server decide, for a simulation of this workspace: it has their clocks,
+//! their network and their disks. Nothing here is a part of the interface.
 mod client;
 mod server;
 
@@ -47,7 +47,7 @@ impl FrameKind {
 /// Where the numbers of a message stand that follow its kind, its client and its incarnation.
 const AFTER_HEAD: usize = 18;
 
-/// So many of them are told.
+/// So many of them are reported.
 const SHOWN: usize = 6;
 
 /// A frame without its length, in words.

@@ -80,7 +80,7 @@ fn cached_rows_are_visited_behind_the_scan() {
     let mut visited = Vec::new();
     assert!(first.for_each_cached(0..40, |row| {
         if visited.is_empty() {
-            // Another client takes the range away, and this one goes on with its rows.
+            // Another client takes the range away, and this one continues with its rows.
             assert_eq!(second.put(20, value("b")), Ok(Outcome::Applied));
             assert_eq!(first.cached(0..40), None);
             assert_eq!(first.cached(5..5), Some(vec![]));
@@ -163,7 +163,7 @@ fn the_first_free_number_of_several_is_taken() {
     assert!(matches!(refused, JoinError::LockFile(LockFileError::Taken)), "{refused}");
     first.leave().unwrap();
     assert_eq!(join().unwrap().number(), 3);
-    // Another machine has other lock files: the server tells that the number is in use.
+    // Another machine has other lock files: the server reports that the number is in use.
     let there = Folder::new("numbers-there");
     let other = builder().lock_folder(&there.0).numbers([4, 9]).join().unwrap();
     assert_eq!(other.number(), 9);
@@ -290,8 +290,8 @@ fn an_evicted_client_keeps_nobody_waiting() {
     let (address, living) = (server.address().clone(), folder.join(&server, 1));
     living.insert(10, value("a")).unwrap();
     assert!(evict(address.clone(), 1, folder.lock(1)).is_err(), "its process lives");
-    // A client that is gone without a Bye: this one's thread goes on, but nobody hears it after the
-    // eviction.
+    // A client that is gone without a Bye: this one's thread continues, but nobody hears it after
+    // the eviction.
     evict(address, 1, folder.0.join("lost.lock")).unwrap();
     let other = folder.join(&server, 2);
     assert_eq!(other.put(10, value("b")), Ok(Outcome::Applied));

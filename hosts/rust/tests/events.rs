@@ -1,4 +1,4 @@
-//! What a server tells a log in a short life. It is one test, since a process has one log.
+//! What a server writes to a log in a short life. It is one test, since a process has one log.
 #![cfg(feature = "tracing")]
 use krl::{Change, Client, MemoryStore, Server, Store, Value, evict};
 use std::fmt::{Debug, Write as _};

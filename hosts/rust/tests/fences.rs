@@ -1,4 +1,4 @@
-//! The fence between maps: a server of a shard serves clients of that shard by the same map alone.
+//! The fence between maps: a server of a shard serves clients of that shard only by the same map.
 mod peer;
 
 use krl::{Change, Client, Error, JoinError, MemoryStore, Outcome, ServeError, Server};
@@ -187,7 +187,7 @@ fn who_has_an_old_map_behind_a_split_writes_to_no_side_of_it() {
     };
     let old = join(&old_map, 1).unwrap();
     assert_eq!(old.insert(50, Value::from(1)), Ok(Outcome::Applied));
-    // The client is evicted, its process goes on, and the server is split and started anew.
+    // The client is evicted, its process continues, and the server is split and started again.
     let address = one.address().to_string();
     let mut whole = one.monitor().snapshot().unwrap();
     one.stop().unwrap();
@@ -206,7 +206,7 @@ fn who_has_an_old_map_behind_a_split_writes_to_no_side_of_it() {
     let refused = old.insert(60, Value::from(2)).unwrap_err();
     let Error::OtherShard(other) = refused.error else { panic!("{refused:?}") };
     assert_eq!((refused.shard, other.served), (Some(0), Some(bounds("0..40@2"))));
-    assert!(refused.to_string().contains("has to be loaded anew"), "{refused}");
+    assert!(refused.to_string().contains("has to be loaded again"), "{refused}");
     let new = join(&new_map, 2).unwrap();
     assert_eq!(new.read(..), Ok(vec![Row { key: 50, value: Value::from(1) }]));
     assert_eq!(new.insert(60, Value::from(3)), Ok(Outcome::Applied));

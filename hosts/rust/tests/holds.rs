@@ -81,7 +81,7 @@ fn one_client_at_a_time_pins_a_range_for_update() {
     world.insert_rows((0..30).map(|place| 10 * place));
     let (rows, pin) = first.pin_for_update(50..300).unwrap();
     assert_eq!(rows.len(), 25);
-    // The first entry, one in the middle, the last one, and the gap behind it. Whoever has waited
+    // The first entry, one in the middle, the last one, and the gap after it. Whoever has waited
     // for nothing waits still, so each is another client.
     for (number, keys) in (4..).zip([45..51, 150..151, 290..300, 295..300]) {
         let other = world.join_impatient(number);
@@ -132,8 +132,8 @@ fn those_who_pin_for_update_and_write_do_not_block_one_another() {
     assert_eq!(maker.read(15..16), Ok(vec![row(15, u64::from(CLIENTS) * TURNS)]));
 }
 
-/// Each reads the row before it pins it for an update or changes it without a pin. What it reads puts
-/// it in front of nobody, so none waits for ever.
+/// Each reads the row before it pins it for an update or changes it without a pin. What it reads
+/// puts it in front of nobody, so none waits for ever.
 #[test]
 fn those_who_read_before_they_pin_for_update_do_not_block_one_another() {
     const PINNING: u8 = 2;
@@ -165,7 +165,7 @@ fn those_who_read_before_they_pin_for_update_do_not_block_one_another() {
 }
 
 /// Each waits for the other one's pin. The one that hears first that its time is over has written
-/// nothing, and both go on when the pins are gone.
+/// nothing, and both continue when the pins are gone.
 #[test]
 fn those_who_pin_for_read_and_write_block_one_another_and_lose_nothing() {
     let world = World::new("upgrade");
@@ -239,7 +239,7 @@ fn a_wait_ends_when_the_range_changes_and_not_before() {
             (watcher.wait_for_change(10..20, &rows, LONG), begun.elapsed())
         });
         thread::sleep(SHORT);
-        // The client holds the slot behind the range too, for its gap, and nothing further on.
+        // The client holds the slot after the range too, for its gap, and nothing further on.
         assert_eq!(writer.put(35, Value::from(1)), Ok(Outcome::Applied));
         assert!(!waiting.is_finished(), "what lies outside is no change");
         assert_eq!(writer.put(15, Value::from(1)), Ok(Outcome::Applied));

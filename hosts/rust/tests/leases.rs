@@ -85,7 +85,8 @@ fn wait_until(is_so: impl Fn() -> bool) -> bool {
     is_so()
 }
 
-/// How long the client went on to answer, and how long it took until the other one's write was done.
+/// How long the client continued to answer, and how long it took until the other one's write was
+/// done.
 fn last_answer_and_write(
     client: &Client,
     write: impl FnOnce() -> Outcome + Send,

@@ -1,4 +1,4 @@
-//! Who holds what, as a monitor is told while the server runs.
+//! Who holds what, as a monitor learns it while the server runs.
 use krl::{Client, END, HeldRun, HeldSearch, HeldSlot, Listener, Locks, LocksError, MemoryStore};
 use krl::{Outcome, Server, Snapshot, Value};
 use std::path::PathBuf;

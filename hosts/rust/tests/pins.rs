@@ -10,7 +10,7 @@ fn lock_file(number: u8) -> PathBuf {
     std::env::temp_dir().join(format!("krl-pins-{}-{number}.lock", std::process::id()))
 }
 
-/// Says that the test is over, even if it fails: else the writer would go on for ever.
+/// Says that the test is over, even if it fails: otherwise the writer would continue for ever.
 struct Over<'f>(&'f AtomicBool);
 
 impl Drop for Over<'_> {

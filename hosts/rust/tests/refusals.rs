@@ -1,4 +1,4 @@
-//! A server tells why it does not serve a client, to hosts that take host frames.
+//! A server reports why it does not serve a client, to hosts that take host frames.
 mod peer;
 
 use krl::{Change, Client, Error, JoinError, MemoryStore, Refusal, Server, Value, evict};
@@ -33,7 +33,7 @@ fn lock_file(name: &str) -> PathBuf {
     std::env::temp_dir().join(format!("krl-refusals-{}-{name}.lock", std::process::id()))
 }
 
-/// A frame that tells a reason.
+/// A frame that gives a reason.
 fn refused(reason: u8, numbers: [u64; 2]) -> Vec<u8> {
     let mut bytes = vec![19, 0, 0, 0, 0, 0, 0, 0, 0, 17, reason];
     for number in numbers {
@@ -42,7 +42,7 @@ fn refused(reason: u8, numbers: [u64; 2]) -> Vec<u8> {
     bytes
 }
 
-/// What a peer hears that says these frames behind its host's Hello.
+/// What a peer hears that says these frames after its host's Hello.
 fn heard(server: &Server, said: &[Vec<u8>]) -> Vec<u8> {
     let mut peer = Peer::new(server);
     peer.say(&HOST_HELLO);

@@ -77,13 +77,13 @@ fn looked_up(client: &Client, ends: &AtomicBool) -> Vec<Option<Vec<Row>>> {
     while !ends.load(Ordering::Relaxed) {
         found.push(client.cached(1..2));
         found.dedup();
-        // Else it might keep the other callers from the client for long.
+        // Otherwise it might keep the other callers from the client for long.
         thread::sleep(Duration::from_micros(50));
     }
     found
 }
 
-/// Says that the test is over, even if it fails: else who looks would go on for ever.
+/// Says that the test is over, even if it fails: otherwise who looks would continue for ever.
 struct Over<'f>(&'f AtomicBool);
 
 impl Drop for Over<'_> {

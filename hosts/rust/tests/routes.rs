@@ -28,7 +28,7 @@ fn a_forged_bye_of_an_older_incarnation_is_not_answered() {
     let mut stranger = Peer::new(&server);
     for turn in 0..5 {
         client.read(0..20).unwrap();
-        // Behind it nothing comes from the client before it is called back.
+        // After it nothing comes from the client before it is called back.
         stranger.say(&frame(BYE, 3, incarnation(&lock) - 1, &[]));
         thread::sleep(Duration::from_millis(10));
         assert!(writer.insert(turn, Value::from(1)).is_ok());
@@ -51,7 +51,7 @@ fn an_incarnation_that_never_said_hello_takes_no_route() {
     let mut stranger = Peer::new(&server);
     for (turn, incarnation) in [0, 1, u64::MAX].into_iter().enumerate() {
         client.read(0..20).unwrap();
-        // Behind it nothing comes from the client before it is called back.
+        // After it nothing comes from the client before it is called back.
         stranger.say(&frame(ACK, 3, incarnation, &[1, 1]));
         stranger.say(&frame(BYE, 3, incarnation, &[]));
         thread::sleep(Duration::from_millis(10));
@@ -67,7 +67,7 @@ fn an_incarnation_that_never_said_hello_takes_no_route() {
 }
 
 /// A process that was evicted and still runs says its Hello and its acknowledgements again and
-/// again, beside its successor.
+/// again, next to its successor.
 #[test]
 fn a_zombie_takes_nothing_of_its_successor() {
     let (server, lock, other) = (server(), lock_file("heir"), lock_file("other"));

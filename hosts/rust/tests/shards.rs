@@ -40,7 +40,7 @@ impl World {
         builder.lock_folder(&self.folder).timeout(LONG).join().unwrap()
     }
 
-    /// A client of one shard alone.
+    /// A client of only one shard.
     fn join_one(&self, shard: usize, number: u8) -> Client {
         let lock_file = self.folder.join(format!("client-{number}.lock"));
         let servers = self.map.shards()[shard].servers.clone();
@@ -85,7 +85,7 @@ fn calls_go_to_the_shards_that_have_the_keys() {
     assert_eq!(client.insert(100, Value::from(1)), Ok(Outcome::Exists));
     assert_eq!(client.delete(100), Ok(Outcome::Applied));
     assert_eq!(client.read(90..400), Ok(vec![row(99, 1), row(300, 300)]));
-    // Each server has the keys of its shard alone.
+    // Each server has the keys of its shard only.
     let counts = world.servers.iter().map(|server| server.monitor().snapshot().unwrap().rows.len());
     assert_eq!(counts.collect::<Vec<_>>(), [2, 1]);
     assert_eq!(client.forget(..), Ok(()));
@@ -120,7 +120,7 @@ fn errors_tell_the_shard() {
     let refused = client.read(0..400).unwrap_err();
     assert_eq!((refused.shard, refused.error), (Some(1), Error::TimedOut));
     assert_eq!(refused.to_string(), "shard 1: no answer came in time");
-    // The other shard goes on, and so do the caches.
+    // The other shard continues, and so do the caches.
     assert_eq!(client.cached(0..50), Some(vec![row(10, 10)]));
     assert_eq!(client.put(10, Value::from(1)), Ok(Outcome::Applied));
     let refused = client.put(300, Value::from(1)).unwrap_err();

@@ -78,7 +78,7 @@ fn a_shorter_reach_takes_more_requests() {
 }
 
 /// A slot for which a reader has to wait ends a grant. What was granted before it stays, and the
-/// next request begins there and goes on to the end of the range.
+/// next request begins there and continues to the end of the range.
 #[test]
 fn a_read_goes_on_after_a_shorter_grant() {
     let world = World::new("waits", Reach::default());

@@ -211,8 +211,8 @@ While a server serves the store, krl-client import does the same, row by row.")]
     Import {
         /// The file: JSON lines if its name ends in .jsonl, .ndjson or .json, otherwise CSV
         file: PathBuf,
-        /// The store: a file of SQLite, which is made if there is none; or a new place in a cluster,
-        /// as <etcd://10.0.0.1:2379/krl/orders>, or a database that has no table yet, as
+        /// The store: a file of SQLite, which is made if there is none; or a new place in a
+        /// cluster, as <etcd://10.0.0.1:2379/krl/orders>, or a database that has no table yet, as
         /// <postgres://krl@10.0.0.1/orders?sslmode=verify-full>
         #[arg(long, value_name = "STORE", value_parser = StorePlace::parse)]
         store: StorePlace,
@@ -235,7 +235,8 @@ No server may run on it. While one does, krl-client export does the same.")]
         #[arg(long)]
         json: bool,
     },
-    /// Say what a store holds, and whether a server can start on it; or until when certificates last
+    /// Say what a store holds, and whether a server can start on it; or until when certificates
+    /// last
     #[command(long_about = "\
 Say what a store holds, and whether a server can start on it; or until when certificates last.
 
@@ -243,7 +244,8 @@ Of a backup, or another store that no server has served since it was made, it co
 The exit status is 1 if no server can start on the store, if it is damaged, or if a certificate is not
 valid now and for so many days.")]
     Check {
-        /// The store, which no server may run on; or a file of certificates, as PEM. It is only read
+        /// The store, which no server may run on; or a file of certificates, as PEM. It is only
+        /// read
         file: PathBuf,
         /// For how many days from now on certificates have to be valid
         #[arg(long, default_value_t = 0)]
@@ -314,7 +316,7 @@ pub struct TlsOptions {
     /// The key of that certificate, as PEM
     #[arg(long, env = "KRL_TLS_KEY", value_name = "FILE")]
     pub tls_key: Option<String>,
-    /// The name of the table, if certificates have it behind an @, as krl:client:3@orders
+    /// The name of the table, if certificates have it after an @, as krl:client:3@orders
     #[arg(long, env = "KRL_TABLE", value_name = "NAME")]
     pub table: Option<String>,
 }
@@ -370,16 +372,16 @@ pub struct ServeOptions {
     /// The key of that certificate, as PEM in PKCS #8
     #[arg(long, env = "KRL_STORE_KEY", value_name = "FILE", requires = "store_certificate")]
     pub store_key: Option<String>,
-    /// How many rows the table may have, from 1 to 1048576. If it is not said, it is the greatest that
-    /// a server over this store had before, and 65536 over a new store
+    /// How many rows the table may have, from 1 to 1048576. If it is not said, it is the greatest
+    /// that a server over this store had before, and 65536 over a new store
     #[arg(long, env = "KRL_ROOM", value_name = "ROWS")]
     pub room: Option<String>,
     /// How many slots one grant takes at most, from 1 to 128: a client that reads many rows for the
     /// first time asks once for each so many
     #[arg(long, env = "KRL_REACH", value_name = "SLOTS")]
     pub reach: Option<String>,
-    /// The shard that the server serves, as FIRST..END@VERSION: its keys, and the version of the map.
-    /// Clients of another map are refused
+    /// The shard that the server serves, as FIRST..END@VERSION: its keys, and the version of the
+    /// map. Clients of another map are refused
     #[arg(long, env = "KRL_SHARD", value_name = "SHARD")]
     pub shard: Option<String>,
     /// Where clients reach this server, if that is not where it listens. The store tells it

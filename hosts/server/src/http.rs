@@ -122,7 +122,7 @@ fn ask(port: &StatusPort, request: Request<Body>, wait: Duration) -> Result<Repl
     Ok(runtime.block_on(answered(port, request, wait))?)
 }
 
-/// Asks for a page, in a runtime that goes on.
+/// Asks for a page, in a runtime that continues.
 pub async fn fetch(
     port: &StatusPort,
     path: &str,

@@ -11,10 +11,10 @@ use std::error::Error;
 use std::ops::{Range, RangeInclusive};
 use std::time::Duration;
 
-/// The path at which a status port tells it.
+/// The path at which a status port shows it.
 pub const PATH: &str = "/locks";
 
-/// The most slots that are told if nothing else is asked for.
+/// The most slots that are reported if nothing else is asked for.
 pub const LIMIT: usize = 1000;
 
 /// The limits that may be asked for.
@@ -151,7 +151,7 @@ pub fn ask(options: &LocksOptions) -> Result<String, Box<dyn Error>> {
     match reply.status {
         StatusCode::OK => Ok(reply.text),
         StatusCode::NOT_FOUND => {
-            Err(format!("{port} is no status port that tells who holds what").into())
+            Err(format!("{port} is no status port that reports who holds what").into())
         }
         _ => Err(format!("{port} does not tell: {}", reply.text.trim_end()).into()),
     }

@@ -1,7 +1,7 @@
 //! The log, on standard error.
 //!
 //! A thread of its own writes it. So nobody who logs waits for whoever reads the log, and a line
-//! that can't be written is lost and counted: the server goes on.
+//! that can't be written is lost and counted: the server continues.
 use crate::settings::{LogFormat, Settings};
 use krl::Seldom;
 use std::io::{self, Write};

@@ -6,7 +6,7 @@ use std::io;
 use std::thread;
 use std::time::Duration;
 
-/// A wait of this length is long: it is told once as it becomes so, and once when it has ended.
+/// A wait of this length is long: it is reported once as it becomes so, and once when it has ended.
 const LONG: Duration = Duration::from_secs(10);
 
 /// How often the waits are looked at.
@@ -41,8 +41,8 @@ pub fn start(role: Role) -> io::Result<()> {
 }
 
 impl LongWaits {
-    /// Takes the waits of this moment, and gives what is new of long ones. A client has one request at
-    /// a time: if it has waited for less than before, that is another one.
+    /// Takes the waits of this moment, and gives what is new of long ones. A client has one request
+    /// at a time: if it has waited for less than before, that is another one.
     fn look(&mut self, now: &[Wait]) -> Vec<News> {
         let waits_on = |client: u8, before: Duration| {
             now.iter().any(|wait| wait.client == client && wait.waited >= before)

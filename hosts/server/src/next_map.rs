@@ -1,4 +1,4 @@
-//! The map behind a split or a merge, as a file.
+//! The map after a split or a merge, as a file.
 use clap::Args;
 use krl::{Address, Servers, Shard, ShardMap, Snapshot};
 use std::error::Error;
@@ -97,7 +97,7 @@ impl NextMap {
             Some(format!("    {}: --shard {bounds}\n", shard.servers))
         };
         let starts: String = shards.filter_map(start).collect();
-        Ok(format!("{at}: the next map. Start each server anew by it:\n{starts}"))
+        Ok(format!("{at}: the next map. Restart each server with it:\n{starts}"))
     }
 }
 

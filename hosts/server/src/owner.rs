@@ -1,4 +1,4 @@
-//! Who serves a store: a file beside it that says so.
+//! Who serves a store: a file next to it that says so.
 use std::ffi::OsString;
 use std::fmt;
 use std::fs::{File, OpenOptions, TryLockError};
@@ -19,7 +19,7 @@ pub struct Owner {
 pub enum NotOwned {
     /// Another process serves it.
     Served { store: PathBuf, by: String },
-    /// The file beside it can't be used.
+    /// The file next to it can't be used.
     File { path: PathBuf, error: io::Error },
 }
 
@@ -30,7 +30,7 @@ const LOOKS: Duration = Duration::from_millis(100);
 const MAX_LINE: u64 = 1000;
 
 impl Owner {
-    /// Takes the right to serve the store, and says in the file beside it who has it.
+    /// Takes the right to serve the store, and says in the file next to it who has it.
     pub fn take(store: &Path, address: &dyn fmt::Display) -> Result<Owner, NotOwned> {
         let path = path_of(store);
         let fails = |error| NotOwned::File { path: path.clone(), error };

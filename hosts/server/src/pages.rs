@@ -187,7 +187,7 @@ fn guards(kind: &str) -> impl Iterator<Item = (&'static str, &'static str)> {
 }
 
 fn refused_method(allowed: &'static str) -> Response<Body> {
-    let text = format!("this takes {allowed} alone\n");
+    let text = format!("this takes only {allowed}\n");
     let mut response = response(Page::text(StatusCode::METHOD_NOT_ALLOWED, text));
     response.headers_mut().insert(ALLOW, allowed.parse().expect("a constant"));
     response
@@ -296,7 +296,7 @@ fn may_order(asker: Asker) -> bool {
     }
 }
 
-/// Whether the server's loop goes on, and if it stands, where.
+/// Whether the server's loop continues, and if it stands, where.
 fn health(liveness: Liveness) -> Page {
     let is_alive = liveness.is_alive();
     let status = if is_alive { StatusCode::OK } else { StatusCode::SERVICE_UNAVAILABLE };
@@ -317,7 +317,7 @@ fn readiness(status: &Status) -> Page {
     Page::text(StatusCode::SERVICE_UNAVAILABLE, why)
 }
 
-/// Who holds what, as the server tells it between its turns. Other pages are served meanwhile.
+/// Who holds what, as the server reports it between its turns. Other pages are served meanwhile.
 async fn locks_page(query: &str, as_json: bool, monitor: Monitor) -> Page {
     let question = match Question::of_query(query) {
         Ok(question) => question,
@@ -480,7 +480,7 @@ async fn body(request: Request<Body>) -> Result<hyper::body::Bytes, Page> {
     use hyper::body::HttpBody;
     let length = request.body().size_hint().upper();
     if length.is_none_or(|length| length > MAX_ORDER) {
-        let text = format!("an order has at most {MAX_ORDER} bytes, and says how many\n");
+        let text = format!("an order has at most {MAX_ORDER} bytes, and states how many\n");
         return Err(Page::text(StatusCode::PAYLOAD_TOO_LARGE, text));
     }
     let bytes = timeout(BODY, hyper::body::to_bytes(request.into_body()));

@@ -42,7 +42,7 @@ fn reload(tls: Option<&TlsConfig>) {
     }
 }
 
-/// Tells the log which certificate is shown from now on.
+/// Logs which certificate is shown from now on.
 pub fn tell(tls: &TlsConfig, what: &str) {
     let Certificate { subject, names, expires_at, .. } = tls.certificate();
     tracing::info!(subject, names = names.join(","), expires = expires_at, "{what}");

@@ -57,7 +57,7 @@ impl State {
         }
     }
 
-    /// Whether the server's loop goes on, if it serves.
+    /// Whether the server's loop continues, if it serves.
     pub fn liveness(&self) -> Option<Liveness> {
         let State::Serves { monitor, .. } = self else { return None };
         Some(monitor.liveness())

@@ -40,7 +40,7 @@ pub async fn open(mut socket: TcpStream, mut session: TlsSession) -> io::Result<
     Ok(Opened { plain: ours, peer, sealed: Sealed { socket, session, plain: theirs, first } })
 }
 
-/// Goes on until it is known who is at the other end, and answers who, and what it has said.
+/// Continues until it is known who is at the other end, and answers who, and what it has said.
 async fn shake(
     socket: &mut TcpStream,
     session: &mut TlsSession,
@@ -61,8 +61,8 @@ async fn shake(
 
 impl Sealed {
     /// Carries what comes and what leaves, until both sides have ended. Neither way waits for the
-    /// other one. What comes after the plain end is closed is read and dropped: else the system
-    /// might drop the last of the answer.
+    /// other one. What comes after the plain end is closed is read and dropped: otherwise the
+    /// system might drop the last of the answer.
     pub async fn carry(self) -> io::Result<()> {
         let Sealed { socket, session, plain, first } = self;
         let (from_socket, to_socket) = socket.into_split();

@@ -34,7 +34,7 @@ const ENDED_AT_ONCE: i32 = 1;
 /// start it again: over the same store it would serve, and nobody might notice.
 const OLDER_STORE: u8 = 3;
 
-/// Serves until a signal comes, and then stops in order. What goes wrong is told in the log.
+/// Serves until a signal comes, and then stops in order. What goes wrong is logged.
 pub fn serve(settings: &Settings) -> ExitCode {
     let _log = match log::start(settings) {
         Ok(log) => log,
@@ -133,7 +133,7 @@ fn serve_database(
     Ok(())
 }
 
-/// Tells the log now and then that the store does not answer.
+/// Logs now and then that the store does not answer.
 #[derive(Debug, Default)]
 pub struct Unanswered(Seldom);
 
@@ -186,7 +186,7 @@ pub fn start(
     }
 }
 
-/// Tells the log, the status port and the service manager that the server serves.
+/// Reports to the log, the status port and the service manager that the server serves.
 pub fn ready(settings: &Settings, server: &Server, role: &Role) {
     role.serves(server.monitor());
     tracing::info!(
@@ -202,8 +202,9 @@ pub fn ready(settings: &Settings, server: &Server, role: &Role) {
     tell(&[NotifyState::Ready, NotifyState::Status(&format!("serves at {}", server.address()))]);
 }
 
-/// Tells the log and the service manager that another server serves, which clients reach at this
-/// address. One that stands by has started: else its manager would wait, and end it in the end.
+/// Reports to the log and the service manager that another server serves, which clients reach at
+/// this address. One that stands by has started: otherwise its manager would wait, and end it in
+/// the end.
 pub fn stands_by(leader: &str) {
     tracing::info!(%leader, "stands by");
     let status = format!("stands by: the server at {leader} serves");

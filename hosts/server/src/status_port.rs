@@ -41,7 +41,7 @@ const LAST_WRITES: Duration = Duration::from_secs(5);
 const PAUSE: Duration = Duration::from_millis(50);
 
 /// Serves the pages at the address, and says where it listens. At an address of TLS it shows this,
-/// and serves operators alone.
+/// and serves only operators.
 pub fn start(
     address: &Address,
     tls: Option<TlsConfig>,
@@ -159,7 +159,7 @@ async fn answer_operator(
     tell_refused(address, &why, refused);
 }
 
-/// Tells the log who was refused, now and then.
+/// Logs who was refused, now and then.
 fn tell_refused(address: SocketAddr, why: &str, refused: &Mutex<Seldom>) {
     let told = refused.lock().unwrap_or_else(PoisonError::into_inner).lets(Instant::now());
     if let Some(passed_over) = told {

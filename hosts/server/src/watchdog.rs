@@ -27,7 +27,7 @@ pub fn start(role: Role) -> io::Result<()> {
     Ok(())
 }
 
-/// Whether the process goes on. One that does not serve does.
+/// Whether the process continues. One that does not serve does.
 fn is_alive(role: &Role) -> bool {
     role.state().liveness().is_none_or(Liveness::is_alive)
 }

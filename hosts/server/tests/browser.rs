@@ -13,7 +13,7 @@ use std::time::Duration;
 /// How soon the page has to show what happens.
 const SOON: Duration = Duration::from_secs(2);
 
-/// How often a wait is made anew, on a machine that is too busy to show it soon.
+/// How often a wait is made again, on a machine that is too busy to show it soon.
 const TRIES: usize = 10;
 
 /// Waits that are not part of a circle, those that are, and what is hatched.
@@ -26,7 +26,7 @@ const ALARMS: &str = "document.querySelectorAll('p.alarm').length";
 const READS: &str = "performance.getEntriesByType('resource')\
                      .filter(it => it.initiatorType === 'fetch').map(it => it.startTime)";
 
-/// Whether the page tells that the server does not answer.
+/// Whether the page shows that the server does not answer.
 const IS_LATE: &str = "document.getElementById('late').checkVisibility()";
 
 fn is(what: &str, count: usize) -> String {

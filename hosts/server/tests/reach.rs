@@ -45,7 +45,7 @@ fn shows(serving: &Serving, reach: u64) {
 }
 
 /// Each start has the reach that it is given, over the same store, and no start is held to the one
-/// before. A client that goes on over a restart holds what it was granted before.
+/// before. A client that continues over a restart holds what it was granted before.
 #[test]
 fn each_start_has_its_own_reach() {
     let folder = tempfile::tempdir().unwrap();

@@ -74,7 +74,7 @@ fn a_signal_ends_a_server_within_a_second() {
 #[test]
 fn a_second_signal_ends_a_server_at_once() {
     let folder = tempfile::tempdir().unwrap();
-    // Both signals wait until the process goes on. Two threads may take them in one moment, and
+    // Both signals wait until the process continues. Two threads may take them in one moment, and
     // then none is the second.
     let ends_at_once = || {
         let serving = Serving::start(&folder.path().join("krl.db"));
@@ -196,7 +196,7 @@ fn a_server_is_ready_when_nobody_is_missing() {
     until("the server serves", || serving.get("/readyz").0 == 200);
 }
 
-/// Says that the test is over, even if it fails: else the client would go on for ever.
+/// Says that the test is over, even if it fails: otherwise the client would continue for ever.
 struct Over<'f>(&'f AtomicBool);
 
 impl Drop for Over<'_> {

@@ -58,7 +58,7 @@ fn who_evicts_at_a_shard_names_it() {
     let (address, lock) = (serving.address.to_string(), lock.to_str().unwrap().to_string());
     let refused = run(&["evict", &address, "3", &lock]);
     assert_eq!(refused.status.code(), Some(1));
-    assert!(errors(&refused).contains("0..500@3 alone"), "{}", errors(&refused));
+    assert!(errors(&refused).contains("serves only 0..500@3"), "{}", errors(&refused));
     let evicted = run(&["evict", &address, "3", &lock, "--shard", "0..500@3"]);
     assert_eq!(evicted.status.code(), Some(0), "{}", errors(&evicted));
 }

@@ -17,7 +17,7 @@ fn serve(folder: &tempfile::TempDir) -> Serving {
     Serving::start(&folder.path().join("krl.db"))
 }
 
-/// Connections that have sent this, and go on to wait.
+/// Connections that have sent this, and continue to wait.
 fn strangers(at: &str, sent: &str) -> Vec<TcpStream> {
     let stranger = |_| {
         let mut stream = TcpStream::connect(at).unwrap();

@@ -107,7 +107,7 @@ impl Setup {
         Client::join(servers, number, lock_file(self.path(), number))
     }
 
-    /// Runs the program with these words, and what the holder shows behind them.
+    /// Runs the program with these words, and what the holder shows after them.
     fn run_as(&self, holder: &str, words: &[&str]) -> Output {
         program().args(words).args(self.shows(holder)).output().unwrap()
     }

@@ -1,4 +1,4 @@
-//! Runs worlds by their seeds, and tells what is wrong.
+//! Runs worlds by their seeds, and reports what is wrong.
 use clap::{ArgGroup, Args, Parser};
 use krl_simulation::run::{self, Done, Plan, Shows};
 use krl_simulation::world::Settings;
@@ -9,10 +9,11 @@ use std::process::ExitCode;
 use std::str::FromStr;
 use std::time::Duration;
 
-/// Runs servers and clients of krl in one thread, over a network, disks and clocks that a seed draws.
+/// Runs servers and clients of krl in one thread, over a network, disks and clocks that a seed
+/// draws.
 ///
-/// Each run judges what clients are told. The first seed of which something is wrong is printed, and
-/// ends the program with status 1.
+/// Each run judges what clients are told. The first seed of which something is wrong is printed,
+/// and ends the program with status 1.
 #[derive(Debug, Parser)]
 #[command(name = "krl-simulation", version)]
 struct Words {

@@ -213,7 +213,8 @@ impl Processor {
         Processor { worked: worked(), began: Instant::now() }
     }
 
-    /// How long it has worked since. If the system does not tell, that is the time that has passed.
+    /// How long it has worked since. If the system does not report it, that is the time that has
+    /// passed.
     fn took(&self) -> Duration {
         match (self.worked, worked()) {
             (Some(before), Some(now)) => now.saturating_sub(before),
@@ -222,7 +223,7 @@ impl Processor {
     }
 }
 
-/// What Linux tells of this process: the first number is in nanoseconds.
+/// What Linux reports of this process: the first number is in nanoseconds.
 fn worked() -> Option<Duration> {
     let told = fs::read_to_string("/proc/self/schedstat").ok()?;
     Some(Duration::from_nanos(told.split_whitespace().next()?.parse().ok()?))

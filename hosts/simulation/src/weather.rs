@@ -1,5 +1,5 @@
-//! What a world is like: what there is in it, what goes wrong, and how often. Each world has its own
-//! mixture, since what goes wrong all the time hides what seldom goes wrong.
+//! What a world is like: what there is in it, what goes wrong, and how often. Each world has its
+//! own mixture, since what goes wrong all the time hides what seldom goes wrong.
 use crate::dice::Dice;
 use crate::network::Faults;
 use krl::Leases;
@@ -13,7 +13,7 @@ pub enum Fault {
     KillServer,
     /// An operator ends a server, and starts it again.
     StopServer,
-    /// A server stands still, and goes on.
+    /// A server stands still, and continues.
     FreezeServer,
     /// The server that stands by starts, though the other one may still run.
     TakeOver,
@@ -21,7 +21,7 @@ pub enum Fault {
     KillClient,
     /// A client's machine loses its power: nobody learns of it.
     LosePower,
-    /// A client stands still, and goes on.
+    /// A client stands still, and continues.
     FreezeClient,
     /// A client can't reach a server any more, and neither of them learns of it.
     Cut,
@@ -193,8 +193,8 @@ impl Weather {
         if self.has_second_process {
             self.weigh(Fault::Evict, 0);
         }
-        // By its history a store that went back is told. Of one that knows leases without an end, an
-        // operator would have to evict each client.
+        // By its history a store that went back is told. Of one that knows leases without an end,
+        // an operator would have to evict each client.
         let goes_back = self.has_history && self.terms != Terms::Each && dice.happens(250);
         self.weigh(Fault::CopyStore, if goes_back { 3 } else { 0 });
         self.weigh(Fault::PutBack, if goes_back { 2 } else { 0 });

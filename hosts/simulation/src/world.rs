@@ -21,13 +21,14 @@ use std::collections::{BTreeMap, BTreeSet, BinaryHeap};
 use std::time::Duration;
 use store::{Commit, Does, Stored};
 
-/// How soon each client has to be served after the last fault, and after all go on that stood still.
+/// How soon each client has to be served after the last fault, and after all continue that stood
+/// still.
 pub const BOUND: Duration = Duration::from_secs(30);
 
 /// No more events happen at one moment.
 const AT_ONCE: u64 = 100_000;
 
-/// For so long all goes on without faults when each client is served again.
+/// For so long all continues without faults when each client is served again.
 const CALM: Duration = Duration::from_secs(4);
 
 /// What a run is made of.
@@ -114,7 +115,7 @@ enum Event {
     Comes { link: u64, to: Side, number: u64, bytes: Vec<u8> },
     /// One side learns that a connection has ended.
     Ends { link: u64, to: Side },
-    /// A client goes on, if its timer is set to this moment.
+    /// A client continues, if its timer is set to this moment.
     Proceed { client: usize, life: u64, armed: Duration },
     /// A client connects.
     Connect { client: usize, life: u64 },
@@ -354,8 +355,8 @@ impl World {
         self.after(Duration::from_millis(300), Event::Fault);
     }
 
-    /// Goes on until something is wrong; or until the faults are over, each client is served again,
-    /// and all was calm for a while.
+    /// Continues until something is wrong; or until the faults are over, each client is served
+    /// again, and all was calm for a while.
     #[must_use]
     pub fn run(mut self) -> Report {
         self.run_until(self.settings.time);

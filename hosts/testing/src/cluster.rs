@@ -33,7 +33,7 @@ impl Cluster {
         Cluster::start_with(None, settings)
     }
 
-    /// One that speaks TLS, and takes clients alone that have a certificate of this authority.
+    /// One that speaks TLS, and takes only clients that have a certificate of this authority.
     pub fn start_secure(authority: &Authority) -> Option<Cluster> {
         Cluster::start_with(Some(authority), &[])
     }
@@ -112,7 +112,7 @@ impl Cluster {
         answer_to(request.set("Authorization", &token), body)
     }
 
-    /// Stops the node where it is, and lets it go on.
+    /// Stops the node where it is, and lets it continue.
     pub fn signal(&self, signal: &str) {
         let status = Command::new("kill").args([signal, &self.node.id().to_string()]).status();
         assert!(status.unwrap().success());

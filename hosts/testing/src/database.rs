@@ -97,7 +97,7 @@ impl Database {
         address_at(self.at)
     }
 
-    /// A file of the server with these bytes, which it alone may read, for a setting.
+    /// A file of the server with these bytes, which only it may read, for a setting.
     pub fn file(name: &str, bytes: &[u8]) -> String {
         let count = COUNT.fetch_add(1, Ordering::Relaxed);
         let name = format!("krl-postgres-{}-{count}-{name}", std::process::id());

@@ -28,7 +28,7 @@ pub enum Holds {
     /// Nothing.
     #[default]
     Nothing,
-    /// The next change of the store, and nothing behind it.
+    /// The next change of the store, and nothing after it.
     NextChange,
     /// Each change of the store.
     Changes,
@@ -79,7 +79,7 @@ impl Relay {
         waited.unwrap_or_else(PoisonError::into_inner).0.held > 0
     }
 
-    /// What is held goes on to the nodes, and nothing more is held.
+    /// What is held continues to the nodes, and nothing more is held.
     pub fn let_go(&self) {
         let mut state = self.gate.lock();
         *state = State { round: state.round + 1, ..State::default() };
@@ -150,7 +150,7 @@ fn relay(server: TcpStream, node: SocketAddr, gate: &Gate) -> io::Result<()> {
     node.shutdown(Shutdown::Both)
 }
 
-/// The next request, whole: none behind the last one.
+/// The next request, whole: none after the last one.
 fn read_request(from: &mut impl BufRead) -> io::Result<Option<Vec<u8>>> {
     let (mut request, mut length) = (Vec::new(), 0);
     loop {

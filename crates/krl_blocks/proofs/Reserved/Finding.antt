@@ -47,7 +47,7 @@ pub above_no : {V : Type 0} (k : ℕ) (es : List (ℕ × V)) → KeysAbove k es 
 above_no k [] h = tt
 above_no k (e ∷ es) h = ((λ f. omega (arith, f, h.0)), above_no k es h.1)
 
--- behind keys that do not have it
+-- after keys that do not have it
 pub find_behind : {V : Type 0} (q : ℕ) (front back : List (ℕ × V)) → NoKey q front → find nat_cmp q (front ++ back) ≡ find nat_cmp q back
 find_behind q [] back h = refl
 find_behind q (e ∷ front) back h = find_past q e.0 e.1 (front ++ back) (λ f. h.0 (sym f)) ∙ find_behind q front back h.1

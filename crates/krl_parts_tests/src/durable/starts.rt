@@ -5,7 +5,7 @@ use krl_durable::{Durable, EntriesRefused, Limits, Record, Room};
 use krl_messages::{Outcome, Value};
 use std::alloc::{AllocError, Global};
 
-/// What there is beside the entries.
+/// What there is next to the entries.
 #[derive(Clone, Copy)]
 pub enum Start {
     /// Nothing has happened to them yet.

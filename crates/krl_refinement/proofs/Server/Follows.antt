@@ -5,7 +5,8 @@ use Rattle.krl_refinement.proofs.Names.{lists, incarnation_or_0, Done, silent, w
 use Rattle.krl_refinement.proofs.Names.{world_of, BoundStays, not_both}
 use Rattle.krl_machine.specs.Links as links
 
--- the machine goes on to a world that shows the server after it; the bounds of those for whom cleared is true become N
+-- the machine continues to a world that shows the server after it; the bounds of those for whom cleared is true become
+-- N
 pub record Goes (s : Server) (of : ℕ → Link) (log : List Logged) (cleared : ℕ → Bool) (done : Done) (log_after : List Logged) : Type 0 where
   pub after : ℕ → Link
   pub steps : Steps (world_of s of log) (world_of done.server after log_after)
@@ -35,7 +36,7 @@ put_client of c l e = at_put (λ d x. x.client ≡ (of d).client) of c l e (λ d
 pub put_bound : (of : ℕ → Link) (c : ℕ) (l : Link) (cleared : ℕ → Bool) → BoundStays (cleared c) (of c) l → ((d : ℕ) → d ≢ c → cleared d ≡ false) → (d : ℕ) → BoundStays (cleared d) (of d) (put of c l d)
 put_bound of c l cleared here not = at_put (λ d x. BoundStays (cleared d) (of d) x) of c l here (λ d ne. bound_same (cleared d) (of d) (not d ne))
 
--- the link of one client takes steps, and the server changes what concerns this client alone
+-- the link of one client takes steps, and the server changes what concerns only this client
 pub by_link : (s t : Server) (of : ℕ → Link) (log : List Logged) (cleared : ℕ → Bool) (c : ℕ) (l : Link) (outs : List ToClient) → view s ≡ view t → LinkSteps (view s) (of c) l → l.client ≡ (of c).client → (is_recovering t.missing ≡ true → BoundStays (cleared c) (of c) l) → (is_recovering t.missing ≡ true → (d : ℕ) → d ≢ c → cleared d ≡ false) → LinkShows t c l → ((d : ℕ) → d ≢ c → LinkShows s d (of d) → LinkShows t d (of d)) → Shows s of → ((n : ℕ) (u : Waiter) → In u (t.rows n).queue → IsHeardOf (view t) (put of c l u.client)) → ((o : ToClient) → In o outs → (o.client ≡ c) × WasSent l o.incarnation o.body) → Goes s of log cleared (record { server = t; outs = outs }) log
 by_link s t of log cleared c l outs same steps client bound not here rest shows heard sent = record {
   after = put of c l;

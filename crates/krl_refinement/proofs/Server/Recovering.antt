@@ -13,7 +13,7 @@ with_missing s ms = record s { missing = ms }
 abbrev pub ShowsIn : Server → links.Phase → (ℕ → Link) → Type 0
 ShowsIn s p of = (d : ℕ) → LinkIs (view_of s.durable p) (record_of s.durable.register d) (lists s.missing d) (s.sessions d) (range_at s.durable.index s.rows d) (key_at s.durable.index s.rows d) (of d)
 
--- the recovery goes on, or the server serves with the rows that it rebuilt
+-- the recovery continues, or the server serves with the rows that it rebuilt
 still_recovering : (s t : Server) (ms : List ℕ) (before of : ℕ → Link) (log : List Logged) (cleared : ℕ → Bool) (outs : List ToClient) → ((c : ℕ) → (of c).client ≡ (before c).client) → ((c : ℕ) → BoundStays (cleared c) (before c) (of c)) → Steps (world_of s before log) (record { shared = view_of t.durable links.Recovering; links = of; log = log }) → ShowsIn (with_missing t ms) links.Recovering of → ((n : ℕ) (u : Waiter) → In u (t.rows n).queue → IsHeardOf (view t) (of u.client)) → ((o : ToClient) → In o outs → WasSent (of o.client) o.incarnation o.body) → Goes s before log cleared (record { server = with_missing t ms; outs = outs }) log
 still_recovering s t [] before of log cleared outs client bound steps shows heard sent = record {
   after = λ c. record (of c) { top_range = (of c).new_range; top_key = (of c).new_key };

@@ -78,7 +78,7 @@ module _ (s : Server) (i : IsSound s) (c n : ℕ) (row : Row) (slot : IsSlot (vi
         clients = put_client of c l refl;
       }
 
--- a grant that goes on raises one row more
+-- a grant that continues raises one row more
 raises_more : (s : Server) (of : ℕ → Link) (log : List Logged) (u : Waiter) → u.client < max_clients → WorldInv (world_of s of log) → (view s).phase ≡ links.Serving → (rows : Rows) (n : ℕ) → is_slot s.durable.index n ≡ true → is_wanted_compatible rows n u ≡ true → Raises s of log u.client rows → Raises s of log u.client (raised rows n u)
 raises_more s of log u lt inv serving rows n there may r =
     let c = u.client in

@@ -14,7 +14,7 @@ module _ (s : Server) (of : ℕ → Link) (log : List Logged) (m : ToServer) (in
   effect_goes : Goes s of log (λ c. nat_eq c m.client && clears (case_of s m)) (effect s m (case_of s m)) (logged m (case_of s m) log)
   effect_goes = (effect_follows s of log m inv h i at).1
 
-  -- the effect alone
+  -- the effect only
   no_more : StepFollows s of log m (effect s m (case_of s m)).server (effect s m (case_of s m)).outs
   no_more = let f = effect_goes in record {
     follows = record { after = f.after; log_after = logged m (case_of s m) log; steps = f.steps; shows = f.shows; sound = effect_sound s m i; sent = f.sent; clients = f.clients };

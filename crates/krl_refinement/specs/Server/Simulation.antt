@@ -18,7 +18,7 @@ use Rattle.krl_server.specs.Soundness.{IsSound}
 use Rattle.krl_refinement.specs.Messages.{Stands, WasSent}
 use Rattle.krl_refinement.specs.Server.AsLinks.{Shows, world_of, DurableShows, down_world_of, logged}
 
--- the machine goes on to a world that shows the server t, if these messages stand
+-- the machine continues to a world that shows the server t, if these messages stand
 pub record Follows (from : World) (of : ℕ → Link) (t : Server) (outs : List ToClient) : Type 0 where
   pub after : ℕ → Link
   pub log_after : List Logged

@@ -83,7 +83,7 @@ for_is s n u b e f = ap (λ b. if b then [] else callbacks_from s n u 0 max_clie
 
 -- All slots
 
--- what is left of a list of slots behind one of them
+-- what is left of a list of slots after one of them
 pub record IsBehind (s : Server) (n : ℕ) (ns rest : List ℕ) : Type 0 where
   pub all : callbacks_among s ns ≡ callbacks_at s n (s.rows n).queue ++ callbacks_among s rest
   pub up : Ascends rest

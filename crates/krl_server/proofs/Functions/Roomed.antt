@@ -99,7 +99,7 @@ module _ (s : Server) (n : ℕ) (u : Waiter) (first : front_of (s.rows n).queue 
       (λ k ne. ap (λ q. (q k).queue) rows ∙ ap (λ (x : Row). x.queue) (row_other s.rows n row k ne)))
       h
 
--- q is s with one who waits alone at the slot n, and is answered
+-- q is s with one who is the only one to wait at the slot n, and is answered
 pub alone_answered : (s q : Server) (n : ℕ) (turn : Turn) → q.durable ≡ s.durable → next_turn q ≡ Some turn → turn.slot ≡ n → length (q.rows n).queue ≡ 1 → ((k : ℕ) → k ≢ n → (q.rows k).queue ≡ (s.rows k).queue) → NobodyCame s (answer_first q turn).server
 alone_answered s q n turn durable next slot alone beside = record {
   reach = ap (λ (d : Durable). d.reach) (turn_durable q turn ∙ durable);

@@ -33,7 +33,7 @@ all_told s t outs h e = subst (Answered s t) (append-nil outs) (h t [] (stops t 
 
 -- The order of the slots
 
--- each is less than all behind it
+-- each is less than all after it
 abbrev pub Ascends : List ℕ → Type 0
 Ascends [] = Unit {0}
 Ascends (n ∷ ns) = ((k : ℕ) → In k ns → n < k) × Ascends ns
@@ -140,7 +140,7 @@ turn_row s t k lt = if_both (λ (x : Done). x.server.rows k ≡ s.rows k) (asks_
     (ap (λ r. r k) (pushes_rows (with_rows s (dropped s.rows t.slot)) t.waiter.client (push.Absent t.waiter.req t.waiter.point)) ∙ row_other s.rows t.slot (with_queue (s.rows t.slot) (behind_first (s.rows t.slot).queue)) k (λ e. omega (arith, e, lt)))
     (ap (λ r. r k) (pushes_rows (with_rows s (granted s.durable.reach s.durable.index s.rows t.slot)) t.waiter.client (push.Grant t.waiter.req (holdings (with_rows s (granted s.durable.reach s.durable.index s.rows t.slot)) t.waiter.client (taken s.durable.reach s.durable.index s.rows t.slot)))) ∙ granted_below s.durable.reach s.durable.index s.rows t.slot k lt)
 
--- nor does it change a row at which somebody waits, beside its own
+-- nor does it change a row at which somebody waits, next to its own
 pub turn_row_beside : (s : Server) (t : Turn) (k : ℕ) (v : Waiter) (vs : List Waiter) → k ≢ t.slot → (s.rows k).queue ≡ v ∷ vs → (answer_first s t).server.rows k ≡ s.rows k
 turn_row_beside s t k v vs ne queue = if_both (λ (x : Done). x.server.rows k ≡ s.rows k) (asks_absent s.durable.index t.waiter) (tells_absent s t) (grants s t)
     (ap (λ r. r k) (pushes_rows (with_rows s (dropped s.rows t.slot)) t.waiter.client (push.Absent t.waiter.req t.waiter.point)) ∙ row_other s.rows t.slot (with_queue (s.rows t.slot) (behind_first (s.rows t.slot).queue)) k ne)

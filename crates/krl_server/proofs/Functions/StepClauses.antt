@@ -137,7 +137,7 @@ calls_said s t m outs step =
 
 -- Answers to writes
 
--- what is sent behind a case's own messages answers no write
+-- what is sent after a case's own messages answers no write
 pub record HasRest (t : Server) (own outs : List ToClient) : Type 0 where
   pub rest : List ToClient
   pub all : outs ≡ own ++ rest

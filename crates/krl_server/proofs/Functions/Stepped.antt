@@ -158,7 +158,7 @@ module _ (s : Server) (m : ToServer) where
           (all_came s m sound n v at));
     })
 
-    -- there is room for what is left, behind the case's own messages
+    -- there is room for what is left, after the case's own messages
     pub room_left : (t : Server) (left : After) (outs : List ToClient) (old new : Sent) → t ≡ (effect s m (case_of s m)).server → outs ≡ (effect s m (case_of s m)).outs → left ≡ after_of (case_of s m) → Sends old new outs → old ≡ (record { sent = []; room = room_for (waiting_clients s) f }) → HasRoom t left new
     room_left t left outs old new server own e sends empty =
         let long = sends_length old new outs sends in

@@ -30,7 +30,7 @@ rows_kept m rows c op outcome.Absent e = refl
 rows_kept m rows c op outcome.NotHeld e = refl
 rows_kept m rows c op outcome.Full e = refl
 
--- the server after a refusal: the record alone changes
+-- the server after a refusal: only the record changes
 abbrev pub with_noted : Server → ℕ → Outcome → Record → Server
 with_noted s c o r = record s { durable = record s.durable { register = with_record s.durable.register c (noted r o) } }
 

@@ -190,7 +190,7 @@ turn_empties s t e k none =
     (λ f. let h = subst (λ n. suc (length ((answer_first s t).server.rows n).queue) ≤ length (s.rows n).queue) (sym f) x.here in omega (arith, h, zero))
     (λ ne. let h = x.rest k ne in omega (arith, h, zero)))
 
--- and a turn leaves nobody at a slot where one alone waited
+-- and a turn leaves nobody at a slot where only one waited
 pub turn_empties_here : (s : Server) (t : Turn) → next_turn s ≡ Some t → (k : ℕ) → length (s.rows k).queue ≡ 1 → k ≡ t.slot → ((answer_first s t).server.rows k).queue ≡ []
 turn_empties_here s t e k one f =
     let x = turn_shorter s t e in

@@ -33,7 +33,7 @@ module _ (t u : Kept) (k : ℕ) (w : Waiter) (sound : IsSound t) (client : w.cli
   pub raised_over : (m : Index) → IsOver m t → is_slot m k ≡ true → IsOver m u
   raised_over m over slot = fewer_over t u k row s m over slot (λ v at. at)
 
--- A grant that goes on
+-- A grant that continues
 
 nothing_more : (m : Index) (rows : Rows) (n : ℕ) (w : Waiter) (k : ℕ) → goes_on m rows n w ≡ false → taken_after m rows n w k ≡ []
 nothing_more m rows n w zero e = refl

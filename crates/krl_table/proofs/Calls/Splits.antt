@@ -56,7 +56,7 @@ module _ (m : Index) (k s : ℕ) (v : Value) (near : (n : ℕ) → END ≤ n →
           (λ (d : n < s). not_both (is_slot m n) x.slot (at.least n (omega (arith, b)) d))
           (λ (d : s ≤ n). not_both (is_slot m s) at.slot (x.least s (let c = under in omega (arith, a, c)) (omega (arith, d, ns)))) (cases_lt n s)
 
-  -- behind k it stays, too
+  -- after k it stays, too
   pub slot_beyond : (p : ℕ) → k < p → IsSlotOf m p s → IsSlotOf more p s
   slot_beyond p lt x = record {
     slot = other_slot s (λ e. apart (sym e)) ∙ x.slot;

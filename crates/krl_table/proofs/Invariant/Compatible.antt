@@ -20,7 +20,7 @@ all_below_at (suc n) f d e lt = let x = and_parts (f n) (all_below n f) e in
 pub none_compatible : (g : Mode) → compatible g mode.N ≡ true
 none_compatible g = grind arith
 
--- one client's mode beside another's
+-- one client's mode next to another's
 pub beside : (modes : ℕ → Mode) (c : ℕ) → AreCompatible modes → (d : ℕ) → d ≢ c → compatible (modes c) (modes d) ≡ true
 beside modes c h d ne = h c d (λ e. ne (sym e))
 

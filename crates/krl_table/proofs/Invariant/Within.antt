@@ -1,4 +1,4 @@
--- Each client holds and waits in its extent alone.
+-- Each client holds and waits only in its extent.
 use Rattle.krl_table.proofs.Names.{◌≡◌, ◌≢◌, ℕ, ◌+◌, ◌≤◌, ◌<◌, Bool, true, false, not, ◌&&◌, List, [], ◌∷◌, ◌++◌, None, ◌⊎◌, inl, inr, length, set, refl, sym, ap, subst, ◌∙◌, ⊎_elim, arith}
 use Rattle.krl_table.proofs.Names.{nat_eq, eq-eqb, ne_eqb, nat_tests, get_or-set_same, get_or-set_other, fun_ext, nat_le, nat_lt, if◌then◌else◌, get, TOP, Mode, lets_insert, range_of}
 use Rattle.krl_table.proofs.Names.{at_or_above, meet, Waiter, without_first, up_to, beyond, Extent, Row, blank_row, set_mode, with_mode, with_queue, queue_with, unqueue}
@@ -116,7 +116,7 @@ module _ (es fs : List Extent) (t u : Kept) (k s c : ℕ) (wider : AreWider es f
       (λ d lt. ⊎_elim (λ (a : Lies (extent_in es d) s). inl (follows d lt a)) (λ (b : IsFreeOf (rows_of t s) d). inr (new_free d b)) (w s d lt))
       (λ d lt. ⊎_elim (λ (a : Lies (extent_in es d) s). inl (wider d s a)) (λ (b : IsFreeOf (rows_of t s) d). inr (old_free d b)) (w s d lt))
 
--- the slot k goes, and s comes behind it
+-- the slot k goes, and s comes after it
 module _ (es fs : List Extent) (t u : Kept) (k s : ℕ) (wider : AreWider es fs) (w : AreWithin es t) (follows : (d : ℕ) → d < 64 → Lies (extent_in es d) k → Lies (extent_in fs d) s) where
   abbrev both : Row
   both = with_queue (rows_of t s) ((rows_of t k).queue ++ (rows_of t s).queue)

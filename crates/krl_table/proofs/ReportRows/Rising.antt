@@ -1,4 +1,4 @@
--- Lists of pieces that rise, and what is left of a report behind a point.
+-- Lists of pieces that rise, and what is left of a report after a point.
 use Rattle.krl_table.proofs.Names.{◌≡◌, ℕ, zero, suc, ◌+◌, ◌≤◌, ◌<◌, Bool, true, false, ◌&&◌, List, [], ◌∷◌, None, inl, inr, drop, slice_index_or, length, refl, sym, ap, subst, ◌∙◌, arith, ne_eqb}
 use Rattle.krl_table.proofs.Names.{nat_tests, drop_all, nat_lt, if◌then◌else◌, get, END, RangePart, KeyPart, range_join, key_join, at_or_above, Bounds, meets, Pieces, Index, span_of, reported_range}
 use Rattle.krl_table.proofs.Names.{reported_key, RangesOff, KeysOff, RangesRise, KeysRise, SameRanges, SameKeys, ReportsSame, BeginsSpan, IsNextReported, NothingFrom}
@@ -25,7 +25,7 @@ ranges_drop (x ∷ xs) (suc i) h = ranges_drop xs i (ranges_tail x xs h)
 ranges_at : (xs : List RangePiece) (i : ℕ) (x : RangePiece) → i < length xs → x ≡ slice_index_or xs i x → RangesRise 0 xs → RangesRise x.span.lo (drop i xs)
 ranges_at xs i x lt e h = subst (RangesRise x.span.lo) (sym (from_item xs i x lt e)) (let at : RangesRise 0 (x ∷ drop (i + 1) xs) = subst (RangesRise 0) (from_item xs i x lt e) (ranges_drop xs i h) in (omega arith, at.1))
 
--- spans that begin at or behind a span's end don't meet it
+-- spans that begin at or after a span's end don't meet it
 none_behind : (low : ℕ) (xs : List RangePiece) (span : Bounds) → span.hi ≤ low → RangesRise low xs → reported_range xs span ≡ range.N
 none_behind low [] span le h = refl
 none_behind low (x ∷ xs) span le h = ap (λ t. if t then range_join x.part (reported_range xs span) else reported_range xs span) misses ∙ none_behind x.span.lo xs span (omega (arith, le, h.0)) h.1
@@ -86,7 +86,7 @@ keys_drop (x ∷ xs) (suc i) h = keys_drop xs i (keys_tail x xs h)
 keys_at : (xs : List KeyPiece) (i : ℕ) (d : KeyPiece) → i < length xs → KeysRise 0 xs → KeysRise (slice_index_or xs i d).point (drop i xs)
 keys_at xs i d lt h = let x = slice_index_or xs i d in subst (KeysRise x.point) (sym (from_place xs i d lt)) (let at : KeysRise 0 (x ∷ drop (i + 1) xs) = subst (KeysRise 0) (from_place xs i d lt) (keys_drop xs i h) in (omega arith, at.1))
 
--- points behind a point aren't that one
+-- points after a point aren't that one
 none_past : (low : ℕ) (xs : List KeyPiece) (p : ℕ) → p < low → KeysRise low xs → reported_key xs p ≡ key.N
 none_past low [] p lt h = refl
 none_past low (x ∷ xs) p lt h = ap (λ t. if t then key_join x.part (reported_key xs p) else reported_key xs p) (ne_eqb x.point p (λ e. omega (arith, e, lt, h.0)))
@@ -122,7 +122,7 @@ module _ (m : Index) (near : (k : ℕ) → END ≤ k → get m k ≡ None) (piec
   pub same_begins : (at : ℕ) → ReportsSame m at pieces pieces
   same_begins at n le e = refl
 
-  -- what is left reports the same behind a slot
+  -- what is left reports the same after a slot
   pub same_goes : (old new : Pieces) (at next : ℕ) → at ≤ next → BeginsSpan m next → ReportsSame m at old pieces → SameRanges next new.ranges old.ranges → SameKeys next new.keys old.keys → ReportsSame m next new pieces
   same_goes old new at next le begins same ranges keys n from e =
       (λ i. at_or_above (ranges (span_of m n) (low_from m near old next begins n from e) i) (keys n from i)) ∙ same n (omega (arith, le, from)) e

@@ -85,7 +85,7 @@ all_least waiting low k (Some p) all h = let x = h.some p refl in record {
 
 -- Somebody waits at the slots of the points that are waited for
 
--- the walk goes on from this point: whose point lies below it, that one's slot does
+-- the walk continues from this point: whose point lies below it, that one's slot does
 abbrev pub Begins : Index → ℕ → Type 0
 Begins m low = (q s : ℕ) → IsSlotOf m q s → q < low → s < low
 

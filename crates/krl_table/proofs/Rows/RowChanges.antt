@@ -51,7 +51,7 @@ pub front-is : (ws : List Waiter) → slice_get ws 0 ≡ front_of ws
 front-is [] = refl
 front-is (w ∷ ws) = refl
 
--- a row that is set, if the others were changed before at its slot alone
+-- a row that is set, if the others were changed before only at its slot
 pub set_after : (t u v : Kept) (k : ℕ) (row new : Row) → ((n : ℕ) → n ≢ k → get u n ≡ get t n) → row ≡ new → IsSet u v k row → IsSet t v k new
 set_after t u v k row new same e h = record {
   here = h.here ∙ e;

@@ -70,7 +70,7 @@ module _ (m : Index) where
     pub slot_self : (n : ℕ) → is_slot m n ≡ true → slot_of m n ≡ n
     slot_self n h = slot_is n n (slot_end n h) (record { slot = h; above = omega arith; least = λ k a b. absurd (omega (arith, a, b)) })
 
-    -- a span begins behind each slot before it
+    -- a span begins after each slot before it
     pub low_past : (s n : ℕ) → is_slot m s ≡ true → s < n → n ≤ END → suc s ≤ low_of m n
     low_past s n h lt le = ⊎_elim (λ (a : s < low_of m n). a)
         (λ (a : low_of m n ≤ s). absurd (a_key s h (λ e. omega (arith, e, lt, le))

@@ -23,7 +23,7 @@ use krl_durable::Durable;
 use krl_modes::{END, MAX_HOLDINGS, Point};
 use krl_queue::Waiter;
 
-/// Whether the waiter may take the slot, which has this row, beside its own.
+/// Whether the waiter may take the slot, which has this row, next to its own.
 fn row_takes(row: &SlotRow, slot: u64, waiter: &Waiter) -> bool
     requires { waiter.now.client < MAX_CLIENTS }
     ensures { result ≡ row_takes slot (row_of row.now) waiter.now }
@@ -33,7 +33,7 @@ fn row_takes(row: &SlotRow, slot: u64, waiter: &Waiter) -> bool
     free && is_compatible_there && !lacks_entry(slot, waiter)
 }
 
-/// Whether the waiter asks for an entry alone, and the slot is END.
+/// Whether the waiter asks only for an entry, and the slot is END.
 fn lacks_entry(slot: u64, waiter: &Waiter) -> bool
     ensures { result ≡ (needs_entry waiter.now.mode && nat_eq slot END) }
 {
@@ -42,11 +42,11 @@ fn lacks_entry(slot: u64, waiter: &Waiter) -> bool
 
 impl Table {
     /// The slot's first waiter gets what it wants, which is compatible with what all others hold
-    /// there, and waits no more. The grant goes on over the slots after it that begin below the end
-    /// of what the waiter asks for, as far as the reach of what survives. It ends before the first
-    /// slot where somebody waits, or where what it asks for is not compatible with what others
-    /// hold, or which is END if the waiter asks for an entry alone. It answers the slots that were
-    /// taken, in ascending order; none if nobody waits. It takes no memory.
+    /// there, and waits no more. The grant continues over the slots after it that begin below the
+    /// end of what the waiter asks for, as far as the reach of what survives. It ends before the
+    /// first slot where somebody waits, or where what it asks for is not compatible with what
+    /// others hold, or which is END if the waiter asks only for an entry. It answers the slots that
+    /// were taken, in ascending order; none if nobody waits. It takes no memory.
     pub fn grant(&mut self, durable: &Durable, slot: u64) -> ArrayVec<Point, MAX_HOLDINGS>
         requires over { IsOver durable.now.index self.old.map }
         requires rows { durable.now.room < self.old.room }
@@ -146,7 +146,7 @@ impl Table {
         }
     }
 
-    /// Whether the waiter may take the slot beside its own.
+    /// Whether the waiter may take the slot next to its own.
     fn can_take(&self, slot: u64, waiter: &Waiter) -> bool
         requires { waiter.now.client < MAX_CLIENTS }
         ensures result { result ≡ can_take (rows_of self.now.map) slot waiter.now }

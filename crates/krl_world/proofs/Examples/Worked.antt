@@ -1,4 +1,4 @@
--- What the server does in a short run: a client says Hello, and locks the gap below 10 and the entry there.
+-- What the server does in a short run: a client sends Hello, and locks the gap below 10 and the entry there.
 use Rattle.krl_modes.specs.declared.limits.TheConstants.{STANDARD_REACH}
 use Rattle.krl_world.proofs.Names.{◌≡◌, ℕ, Option, Some, None, List, [], ◌∷◌, ◌++◌, refl, sym, subst, Value, Holding, ToServer, ToClient, Index, slots, max_entries, max_clients, Server, Registers, Waits}
 use Rattle.krl_world.proofs.Names.{case_of, effect, Turn, turn_at, turn_among, next_turn, answer_first, Answered, stops, goes_on, callbacks_at, callbacks_among, callbacks, Acts, kind_of, Ends}

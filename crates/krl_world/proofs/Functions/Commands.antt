@@ -9,7 +9,7 @@ use Rattle.krl_steps.specs.declared.refused.Refused.TheVariants as refused
 use Rattle.krl_world.specs.PlaceSteps.{Does, Commanded, CommandedAt}
 use Rattle.krl_world.proofs.Functions.Lifts.{takes, refuses, refuses_by, is_client, same_place, places_set}
 
--- the client of c goes on as this one, and this was sent
+-- the client of c continues as this one, and this was sent
 abbrev pub gone : State → ℕ → Option Client → List Message → State
 gone w c next sent = record w { places = set_place w.places c (record { last_incarnation = (w.places c).last_incarnation; client = next }); sent = sent }
 

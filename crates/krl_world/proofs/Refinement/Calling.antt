@@ -16,7 +16,7 @@ use Rattle.krl_table.specs.Calls.{wanted, dropped}
 use Rattle.krl_table.specs.Grants.{taken, granted}
 use Rattle.krl_table.specs.Replies.{asks_absent}
 
--- the epoch of a callback, else 0
+-- the epoch of a callback, otherwise 0
 abbrev pub epoch_called : ToClientBody → ℕ
 epoch_called (told.Epoch epoch) = 0
 epoch_called (told.Push epoch number body) = 0

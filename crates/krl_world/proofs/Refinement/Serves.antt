@@ -55,7 +55,7 @@ case_log m (AnswersAgain number x o) log = nil_right (oldest_first log)
 
 -- Steps
 
--- the messages and places, if the machine went on and the clients stayed
+-- the messages and places, if the machine continued and the clients stayed
 pub mirrors_on : (w : State) (n : ServerPlace) (of to : ℕ → Link) (log log' : List Logged) (a b : machine.World) (outs : List ToClient) (writes : List AppliedWrite) → Mirrors w of log → a.links ≡ of → b.links ≡ to → Steps a b → ((o : ToClient) → In o outs → WasSent (to o.client) o.incarnation o.body) → ((c : ℕ) → (to c).client ≡ (of c).client) → ServerShows n to → oldest_first log ++ writes ≡ oldest_first log' → (durable_of w.server).epoch ≡ a.shared.epoch → b.shared.epoch ≡ (durable_of n).epoch → AreCalled (durable_of n).epoch outs → Mirrors (served w n outs writes) to log'
 mirrors_on w n of to log log' a b outs writes h ea eb steps sent clients shows e old new called = record {
   places = λ c. place_stays c (w.places c).last_incarnation (w.places c).client (of c) (to c) (clients c) (h.places c);

@@ -43,7 +43,7 @@ rests w gone of log e h = record {
 place_at : (w : State) (of : ℕ → Link) (log : List Logged) (c : ℕ) (k : Option Client) → Mirrors w of log → client_of w c ≡ k → ShowsPlace c (w.places c).last_incarnation k (of c)
 place_at w of log c k h e = subst (λ x. ShowsPlace c (w.places c).last_incarnation x (of c)) e (h.places c)
 
--- the client of c goes on as k', and sends these
+-- the client of c continues as k', and sends these
 client_goes : (w v : State) (of : ℕ → Link) (log : List Logged) (c : ℕ) (k' : Option Client) (ms : List ToServer) → Mirrors w of log → Leads (shared_of w.server) (of c) c (w.places c).last_incarnation k' ms → v ≡ with_client w c k' ms → Goes w.server v (λ d. false) of log
 client_goes w v of log c k' ms h g e = subst (λ x. Goes w.server x (λ d. false) of log) (sym e) (place_goes w of log c (record { last_incarnation = (w.places c).last_incarnation; client = k' }) ms h g)
 

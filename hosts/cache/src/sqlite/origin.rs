@@ -23,7 +23,7 @@ const KEPT: usize = 8;
 /// A table in a file of SQLite whose rows are cached. All processes use the file on one machine.
 ///
 /// A transaction locks the whole file for writing. **A process that stands still within one keeps
-/// all others from writing until it goes on or ends**: nobody ends its transaction. In WAL mode
+/// all others from writing until it continues or ends**: nobody ends its transaction. In WAL mode
 /// others can read meanwhile.
 pub struct SqliteOrigin<T> {
     pool: Pool,

@@ -275,7 +275,7 @@ impl Writer<'_> {
         self.go(state, WriterAt::TakeBack(key + 1))
     }
 
-    /// Where the transaction goes on after its commit.
+    /// Where the transaction continues after its commit.
     fn made(&self, state: &State, from: Key) -> WriterAt {
         let is_delete = |key: &Key| self.change(state, *key) == Some(Change::Delete);
         (from..KEYS).find(is_delete).map_or(WriterAt::Return(Outcome::Made), WriterAt::Finish)

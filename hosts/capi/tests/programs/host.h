@@ -98,7 +98,7 @@ static inline void host_wait(host *host, const answer *answer) {
         host_go_on(host);
 }
 
-/* Another thread goes on with the client, between these two. */
+/* Another thread continues with the client, between these two. */
 static inline void *host_run(void *context) {
     host *host = context;
     while (!__atomic_load_n(&host->is_to_end, __ATOMIC_ACQUIRE))

@@ -8,7 +8,7 @@ use serde_json::{Value as Json, json};
 use std::fmt::Write;
 use std::time::Duration;
 
-/// The quantiles that are told: of a thousand calls, and their names.
+/// The quantiles that are reported: of a thousand calls, and their names.
 const QUANTILES: [(u64, &str); 3] = [(500, "p50"), (990, "p99"), (999, "p99.9")];
 
 /// Prints what was measured in so long.

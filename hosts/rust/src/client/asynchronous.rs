@@ -126,8 +126,8 @@ impl AsyncClient {
         write(self.shared(), Write::Delete(key), Jobs::write).await
     }
 
-    /// Makes several writes, as [`Client::write_all`] does. If its future is dropped, those that were
-    /// not sent are not made.
+    /// Makes several writes, as [`Client::write_all`] does. If its future is dropped, those that
+    /// were not sent are not made.
     ///
     /// # Errors
     ///
@@ -176,8 +176,8 @@ impl AsyncClient {
         self.hold(keys_of(&keys)?, Purpose::Write).await
     }
 
-    /// Waits so long, a year at most, until the client no longer knows that the range has these rows,
-    /// as [`Client::wait_for_change`] does.
+    /// Waits so long, a year at most, until the client no longer knows that the range has these
+    /// rows, as [`Client::wait_for_change`] does.
     ///
     /// # Errors
     ///
@@ -257,7 +257,7 @@ pub struct AsyncPin {
 }
 
 impl AsyncPin {
-    /// Whether no other client has taken what was held of the range, as [`Pin::holds`] tells.
+    /// Whether no other client has taken what was held of the range, as [`Pin::holds`] reports.
     #[must_use]
     pub fn holds(&self) -> bool {
         self.pin.holds()

@@ -1,4 +1,4 @@
-//! What a client is told before it joins.
+//! What a client is given before it joins.
 use crate::client::Client;
 use crate::client::joining::{self, Errand, Waits};
 use crate::client::lock_file::LockFileError;
@@ -10,7 +10,7 @@ use crate::net::tls::TlsConfig;
 use std::path::{Path, PathBuf};
 use std::time::Duration;
 
-/// What a client is told before it joins: its servers, its number and its lock file, and how long
+/// What a client is given before it joins: its servers, its number and its lock file, and how long
 /// its calls wait. The number and the lock file have to be said, or several numbers and a folder.
 #[derive(Clone, Debug)]
 #[must_use = "a builder does nothing before `join`"]
@@ -48,10 +48,10 @@ impl ClientBuilder {
         self
     }
 
-    /// Several numbers, of which the client takes the first that is free: [`Client::number`] tells
-    /// which. They need a [`ClientBuilder::lock_folder`]. A number whose lock file another process has
-    /// is left for the next one at once, and one of which the server tells that another process has
-    /// it after a second.
+    /// Several numbers, of which the client takes the first that is free: [`Client::number`]
+    /// reports which. They need a [`ClientBuilder::lock_folder`]. A number whose lock file another
+    /// process has is left for the next one at once, and one of which the server reports that
+    /// another process has it after a second.
     ///
     /// ```no_run
     /// # use krl::{Address, Client};
@@ -64,8 +64,8 @@ impl ClientBuilder {
         self
     }
 
-    /// The folder of the lock files, in place of one file: that of number 3 is `client-3.lock` there.
-    /// The folder has to be there.
+    /// The folder of the lock files, in place of one file: that of number 3 is `client-3.lock`
+    /// there. The folder has to be there.
     pub fn lock_folder(mut self, path: impl Into<PathBuf>) -> ClientBuilder {
         self.lock_file = Some(LockPlace::Folder(path.into()));
         self
@@ -96,9 +96,9 @@ impl ClientBuilder {
         self
     }
 
-    /// How long `join` waits for its number if the server tells that another process has it: until
-    /// the timeout by default. Then it ends with `Unserved`. Who has several numbers tries the next
-    /// one after a moment.
+    /// How long `join` waits for its number if the server reports that another process has it:
+    /// until the timeout by default. Then it ends with `Unserved`. Who has several numbers tries
+    /// the next one after a moment.
     pub fn wait_if_in_use(mut self, wait: Duration) -> ClientBuilder {
         self.waits.if_in_use = wait;
         self
@@ -109,7 +109,8 @@ impl ClientBuilder {
     /// # Errors
     ///
     /// `Incomplete` if no number or no lock file was said, or several numbers and one file;
-    /// `LockFile` if other processes have the files of all numbers; else those of [`Client::join`].
+    /// `LockFile` if other processes have the files of all numbers; otherwise those of
+    /// [`Client::join`].
     pub fn join(self) -> Result<Client, JoinError> {
         let place = self.lock_file.ok_or(JoinError::Incomplete("a lock file"))?;
         let (servers, waits) = (self.servers, self.waits);
@@ -137,9 +138,9 @@ impl Client {
     ///
     /// `BadNumber` above 63; `LockFile` if another process has the file, or it can't be used;
     /// `NoThread`; `NoAnswer`, with the reason if the connection failed; `Unserved`, if the server
-    /// tells why it does not serve the client; `TurnedAway`, if this side has no right to the client;
-    /// `OtherShard`, if the server serves another shard than the client takes it for; `Refused` if
-    /// memory is refused.
+    /// tells why it does not serve the client; `TurnedAway`, if this side has no right to the
+    /// client; `OtherShard`, if the server serves another shard than the client takes it for;
+    /// `Refused` if memory is refused.
     pub fn join(
         servers: impl Into<Servers>,
         number: u8,

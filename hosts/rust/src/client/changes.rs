@@ -22,12 +22,12 @@ pub enum Waited {
 /// later item** is the rows at a later moment, and they differ from those of the item before. What
 /// is kept is the latest state and not each one: an iterator that is asked slowly, or a range that
 /// changes quickly, misses states in between, and a change that is taken back at once may be missed
-/// altogether. After the last change of a range the iterator returns its last state, however many it
-/// has missed.
+/// altogether. After the last change of a range the iterator returns its last state, however many
+/// it has missed.
 ///
-/// **An error** ends nothing: the next call goes on where the last one was, since a client whose
-/// server is down, or that has dropped its cache, joins again. The iterator ends when the client has
-/// left.
+/// **An error** ends nothing: the next call continues where the last one was, since a client whose
+/// server is down, or that has dropped its cache, joins again. The iterator ends when the client
+/// has left.
 ///
 /// While it waits it sends nothing. Each item costs a read: the writer of the change has the range
 /// called back, as for any reader.

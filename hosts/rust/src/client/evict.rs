@@ -10,8 +10,8 @@ use std::time::{Duration, Instant};
 const LEASE_ENDS: Duration = Duration::from_secs(60);
 
 /// Ends the client of this number for good: an operator's call for a client whose process is gone
-/// and will not come back. A client with a greater incarnation says Hello, which takes all from the
-/// old one, and then Bye.
+/// and will not come back. A client with a greater incarnation sends Hello, which takes all from
+/// the old one, and then Bye.
 ///
 /// A client that has a lease is evicted when that ends: for this it waits a minute at most. While
 /// the client lives, its lease does not end, and it is not evicted. If the server knows a greater

@@ -39,7 +39,7 @@ use watched::Watched;
 use writing::Written;
 use yielding::Narrowed;
 
-/// How often a client says again what is not answered, and how often it says that it is there.
+/// How often a client sends again what is not answered, and how often it says that it is there.
 pub(crate) const BUSY_TICK: Duration = Duration::from_millis(20);
 pub(crate) const IDLE_TICK: Duration = Duration::from_millis(250);
 
@@ -49,7 +49,7 @@ pub(crate) type JobId = u64;
 /// A job that was asked for: its name, and where its answer comes.
 pub(crate) struct Asked<T> {
     pub id: JobId,
-    /// The client says it again until it is answered.
+    /// The client sends it again until it is answered.
     pub is_urgent: bool,
     pub answer: Answer<Result<T, Error>>,
 }
@@ -73,7 +73,7 @@ impl<T> Reply<T> {
         }
     }
 
-    /// Gives the answer, if there is one. Else the job goes on.
+    /// Gives the answer, if there is one. Otherwise the job continues.
     fn give(self, found: Result<Option<T>, Code>) -> Option<Reply<T>> {
         match found.transpose() {
             Some(answer) => {
@@ -117,18 +117,18 @@ pub(crate) enum Asking {
 #[derive(Clone, Copy, Debug, PartialEq, Eq)]
 enum Stage {
     Here,
-    /// It joins anew to say Bye: the server may know it by an older incarnation.
+    /// It joins again to say Bye: the server may know it by an older incarnation.
     Returning,
-    /// It says Bye.
+    /// It sends Bye.
     Leaving,
     /// The server has said that the Bye is kept. Nothing more is asked.
     Gone,
-    /// Its thread has ended, and no job goes on.
+    /// Its thread has ended, and no job continues.
     Ended,
 }
 
-/// The client and its jobs. Each call of it takes microseconds, and none waits or reads a clock: what
-/// is decided by a clock is decided by the moment that [`Jobs::at`] was given last.
+/// The client and its jobs. Each call of it takes microseconds, and none waits or reads a clock:
+/// what is decided by a clock is decided by the moment that [`Jobs::at`] was given last.
 pub(crate) struct Jobs {
     client: ClientHandle,
     now: Now,
@@ -160,7 +160,7 @@ pub(crate) struct Jobs {
     /// What was called back while it was pinned, and is no more.
     owed: Vec<Range<u64>>,
     stage: Stage,
-    /// Why the client has dropped all, if it has not begun anew.
+    /// Why the client has dropped all, if it has not begun again.
     void: Option<Dropped>,
     has_begun_anew: bool,
     /// The last incarnation that it has begun.
@@ -237,7 +237,7 @@ impl Jobs {
         self.add(|reply| Job::Forget(keys, reply))
     }
 
-    /// Says Bye, and says it again with each tick until the server has kept it.
+    /// Sends Bye, and sends it again with each tick until the server has kept it.
     pub fn leave(&mut self) -> Asked<()> {
         match self.stage {
             Stage::Here if self.has_to_return() => self.stage = Stage::Returning,
@@ -302,7 +302,7 @@ impl Jobs {
     }
 
     /// Ends each job for this reason; but a write that was sent for the other one, if there is one,
-    /// and otherwise it goes on.
+    /// and otherwise it continues.
     pub fn refuse_all(&mut self, why: Error, of_sent: Option<Error>) {
         for (id, job) in std::mem::take(&mut self.open) {
             self.refuse_one(id, job, why);
@@ -331,8 +331,8 @@ impl Jobs {
         }
     }
 
-    /// The client's thread has ended: no job goes on, and whoever waits for one hears that. A client
-    /// that has left stays so.
+    /// The client's thread has ended: no job continues, and whoever waits for one hears that. A
+    /// client that has left stays so.
     pub fn end(&mut self) {
         if self.stage != Stage::Gone {
             self.stage = Stage::Ended;
@@ -355,13 +355,13 @@ impl Jobs {
         is_asked || matches!(self.stage, Stage::Returning | Stage::Leaving)
     }
 
-    /// What the client knows, for threads that read it beside these calls.
+    /// What the client knows, for threads that read it next to these calls.
     pub fn cache(&self) -> Cache {
         self.client.cache()
     }
 
-    /// Gives the client a message of the server, and goes on with its jobs at once: a callback
-    /// behind it may take away what it gave.
+    /// Gives the client a message of the server, and continues with its jobs at once: a callback
+    /// after it may take away what it gave.
     ///
     /// A client that is void hears nothing: what is said now was meant for the one before. Nor does
     /// one whose lease has ended.
@@ -416,7 +416,7 @@ impl Jobs {
         }
     }
 
-    /// Says again what is not answered. A tick for which there is no memory is a message that is
+    /// sends again what is not answered. A tick for which there is no memory is a message that is
     /// lost. Before the incarnation is kept nothing can leave, and nothing more has to wait.
     pub fn tick(&mut self) {
         if !self.client.is_kept() {
@@ -432,7 +432,7 @@ impl Jobs {
         };
     }
 
-    /// Goes on with every job as far as it comes without another message.
+    /// Continues with every job as far as it comes without another message.
     pub fn advance(&mut self, asking: Asking) {
         if self.is_void() {
             return;

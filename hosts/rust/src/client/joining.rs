@@ -15,8 +15,8 @@ use crate::proved::client_handle::ClientHandle;
 use std::path::Path;
 use std::time::{Duration, Instant};
 
-/// How long a client waits for an answer by default. It is longer than a server waits by default for
-/// a client that was killed: a lease of ten seconds and a quarter.
+/// How long a client waits for an answer by default. It is longer than a server waits by default
+/// for a client that was killed: a lease of ten seconds and a quarter.
 pub(crate) const TIMEOUT: Duration = Duration::from_secs(15);
 
 /// How long a client waits.
@@ -24,7 +24,7 @@ pub(crate) const TIMEOUT: Duration = Duration::from_secs(15);
 pub(crate) struct Waits {
     /// For any answer.
     pub timeout: Duration,
-    /// For its number, if the server tells that another process has it.
+    /// For its number, if the server reports that another process has it.
     pub if_in_use: Duration,
 }
 
@@ -92,7 +92,7 @@ fn start(
     Shared::start(number, link, poller, waits.timeout).map_err(JoinError::NoThread)
 }
 
-/// Ends a client that has not joined: it says Bye, and waits for nothing.
+/// Ends a client that has not joined: it sends Bye, and waits for nothing.
 fn not_joined(shared: &Shared, refused: Error) -> JoinError {
     let fault = shared.link().take_fault();
     let rejection = shared.link().rejection();
@@ -109,7 +109,7 @@ fn not_joined(shared: &Shared, refused: Error) -> JoinError {
     }
 }
 
-/// Whether the server tells that another process has the client's number, or had it and may still
+/// Whether the server reports that another process has the client's number, or had it and may still
 /// answer.
 fn is_in_use(refusal: Refusal) -> bool {
     matches!(refusal, Refusal::LeaseRuns { .. } | Refusal::Incarnation { .. })

@@ -253,8 +253,8 @@ impl Link {
         watches
     }
 
-    /// Takes what has come on the connection, and goes on with what the client was asked. It answers
-    /// when that is due again if nothing comes: the thread sleeps until then.
+    /// Takes what has come on the connection, and continues with what the client was asked. It
+    /// answers when that is due again if nothing comes: the thread sleeps until then.
     fn go_on(&self, ready: impl Iterator<Item = Ready>) -> io::Result<Duration> {
         let mut reading = lock(&self.reading);
         let reading = reading.as_mut().ok_or(ErrorKind::NotConnected)?;
@@ -267,7 +267,7 @@ impl Link {
         Ok(due_in)
     }
 
-    /// Reads what there is, and goes on with what the client was asked after each part.
+    /// Reads what there is, and continues with what the client was asked after each part.
     fn read_on(
         &self,
         reading: &mut Reading,
@@ -285,8 +285,8 @@ impl Link {
         }
     }
 
-    /// If a caller waits for what comes, it is told that something has, since it has no other way to
-    /// learn of its answer; and it reads the connection until it leaves.
+    /// If a caller waits for what comes, it is told that something has, since it has no other way
+    /// to learn of its answer; and it reads the connection until it leaves.
     fn let_caller_read(&self) {
         if matches!(self.turn.try_lock(), Err(TryLockError::WouldBlock)) {
             self.wake();
@@ -306,8 +306,8 @@ impl Link {
         Ok(())
     }
 
-    /// Takes what has come, if something has; goes on with what the client was asked, and writes what
-    /// it says. It answers when that is due again if nothing comes.
+    /// Takes what has come, if something has; continues with what the client was asked, and writes
+    /// what it says. It answers when that is due again if nothing comes.
     fn proceed(&self, came: Option<&mut Frames>) -> io::Result<(Written, Duration)> {
         let mut session = self.session();
         if let Some(frames) = came {
@@ -330,7 +330,7 @@ impl Link {
     }
 
     /// Gives a client that has dropped all, or whose lease has ended, a greater incarnation, under
-    /// which it joins anew.
+    /// which it joins again.
     fn begin_anew_if_due(&self) -> io::Result<()> {
         if !self.session().has_to_begin_anew() {
             return Ok(());

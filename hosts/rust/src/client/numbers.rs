@@ -5,13 +5,13 @@ use crate::model::error::JoinError;
 use crate::model::refusal::Refusal;
 use std::time::Duration;
 
-/// How long a number is tried of which the server tells that another process has it.
+/// How long a number is tried of which the server reports that another process has it.
 const IN_USE: Duration = Duration::from_secs(1);
 
-/// Joins by the first of these numbers that is free. A number whose lock file another process has is
-/// left for the next one at once, and one of which the server tells that it is in use after a moment.
-/// If no other one is free, the first of the latter is waited for. The answer is `None` if other
-/// processes have the lock files of all.
+/// Joins by the first of these numbers that is free. A number whose lock file another process has
+/// is left for the next one at once, and one of which the server reports that it is in use after a
+/// moment. If no other one is free, the first of the latter is waited for. The answer is `None` if
+/// other processes have the lock files of all.
 pub(crate) fn join_first<C, E>(
     numbers: &[u8],
     waits: Waits,
@@ -46,7 +46,8 @@ mod tests {
     /// What came of a search, and which numbers were tried, with whether for long.
     type Searched = (Option<Result<u8, JoinError>>, Vec<(u8, bool)>);
 
-    /// What becomes of these numbers, of which each is free, taken (`l`), in use (`u`) or fails (`f`).
+    /// What becomes of these numbers, of which each is free, taken (`l`), in use (`u`) or fails
+    /// (`f`).
     fn run(numbers: &[(u8, char)]) -> Searched {
         let tried = RefCell::new(Vec::new());
         let join = |number: u8, waits: Waits| {

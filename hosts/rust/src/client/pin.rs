@@ -16,7 +16,7 @@ use std::time::{Duration, Instant};
 ///
 /// **Whoever decides what to write by what is pinned writes by the pin's own calls.** They make the
 /// write while the pin holds, or never: no other client has changed what was pinned before that
-/// write. The calls of [`Client`] are not bound to the pin: after the end of a lease they go on,
+/// write. The calls of [`Client`] are not bound to the pin: after the end of a lease they continue,
 /// and another client may have written in between.
 ///
 /// If such a write was sent and is not answered when the pin is dropped, other clients wait for the
@@ -117,14 +117,14 @@ impl Pin {
         self.by_default().delete(key)
     }
 
-    /// Makes several writes, as [`Client::write_all`] does, each while the pin holds, or never. Keys
-    /// may lie outside the pinned range. By a pin that [`Client::pin_for_write`] took, writes in its
-    /// range ask for no locks.
+    /// Makes several writes, as [`Client::write_all`] does, each while the pin holds, or never.
+    /// Keys may lie outside the pinned range. By a pin that [`Client::pin_for_write`] took, writes
+    /// in its range ask for no locks.
     ///
     /// # Errors
     ///
-    /// Those of [`Client::write_all`], and `PinIsVoid`: then the writes that were not judged by then
-    /// were not made.
+    /// Those of [`Client::write_all`], and `PinIsVoid`: then the writes that were not judged by
+    /// then were not made.
     ///
     /// [`Client::write_all`]: crate::Client::write_all
     /// [`Client::pin_for_write`]: crate::Client::pin_for_write

@@ -43,7 +43,7 @@ impl Pins {
         place.map(|place| self.pins.swap_remove(place).called).unwrap_or_default()
     }
 
-    /// Whether a span that was called back meets no pin any more. Else the pins that it meets
+    /// Whether a span that was called back meets no pin any more. Otherwise the pins that it meets
     /// remember it.
     pub fn are_off(&mut self, span: &Range<u64>) -> bool {
         self.note(span);

@@ -1,5 +1,5 @@
-//! A client and its connection, without a socket, a thread and a clock: what comes goes in, and what
-//! is to be said comes out. [`crate::client::link`] is the shell around it.
+//! A client and its connection, without a socket, a thread and a clock: what comes goes in, and
+//! what is to be said comes out. [`crate::client::link`] is the shell around it.
 use crate::client::backoff::Backoff;
 use crate::client::jobs::{Asked, Asking, IDLE_TICK, JobId, Jobs, WasSent};
 use crate::client::silence::{Silence, Silent};
@@ -25,15 +25,16 @@ use std::time::{Duration, Instant};
 /// again. What it has told before that is so no more.
 const HINT: Duration = Duration::from_secs(2);
 
-/// Whether a client that joins gives up at this moment, since the server tells this reason.
+/// Whether a client that joins gives up at this moment, since the server reports this reason.
 type GivesUp = Box<dyn Fn(Refusal, Instant) -> bool + Send>;
 
 /// A client, its connection to one of its servers, and what it has heard of them.
 ///
-/// Each call of it is made at the moment that [`Session::at`] was given last. A connection is made by
-/// [`Session::connected`], and ends by [`Session::disconnected`]. In between, [`Session::receive`]
-/// takes what has come, [`Session::proceed`] what time brings, and [`Session::take`] gives what is to
-/// be said after each of them. The next [`Session::proceed`] is due [`Session::due_in`] later.
+/// Each call of it is made at the moment that [`Session::at`] was given last. A connection is made
+/// by [`Session::connected`], and ends by [`Session::disconnected`]. In between,
+/// [`Session::receive`] takes what has come, [`Session::proceed`] what time brings, and
+/// [`Session::take`] gives what is to be said after each of them. The next [`Session::proceed`] is
+/// due [`Session::due_in`] later.
 pub(crate) struct Session {
     jobs: Jobs,
     servers: Servers,
@@ -118,14 +119,14 @@ impl Session {
         self.place
     }
 
-    /// Whether the client needs a greater incarnation before it connects: it has dropped all, or its
-    /// lease has ended.
+    /// Whether the client needs a greater incarnation before it connects: it has dropped all, or
+    /// its lease has ended.
     pub fn has_to_begin_anew(&mut self) -> bool {
         self.jobs.end_lease_if_over();
         self.jobs.is_void()
     }
 
-    /// The client goes on under the incarnation of this handle.
+    /// The client continues under the incarnation of this handle.
     pub fn begin_anew(&mut self, client: ClientHandle) {
         self.jobs.begin_anew(client);
     }
@@ -136,8 +137,8 @@ impl Session {
     }
 
     /// A connection is made, and the client's incarnation is on the disk. It answers what the
-    /// connection begins with. One that ends before anything has come tells nothing of its server:
-    /// one without the greeting would be one without a lease.
+    /// connection begins with. One that ends before anything has come says nothing about its
+    /// server: one without the greeting would be one without a lease.
     ///
     /// # Errors
     ///
@@ -161,7 +162,7 @@ impl Session {
         let heard = self.connection.take().map_or(Heard::default(), |it| it.heard);
         self.jobs.disconnect();
         let fault = ConnectFault::from(end);
-        // A client that has to begin anew does so at once.
+        // A client that has to begin again does so at once.
         if heard.went_back || heard.message && fault.rejection().is_none() {
             self.backoff.reset();
         }
@@ -199,7 +200,7 @@ impl Session {
     }
 
     /// Leaves a server that is of an older epoch than one that the client has heard, if there are
-    /// others: it may go on for ever, and the one that serves waits for the client's report.
+    /// others: it may continue for ever, and the one that serves waits for the client's report.
     fn compare_epochs(&mut self, message: Message<'_>) -> io::Result<()> {
         let Some(epoch) = message.epoch() else { return Ok(()) };
         let known = self.epoch;
@@ -211,8 +212,8 @@ impl Session {
         Err(io::Error::other(why))
     }
 
-    /// Goes on with the jobs, when all that came is heard; says again what is not answered; and asks
-    /// a silent server whether it is there.
+    /// Continues with the jobs, when all that came is heard; sends again what is not answered; and
+    /// asks a silent server whether it is there.
     ///
     /// # Errors
     ///
@@ -248,7 +249,7 @@ impl Session {
         Ok(())
     }
 
-    /// Appends what is to be said. Without a connection it is lost: a tick says it again.
+    /// Appends what is to be said. Without a connection it is lost: a tick sends it again.
     pub fn take(&mut self, frames: &mut Vec<u8>) {
         let before = frames.len();
         if let Some(connection) = &mut self.connection {
@@ -265,8 +266,8 @@ impl Session {
         self.jobs.longest_sleep().unwrap_or(IDLE_TICK).min(self.jobs.next_tick())
     }
 
-    /// Waits until the client has joined, and no longer once the server tells a reason for which the
-    /// caller gives up.
+    /// Waits until the client has joined, and no longer once the server reports a reason for which
+    /// the caller gives up.
     pub fn join(&mut self, gives_up: GivesUp) -> Asked<()> {
         let asked = self.jobs.join();
         self.joining = Some(Joining { job: asked.id, gives_up });
@@ -302,8 +303,8 @@ impl Session {
         }
     }
 
-    /// Why a job has no answer by now, as far as the server has told. Of a write that was sent nothing
-    /// more is known.
+    /// Why a job has no answer by now, as far as the server has told. Of a write that was sent
+    /// nothing more is known.
     fn unanswered(&self, was_sent: WasSent) -> Error {
         match (self.rejections.last(), was_sent) {
             (Some(Rejection::NotTaken(_)), WasSent::No) => return Error::TurnedAway,
@@ -332,7 +333,7 @@ impl Session {
         self.rejections.last().cloned()
     }
 
-    /// Why there is no connection just now, if there is none. It is told once.
+    /// Why there is no connection just now, if there is none. It is reported once.
     pub fn take_fault(&mut self) -> Option<io::Error> {
         self.fault.take()
     }

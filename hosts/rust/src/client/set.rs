@@ -5,7 +5,7 @@ use std::time::Instant;
 
 /// Makes the write; if it is a put and there is no row, an insert in its place, and if it is an
 /// insert and there is a row, a put. Other clients may make and delete the row in between: then it
-/// goes on by turns, until the deadline. So the outcome is `Applied` or `Full`.
+/// continues by turns, until the deadline. So the outcome is `Applied` or `Full`.
 pub(crate) fn set<E: From<Error>>(
     first: Write,
     end: Instant,

@@ -7,7 +7,7 @@ use std::time::{Duration, Instant};
 /// A server that takes nothing for so long loses the connection.
 pub(crate) const STALL: Duration = Duration::from_secs(5);
 
-/// While so many bytes wait, what is put behind them is lost. A report is shorter.
+/// While so many bytes wait, what is put after them is lost. A report is shorter.
 const MAX_PENDING: usize = 1 << 22;
 
 /// The frames that wait, and the connection.
@@ -73,7 +73,7 @@ impl Writer {
         let old = pending.frames.len();
         put(&mut pending.frames);
         if !pending.is_connected || old > MAX_PENDING {
-            // A tick says it again.
+            // A tick sends it again.
             pending.frames.truncate(old);
         }
     }

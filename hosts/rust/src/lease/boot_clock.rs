@@ -1,7 +1,7 @@
 //! The clock by which leases run.
 use std::io;
 
-/// A moment by `CLOCK_BOOTTIME`, in nanoseconds since the machine was started. That clock goes on
+/// A moment by `CLOCK_BOOTTIME`, in nanoseconds since the machine was started. That clock continues
 /// while the machine is suspended, and nobody sets it. The moments of two machines say nothing of
 /// each other.
 #[derive(Clone, Copy, Debug, PartialEq, Eq, PartialOrd, Ord)]

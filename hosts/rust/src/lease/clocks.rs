@@ -3,8 +3,8 @@ use crate::lease::boot_clock::Moment;
 use std::io::{self, ErrorKind};
 use std::time::{Instant, SystemTime};
 
-/// The clocks of this machine at one moment. What decides by a clock takes this as a value: only the
-/// shell around the decisions reads the clocks, by [`Now::read`].
+/// The clocks of this machine at one moment. What decides by a clock takes this as a value: only
+/// the shell around the decisions reads the clocks, by [`Now::read`].
 ///
 /// Whoever takes bytes from a connection reads the clocks **after** the bytes have come: what is
 /// judged by a clock then is judged by a moment at which the bytes were there.
@@ -53,8 +53,8 @@ impl Now {
 
 #[cfg(feature = "simulated")]
 impl Now {
-    /// The clocks of a machine that was started at such a moment, and runs for so long. Of the clock
-    /// of timeouts only differences mean something.
+    /// The clocks of a machine that was started at such a moment, and runs for so long. Of the
+    /// clock of timeouts only differences mean something.
     pub fn simulated(running: std::time::Duration) -> Now {
         const STARTED: std::time::Duration = std::time::Duration::from_secs(1_800_000_000);
         static BEGAN: std::sync::OnceLock<Instant> = std::sync::OnceLock::new();
@@ -69,7 +69,7 @@ impl Now {
 
 #[cfg(test)]
 impl Now {
-    /// All clocks go on by so much.
+    /// All clocks continue by so much.
     pub fn after(self, time: std::time::Duration) -> Now {
         let nanoseconds = u64::try_from(time.as_nanos()).unwrap();
         let boot = self.boot.map(|boot| Moment::of_nanoseconds(boot.nanoseconds() + nanoseconds));

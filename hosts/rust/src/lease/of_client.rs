@@ -13,7 +13,7 @@ use std::time::Duration;
 const RIDES: u64 = 6;
 const GOES_ALONE: u64 = 3;
 
-/// What leaves just now beside a sign.
+/// What leaves just now next to a sign.
 #[derive(Clone, Copy, Debug, PartialEq, Eq)]
 pub(crate) enum Company {
     Messages,
@@ -25,7 +25,7 @@ pub(crate) enum Company {
 pub(crate) struct End(AtomicU64);
 
 impl End {
-    /// Whether rows that were read from the cache may be handed over. It has to be asked **behind**
+    /// Whether rows that were read from the cache may be handed over. It has to be asked **after**
     /// the reading. A clock that can't be read is no leave.
     ///
     /// The clock is read before the end: terms that come between the two were taken by a lease that
@@ -62,8 +62,8 @@ pub(crate) struct Lease {
 }
 
 impl Lease {
-    /// That of an incarnation without terms. It holds nothing: its host says no Hello of the library
-    /// before it has taken terms.
+    /// That of an incarnation without terms. It holds nothing: its host sends no Hello of the
+    /// library before it has taken terms.
     pub fn new(client: u8, incarnation: u64, older: Older) -> Lease {
         let state = ffi::krl_lease_new();
         let end = Arc::new(End(AtomicU64::new(state.end)));
@@ -88,7 +88,7 @@ impl Lease {
         }
     }
 
-    /// How long the lease goes on, or `None` if it does not end. One without terms has not begun.
+    /// How long the lease continues, or `None` if it does not end. One without terms has not begun.
     pub fn left(&self, now: Moment) -> Option<Duration> {
         match self.state {
             ffi::Lease { length: 0, .. } => Some(Duration::ZERO),
@@ -99,8 +99,8 @@ impl Lease {
         }
     }
 
-    /// Whether the lease has not ended. Behind its end the host sends nothing more of this
-    /// incarnation, and begins anew under a greater one.
+    /// Whether the lease has not ended. After its end the host sends nothing more of this
+    /// incarnation, and begins again under a greater one.
     #[cfg(test)]
     pub fn holds(&self, now: Moment) -> bool {
         ffi::krl_lease_holds(&self.state, now.nanoseconds())
@@ -120,8 +120,8 @@ impl Lease {
     }
 
     /// The server of this connection answers no signs, and has no leases: an incarnation without
-    /// terms lives by a lease that does not end. One that has had terms lives on by those, since the
-    /// server that granted them may evict it.
+    /// terms lives by a lease that does not end. One that has had terms lives on by those, since
+    /// the server that granted them may evict it.
     pub fn go_without_terms(&mut self, now: Moment) {
         if self.state.length == 0 {
             let stamp = now.nanoseconds();
@@ -162,8 +162,8 @@ impl Lease {
         Some(Sign { client, incarnation, stamp: now, length: state.length, older })
     }
 
-    /// Takes terms, if they answer a sign of this incarnation on this connection. It answers whether
-    /// they were taken: from then on the host may say Hello on this connection.
+    /// Takes terms, if they answer a sign of this incarnation on this connection. It answers
+    /// whether they were taken: from then on the host may say Hello on this connection.
     pub fn take(&mut self, grant: Grant, now: Moment) -> bool {
         if !self.is_answer(grant) {
             return false;

@@ -40,7 +40,7 @@ pub(crate) struct LeaseTable {
 
 impl LeaseTable {
     /// That of a server that starts. `record` is what it has stored, by [`LeaseRecord::at_start`],
-    /// and `now` is read behind that.
+    /// and `now` is read after that.
     pub fn start(
         record: LeaseRecord,
         clients: &[Record],
@@ -69,8 +69,8 @@ impl LeaseTable {
         self.record
     }
 
-    /// Takes a sign, and says what to answer. `now` is read behind the sign. The answer leaves only
-    /// if the store is still this server's behind that: a server that another one has replaced
+    /// Takes a sign, and says what to answer. `now` is read after the sign. The answer leaves only
+    /// if the store is still this server's after that: a server that another one has replaced
     /// grants nothing.
     pub fn sign(&mut self, sign: Sign, now: Moment) -> Option<Answer> {
         let Sign { client, incarnation, stamp, length, older } = sign;
@@ -106,8 +106,9 @@ impl LeaseTable {
         if has_signed { self.terms } else { Leases::terms(None) }
     }
 
-    /// This server's host is about to evict the client: it hands a Hello of this greater incarnation
-    /// to the library, and its Bye. That incarnation answers nothing, so its lease may end.
+    /// This server's host is about to evict the client: it hands a Hello of this greater
+    /// incarnation to the library, and its Bye. That incarnation answers nothing, so its lease may
+    /// end.
     pub fn evict(&mut self, client: u8, successor: u64) {
         if let Some(known) = self.known.get_mut(usize::from(client)) {
             known.note(successor, Older::Unknown);
@@ -122,7 +123,7 @@ impl LeaseTable {
     }
 
     /// Whether a Hello of this incarnation may be handed to the library. One that has to wait is
-    /// dropped: it is said again.
+    /// dropped: it is sent again.
     pub fn hears(&self, client: u8, incarnation: u64, now: Moment) -> bool {
         let Some(known) = self.known.get(usize::from(client)) else { return true };
         known.present.is_none_or(|Present { incarnation: registered, until }| {
@@ -132,8 +133,8 @@ impl LeaseTable {
         })
     }
 
-    /// Whether this incarnation would replace another one, of which nothing but its start shows that it
-    /// is over: no sign of this one has come.
+    /// Whether this incarnation would replace another one, of which nothing but its start shows
+    /// that it is over: no sign of this one has come.
     pub fn replaces_unsigned(&self, client: u8, incarnation: u64) -> bool {
         let Some(known) = self.known.get(usize::from(client)) else { return false };
         let replaces = known.present.is_some_and(|it| it.incarnation < incarnation);
@@ -142,8 +143,8 @@ impl LeaseTable {
 
     /// Which older incarnation is known to be over, or 0, and whether somebody vouches for all.
     ///
-    /// If the server has no leases, or the host has signed nothing, that is today's rule: who starts
-    /// a client vouches that the one before is over.
+    /// If the server has no leases, or the host has signed nothing, that is today's rule: who
+    /// starts a client vouches that the one before is over.
     fn word_for(&self, older: Option<Older>) -> (u64, u32) {
         match older {
             _ if self.terms.length == FOR_EVER => (0, 1),
@@ -163,7 +164,7 @@ impl LeaseTable {
             .collect()
     }
 
-    /// What is to be stored anew, if anything is. Late is soon enough.
+    /// What is to be stored again, if anything is. Late is soon enough.
     pub fn revise(&mut self, now: Moment) -> Option<LeaseRecord> {
         let (terms, old_end, now) = (self.terms, self.old_end, now.nanoseconds());
         let untils = self.known.map(|known| known.present.map_or(FOR_EVER, |it| it.until));

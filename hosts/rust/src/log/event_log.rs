@@ -35,7 +35,7 @@ pub(crate) struct At {
     pub peer: PeerAddress,
 }
 
-/// What a server has told, so that nothing is told twice.
+/// What a server has reported, so that nothing is reported twice.
 #[derive(Debug)]
 pub(crate) struct EventLog {
     /// The clients that ever registered: the incarnation, and whether it has left.
@@ -84,7 +84,7 @@ impl EventLog {
         }
     }
 
-    /// The phase of the server, and the clients whose reports are missing. It tells when they
+    /// The phase of the server, and the clients whose reports are missing. It reports when they
     /// change.
     pub fn phase(&mut self, is_serving: bool, missing: &[u8]) {
         if self.is_serving == Some(is_serving) && self.missing == missing {
@@ -115,7 +115,7 @@ impl EventLog {
         }
     }
 
-    /// The server evicts a client by a successor. It tells so once, when that is committed.
+    /// The server evicts a client by a successor. It reports so once, when that is committed.
     pub fn evicts(&mut self, client: u8, successor: u64) {
         self.evicting.insert(client, successor);
     }
@@ -308,13 +308,13 @@ pub(crate) fn store_is_another_one(server: &Address) {
     );
 }
 
-/// A client goes on under a greater incarnation.
+/// A client continues under a greater incarnation.
 pub(crate) fn began_anew(client: u8, incarnation: u64) {
     tell!(
         info,
         client,
         incarnation,
-        "a client begins anew: its lease has ended, or the server's store went back"
+        "a client starts over: its lease has ended, or the server's store went back"
     );
 }
 

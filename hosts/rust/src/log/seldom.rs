@@ -1,4 +1,4 @@
-//! Events that come again and again, and are told now and then.
+//! Events that come again and again, and are reported now and then.
 use std::time::{Duration, Instant};
 
 /// How long an event that repeats waits until it is told again.

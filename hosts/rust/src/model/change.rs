@@ -51,7 +51,7 @@ pub enum Change {
         /// The epoch.
         epoch: u64,
     },
-    /// A client registered: its record is new, in the place of its older one or behind all others.
+    /// A client registered: its record is new, in the place of its older one or after all others.
     Registered {
         /// The client.
         client: u8,
@@ -107,7 +107,7 @@ impl Write {
 }
 
 impl Change {
-    /// How many rows a table has behind the change that had so many before.
+    /// How many rows a table has after the change that had so many before.
     pub(crate) fn rows_after(&self, before: u64) -> u64 {
         let Change::Judged { write, outcome: Outcome::Applied, .. } = self else { return before };
         match write {

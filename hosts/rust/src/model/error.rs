@@ -11,7 +11,7 @@ use std::io;
 #[non_exhaustive]
 pub enum Error {
     /// No answer came within the client's timeout. A read or a forget has changed nothing that is
-    /// seen. A write may have changed the table or may still change it: the client goes on to ask
+    /// seen. A write may have changed the table or may still change it: the client continues to ask
     /// for it, until it is answered or the client is gone.
     TimedOut,
     /// The same, and the server has just reported why it does not serve the client. If it serves
@@ -29,15 +29,15 @@ pub enum Error {
     /// with `Unserved`, and this reason, at the same moment.
     OtherShard(OtherShard),
     /// The server's store lacks what this client has seen of it: it is an older copy, or another
-    /// store. The client has dropped its cache and its pins, and joins anew. A write may have
+    /// store. The client has dropped its cache and its pins, and joins again. A write may have
     /// changed that store or not.
     StoreWentBack,
     /// The client's lease has ended while the write was on its way: the server was not heard in
-    /// time. The client has dropped its cache and its pins, and joins anew. The table has changed or
-    /// not, and this write changes it no more: a read of the key knows.
+    /// time. The client has dropped its cache and its pins, and joins again. The table has changed
+    /// or not, and this write changes it no more: a read of the key knows.
     LeaseEnded,
-    /// The write was bound to a pin, and the pin is void: since it was taken, the client's lease has
-    /// ended or the server's store went back. The write was not made, and changes nothing.
+    /// The write was bound to a pin, and the pin is void: since it was taken, the client's lease
+    /// has ended or the server's store went back. The write was not made, and changes nothing.
     PinIsVoid,
     /// The client's own thread has ended by a panic: it answers nothing more but from its cache. A
     /// write that was not answered may have changed the table.
@@ -68,15 +68,15 @@ pub enum JoinError {
     Incomplete(&'static str),
     /// The server did not answer within the client's timeout. There is none, which the error of the
     /// connection shows; or it recovers, or knows a greater incarnation of this number, and does
-    /// not tell so.
+    /// not report so.
     NoAnswer(Option<io::Error>),
     /// The server has told why it does not serve the client, and within the client's timeout it did
     /// not answer.
     Unserved(Refusal),
     /// This side of the connection has no right to the client, for this reason: the two sides don't
     /// take each other's certificates, or the certificate or the user is not that of the client's
-    /// number. If the client has one server, it comes as soon as two connections in a row have ended
-    /// for it.
+    /// number. If the client has one server, it comes as soon as two connections in a row have
+    /// ended for it.
     TurnedAway(String),
     /// The server serves another shard than the client takes it for, or by another map. If the
     /// client has one server, it comes as soon as two connections in a row have ended for it.
@@ -88,11 +88,11 @@ pub enum JoinError {
 }
 
 impl Error {
-    /// Whether the same call may be made again as it is, and may do then what it should: a server that
-    /// is down comes back, and a client that has dropped its cache joins anew.
+    /// Whether the same call may be made again as it is, and may do then what it should: a server
+    /// that is down comes back, and a client that has dropped its cache joins again.
     ///
-    /// A write whose outcome is unknown is another write if it is made again: after an error for which
-    /// [`Error::is_unknown_outcome`] is true, a read of the key comes first.
+    /// A write whose outcome is unknown is another write if it is made again: after an error for
+    /// which [`Error::is_unknown_outcome`] is true, a read of the key comes first.
     #[must_use]
     pub fn is_retryable(&self) -> bool {
         match self {
@@ -110,8 +110,8 @@ impl Error {
         }
     }
 
-    /// Whether a write that ended so may have been applied, or may still be: a read of the key tells.
-    /// After any other error the write changes nothing.
+    /// Whether a write that ended so may have been applied, or may still be: a read of the key
+    /// tells. After any other error the write changes nothing.
     #[must_use]
     pub fn is_unknown_outcome(&self) -> bool {
         match self {
@@ -141,7 +141,7 @@ impl From<Code> for Error {
             Code::Pinned => Error::Pinned,
             Code::TooManyPins => Error::TooManyPins,
             Code::OutOfMemory => Error::OutOfMemory,
-            // The client is about to join anew.
+            // The client is about to join again.
             Code::Closed => Error::StoreWentBack,
             code => Error::Other(code),
         }

@@ -14,7 +14,7 @@ pub struct HeldSlot {
     pub mode: &'static str,
 }
 
-/// A client that waits, as the server tells it.
+/// A client that waits, as the server reports it.
 pub(crate) struct Waiting {
     pub client: u8,
     pub request: u64,

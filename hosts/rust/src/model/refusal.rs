@@ -1,4 +1,4 @@
-//! Why a server does not serve a client, as the server's host tells it.
+//! Why a server does not serve a client, as the server's host reports it.
 use crate::model::client_set::ClientSet;
 use crate::model::shard_bounds::ShardBounds;
 use std::fmt;

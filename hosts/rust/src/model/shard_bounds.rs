@@ -62,7 +62,7 @@ impl FromStr for ShardBounds {
     }
 }
 
-/// A number of digits alone.
+/// A number of digits only.
 fn number(text: &str) -> Option<u64> {
     let is_number = text.bytes().all(|digit| digit.is_ascii_digit());
     text.parse().ok().filter(|_| is_number)

@@ -70,7 +70,7 @@ impl fmt::Display for OtherShard {
             (Some(expected), Some(served)) => {
                 write!(f, "the client takes the server for {expected}, and it serves {served}: ")?;
                 f.write_str(match expected.map_version().cmp(&served.map_version()) {
-                    Ordering::Less => "the client's map is an older one, and has to be loaded anew",
+                    Ordering::Less => "the client's map is an older one, and has to be loaded again",
                     Ordering::Equal => "the address is that of another shard",
                     Ordering::Greater => {
                         "the server was started by an older map, or the address is of another one"
@@ -84,7 +84,7 @@ impl fmt::Display for OtherShard {
             ),
             (None, Some(served)) => write!(
                 f,
-                "the server serves {served} alone, and the client takes it for one of all keys: the \
+                "the server serves only {served}, and the client takes it for one of all keys: the \
                  client needs a map with this version"
             ),
             (None, None) => f.write_str("neither side is of a shard"),

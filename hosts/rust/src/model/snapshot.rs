@@ -17,8 +17,8 @@ pub struct Snapshot {
     pub records: Vec<Record>,
     /// What is known of leases.
     pub leases: LeaseRecord,
-    /// The greatest room that a server had over it. A store that no server has served keeps none, and
-    /// one of before it was kept neither.
+    /// The greatest room that a server had over it. A store that no server has served keeps none,
+    /// and one of before it was kept neither.
     pub room: Option<Room>,
     /// The bits of the first start of a server over the store, if there was one and the store keeps
     /// its history. A copy has the same: by them an older copy is told from another store.
@@ -96,11 +96,11 @@ impl Snapshot {
         clients
     }
 
-    /// Cuts it in two: the rows below the key, and those from it on. Both keep the epoch, the records,
-    /// what is known of leases and the room. The lower one keeps the first start; the upper one is a
-    /// new store, on which no server has started. A server can start on either only if it can start on
-    /// this, and a client may be told of the cut only if all have left before: else one would go on to
-    /// answer for both halves.
+    /// Cuts it in two: the rows below the key, and those from it on. Both keep the epoch, the
+    /// records, what is known of leases and the room. The lower one keeps the first start; the
+    /// upper one is a new store, on which no server has started. A server can start on either only
+    /// if it can start on this, and a client may be told of the cut only if all have left before:
+    /// otherwise one would continue to answer for both halves.
     #[must_use]
     pub fn split(mut self, at: u64) -> (Snapshot, Snapshot) {
         let upper = Snapshot { rows: self.rows.split_off(&at), ..self.without_rows() };
@@ -108,9 +108,9 @@ impl Snapshot {
     }
 
     /// Makes one of this, whose keys are all lower, and of another one. Its epoch is the greater
-    /// one, so that no client has joined a later one, and so are each client's incarnation, the longest
-    /// lease and the room. It is a new store, on which no server has started. The clients are in the
-    /// order of this one's records, and after them those that only the other one has.
+    /// one, so that no client has joined a later one, and so are each client's incarnation, the
+    /// longest lease and the room. It is a new store, on which no server has started. The clients
+    /// are in the order of this one's records, and after them those that only the other one has.
     ///
     /// # Errors
     ///

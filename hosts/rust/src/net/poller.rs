@@ -26,13 +26,13 @@ pub(crate) enum Ready {
     Connection(u64, Readiness),
 }
 
-/// What a connection is ready for. It is told once when it begins: who leaves something unread or
-/// unwritten has to remember that.
+/// What a connection is ready for. It is reported once when it begins: who leaves something unread
+/// or unwritten has to remember that.
 #[derive(Clone, Copy, Debug, PartialEq, Eq)]
 pub(crate) struct Readiness {
     /// Something came, or nothing more will.
     pub reads: bool,
-    /// Nothing comes behind what is there: a read that finds nothing finds the end.
+    /// Nothing comes after what is there: a read that finds nothing finds the end.
     pub is_last: bool,
     /// It takes more bytes.
     pub writes: bool,
@@ -177,7 +177,7 @@ fn ready_of(event: &Event) -> Ready {
     }
 }
 
-/// The same of an event as the system tells it.
+/// The same of an event as the system reports it.
 fn ready_of_system(event: EpollEvent) -> Ready {
     let (token, flags) = (event.data(), event.events());
     if token == WAKER.0 as u64 {

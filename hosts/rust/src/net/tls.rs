@@ -30,12 +30,12 @@ const RECORD: usize = 1 << 14;
 /// Which bits of a code of OpenSSL are its reason, as far as alerts need them.
 const REASON: c_ulong = 0xfff;
 
-/// The reason of an alert is its number behind this one.
+/// The reason of an alert is its number after this one.
 const ALERTS: c_ulong = 1000;
 
-/// The alerts of TLS about a certificate: `handshake_failure`, which stands for a name that does not
-/// count, those from `bad_certificate` to `certificate_unknown`, `unknown_ca`, `access_denied` and
-/// `certificate_required`.
+/// The alerts of TLS about a certificate: `handshake_failure`, which stands for a name that does
+/// not count, those from `bad_certificate` to `certificate_unknown`, `unknown_ca`, `access_denied`
+/// and `certificate_required`.
 const ABOUT_CERTIFICATES: [c_ulong; 9] = [40, 42, 43, 44, 45, 46, 48, 49, 116];
 
 /// Which side of a connection this one is.
@@ -79,7 +79,7 @@ impl RefusedSubject {
         }
     }
 
-    /// As it stands in a sentence, behind "the other end".
+    /// As it stands in a sentence, after "the other end".
     fn in_brackets(&self) -> String {
         self.0.get().map(|subject| format!(" ({subject})")).unwrap_or_default()
     }
@@ -141,7 +141,7 @@ impl TlsSession {
         self.peer
     }
 
-    /// Reads once from the stream, and puts what it says behind the frames. It answers how many
+    /// Reads once from the stream, and puts what it says after the frames. It answers how many
     /// bytes came: none if the other side has ended.
     pub(crate) fn fill(
         &mut self,
@@ -153,7 +153,7 @@ impl TlsSession {
         self.open_into(&sealed[..count], frames)
     }
 
-    /// Takes what came from the socket, and puts what it says behind the frames. It answers how
+    /// Takes what came from the socket, and puts what it says after the frames. It answers how
     /// many bytes came: none if the other side has ended.
     pub(crate) fn open_into(&mut self, sealed: &[u8], frames: &mut Frames) -> io::Result<usize> {
         let opened = self.open(sealed)?;
@@ -174,7 +174,7 @@ impl TlsSession {
         if self.peer.is_some() { self.open_records() } else { Ok(Vec::new()) }
     }
 
-    /// Takes what came from the socket, and goes on with the hand-shake if it is not done.
+    /// Takes what came from the socket, and continues with the hand-shake if it is not done.
     pub(crate) fn shake(&mut self, sealed: &[u8]) -> io::Result<()> {
         self.stream.get_mut().feed(sealed);
         if self.peer.is_some() {
@@ -187,7 +187,7 @@ impl TlsSession {
         self.go_on()
     }
 
-    /// Puts bytes behind those that are to leave.
+    /// Puts bytes after those that are to leave.
     pub fn put(&mut self, bytes: &[u8]) {
         self.unsealed.extend_from_slice(bytes);
     }
@@ -206,7 +206,7 @@ impl TlsSession {
         Ok(self.stream.get_mut().take_outgoing())
     }
 
-    /// Says to the other side that nothing more comes behind what is to leave.
+    /// Says to the other side that nothing more comes after what is to leave.
     ///
     /// # Errors
     ///
@@ -226,7 +226,7 @@ impl TlsSession {
         Ok(())
     }
 
-    /// Goes on with the hand-shake as far as it comes without more from the other side.
+    /// Continues with the hand-shake as far as it comes without more from the other side.
     fn go_on(&mut self) -> io::Result<()> {
         let shaken = match self.side {
             Side::Connects => self.stream.connect(),
@@ -260,7 +260,7 @@ impl TlsSession {
         Ok(plain)
     }
 
-    /// Why the connection can't go on: a sentence.
+    /// Why the connection can't continue: a sentence.
     fn refused(&self, error: &Error) -> io::Error {
         let verified = self.stream.ssl().verify_result();
         let alert = error.ssl_error().and_then(alert_of);
@@ -311,7 +311,7 @@ fn peer_of(certificate: &X509Ref, side: Side, table: Option<&TableName>) -> Opti
 }
 
 /// The alert by which the other side has refused this certificate, if it has. One about something
-/// else, such as an internal error, says nothing of the certificate.
+/// otherwise, such as an internal error, says nothing of the certificate.
 fn alert_of(errors: &ErrorStack) -> Option<&'static str> {
     let refused = errors.errors().iter().find(|error| is_about_certificate(error.code()));
     refused.map(|error| error.reason().unwrap_or("an alert"))
@@ -327,7 +327,7 @@ fn not_taken(why: &str) -> io::Error {
     NotTaken(why.into()).into()
 }
 
-/// Puts what came behind the frames.
+/// Puts what came after the frames.
 fn put(opened: &[u8], frames: &mut Frames) -> io::Result<()> {
     let mut rest = opened;
     while !rest.is_empty() {

@@ -116,7 +116,7 @@ impl Cache {
 }
 
 impl HeldCache<'_> {
-    /// Scans the cache, and puts the rows behind those that are there. The clock of leases is read
+    /// Scans the cache, and puts the rows after those that are there. The clock of leases is read
     /// after them.
     pub fn scan_behind(
         &self,
@@ -153,7 +153,7 @@ impl ClientHandle {
     /// [`ClientHandle::confirm`].
     pub fn open_behind(number: u8, incarnation: u64, older: Older) -> Result<ClientHandle, Code> {
         let mut handle = Handle::closed();
-        // SAFETY: the handle stays in its place, and `&mut` gives it to this call alone.
+        // SAFETY: the handle stays in its place, and `&mut` gives it to this call only.
         done(unsafe { ffi::krl_client_open(handle.raw(), number.into(), incarnation) })?;
         Ok(ClientHandle::of(handle, Lease::new(number, incarnation, older)))
     }
@@ -210,13 +210,13 @@ impl ClientHandle {
     }
 
     pub fn tick(&mut self) -> Result<(), Code> {
-        // SAFETY: `call` gives the handle to this call alone.
+        // SAFETY: `call` gives the handle to this call only.
         self.call(|handle| unsafe { ffi::krl_client_tick(handle) }).map(drop)
     }
 
     pub fn lock(&mut self, points: Range<u64>, mode: Mode) -> Result<(), Code> {
         let Range { start, end } = points;
-        // SAFETY: `call` gives the handle to this call alone.
+        // SAFETY: `call` gives the handle to this call only.
         self.call(|handle| unsafe { ffi::krl_client_lock(handle, start, end, mode as u32) })
             .map(drop)
     }
@@ -234,7 +234,7 @@ impl ClientHandle {
                 // SAFETY: as for any handle, and so many bytes of the value are there to be read.
                 unsafe { ffi::krl_client_put(handle, *key, bytes.as_ptr(), bytes.len()) }
             }
-            // SAFETY: `call` gives the handle to this call alone.
+            // SAFETY: `call` gives the handle to this call only.
             Write::Delete(key) => unsafe { ffi::krl_client_delete(handle, *key) },
         })?;
         Ok(self.status()?.number)
@@ -256,7 +256,7 @@ impl ClientHandle {
     }
 
     pub fn forget(&mut self, keys: &Range<u64>) -> Result<(), Code> {
-        // SAFETY: `call` gives the handle to this call alone.
+        // SAFETY: `call` gives the handle to this call only.
         self.call(|handle| unsafe { ffi::krl_client_forget(handle, keys.start, keys.end) })
             .map(drop)
     }
@@ -264,18 +264,18 @@ impl ClientHandle {
     /// Gives back what the client holds of the keys above this mode.
     pub fn lower(&mut self, keys: &Range<u64>, keep: Mode) -> Result<(), Code> {
         let Range { start, end } = *keys;
-        // SAFETY: `call` gives the handle to this call alone.
+        // SAFETY: `call` gives the handle to this call only.
         self.call(|handle| unsafe { ffi::krl_client_lower(handle, start, end, keep as u32) })
             .map(drop)
     }
 
     pub fn pin(&mut self, keys: &Range<u64>) -> Result<u64, Code> {
-        // SAFETY: `call` gives the handle to this call alone.
+        // SAFETY: `call` gives the handle to this call only.
         self.call(|handle| unsafe { ffi::krl_client_pin(handle, keys.start, keys.end) })
     }
 
     pub fn unpin(&mut self, pin: u64) -> Result<(), Code> {
-        // SAFETY: `call` gives the handle to this call alone.
+        // SAFETY: `call` gives the handle to this call only.
         self.call(|handle| unsafe { ffi::krl_client_unpin(handle, pin) }).map(drop)
     }
 
@@ -299,7 +299,7 @@ impl ClientHandle {
         self.handle.get().handle.held(key).key == X
     }
 
-    /// Whether the client holds the entry of this key so that it alone may change it next.
+    /// Whether the client holds the entry of this key so that only it may change it next.
     pub fn may_update(&self, key: u64) -> bool {
         const U: u32 = 2;
         let held = self.handle.get().handle.held(key);
@@ -313,7 +313,8 @@ impl ClientHandle {
         matches!(self.handle.get().handle.held(point).range, S | X)
     }
 
-    /// Whether the client reads the entry of this key, and another client may have it for an update.
+    /// Whether the client reads the entry of this key, and another client may have it for an
+    /// update.
     pub fn reads_entry(&self, key: u64) -> bool {
         const S: u32 = 1;
         self.handle.get().handle.held(key).key == S
@@ -335,9 +336,9 @@ impl ClientHandle {
         })
     }
 
-    /// Says Bye. After that only this call, which says it again, and `take` do anything.
+    /// Sends Bye. After that only this call, which sends it again, and `take` do anything.
     pub fn leave(&mut self) -> Result<(), Code> {
-        // SAFETY: `call` gives the handle to this call alone.
+        // SAFETY: `call` gives the handle to this call only.
         self.call(|handle| unsafe { ffi::krl_client_leave(handle) }).map(drop)
     }
 
@@ -363,7 +364,7 @@ impl Incarnation {
         self.scan_behind(keys, rows, clock)
     }
 
-    /// The rows come behind those that are there. The clock is read behind them all: rows are handed
+    /// The rows come after those that are there. The clock is read after them all: rows are handed
     /// over only if the lease holds then.
     fn scan_behind(
         &self,
@@ -385,7 +386,7 @@ fn found(reply: ffi::Reply) -> Result<Scan, Code> {
     }
 }
 
-/// What the scan found, if the lease holds behind it.
+/// What the scan found, if the lease holds after it.
 fn found_by_lease(
     scan: impl FnOnce() -> Result<Scan, Code>,
     end: &End,
@@ -400,7 +401,7 @@ fn found_by_lease(
 
 /// What a client's handle answers by a reader.
 impl Handle {
-    /// The rows come behind those that are there.
+    /// The rows come after those that are there.
     fn scan_behind(&self, keys: &Range<u64>, rows: &mut Vec<Row>) -> Result<Scan, Code> {
         let mut reply = self.scan_once(keys, rows)?;
         if code(reply) == Code::TooShort {
@@ -410,18 +411,18 @@ impl Handle {
         found(reply)
     }
 
-    /// Scans into the room that there is behind the rows.
+    /// Scans into the room that there is after the rows.
     fn scan_once(&self, keys: &Range<u64>, rows: &mut Vec<Row>) -> Result<ffi::Reply, Code> {
         let room = rows.spare_capacity_mut();
         let (at, length) = (room.as_mut_ptr().cast(), room.len());
         let mut reader = self.reader();
-        // SAFETY: the reader is this call's own, `&` keeps away each call that takes the handle, and
-        // there is so much room to be written to. The library reads nothing of the room.
+        // SAFETY: the reader is this call's own, `&` keeps away each call that takes the handle,
+        // and there is so much room to be written to. The library reads nothing of the room.
         let reply =
             unsafe { ffi::krl_reader_scan(&raw mut reader, keys.start, keys.end, at, length) };
         if code(reply) == Code::Done {
             let length = rows.len() + count(reply)?;
-            // SAFETY: the library has written so many rows behind the others, for which there was
+            // SAFETY: the library has written so many rows after the others, for which there was
             // room.
             unsafe { rows.set_len(length) };
         }
@@ -430,13 +431,15 @@ impl Handle {
 
     fn held(&self, point: u64) -> ffi::Held {
         let mut reader = self.reader();
-        // SAFETY: the reader is this call's own, and `&` keeps away each call that takes the handle.
+        // SAFETY: the reader is this call's own, and `&` keeps away each call that takes the
+        // handle.
         unsafe { ffi::krl_reader_held(&raw mut reader, point) }
     }
 
     fn client_state(&self) -> ffi::ClientState {
         let mut reader = self.reader();
-        // SAFETY: the reader is this call's own, and `&` keeps away each call that takes the handle.
+        // SAFETY: the reader is this call's own, and `&` keeps away each call that takes the
+        // handle.
         unsafe { ffi::krl_reader_status(&raw mut reader) }
     }
 }

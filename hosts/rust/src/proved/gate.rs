@@ -1,7 +1,7 @@
 //! A value that many threads read at once, and that one owner changes.
 //!
 //! A change shuts the gate, waits until the readers inside have left, and opens it again. So
-//! whatever the owner does behind a change comes after every read that has not seen it.
+//! whatever the owner does after a change comes after every read that has not seen it.
 use std::cell::UnsafeCell;
 use std::hint;
 use std::ops::Deref;
@@ -34,8 +34,9 @@ struct Gate<T> {
     inside: [Alone<AtomicUsize>; PLACES],
 }
 
-// SAFETY: many threads have `&T` at once, which `T: Sync` allows. The one that changes has `&mut T`,
-// and `T: Send` allows that this is another thread each time. No `&T` is there then: see `change`.
+// SAFETY: many threads have `&T` at once, which `T: Sync` allows. The one that changes has `&mut
+// T`, and `T: Send` allows that this is another thread each time. No `&T` is there then: see
+// `change`.
 unsafe impl<T: Send + Sync> Sync for Gate<T> {}
 
 /// The one who may change the value.
@@ -98,8 +99,8 @@ impl<T> Reader<T> {
         read(&self.enter())
     }
 
-    /// Goes inside, and stays there as long as the answer lives, which has to be short too. It waits
-    /// as `read` does.
+    /// Goes inside, and stays there as long as the answer lives, which has to be short too. It
+    /// waits as `read` does.
     ///
     /// A thread may be inside several gates, if all threads enter these in one order: one that
     /// waits at a gate keeps the changes of those before it waiting.

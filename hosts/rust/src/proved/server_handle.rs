@@ -18,7 +18,7 @@ pub(crate) struct Handle(Box<ffi::Handle>);
 // the one before it did.
 unsafe impl Send for Handle {}
 
-// SAFETY: a `&` gives readers alone. The library's proof says that several threads may call it at
+// SAFETY: a `&` gives only readers. The library's proof says that several threads may call it at
 // once, each by a reader of its own, while no call runs that takes the handle; and a `&mut` is
 // needed for such a call.
 unsafe impl Sync for Handle {}
@@ -38,10 +38,10 @@ impl Handle {
         ffi::Reader { is_open: self.0.is_open, at: self.0.at }
     }
 
-    /// Confirms that the first `count` notes are on the host's disk, and returns how many the library
-    /// has reported.
+    /// Confirms that the first `count` notes are on the host's disk, and returns how many the
+    /// library has reported.
     pub fn confirm(&mut self, count: u64) -> Result<u64, Code> {
-        // SAFETY: the handle stays in its place, and `&mut` gives it to this call alone.
+        // SAFETY: the handle stays in its place, and `&mut` gives it to this call only.
         done(unsafe { ffi::krl_confirm(self.raw(), count) })
     }
 
@@ -54,7 +54,7 @@ impl Handle {
         taken.map(drop)
     }
 
-    /// Takes the same into the room behind the old bytes, and says how long it is. The room grows
+    /// Takes the same into the room after the old bytes, and says how long it is. The room grows
     /// as it has to.
     fn take_behind(&mut self, old: usize, frames: &mut Vec<u8>) -> Result<usize, Code> {
         loop {
@@ -73,7 +73,7 @@ impl Handle {
 
 impl Drop for Handle {
     fn drop(&mut self) {
-        // SAFETY: the handle stays in its place, and `&mut` gives it to this call alone.
+        // SAFETY: the handle stays in its place, and `&mut` gives it to this call only.
         unsafe { ffi::krl_close(self.raw()) }
     }
 }
@@ -148,13 +148,13 @@ impl ServerHandle {
     }
 
     pub fn nudge(&mut self, client: u8) -> Result<(), Code> {
-        // SAFETY: the handle stays in its place, and `&mut` gives it to this call alone.
+        // SAFETY: the handle stays in its place, and `&mut` gives it to this call only.
         done(unsafe { ffi::krl_server_nudge(self.handle.raw(), client.into()) }).map(drop)
     }
 
     pub fn is_serving(&mut self) -> bool {
         const SERVING: u64 = 1;
-        // SAFETY: the handle stays in its place, and `&mut` gives it to this call alone.
+        // SAFETY: the handle stays in its place, and `&mut` gives it to this call only.
         unsafe { ffi::krl_server_status(self.handle.raw()) }.phase == SERVING
     }
 
@@ -170,7 +170,7 @@ impl ServerHandle {
 
     /// What is kept of the client, if it ever registered.
     pub fn record(&mut self, client: u8) -> Result<Option<Record>, Code> {
-        // SAFETY: the handle stays in its place, and `&mut` gives it to this call alone.
+        // SAFETY: the handle stays in its place, and `&mut` gives it to this call only.
         let raw = unsafe { ffi::krl_server_record(self.handle.raw(), client.into()) };
         match code(raw.reply) {
             Code::BadClient => Ok(None),
@@ -184,7 +184,7 @@ impl ServerHandle {
     }
 
     fn waiting_of(&mut self, client: u8) -> Result<Option<Waiting>, Code> {
-        // SAFETY: the handle stays in its place, and `&mut` gives it to this call alone.
+        // SAFETY: the handle stays in its place, and `&mut` gives it to this call only.
         let raw = unsafe { ffi::krl_server_waiter(self.handle.raw(), client.into()) };
         done(raw.reply)?;
         if raw.waits == 0 {
@@ -206,13 +206,13 @@ impl ServerHandle {
 
     /// At how many slots the client holds something.
     pub fn held(&mut self, client: u8) -> Result<u64, Code> {
-        // SAFETY: the handle stays in its place, and `&mut` gives it to this call alone.
+        // SAFETY: the handle stays in its place, and `&mut` gives it to this call only.
         done(unsafe { ffi::krl_server_held(self.handle.raw(), client.into()) })
     }
 
-    /// The first slot that ends behind this point and of which the client holds something.
+    /// The first slot that ends after this point and of which the client holds something.
     pub fn next_held(&mut self, client: u8, from: u64) -> Option<HeldSlot> {
-        // SAFETY: the handle stays in its place, and `&mut` gives it to this call alone.
+        // SAFETY: the handle stays in its place, and `&mut` gives it to this call only.
         let raw = unsafe { ffi::krl_server_next_held(self.handle.raw(), client.into(), from) };
         let ffi::RawHeldSlot { lo, hi, mode, holds, .. } = raw;
         (holds != 0).then(|| HeldSlot { lo, hi, client, mode: mode_name(mode) })

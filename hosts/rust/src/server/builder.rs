@@ -23,7 +23,8 @@ use std::sync::{Arc, Mutex};
 use std::thread;
 
 /// A server that has not started: its listener, its store, whom it lets in, how many connections it
-/// takes, for how many rows it has room, how many slots a grant takes, and the leases that it grants.
+/// takes, for how many rows it has room, how many slots a grant takes, and the leases that it
+/// grants.
 #[must_use = "a builder does nothing before `start`"]
 pub struct ServerBuilder<S> {
     listener: Listener,
@@ -31,7 +32,7 @@ pub struct ServerBuilder<S> {
     options: Options,
 }
 
-/// What a server is told before it starts.
+/// What a server is given before it starts.
 #[derive(Debug)]
 pub(crate) struct Options {
     pub access: Access,
@@ -56,7 +57,7 @@ impl<S: Store + 'static> ServerBuilder<S> {
     }
 
     /// Whom the server lets in: if this is not called, whoever can connect, by plain TCP on the
-    /// loopback alone, and its own user over a Unix socket.
+    /// loopback only, and its own user over a Unix socket.
     pub fn access(mut self, access: Access) -> ServerBuilder<S> {
         self.options.access = access;
         self
@@ -78,19 +79,19 @@ impl<S: Store + 'static> ServerBuilder<S> {
         self
     }
 
-    /// The shard that the server serves, by a map of this version: it serves clients that take it for
-    /// this, and no others. If this is not called it serves all keys, and no client of a shard.
+    /// The shard that the server serves, by a map of this version: it serves clients that take it
+    /// for this, and no others. If this is not called it serves all keys, and no client of a shard.
     pub fn shard(mut self, shard: ShardBounds) -> ServerBuilder<S> {
         self.options.shard = Some(shard);
         self
     }
 
-    /// For how many rows the server has room. An insert into a table that has so many is judged `Full`.
-    /// The memory for them is reserved at the start, and used as rows come.
+    /// For how many rows the server has room. An insert into a table that has so many is judged
+    /// `Full`. The memory for them is reserved at the start, and used as rows come.
     ///
     /// If this is not called, it is the greatest room that a server had over this store, and 65,536
-    /// over a new one. With less than that the server has the room that is said here, the store keeps
-    /// the greatest, and the log tells of both.
+    /// over a new one. With less than that the server has the room that is said here, the store
+    /// keeps the greatest, and the log reports both.
     pub fn room(mut self, room: Room) -> ServerBuilder<S> {
         self.options.room = Some(room);
         self
@@ -147,8 +148,8 @@ impl Server {
         Server::builder(listener, store).start()
     }
 
-    /// Says more of a server before it starts: whom it lets in, how many connections it takes, and the
-    /// leases that it grants.
+    /// Says more of a server before it starts: whom it lets in, how many connections it takes, and
+    /// the leases that it grants.
     ///
     /// # Examples
     ///

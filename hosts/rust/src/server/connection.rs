@@ -181,8 +181,8 @@ impl Connection {
         }
     }
 
-    /// Bytes in: all that comes passes here. It reads once, and says how many bytes came: none if the
-    /// other side has ended.
+    /// Bytes in: all that comes passes here. It reads once, and says how many bytes came: none if
+    /// the other side has ended.
     pub fn fill(&mut self, stream: &mut impl Read) -> io::Result<usize> {
         match &mut self.entry {
             Entry::Known(_) => self.incoming.fill(stream),
@@ -217,7 +217,7 @@ impl Connection {
         self.outgoing.write(stream, now)
     }
 
-    /// Puts bytes behind those that leave.
+    /// Puts bytes after those that leave.
     fn put(&mut self, bytes: &[u8]) {
         match &mut self.entry {
             Entry::Known(_) => self.outgoing.put(bytes),
@@ -310,8 +310,8 @@ impl Connection {
         self.host.get_or_insert_default().answer = answer.frame();
     }
 
-    /// Tells the peer's host why its client is not served: each reason once a second at most, and
-    /// none to a host that takes no host frames.
+    /// Reports to the peer's host why its client is not served: each reason once a second at most,
+    /// and none to a host that takes no host frames.
     pub fn refuse(&mut self, refusal: Refusal, now: Instant) {
         let Some(host) = &mut self.host else { return };
         if host.refusals[refusal.reason()].lets(now).is_some() {
@@ -338,9 +338,9 @@ impl Connection {
         self.batch = Batch::NotBegun;
     }
 
-    /// Begins a batch, unless so much waits already that the peer seems stuck: then it is lost. To a
-    /// host it says before all else how far the store has come, if that is news. A connection that
-    /// ends serves no client, and is told nothing of the store.
+    /// Begins a batch, unless so much waits already that the peer seems stuck: then it is lost. To
+    /// a host it says before all else how far the store has come, if that is news. A connection
+    /// that ends serves no client, and is told nothing of the store.
     fn begin_batch(&mut self, seen: Option<Seen>) {
         if self.batch != Batch::NotBegun {
             return;

@@ -1,5 +1,5 @@
-//! The connections of a server, without their sockets: what comes on them goes in, and which of them
-//! are to be read, written and closed comes out. [`crate::server::sockets`] does that.
+//! The connections of a server, without their sockets: what comes on them goes in, and which of
+//! them are to be read, written and closed comes out. [`crate::server::sockets`] does that.
 use crate::lease::clocks::Now;
 use crate::model::history::Seen;
 use crate::model::refusal::Refusal;
@@ -236,7 +236,7 @@ impl Connections {
         }
     }
 
-    /// Tells the peer's host why its client is not served.
+    /// Reports to the peer's host why its client is not served.
     pub fn refuse(&mut self, number: u64, refusal: Refusal) {
         let now = self.now.monotonic;
         if let Some(peer) = self.in_sending(number) {
@@ -309,7 +309,7 @@ impl Connections {
         self.open.len()
     }
 
-    /// Begins to send: what was told, and behind it what the server says. So far has the store
+    /// Begins to send: what was told, and after it what the server says. So far has the store
     /// come. Nothing that was not committed may be sent.
     pub fn send(&mut self, seen: Option<Seen>) -> Sending<'_> {
         Sending { connections: self, seen }
@@ -377,7 +377,7 @@ pub(crate) struct Sending<'a> {
 }
 
 impl Sending<'_> {
-    /// Puts a frame of the server behind those that leave. If the client has no connection, the
+    /// Puts a frame of the server after those that leave. If the client has no connection, the
     /// frame is lost.
     pub fn put(&mut self, client: u8, frame: &[u8]) {
         let Some(number) = self.connections.routes.of(client) else { return };

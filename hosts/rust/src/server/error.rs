@@ -37,7 +37,7 @@ pub enum ServeError {
     },
     /// The store lacks what a client has seen of it: it is an older copy, or another store. The
     /// client has shown who it is, and has been told. A server ends by no stranger's word: then
-    /// [`Status::store_alarms`](crate::Status::store_alarms) counts it, and the server goes on.
+    /// [`Status::store_alarms`](crate::Status::store_alarms) counts it, and the server continues.
     OlderStore {
         /// Who has seen it.
         identity: Identity,

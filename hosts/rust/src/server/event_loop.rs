@@ -35,16 +35,16 @@ const NUDGE: Duration = Duration::from_millis(50);
 /// How often a server that commits nothing asks whether the store is still its own.
 const ASKS_STORE: Duration = Duration::from_secs(1);
 
-/// How long a server that ends goes on to judge what has come.
+/// How long a server that ends continues to judge what has come.
 const LAST_TURNS: Duration = Duration::from_millis(100);
 
 /// How old what others see of a server may be while it is busy.
 const SHOWN_FOR: Duration = Duration::from_millis(5);
 
-/// What a server decides. It makes turns: each begins by [`EventLoop::begin`], takes what has come by
-/// [`EventLoop::hear_next`], and what time brings by [`EventLoop::nudge`]. What
-/// [`EventLoop::take_commit`] says is committed then, and [`EventLoop::committed`] is told so. Only after
-/// that [`EventLoop::send`] gives the connections what leaves.
+/// What a server decides. It makes turns: each begins by [`EventLoop::begin`], takes what has come
+/// by [`EventLoop::hear_next`], and what time brings by [`EventLoop::nudge`]. What
+/// [`EventLoop::take_commit`] says is committed then, and [`EventLoop::committed`] is told so. Only
+/// after that [`EventLoop::send`] gives the connections what leaves.
 pub(crate) struct EventLoop {
     server: ServerHandle,
     history: Option<History>,
@@ -70,7 +70,7 @@ pub(crate) struct EventLoop {
     /// When the store was asked last.
     asked_store: Instant,
     group: CommitGroup,
-    /// The server is to end, and goes on until then at most.
+    /// The server is to end, and continues until then at most.
     until: Option<Instant>,
     /// Why it is to end, if nobody has told it to.
     failure: Option<ServeError>,
@@ -140,7 +140,7 @@ impl EventLoop {
         &mut self.connections
     }
 
-    /// The server is told to end, and goes on for a while to judge what has come.
+    /// The server is told to end, and continues for a while to judge what has come.
     pub fn stop(&mut self, now: Now) {
         self.until = Some(now.monotonic + LAST_TURNS);
     }
@@ -150,13 +150,13 @@ impl EventLoop {
         self.until.is_some()
     }
 
-    /// Whether to make another turn after one that began then and judged so much. What came before the
-    /// stop is seen by the turn after it.
+    /// Whether to make another turn after one that began then and judged so much. What came before
+    /// the stop is seen by the turn after it.
     pub fn goes_on(&self, was_to_end: bool, began: Now, judged: usize) -> bool {
         self.until.is_none_or(|until| !was_to_end || judged > 0 && began.monotonic < until)
     }
 
-    /// Why it has ended, if nobody has told it to. It is told once.
+    /// Why it has ended, if nobody has told it to. It is reported once.
     pub fn take_failure(&mut self) -> Option<ServeError> {
         self.failure.take()
     }
@@ -316,8 +316,8 @@ impl EventLoop {
         self.group.waits(&self.changes, waited)
     }
 
-    /// Says again what clients may have missed, closes dead connections and evicts, if that is due. It
-    /// answers whether it was.
+    /// Sends again what clients may have missed, closes dead connections and evicts, if that is
+    /// due. It answers whether it was.
     pub fn nudge(&mut self, now: Now) -> Result<bool, ServeError> {
         if now.monotonic.saturating_duration_since(self.nudged) < NUDGE {
             return Ok(false);
@@ -333,12 +333,13 @@ impl EventLoop {
         Ok(true)
     }
 
-    /// Takes what has to be committed before anything leaves, if anything has: nothing leaves if that fails.
+    /// Takes what has to be committed before anything leaves, if anything has: nothing leaves if
+    /// that fails.
     ///
     /// Nothing changed is committed too, if the store has to be asked whether it is still this
-    /// server's: before terms leave, before a store is called an older one, and now and then. A server
-    /// behind which another one has started would find that at its next commit, and its clients might
-    /// wait for it until then.
+    /// server's: before terms leave, before a store is called an older one, and now and then. A
+    /// server after which another one has started would find that at its next commit, and its
+    /// clients might wait for it until then.
     pub fn take_commit(&mut self, now: Now) -> Option<Vec<Change>> {
         let since_asked = now.monotonic.saturating_duration_since(self.asked_store);
         let asks = self.owes_terms || !self.doubts.is_empty() || since_asked >= ASKS_STORE;

@@ -24,7 +24,7 @@ pub(crate) fn tell(mut stream: Stream, connections: u64) {
         && says_hello(&mut stream, end)
         && stream.write_all(&refusal.frame()).is_ok()
     {
-        // What the peer has said beside it is read too: a stream that is closed with bytes unread
+        // What the peer has said next to it is read too: a stream that is closed with bytes unread
         // may take the answer with it.
         stream.shut_writing();
         while Instant::now() < end && reads(&mut stream, &mut Frames::to_server(LONGEST)) {}

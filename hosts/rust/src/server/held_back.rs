@@ -1,4 +1,4 @@
-//! Pushes that are said again too soon.
+//! Pushes that are sent again too soon.
 use crate::model::client_number::{ClientNumber, PerClient};
 use std::time::{Duration, Instant};
 

@@ -105,7 +105,7 @@ impl Drop for Permit {
     }
 }
 
-/// Tells a peer why it is closed, in a thread of its own. Without one it is closed at once.
+/// Reports to a peer why it is closed, in a thread of its own. Without one it is closed at once.
 fn refuse_full(stream: Stream, max_connections: usize, count: &Arc<AtomicUsize>) {
     if count.load(Ordering::Acquire) < MAX_TURNED_AWAY {
         let permit = Permit::take(count);

@@ -115,7 +115,7 @@ impl Search {
     }
 
     /// The runs that come next, by client and point: as many as a page has, or as come until it is
-    /// late. A run that goes on in the next page is in both in part.
+    /// late. A run that continues in the next page is in both in part.
     pub fn page(
         &mut self,
         mut next_held: impl FnMut(u8, u64) -> Option<HeldSlot>,

@@ -17,7 +17,7 @@ pub const PATIENCE: Duration = Duration::from_secs(5);
 /// The connections that have not said whose they are, the oldest first, and those that have.
 ///
 /// For one more than there may be **the oldest is closed**, and not the newest refused: a client
-/// says whose it is in a few milliseconds, and gets in beside any number that say nothing.
+/// says whose it is in a few milliseconds, and gets in next to any number that say nothing.
 #[derive(Debug, Default)]
 pub struct Strangers {
     waiting: VecDeque<Stranger>,

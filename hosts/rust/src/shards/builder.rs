@@ -1,4 +1,4 @@
-//! What a sharded client is told before it joins, and how it joins.
+//! What a sharded client is given before it joins, and how it joins.
 use crate::client::Client;
 use crate::client::joining::{self, Errand, Waits};
 use crate::client::lock_file::LockFileError;
@@ -15,7 +15,7 @@ use std::path::{Path, PathBuf};
 use std::thread::{self, ScopedJoinHandle};
 use std::time::Duration;
 
-/// What a sharded client is told before it joins: its map, its number and the folder of its lock
+/// What a sharded client is given before it joins: its map, its number and the folder of its lock
 /// files, and how long its calls wait. The number and the folder have to be said.
 #[derive(Clone, Debug)]
 #[must_use = "a builder does nothing before `join`"]
@@ -57,8 +57,8 @@ impl ShardedBuilder {
     }
 
     /// The keys for which the client is: all of them by default. It joins only the shards that have
-    /// some of these keys, so that a server of another shard may be down. A call with keys of a shard
-    /// that it has not joined is refused by `BadRange` or `BadKey`.
+    /// some of these keys, so that a server of another shard may be down. A call with keys of a
+    /// shard that it has not joined is refused by `BadRange` or `BadKey`.
     pub fn keys(mut self, keys: Range<u64>) -> ShardedBuilder {
         self.keys = keys;
         self
@@ -71,7 +71,7 @@ impl ShardedBuilder {
         self
     }
 
-    /// How long `join` waits for its number if a server tells that another process has it, as
+    /// How long `join` waits for its number if a server reports that another process has it, as
     /// [`ClientBuilder::wait_if_in_use`] says.
     ///
     /// [`ClientBuilder::wait_if_in_use`]: crate::ClientBuilder::wait_if_in_use
@@ -84,9 +84,9 @@ impl ShardedBuilder {
     ///
     /// # Errors
     ///
-    /// `Incomplete` if no number or no folder was said, or no shard has any of the keys; `LockFile` if
-    /// other processes have the lock files of all numbers; else those of [`Client::join`], with the
-    /// shard.
+    /// `Incomplete` if no number or no folder was said, or no shard has any of the keys; `LockFile`
+    /// if other processes have the lock files of all numbers; otherwise those of [`Client::join`],
+    /// with the shard.
     pub fn join(self) -> Result<ShardedClient, ShardJoinError> {
         let of_none = |error| ShardJoinError { shard: None, error };
         let missing = of_none(JoinError::Incomplete("a folder of lock files"));

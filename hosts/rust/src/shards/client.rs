@@ -18,8 +18,8 @@ use std::ops::{Range, RangeBounds};
 use std::sync::Arc;
 use std::time::Duration;
 
-/// A client of a number from 0 to 63 at each shard of a map. Its calls are those of [`Client`], over
-/// any range of keys, and may come from several threads.
+/// A client of a number from 0 to 63 at each shard of a map. Its calls are those of [`Client`],
+/// over any range of keys, and may come from several threads.
 ///
 /// It asks all shards at once, and waits for the slowest one. **A scan over several shards is
 /// answered only if all its parts are known at one moment**: the rows are that range of all
@@ -125,10 +125,10 @@ impl ShardedClient {
         ShardedWithin::new(&self.joined, timeout)
     }
 
-    /// The rows of the range: from the caches, with no message and no waiting, if they know it. Else
-    /// it asks all shards at once for what they lack, and waits until all have answered. If others
-    /// have taken away a part by then, it takes the parts in ascending order, and pins each until it
-    /// has all.
+    /// The rows of the range: from the caches, with no message and no waiting, if they know it.
+    /// Otherwise it asks all shards at once for what they lack, and waits until all have answered.
+    /// If others have taken away a part by then, it takes the parts in ascending order, and pins
+    /// each until it has all.
     ///
     /// # Errors
     ///
@@ -137,8 +137,8 @@ impl ShardedClient {
         self.within(self.timeout()).read(keys)
     }
 
-    /// Reads the range and pins it, as [`Client::pin_for_read`] does. It asks for all parts at once,
-    /// and then takes them in ascending order.
+    /// Reads the range and pins it, as [`Client::pin_for_read`] does. It asks for all parts at
+    /// once, and then takes them in ascending order.
     ///
     /// # Errors
     ///
@@ -167,8 +167,8 @@ impl ShardedClient {
     }
 
     /// Pins the range, when the client holds all of it: **it waits, other than [`Client::pin`]**.
-    /// Else a part would be pinned while an earlier one is still to come, and two clients could wait
-    /// for one another.
+    /// Otherwise a part would be pinned while an earlier one is still to come, and two clients
+    /// could wait for one another.
     ///
     /// # Errors
     ///
@@ -220,8 +220,8 @@ impl ShardedClient {
     /// # Errors
     ///
     /// Those of [`Client::write_all`], with the first shard at which not all were judged. At each
-    /// shard at most one write is unknown. `BadKey`, without a shard, also if a key is one of a shard
-    /// that is not joined.
+    /// shard at most one write is unknown. `BadKey`, without a shard, also if a key is one of a
+    /// shard that is not joined.
     pub fn write_all(
         &self,
         writes: impl IntoIterator<Item = Mutation>,
@@ -238,7 +238,7 @@ impl ShardedClient {
         self.within(self.timeout()).forget(keys)
     }
 
-    /// The rows of the range if the caches know all of it at one moment, else `None`. It sends
+    /// The rows of the range if the caches know all of it at one moment, otherwise `None`. It sends
     /// nothing, and waits for nothing but one step of each shard's client, some microseconds. While
     /// it scans, no client of these shards takes a message or a call. An empty range has no rows;
     /// of a range that is none the caches know nothing.
@@ -255,8 +255,8 @@ impl ShardedClient {
     }
 
     /// The same, and `visit` gets each row, in key order. It answers whether the caches know the
-    /// range; if they do not, no row is visited. The rows are visited after the scan, so `visit` may
-    /// take as long as it likes, and may call the client.
+    /// range; if they do not, no row is visited. The rows are visited after the scan, so `visit`
+    /// may take as long as it likes, and may call the client.
     #[must_use]
     pub fn for_each_cached(&self, keys: impl RangeBounds<u64>, visit: impl FnMut(&Row)) -> bool {
         with_room(|room| {
@@ -269,8 +269,8 @@ impl ShardedClient {
     }
 
     /// Waits until the client no longer knows that the range has these rows, at any shard, as
-    /// [`Client::wait_for_change`] does for one: it sends nothing. The rows have to be in key order,
-    /// as [`ShardedClient::read`] gives them.
+    /// [`Client::wait_for_change`] does for one: it sends nothing. The rows have to be in key
+    /// order, as [`ShardedClient::read`] gives them.
     ///
     /// # Errors
     ///
@@ -284,13 +284,13 @@ impl ShardedClient {
         self.joined.wait_for_change(keys, rows, timeout)
     }
 
-    /// The states of the range, one after the other, as [`Client::changes`] gives them. Each is that
-    /// of all shards together at one moment.
+    /// The states of the range, one after the other, as [`Client::changes`] gives them. Each is
+    /// that of all shards together at one moment.
     ///
     /// # Errors
     ///
-    /// `BadRange` if the range is empty or none, or has keys of a shard that is not joined. Items are
-    /// the errors of [`ShardedClient::read`].
+    /// `BadRange` if the range is empty or none, or has keys of a shard that is not joined. Items
+    /// are the errors of [`ShardedClient::read`].
     pub fn changes(&self, keys: impl RangeBounds<u64>) -> Result<Changes<ShardError>, ShardError> {
         let keys = keys_of(&keys)?;
         if self.joined.parts(keys.clone())?.is_empty() {
@@ -299,7 +299,8 @@ impl ShardedClient {
         Ok(Changes::of(RangeOfShards { client: self.clone(), keys }))
     }
 
-    /// Leaves all shards at once, and waits until each server has kept that, as [`Client::leave`] does.
+    /// Leaves all shards at once, and waits until each server has kept that, as [`Client::leave`]
+    /// does.
     ///
     /// # Errors
     ///

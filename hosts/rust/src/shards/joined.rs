@@ -91,7 +91,7 @@ impl Joined {
             }
             match self.take(&parts, Purpose::Read, end) {
                 Ok((taken, _pin)) => return Ok(taken),
-                // The caller's own pins leave no room for others, so it goes on without.
+                // The caller's own pins leave no room for others, so it continues without.
                 Err(ShardError { error: Error::TooManyPins, shard }) => {
                     if Instant::now() >= end {
                         return Err(ShardError { error: Error::TimedOut, shard });
@@ -119,7 +119,7 @@ impl Joined {
         self.ask_all(parts, end, read).map(drop)
     }
 
-    /// Asks all shards at once, and waits for each answer until the deadline. It tells the first
+    /// Asks all shards at once, and waits for each answer until the deadline. It reports the first
     /// error when all have answered.
     fn ask_all<T>(
         &self,

@@ -23,7 +23,7 @@ pub struct Shard {
 ///
 /// **All clients have to have the same map**: a client with another one would write keys at the wrong
 /// server, where the others don't see them. A map with a version is fenced: each server is started
-/// as that of its shard ([`ServerBuilder::shard`]), and serves clients of the same map alone. A map
+/// as that of its shard ([`ServerBuilder::shard`]), and serves only clients of the same map. A map
 /// without a version is not: nothing notices two of them.
 ///
 /// [`ServerBuilder::shard`]: crate::ServerBuilder::shard

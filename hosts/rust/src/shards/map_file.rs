@@ -33,7 +33,7 @@ struct ShardEntry {
 }
 
 impl ShardMap {
-    /// The map that a text in TOML tells:
+    /// The map that a text in TOML holds:
     ///
     /// ```
     /// let map = krl::ShardMap::from_toml(
@@ -67,7 +67,7 @@ impl ShardMap {
         Ok(map.with_version(file.version))
     }
 
-    /// The map that a file tells, as [`ShardMap::from_toml`] reads it.
+    /// The map that a file holds, as [`ShardMap::from_toml`] reads it.
     ///
     /// # Errors
     ///
@@ -76,7 +76,7 @@ impl ShardMap {
         ShardMap::from_toml(&std::fs::read_to_string(path).map_err(BadMapFile::File)?)
     }
 
-    /// The text that tells this map. That of a map without a version lacks it, and is read as none.
+    /// The text of this map. That of a map without a version lacks it, and is read as none.
     #[must_use]
     pub fn to_toml(&self) -> String {
         let version = self.version().map(|version| format!("version = {version}\n"));

@@ -110,7 +110,7 @@ impl Client {
         self.at(time).has_to_begin_anew()
     }
 
-    /// It goes on under this incarnation, which is on its disk.
+    /// It continues under this incarnation, which is on its disk.
     pub fn begin_anew(&mut self, number: u8, incarnation: u64, before: Before, time: Duration) {
         self.at(time).begin_anew(handle(number, incarnation, before));
     }
@@ -146,7 +146,7 @@ impl Client {
         Ok(())
     }
 
-    /// It goes on with what it was asked. It answers how soon that is due again.
+    /// It continues with what it was asked. It answers how soon that is due again.
     ///
     /// # Errors
     ///

@@ -221,7 +221,7 @@ impl Server {
         self.events.goes_on(was_to_end, began, judged)
     }
 
-    /// Why it has ended, if nobody has told it to. It is told once.
+    /// Why it has ended, if nobody has told it to. It is reported once.
     pub fn take_failure(&mut self) -> Option<ServeError> {
         self.events.take_failure()
     }

@@ -24,8 +24,8 @@ use std::time::Duration;
 /// A store in one file of SQLite, in WAL mode with synchronous=FULL: `commit` returns once the
 /// changes are on the disk. A write's row and its client's record change in one transaction.
 ///
-/// One process at a time has the file open. If another one changed it all the same, since the system
-/// or the network's disk does not keep that lock, each commit finds it and is refused.
+/// One process at a time has the file open. If another one changed it all the same, since the
+/// system or the network's disk does not keep that lock, each commit finds it and is refused.
 #[derive(Debug)]
 pub struct SqliteStore {
     connection: Connection,
@@ -41,8 +41,8 @@ const TIMEOUT: Duration = Duration::from_millis(200);
 const LONGEST_WAIT: Duration = Duration::from_secs(60);
 
 /// The page size of new stores, in bytes. A commit writes each page that it changes whole, and a
-/// write changes two: one of rows and one of records. SQLite's own 4,096 bytes take a commit a tenth
-/// longer, and 512 save next to nothing more.
+/// write changes two: one of rows and one of records. SQLite's own 4,096 bytes take a commit a
+/// tenth longer, and 512 save next to nothing more.
 const PAGE_SIZE: i64 = 1024;
 
 /// How long the log may grow, in bytes, before its pages are copied into the file: as long as with
@@ -74,8 +74,8 @@ const REGISTER: &str = "INSERT INTO record (client, incarnation, last, outcome, 
     SET incarnation = ?2, last = 0, outcome = 0, has_left = 0, commits = ?3";
 const LEAVE: &str = "UPDATE record SET has_left = 1, commits = ?2 WHERE client = ?1";
 const JUDGE: &str = "UPDATE record SET last = ?2, outcome = ?3, commits = ?4 WHERE client = ?1";
-// The first start of the store of which this one is a copy. It has no commits here: to a client that
-// has seen some, the copy is an older store.
+// The first start of the store of which this one is a copy. It has no commits here: to a client
+// that has seen some, the copy is an older store.
 const FIRST_START: &str = "INSERT INTO start (bits, commits) VALUES (?1, 0)";
 const FIRST: &str = "SELECT bits FROM start ORDER BY place LIMIT 1";
 
@@ -98,9 +98,9 @@ impl SqliteStore {
     /// # Errors
     ///
     /// If another process has the file open; if it is a database of another program, a file without
-    /// tables, such as a copy that lacks its log, or a store of a version that this program does not
-    /// know; if it was not opened since it was made, and differs from what was written then; if SQLite
-    /// can't read, make or write it.
+    /// tables, such as a copy that lacks its log, or a store of a version that this program does
+    /// not know; if it was not opened since it was made, and differs from what was written then; if
+    /// SQLite can't read, make or write it.
     pub fn open(path: impl AsRef<Path>) -> Result<SqliteStore, StoreError> {
         SqliteStore::open_by(path.as_ref(), "EXCLUSIVE")
     }
@@ -120,9 +120,9 @@ impl SqliteStore {
         Ok(())
     }
 
-    /// Writes these rows, each in place of the one of its key if there is one, all or none. No server
-    /// may run on it, and each client has left: one that has not would go on to answer from its cache
-    /// what is no longer so.
+    /// Writes these rows, each in place of the one of its key if there is one, all or none. No
+    /// server may run on it, and each client has left: one that has not would continue to answer
+    /// from its cache what is no longer so.
     ///
     /// # Errors
     ///

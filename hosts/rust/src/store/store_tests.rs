@@ -1,8 +1,8 @@
 //! Tests that every store has to pass, for the tests of whoever writes one.
 //!
 //! Each test is given what opens the store as a server does that starts: a new value of the store,
-//! over all that was committed before. No test but those of a fence has two values at a time. A test
-//! begins with an empty store, and panics if the store does something wrong.
+//! over all that was committed before. No test but those of a fence has two values at a time. A
+//! test begins with an empty store, and panics if the store does something wrong.
 //!
 //! ```no_run
 //! use krl::{SqliteStore, store_tests};
@@ -165,8 +165,8 @@ pub fn counts_each_start_and_each_batch<S: Store>(mut open: impl FnMut() -> S) {
     assert_eq!(marks.len(), 3, "each start has bits of its own");
 }
 
-/// What a value commits rests on what it has loaded: if another value has committed something since,
-/// it is deposed. For a store that several servers may open at once.
+/// What a value commits rests on what it has loaded: if another value has committed something
+/// since, it is deposed. For a store that several servers may open at once.
 ///
 /// # Panics
 ///
@@ -210,8 +210,8 @@ pub fn tells_two_starts_apart<S: Store>(mut open: impl FnMut() -> S) {
     }
 }
 
-/// A copy of another store goes on from what it has, and from the first start of that store. For a
-/// store that can be made of a snapshot.
+/// A copy of another store continues from what it has, and from the first start of that store. For
+/// a store that can be made of a snapshot.
 ///
 /// # Panics
 ///

@@ -41,7 +41,7 @@ pub(crate) const GULP: usize = 1 << 14;
 /// So much room is kept for the next bytes when all that came is taken.
 const KEPT: usize = 4 * GULP;
 
-/// A frame that promises more than a message has. The connection can't go on.
+/// A frame that promises more than a message has. The connection can't continue.
 #[derive(Clone, Copy, Debug, PartialEq, Eq)]
 pub(crate) struct TooLong;
 
@@ -50,7 +50,7 @@ pub(crate) struct TooLong;
 /// head.
 #[derive(Debug, Default)]
 pub(crate) struct Frames {
-    /// Room for bytes. What is behind `filled` was zero, or is of frames that were taken: no read
+    /// Room for bytes. What is after `filled` was zero, or is of frames that were taken: no read
     /// has to clear it again.
     bytes: Vec<u8>,
     taken: usize,
@@ -83,7 +83,7 @@ impl Frames {
         Ok(count)
     }
 
-    /// Moves what is not taken to the front, and makes room for one read behind it.
+    /// Moves what is not taken to the front, and makes room for one read after it.
     fn make_room(&mut self) {
         if self.taken > 0 {
             self.bytes.copy_within(self.taken..self.filled, 0);

@@ -3,8 +3,8 @@
 //!
 //! The first byte of a host frame is 0. No message of the library begins so: its version is 1.
 //!
-//! A Hello names the version of the stream, and its layout is the same in each version from 2 on: so
-//! each side can tell the other that they do not fit together.
+//! A Hello names the version of the stream, and its layout is the same in each version from 2 on:
+//! so each side can tell the other that they do not fit together.
 use crate::model::client_set::ClientSet;
 use crate::model::history::{Mark, Seen};
 use crate::model::refusal::{Refusal, STREAM_VERSION};
@@ -19,7 +19,8 @@ const BEFORE_VERSIONS: u8 = 1;
 /// The second byte of a server's Hello if it answers signs; otherwise it is 0.
 const ANSWERS_SIGNS: u8 = 1;
 
-/// How many bytes a mark has: it may lack the store's first start, and a client may have heard none.
+/// How many bytes a mark has: it may lack the store's first start, and a client may have heard
+/// none.
 const MARK_LENGTHS: [usize; 3] = [0, 24, 40];
 
 /// What the host of a client says.
@@ -257,7 +258,7 @@ mod tests {
             let body = body(&said.frame());
             assert!(is_of_host(&body) && body.len() < crate::wire::frames::LONGEST_TO_CLIENT);
             assert_eq!(FromServer::read(&body), Some(said));
-            // A later release may say more behind it.
+            // A later release may say more after it.
             assert_eq!(FromServer::read(&[&body[..], b"more"].concat()), Some(said));
         }
         for seen in [None, Some(SEEN), Some(SEEN_EARLIER)] {

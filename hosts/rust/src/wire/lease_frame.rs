@@ -64,7 +64,7 @@ fn framed(kind: u8, numbers: &[u64]) -> Vec<u8> {
     [&length.to_le_bytes()[..], &[HOST, kind], &body].concat()
 }
 
-/// The numbers of a frame of this kind. A later release may say more behind them.
+/// The numbers of a frame of this kind. A later release may say more after them.
 fn numbers<const N: usize>(frame: &[u8], kind: u8) -> Option<[u64; N]> {
     let mut rest = frame.strip_prefix(&[HOST, kind])?;
     let mut numbers = [0; N];

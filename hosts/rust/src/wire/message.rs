@@ -194,7 +194,7 @@ pub(crate) fn eviction(client: u8, successor: u64) -> [Vec<u8>; 2] {
 pub(crate) mod tests {
     use super::*;
 
-    /// A message with these numbers behind its kind.
+    /// A message with these numbers after its kind.
     fn message(kind: u8, numbers: &[u64]) -> Vec<u8> {
         let mut bytes = vec![1, kind];
         for number in numbers {

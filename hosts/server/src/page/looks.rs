@@ -1,7 +1,7 @@
 //! Looks at who holds what, for pictures: not more of them than a server's loop has time for.
 //!
 //! The server goes through its whole table for each client, and a page is read again each second by
-//! anybody who watches. So all who watch share one look at each range, which a thread makes anew
+//! anybody who watches. So all who watch share one look at each range, which a thread makes again
 //! for as long as somebody asks. After each part of it, that thread leaves the loop alone for so
 //! long that all looks take less than a hundredth of its time.
 use krl::{HeldPage, HeldRun, HeldSearch, LocksError, Monitor};
@@ -72,7 +72,7 @@ struct View {
     points: Range<u64>,
     asked_first: Instant,
     asked: Instant,
-    /// The look that goes on, and when it began.
+    /// The look that continues, and when it began.
     search: Option<HeldSearch>,
     began: Option<Instant>,
     seen: BTreeMap<u8, Seen>,
@@ -225,7 +225,8 @@ impl Views {
         }
     }
 
-    /// Whether what was seen of the range is shown now. A look at a large table goes on after that.
+    /// Whether what was seen of the range is shown now. A look at a large table continues after
+    /// that.
     fn shows(&mut self, epoch: u64, points: &Range<u64>, now: Instant) -> bool {
         self.view(epoch, points).is_none_or(|view| {
             let age = now.saturating_duration_since(view.asked_first);
@@ -251,7 +252,7 @@ impl View {
         }
     }
 
-    /// Goes on with its look, or begins one.
+    /// Continues with its look, or begins one.
     fn work(&mut self, now: Instant) -> Work {
         let Range { start, end } = self.points;
         let search = self.search.take().or_else(|| {

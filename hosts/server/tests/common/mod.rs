@@ -77,7 +77,7 @@ impl Serving {
         Serving::start_until(command, "ready")
     }
 
-    /// Starts a server, at free ports if nothing else is said, and waits until it tells this.
+    /// Starts a server, at free ports if nothing else is said, and waits until it reports this.
     pub fn start_until(command: &mut Command, told: &str) -> Serving {
         for flag in ["--listen", "--status"] {
             if !command.get_args().any(|word| word == flag) {

@@ -9,7 +9,7 @@ use krl::{ClientSet, Error, Outcome, Refusal, Row, Value, Write};
 use std::ops::Range;
 use std::time::Duration;
 
-/// A client that waits is made to go on after this time.
+/// A client that waits is made to continue after this time.
 const BUSY: Duration = Duration::from_millis(20);
 
 /// A hasty caller waits no longer than this for its next call.
@@ -291,8 +291,8 @@ impl World {
         }
     }
 
-    /// A caller that watches a range learns of it as soon as its client knows other rows, or not all
-    /// of them.
+    /// A caller that watches a range learns of it as soon as its client knows other rows, or not
+    /// all of them.
     fn look_at_watched(&mut self, client: usize) {
         let machine = &mut self.machines[client];
         let time = machine.clock.at(self.now);
@@ -414,7 +414,8 @@ impl World {
     }
 }
 
-/// Whether a server may refuse a client so. The reasons that are left out are those of other worlds.
+/// Whether a server may refuse a client so. The reasons that are left out are those of other
+/// worlds.
 fn may_be_refused(refusal: Refusal) -> bool {
     match refusal {
         Refusal::Missing(clients) => clients != ClientSet::default(),

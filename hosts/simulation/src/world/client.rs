@@ -283,7 +283,7 @@ impl World {
         }
     }
 
-    /// The client goes on with what it was asked, and says what it has to say.
+    /// The client continues with what it was asked, and says what it has to say.
     pub(super) fn proceed(&mut self, client: usize) {
         let machine = &mut self.machines[client];
         let time = machine.clock.at(self.now);
@@ -318,8 +318,8 @@ impl World {
         }
     }
 
-    /// An operator evicts a client of which no process is left, but for one of a greater incarnation
-    /// that waits for this.
+    /// An operator evicts a client of which no process is left, but for one of a greater
+    /// incarnation that waits for this.
     pub(super) fn evict(&mut self, victim: usize) {
         let operator = self.weather.clients;
         let number = self.machines[victim].number;

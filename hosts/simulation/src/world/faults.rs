@@ -162,8 +162,8 @@ impl World {
         sites.chain(machines).fold(self.now, Duration::max)
     }
 
-    /// Nothing goes wrong any more: the network carries all, and who was started by mistake is ended.
-    /// Who stands still goes on in its time, so that what waits for it comes in its order.
+    /// Nothing goes wrong any more: the network carries all, and who was started by mistake is
+    /// ended. Who stands still continues in its time, so that what waits for it comes in its order.
     pub(super) fn heal(&mut self) {
         self.record.note(self.now, &[0], || Happened::World("all is whole again".into()));
         self.healed = Some(self.all_go_on());

@@ -1,7 +1,7 @@
 use Rattle.krl_nodes.proofs.Names.{◌≡◌, length, AreSortedBack}
 use Rattle.krl_nodes.proofs.sorting.put_back.Given as goal
 
--- the letters with the messages behind them are as they were
+-- the letters with the messages after them are as they were
 abbrev pub invariant-loop : goal.invariant-loop
 invariant-loop l =
     (length l.to_clients.items ≡ length l.initial.to_clients.items)

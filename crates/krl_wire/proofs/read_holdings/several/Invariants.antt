@@ -5,7 +5,7 @@ use Rattle.krl_wire.specs.Reading.{holdings_from}
 use Rattle.krl_wire.proofs.Loop.{with_front}
 use Rattle.krl_wire.proofs.read_holdings.several.Given as goal
 
--- what begins at the end of the last holding or later may stand behind it
+-- what begins at the end of the last holding or later may come after it
 abbrev pub invariant-loop : goal.invariant-loop
 invariant-loop l =
     record {

@@ -1,5 +1,5 @@
 //! A client whose server's store went back or is another one, or whose lease has ended: it drops
-//! what it knows, and begins anew.
+//! what it knows, and begins again.
 use super::crossed::Crossed;
 use super::takings::Takings;
 use super::yielding::Narrowed;
@@ -19,7 +19,7 @@ pub(crate) enum Dropped {
 }
 
 impl Dropped {
-    /// What is told to who waits and can't go on.
+    /// What is told to who waits and can't continue.
     pub fn refused(self) -> Error {
         match self {
             Dropped::StoreWentBack => Error::StoreWentBack,
@@ -30,9 +30,9 @@ impl Dropped {
 }
 
 impl Job {
-    /// What becomes of a job that is open as the client drops all. Behind the end of a lease it goes
-    /// on from its start. If the store went back or is another one, only those go on that join and
-    /// leave.
+    /// What becomes of a job that is open as the client drops all. After the end of a lease it goes
+    /// on from its start. If the store went back or is another one, only those continue that join
+    /// and leave.
     fn behind(self, why: Dropped) -> Option<Job> {
         match (self, why) {
             (Job::Hold(taking, reply), Dropped::LeaseEnded) => {
@@ -69,7 +69,7 @@ impl Job {
 
 impl Jobs {
     /// The client drops all that it holds and knows, as if it had crashed, and is void until it
-    /// begins anew: it answers nothing, says nothing and takes nothing. A write that is on its way
+    /// begins again: it answers nothing, says nothing and takes nothing. A write that is on its way
     /// ends: whether it is done is not known. One that has left has nothing to drop.
     pub fn drop_all(&mut self, why: Dropped) {
         if matches!(self.stage, Stage::Gone | Stage::Ended) {
@@ -101,7 +101,7 @@ impl Jobs {
         self.tell_changes();
     }
 
-    /// Whether the client has to begin anew.
+    /// Whether the client has to begin again.
     pub fn is_void(&self) -> bool {
         self.void.is_some()
     }
@@ -112,12 +112,12 @@ impl Jobs {
         self.is_void() || self.has_begun_anew && !self.has_joined()
     }
 
-    /// Whether the client has joined since it began, or began anew: otherwise it knows nothing.
+    /// Whether the client has joined since it began, or began again: otherwise it knows nothing.
     pub fn has_joined(&self) -> bool {
         self.client.status().is_ok_and(|shown| shown.epoch > 0)
     }
 
-    /// Goes on as a client of a greater incarnation, which has not joined yet.
+    /// Continues as a client of a greater incarnation, which has not joined yet.
     pub fn begin_anew(&mut self, client: ClientHandle) {
         self.incarnation = client.lease().incarnation();
         self.client.replace(client);

@@ -1,5 +1,6 @@
 //! Several writes of one job. A client has one write on its way at most: so the next one is sent as
-//! soon as the one before it is judged, in the same step, and only the last answer wakes the caller.
+//! soon as the one before it is judged, in the same step, and only the last answer wakes the
+//! caller.
 use super::bound::{Bond, Wanted};
 use super::{Asked, Job, JobId, Jobs, Reply};
 use crate::client::set;
@@ -113,8 +114,8 @@ impl Jobs {
         Some((Wanted { write, bond: wanted.bond, kept: None }, Report::Together(batch)))
     }
 
-    /// The write that is made first. A set of a key that the client knows to have no row is an insert:
-    /// a put would ask the server in vain.
+    /// The write that is made first. A set of a key that the client knows to have no row is an
+    /// insert: a put would ask the server in vain.
     fn first_write_of(&mut self, mutation: Mutation) -> Write {
         match mutation {
             Mutation::Insert(row) => Write::Insert(row),
@@ -124,7 +125,7 @@ impl Jobs {
         }
     }
 
-    /// A job of a batch goes on after the others that are open: their writes come in between.
+    /// A job of a batch continues after the others that are open: their writes come in between.
     pub(super) fn reopen_last(&mut self, id: JobId, wanted: Wanted, report: Report) {
         self.open.push((id, Job::Write(wanted, report)));
     }

@@ -38,8 +38,9 @@ impl Crossed {
     /// A lock of these points was answered after the callbacks: what it gave is not given back for
     /// them. Who waited there before was served before, or the server calls back again.
     ///
-    /// The lock may not have given all that was asked for. Where the client holds nothing, the server
-    /// may still count what the callback took, and would put the next request in front of others.
+    /// The lock may not have given all that was asked for. Where the client holds nothing, the
+    /// server may still count what the callback took, and would put the next request in front of
+    /// others.
     fn leave_out(&mut self, points: &Range<u64>, holds: impl Fn(u64) -> bool) {
         let is_given = |span: &Range<u64>| {
             let first = span.start.max(points.start);
@@ -50,7 +51,7 @@ impl Crossed {
 }
 
 impl Jobs {
-    /// Gives the client a message, and behind a push the callbacks that may have crossed it.
+    /// Gives the client a message, and after a push the callbacks that may have crossed it.
     pub(super) fn step(&mut self, message: Message<'_>) -> Result<(), Code> {
         if let Some(span) = message.called_back() {
             if self.shows(Shown::awaits_a_push) {

@@ -89,7 +89,7 @@ impl Jobs {
     /// Pins what is held by now, and asks for what comes next.
     fn try_hold(&mut self, id: JobId, taking: &mut Taking) -> Result<Option<Held>, Code> {
         let is_granted = self.asker == Some(id) && self.client.status()?.is_granted;
-        // A grant is looked at once: a callback may come behind it.
+        // A grant is looked at once: a callback may come after it.
         let granted = if is_granted { taking.asked.take() } else { None };
         let mut rows = Vec::new();
         let known = match self.client.scan(&taking.keys, &mut rows, self.now)? {
@@ -117,7 +117,7 @@ impl Jobs {
     /// How far the range is held to change it, below the first point that is not known.
     ///
     /// The client shows what it holds of an entry, and so of each row. What it holds of the slot
-    /// behind the last row shows by a grant alone that begins behind that row.
+    /// after the last row shows only by a grant that begins after that row.
     fn held_to_change(
         &mut self,
         taking: &Taking,

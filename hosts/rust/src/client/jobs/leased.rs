@@ -8,7 +8,7 @@ use crate::model::code::Code;
 use std::io::{self, ErrorKind};
 use std::time::Duration;
 
-/// A greeting that is not answered for so long is said again: it may be lost.
+/// A greeting that is not answered for so long is sent again: it may be lost.
 const GREETS_AGAIN: u64 = 200_000_000;
 
 /// What a client may say on its connection.
@@ -57,9 +57,11 @@ impl Jobs {
         self.client.lease_mut().disconnect();
     }
 
-    /// Takes what the server's host answers to a sign. The client's moment is one after it has come.
+    /// Takes what the server's host answers to a sign. The client's moment is one after it has
+    /// come.
     ///
-    /// An incarnation that has ended while it says Bye has left: the Bye is kept, or it was evicted.
+    /// An incarnation that has ended while it sends Bye has left: the Bye is kept, or it was
+    /// evicted.
     pub fn hear_answer(&mut self, answer: Answer) -> io::Result<()> {
         match answer {
             Answer::Granted(grant) => {
@@ -94,7 +96,7 @@ impl Jobs {
     }
 
     /// Appends what the client says, and a sign if one is due. What may not be said is lost, and so
-    /// is what there is no memory for: a tick says it again.
+    /// is what there is no memory for: a tick sends it again.
     pub fn take(&mut self, frames: &mut Vec<u8>) {
         let before = frames.len();
         let _ = self.client.take(frames);
@@ -128,8 +130,8 @@ impl Jobs {
         }
     }
 
-    /// Whether the pin is one of the client of now that its caller still has, and its lease holds. A
-    /// client that leaves gives back what it has pinned.
+    /// Whether the pin is one of the client of now that its caller still has, and its lease holds.
+    /// A client that leaves gives back what it has pinned.
     pub fn holds_pin(&self, id: u64) -> bool {
         let is_there = self.pins.has(id) && !self.unpinned.contains(&id);
         is_there && self.stage == Stage::Here && !self.is_void() && self.holds_lease()

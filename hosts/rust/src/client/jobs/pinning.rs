@@ -1,4 +1,4 @@
-//! Pins of a client, and what is given back behind them.
+//! Pins of a client, and what is given back after them.
 use super::Jobs;
 use crate::model::code::Code;
 use crate::model::error::Error;
@@ -45,7 +45,7 @@ impl Jobs {
     }
 
     fn free_pin(&mut self, id: u64) {
-        // One that the client had before it began anew is gone.
+        // One that the client had before it began again is gone.
         let Some(pin) = id.checked_sub(self.first_pin) else { return };
         // The pin is there, and a client that has left has none.
         let _ = self.client.unpin(pin);

@@ -1,10 +1,10 @@
-//! The jobs that take slot after slot and keep what they have, and in which order the jobs of a client
-//! may ask meanwhile.
+//! The jobs that take slot after slot and keep what they have, and in which order the jobs of a
+//! client may ask meanwhile.
 //!
-//! Slots are taken in ascending order, so no two clients wait for one another, as long as none waits
-//! for a point below one that it keeps. A client has one request on its way, for one of its jobs. So
-//! a job waits that would ask below what another one keeps; and none keeps what lies above a request
-//! of another one.
+//! Slots are taken in ascending order, so no two clients wait for one another, as long as none
+//! waits for a point below one that it keeps. A client has one request on its way, for one of its
+//! jobs. So a job waits that would ask below what another one keeps; and none keeps what lies above
+//! a request of another one.
 use super::{JobId, Jobs};
 use std::ops::Range;
 
@@ -45,8 +45,8 @@ impl Takings {
     }
 
     /// Whether the job may ask for a lock from this point on. Of those that keep something, the one
-    /// that has come farthest may; and if none does, the oldest one. So some job may always ask, and
-    /// none waits for ever behind younger ones.
+    /// that has come farthest may; and if none does, the oldest one. So some job may always ask,
+    /// and none waits for ever after younger ones.
     pub fn may_ask(&self, id: JobId, point: u64) -> bool {
         let keeps_something = self.begun.iter().any(|it| it.id == id && it.kept.is_some());
         self.begun.iter().filter(|other| other.id != id).all(|other| {
@@ -99,7 +99,7 @@ mod tests {
         takings.begins(7, 20);
         assert!(takings.may_ask(7, 0) && takings.may_ask(3, 5));
         assert!(!takings.may_ask(9, 19) && takings.may_ask(9, 20));
-        // One that keeps something has to go on, or both would wait.
+        // One that keeps something has to continue, or both would wait.
         takings.keeps(9, &(3..10));
         assert!(takings.may_ask(9, 10) && !takings.may_ask(7, 0));
     }

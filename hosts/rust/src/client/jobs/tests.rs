@@ -36,7 +36,7 @@ fn a_write_whose_lock_is_called_back_is_asked_again() {
         world.clients[0].advance(Asking::Allowed);
     }
     assert_eq!(delayed.len(), 1);
-    // Another client reads the gap behind the key: the release overtakes the delete.
+    // Another client reads the gap after the key: the release overtakes the delete.
     let read = world.clients[1].read(11..15);
     let said = world.said(1);
     world.tell_server(&said);

@@ -8,8 +8,8 @@ use crate::model::error::Error;
 use crate::proved::client_handle::{Mode, Scan, Shown};
 use std::time::{Duration, Instant};
 
-/// A delete keeps the slot of its row for so long, while it waits for the slot after it. Whoever has
-/// that one gives it back within some round trips, unless it is pinned.
+/// A delete keeps the slot of its row for so long, while it waits for the slot after it. Whoever
+/// has that one gives it back within some round trips, unless it is pinned.
 const KEEPS: Duration = Duration::from_millis(500);
 
 /// The write that is on its way. A client has one at most.
@@ -29,8 +29,8 @@ impl Written {
 /// The pin by which a delete keeps the slot of its row.
 ///
 /// It needs that slot and the one after it. Without the pin, a client that reads both and a client
-/// that deletes may take them from one another in turn, and neither ever has both. As slots are taken
-/// in ascending order, no two clients that keep some wait for one another.
+/// that deletes may take them from one another in turn, and neither ever has both. As slots are
+/// taken in ascending order, no two clients that keep some wait for one another.
 #[derive(Clone, Copy, Debug)]
 pub(super) struct Kept {
     pin: u64,
@@ -92,7 +92,7 @@ impl Jobs {
         }
     }
 
-    /// Goes on with one write. What a delete kept for it is free unless it still waits.
+    /// Continues with one write. What a delete kept for it is free unless it still waits.
     fn advance_one_write(&mut self, id: JobId, wanted: &mut Wanted) -> Step {
         if !self.may_write(wanted.bond) {
             self.let_go(id, wanted);
@@ -137,7 +137,7 @@ impl Jobs {
             Write::Put(_) => (key..key + 1, Mode::X),
             // The client reads this point, and there is no entry.
             Write::Delete(_) if self.is_empty_at(key) => return Ok(Step::Known(Outcome::Absent)),
-            // It takes the entry and the gap behind it. The second slot is asked for by itself if
+            // It takes the entry and the gap after it. The second slot is asked for by itself if
             // it was not free.
             Write::Delete(_) if self.client.has_all(key) => {
                 self.keep_slot(id, wanted);

@@ -5,8 +5,8 @@
 //!
 //! A client that reads a slot and then asks to change it would pass the client that has the slot
 //! pinned for an update and asks for X. It would wait for that pin, and the other client would wait
-//! after it, until one of the two calls times out. With nothing held, the client that has the update
-//! mode writes first.
+//! after it, until one of the two calls times out. With nothing held, the client that has the
+//! update mode writes first.
 //!
 //! A client that was called back from a gap keeps the entry at its end. Two clients that read the
 //! gap again would pass the one that waits to insert there, each while the other one still reads:
@@ -34,8 +34,8 @@ struct OnlyRead {
 }
 
 impl OnlyRead {
-    /// The mode that the client would have after the grant if it kept what it reads: it goes on to
-    /// read it.
+    /// The mode that the client would have after the grant if it kept what it reads: it continues
+    /// to read it.
     fn joined_with(&self, mode: Mode) -> Mode {
         match mode {
             Mode::X if self.has_gap => Mode::RangeXX,
@@ -107,7 +107,7 @@ impl Jobs {
     }
 
     /// Gives back again what the client gave back before the request that waits. A connection that
-    /// has ended may have lost the release, and the request is said again on the next one.
+    /// has ended may have lost the release, and the request is sent again on the next one.
     pub(super) fn yield_again(&mut self) {
         if let Some(span) = self.yielded.clone()
             && self.shows(|shown| shown.is_waiting)

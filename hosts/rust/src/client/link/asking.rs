@@ -22,7 +22,7 @@ impl Link {
     }
 
     /// Waits until the client has joined, for the timeout at most, and no longer once the server
-    /// tells a reason for which the caller gives up.
+    /// gives a reason for which the caller gives up.
     pub fn join(
         &self,
         timeout: Duration,
@@ -40,9 +40,9 @@ impl Link {
 
     /// Waits until the deadline for the answer to what was begun.
     ///
-    /// The caller reads the connection itself until the first tick. The thread of the connection sends
-    /// again what is not answered. It may sleep until a tick of a client that was asked nothing: so
-    /// one who waits for longer than until the first tick wakes it once.
+    /// The caller reads the connection itself until the first tick. The thread of the connection
+    /// sends again what is not answered. It may sleep until a tick of a client that was asked
+    /// nothing: so one who waits for longer than until the first tick wakes it once.
     pub fn finish<T>(&self, asked: Asked<T>, end: Instant) -> Result<T, Error> {
         let Asked { id, is_urgent, answer } = asked;
         if is_urgent
@@ -67,8 +67,8 @@ impl Link {
         })
     }
 
-    /// Reads the connection until the answer has come, if no other caller does so: then no thread has
-    /// to wake another one. It answers nothing if there is no answer by the end.
+    /// Reads the connection until the answer has come, if no other caller does so: then no thread
+    /// has to wake another one. It answers nothing if there is no answer by the end.
     pub(super) fn read_until<T>(
         &self,
         answer: &Answer<Result<T, Error>>,
@@ -92,7 +92,7 @@ impl Link {
         }
     }
 
-    /// Waits for something to come, and takes it. It answers whether to go on so.
+    /// Waits for something to come, and takes it. It answers whether to continue so.
     pub(super) fn read_once(&self, longest: Duration) -> bool {
         let Ok(ready) = self.poller.wait(longest) else { return false };
         let mut reading = lock(&self.reading);
@@ -104,8 +104,8 @@ impl Link {
         reading.failed.is_none() && self.runs()
     }
 
-    /// Wakes the thread of the connection if it has to do something before it would by itself, or if
-    /// what woke this one was meant for it.
+    /// Wakes the thread of the connection if it has to do something before it would by itself, or
+    /// if what woke this one was meant for it.
     pub(super) fn leave_reading(&self, is_whole: bool) {
         let mut reading = lock(&self.reading);
         let is_soon = reading.as_mut().is_some_and(|it| it.is_due < it.sleeps_until);
@@ -135,13 +135,13 @@ impl Link {
     }
 
     /// Sends what the client says, as far as the connection takes it at once. What can't be sent is
-    /// lost: a tick says it again.
+    /// lost: a tick sends it again.
     pub fn flush(&self) {
         self.call(|_| ());
     }
 
-    /// Does the same, and lets the session go before it touches the connection. While a part is left,
-    /// the thread of the connection has to watch for when more is taken.
+    /// Does the same, and lets the session go before it touches the connection. While a part is
+    /// left, the thread of the connection has to watch for when more is taken.
     pub(super) fn send(&self, mut session: MutexGuard<'_, Session>) -> Written {
         self.writer.put(|frames| session.take(frames));
         drop(session);

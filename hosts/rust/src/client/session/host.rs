@@ -27,7 +27,7 @@ impl Session {
         Ok(())
     }
 
-    /// Takes what the server's host says beneath the messages. If the client has to begin anew
+    /// Takes what the server's host says beneath the messages. If the client has to begin again
     /// after it, the connection ends with that.
     pub(super) fn hear_host(&mut self, frame: &[u8]) -> io::Result<()> {
         match FromServer::read(frame) {

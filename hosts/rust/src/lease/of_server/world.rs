@@ -209,7 +209,7 @@ impl World {
             let left = Record { client, incarnation: successor, last: None, left: true };
             self.record = Some(left);
             self.counts.evicted += 1;
-            // Its process may run on. If it has begun anew, its older lease has ended.
+            // Its process may run on. If it has begun again, its older lease has ended.
             if self.lease.incarnation() == incarnation {
                 self.evicted.push(self.lease.end());
             }

@@ -9,7 +9,7 @@ use std::fmt::Write;
 /// The most characters of a subject that are shown.
 const LONGEST_SUBJECT: usize = 200;
 
-/// A certificate, as people are told of it.
+/// A certificate, as it is shown to people.
 #[derive(Clone, Debug, PartialEq, Eq)]
 #[non_exhaustive]
 pub struct Certificate {
@@ -37,8 +37,8 @@ pub(super) enum Unfit {
 }
 
 impl Certificate {
-    /// The certificates of a text as PEM, in their order; or `None` if there are none, or one can't be
-    /// read.
+    /// The certificates of a text as PEM, in their order; or `None` if there are none, or one can't
+    /// be read.
     #[must_use]
     pub fn all_of_pem(pem: &[u8]) -> Option<Vec<Certificate>> {
         let read = X509::stack_from_pem(pem).ok().filter(|read| !read.is_empty())?;
@@ -70,7 +70,7 @@ impl Certificate {
     }
 }
 
-/// A subject, as people are told of it.
+/// A subject, as it is shown to people.
 pub(super) fn shown(name: &X509NameRef) -> String {
     let mut text = String::new();
     for entry in name.entries() {

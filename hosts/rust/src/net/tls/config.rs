@@ -81,7 +81,7 @@ pub struct TlsError {
 
 impl TlsConfig {
     /// Reads the certificate of the authority, this side's own one with those between the two
-    /// behind it, and its key, each as PEM.
+    /// after it, and its key, each as PEM.
     ///
     /// # Errors
     ///
@@ -99,7 +99,7 @@ impl TlsConfig {
         Ok(TlsConfig { shared, table: None, is_of_server: false })
     }
 
-    /// Of the names in certificates those of this table alone count.
+    /// Of the names in certificates only those of this table count.
     #[must_use]
     pub fn for_table(self, table: TableName) -> TlsConfig {
         TlsConfig { table: Some(table), ..self }
@@ -119,7 +119,7 @@ impl TlsConfig {
     }
 
     /// Reads the files again. Connections that are made from now on show and believe what they say
-    /// now; those that stand go on.
+    /// now; those that stand continue.
     ///
     /// # Errors
     ///
@@ -185,7 +185,7 @@ impl TlsFiles {
         context.set_private_key(&*read_key(key)?).map_err(bad_file("key", key))?;
         context.check_private_key().map_err(bad_file("key of the certificate", key))?;
         context.set_verify(SslVerifyMode::PEER | SslVerifyMode::FAIL_IF_NO_PEER_CERT);
-        // Each connection shows its certificate anew.
+        // Each connection shows its certificate again.
         context.set_options(SslOptions::NO_TICKET);
         context.set_session_cache_mode(SslSessionCacheMode::OFF);
         let context = context.build();

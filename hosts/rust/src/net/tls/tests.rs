@@ -23,7 +23,7 @@ fn config(files: &Files) -> TlsConfig {
     TlsConfig::from_files(&files.authority, &files.certificate, &files.key).unwrap()
 }
 
-/// Shakes hands: the client's session and the server's, if both go on.
+/// Shakes hands: the client's session and the server's, if both continue.
 fn shake(client: &TlsConfig, server: &TlsConfig) -> io::Result<(TlsSession, TlsSession)> {
     let mut client = TlsSession::new(client, Side::Connects)?;
     let mut server = TlsSession::new(server, Side::Accepts)?;

@@ -1,4 +1,5 @@
-//! How many scans of one client many threads make, beside a mutex. `bench/readers/run.sh` runs it.
+//! How many scans of one client many threads make, compared with a mutex. `bench/readers/run.sh`
+//! runs it.
 use super::world::{ROWS, STEP, Scanned, World, are_rows};
 use super::{ClientHandle, Scan};
 use crate::lease::boot_clock::Moment;

@@ -199,7 +199,7 @@ fn rows_count_only_if_the_lease_holds_behind_them() {
     let sign = lease.greet(Moment::of_nanoseconds(1000)).unwrap();
     let grant = Grant { incarnation: 1, stamp: sign.stamp, length: 600 };
     assert!(lease.take(grant, Moment::of_nanoseconds(1001)));
-    // The scan goes on until the second of these moments.
+    // The scan continues until the second of these moments.
     for (begun, ended, expected) in
         [(1100, 1599, Scan::Rows), (1100, 1600, Scan::Ended), (1700, 1700, Scan::Ended)]
     {

@@ -21,7 +21,7 @@ impl Pair {
     }
 
     fn read(&self) -> [u64; 2] {
-        // The second one first: a change that goes on meanwhile makes the first one greater.
+        // The second one first: a change that continues meanwhile makes the first one greater.
         let second = self.1.load(Ordering::Relaxed);
         for _ in 0..20 {
             hint::spin_loop();
@@ -35,8 +35,8 @@ const SECOND: Duration = Duration::from_secs(1);
 /// How long a thread that has begun is watched, to see that it waits.
 const WATCHED: Duration = Duration::from_millis(300);
 
-/// So many threads read while the owner changes for a second, and at least so often. Each read is of
-/// no change that is at work, and of no state older than the read before.
+/// So many threads read while the owner changes for a second, and at least so often. Each read is
+/// of no change that is at work, and of no state older than the read before.
 fn reads_among_changes(readers: usize, least: u64) {
     let mut owner = Owner::new(Pair::default());
     let is_over = AtomicBool::new(false);

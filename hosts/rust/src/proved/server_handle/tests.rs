@@ -58,7 +58,7 @@ fn a_change_that_was_not_reported_is_refused() {
 #[test]
 fn a_hello_waits_for_its_incarnation() {
     let mut handle = Handle::closed();
-    // SAFETY: the handle stays in its place, and `&mut` gives it to this call alone.
+    // SAFETY: the handle stays in its place, and `&mut` gives it to this call only.
     done(unsafe { ffi::krl_client_open(handle.raw(), 5, 1) }).unwrap();
     assert_eq!(handle.take(&mut Vec::new()), Err(Code::Unkept));
     assert_eq!(handle.confirm(2), Err(Code::NotTold));

@@ -1,9 +1,9 @@
 //! Whether a commit waits for writers that are about to write again.
 //!
-//! A client that writes without a pause sends its next write as soon as the last one is answered. If
-//! several do so, the first of them would find the server idle, and have a commit of its own: the
-//! others would wait for the end of that one, and then for their own. So such a commit waits for
-//! those that wrote with it just before, for a small part of the time that a commit takes.
+//! A client that writes without a pause sends its next write as soon as the last one is answered.
+//! If several do so, the first of them would find the server idle, and have a commit of its own:
+//! the others would wait for the end of that one, and then for their own. So such a commit waits
+//! for those that wrote with it just before, for a small part of the time that a commit takes.
 use crate::model::change::Change;
 use crate::model::client_set::ClientSet;
 use std::time::Duration;
@@ -33,7 +33,7 @@ impl CommitGroup {
 
     /// Whether the commit of these changes waits for more, if it has waited so long: for a client
     /// that has written by one of the last two commits, if one of these had several writers. So a
-    /// client that writes alone never waits, nor do several that write now and then.
+    /// client that only writes never waits, nor do several that write now and then.
     pub fn waits(&self, changes: &[Change], waited: Duration) -> bool {
         let (writers, expected) = (writers(changes), self.last.or(self.before));
         let had_several = self.last.count() > 1 || self.before.count() > 1;

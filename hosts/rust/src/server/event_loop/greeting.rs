@@ -9,8 +9,8 @@ use crate::server::close_reason::CloseReason;
 use crate::server::error::ServeError;
 use crate::wire::host_frame::FromServer;
 
-/// A connection whose client has seen what the store lacks: so the store is an older copy, or another
-/// server has it.
+/// A connection whose client has seen what the store lacks: so the store is an older copy, or
+/// another server has it.
 #[derive(Clone, Copy, Debug, PartialEq, Eq)]
 pub(super) struct Doubt {
     connection: u64,
@@ -41,7 +41,7 @@ impl EventLoop {
     }
 
     /// Refuses a client that has seen another store: its address is wrong, or a new store has
-    /// replaced that one. This server's store is none the worse for it, so the server goes on.
+    /// replaced that one. This server's store is none the worse for it, so the server continues.
     /// Nothing more is heard of the connection: what the client knows is of another table.
     fn refuse_other_store(&mut self, connection: u64) {
         self.log.other_store(&self.connections.at(connection));
@@ -50,8 +50,8 @@ impl EventLoop {
     }
 
     /// The store lacks what the client has seen, and is asked whether it is still this server's: a
-    /// server after which another one has started lacks it too, and ends then. It is asked once in a
-    /// turn, however many clients report it. Nothing more is heard of the connection: its client
+    /// server after which another one has started lacks it too, and ends then. It is asked once in
+    /// a turn, however many clients report it. Nothing more is heard of the connection: its client
     /// knows what is not so, and what it sends is lost as if it had crashed.
     fn doubt(&mut self, connection: u64, lacked: Mark) {
         self.doubts.push(Doubt { connection, lacked });

@@ -14,8 +14,8 @@ impl EventLoop {
         self
     }
 
-    /// Whether a frame is heard further. A message and a sign are heard behind the word of the client's
-    /// host that it takes the server for what it serves, or at a server of all keys.
+    /// Whether a frame is heard further. A message and a sign are heard after the word of the
+    /// client's host that it takes the server for what it serves, or at a server of all keys.
     pub(super) fn lets_in(&mut self, connection: u64, frame: &Incoming<'_>) -> bool {
         match *frame {
             Incoming::Host(Some(FromClient::Shard(expected))) => {
@@ -35,8 +35,8 @@ impl EventLoop {
         }
     }
 
-    /// Lets the connection in if its client takes the server for what it serves, and else ends it. It
-    /// answers which.
+    /// Lets the connection in if its client takes the server for what it serves, and otherwise ends
+    /// it. It answers which.
     fn compare(&mut self, connection: u64, expected: Option<ShardBounds>) -> bool {
         match shard_fence::compare(expected, self.shard) {
             Ok(()) => {

@@ -26,7 +26,7 @@ impl EventLoop {
     }
 
     /// Sees whether the server serves, and until it does, whose reports are missing. One that
-    /// serves goes on to serve. It answers whether that may be news.
+    /// serves continues to serve. It answers whether that may be news.
     pub fn see_phase(&mut self) -> bool {
         if self.status.is_serving {
             return false;

@@ -22,8 +22,8 @@ pub(super) const MAX_AT_ONCE: usize = 256;
 /// How long a turn counts what clients hold.
 const COUNTS: Duration = Duration::from_millis(2);
 
-/// Counting takes one part in so many of the loop's time: to count one client takes as long as to go
-/// through the whole table.
+/// Counting takes one part in so many of the loop's time: to count one client takes as long as to
+/// go through the whole table.
 const COUNT_SHARE: u32 = 20;
 
 /// How long a turn looks up who holds what, if somebody asks.
@@ -76,7 +76,7 @@ impl<S: Store> ServerThread<S> {
     }
 
     /// Takes what waits, judges it all, commits what it changed, and only then sends. It answers
-    /// whether to go on.
+    /// whether to continue.
     pub(super) fn turn(&mut self) -> Result<bool, ServeError> {
         let was_to_end = self.events.is_to_end();
         let longest_wait = self.events.longest_wait();
@@ -148,8 +148,8 @@ impl<S: Store> ServerThread<S> {
         Ok(true)
     }
 
-    /// Counts how much the clients hold of which that may have changed: of one at least, and of more
-    /// as long as that takes little time.
+    /// Counts how much the clients hold of which that may have changed: of one at least, and of
+    /// more as long as that takes little time.
     fn count_held(&mut self) {
         let began = Instant::now();
         if self.counts_from.is_some_and(|from| began < from) {

@@ -7,8 +7,8 @@ use std::ops::RangeBounds;
 use std::time::Duration;
 
 /// A search for who holds what in a range, a page at a time. Its clients are looked up one after
-/// another, by number, and the server goes on between two pages: so what was found of one client is
-/// of another moment than what was found of the next.
+/// another, by number, and the server continues between two pages: so what was found of one client
+/// is of another moment than what was found of the next.
 #[derive(Clone, Debug)]
 pub struct HeldSearch {
     search: Search,
@@ -49,7 +49,7 @@ impl HeldSearch {
     /// # Errors
     ///
     /// `Ended` if the server has ended; `Busy` if its loop does not answer within ten seconds. The
-    /// search may go on afterwards.
+    /// search may continue afterwards.
     pub fn go_on(&mut self, monitor: &Monitor) -> Result<HeldPage, LocksError> {
         let first = self.search.client();
         let Page { held, rest, took, .. } = page(&monitor.requests, self.search.clone())?;

@@ -1,4 +1,4 @@
-//! Whether a server's loop goes on.
+//! Whether a server's loop continues.
 use crate::model::change::Change;
 use crate::model::history::History;
 use crate::model::snapshot::Snapshot;
@@ -15,7 +15,7 @@ pub(crate) const LONGEST_TURN: Duration = Duration::from_secs(30);
 /// A shorter wait for the store is not worth a word.
 const SHORT_WAIT: Duration = Duration::from_secs(1);
 
-/// Whether a server's loop goes on, and if it stands, where.
+/// Whether a server's loop continues, and if it stands, where.
 #[derive(Clone, Copy, Debug, PartialEq, Eq)]
 #[non_exhaustive]
 pub enum Liveness {
@@ -41,7 +41,7 @@ pub enum Liveness {
 }
 
 impl Liveness {
-    /// Whether the server goes on. One that does not needs a restart.
+    /// Whether the server continues. One that does not needs a restart.
     #[must_use]
     pub fn is_alive(self) -> bool {
         matches!(self, Liveness::Turns | Liveness::WaitsForStore { .. })

@@ -23,11 +23,11 @@ pub struct Locks {
     /// The clients that wait with a request that meets the range.
     pub waits: Vec<Wait>,
     /// All of this is as it was at one moment. Otherwise the server has told it in several pages,
-    /// and went on between them: what a client holds may have changed from one page to the next.
+    /// and continued between them: what a client holds may have changed from one page to the next.
     pub is_of_one_moment: bool,
 }
 
-/// Why a server did not tell who holds what.
+/// Why a server did not report who holds what.
 #[derive(Clone, Copy, Debug, PartialEq, Eq)]
 #[non_exhaustive]
 pub enum LocksError {
@@ -39,8 +39,8 @@ pub enum LocksError {
     BadRange,
 }
 
-/// Who holds which slots that meet this range, as [`Monitor::locks`](super::monitor::Monitor::locks)
-/// answers it.
+/// Who holds which slots that meet this range, as
+/// [`Monitor::locks`](super::monitor::Monitor::locks) answers it.
 pub(crate) fn locks(
     requests: &Requests,
     points: impl RangeBounds<u64>,
@@ -71,7 +71,7 @@ pub(crate) fn page(requests: &Requests, search: Search) -> Result<Page, LocksErr
     })
 }
 
-/// Puts the slots in order, and leaves out those behind the first so many, each with all that hold
+/// Puts the slots in order, and leaves out those after the first so many, each with all that hold
 /// it. It answers where those begin, if there are any.
 fn cut(held: &mut Vec<HeldSlot>, most: usize) -> Option<u64> {
     held.sort_unstable();

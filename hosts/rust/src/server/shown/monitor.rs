@@ -29,7 +29,7 @@ pub enum SnapshotError {
     Ended,
     /// The server's loop did not come to it in time: it is busy, or hangs.
     Busy,
-    /// The store failed. The server goes on.
+    /// The store failed. The server continues.
     Store(StoreError),
 }
 
@@ -71,9 +71,9 @@ impl Monitor {
     /// Who holds which slots that meet this range, at most so many (64 if fewer are asked for), and
     /// who waits there. Slots of a client are told one by one, even if neighbours have one mode.
     ///
-    /// The server tells them between its turns, in pages of up to 1,024 slots and some milliseconds
-    /// each, so that its clients do not wait for that. It may look at its whole table for each
-    /// client.
+    /// The server reports them between its turns, in pages of up to 1,024 slots and some
+    /// milliseconds each, so that its clients do not wait for that. It may look at its whole table
+    /// for each client.
     ///
     /// # Errors
     ///
@@ -83,7 +83,7 @@ impl Monitor {
         locks(&self.requests, points, most)
     }
 
-    /// Whether the server's loop goes on, and if it stands, where.
+    /// Whether the server's loop continues, and if it stands, where.
     #[must_use]
     pub fn liveness(&self) -> Liveness {
         let waited = self.timings.waits_for_store();

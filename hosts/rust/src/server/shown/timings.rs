@@ -230,7 +230,7 @@ impl Open {
                     timings.grants.add_time(now.saturating_duration_since(asked.since));
                 }
             }
-            // A callback that is said again is as old as it was.
+            // A callback that is sent again is as old as it was.
             (Kind::Callback, _) => {
                 self.called_back[place].get_or_insert(now);
             }
@@ -286,7 +286,7 @@ mod tests {
         open.heard(3, Message::read(&lock(3, 5)), start + 2 * MS, &timings);
         open.said(3, Message::read(&grant(3, 5)), start + 9 * MS, &timings);
         assert_eq!(timings.read().grants.count, 1);
-        // Another incarnation counts its requests anew.
+        // Another incarnation counts its requests again.
         open.heard(3, Message::read(&hello(3)), start, &timings);
         open.heard(3, Message::read(&lock(3, 5)), start, &timings);
         open.said(3, Message::read(&grant(3, 5)), start + MS, &timings);

@@ -54,7 +54,7 @@ pub(crate) struct Watch {
 }
 
 impl Watch {
-    /// The server tells now that these clients wait, and no others.
+    /// The server reports that these clients wait, and no others.
     pub fn waits(&mut self, waiting: Vec<Waiting>, now: Instant) -> Vec<Wait> {
         let since: Vec<_> = waiting.iter().map(|it| self.since(it, now)).collect();
         self.seen = waiting

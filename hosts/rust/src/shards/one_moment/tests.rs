@@ -11,7 +11,8 @@ const READER: usize = 0;
 const WRITER: usize = 1;
 
 /// Two servers, of which one has the row 10 and the other one the row 20. The writer gives both the
-/// next number, the left one first. So at each moment the left number is the right one, or one more.
+/// next number, the left one first. So at each moment the left number is the right one, or one
+/// more.
 struct Shards {
     left: World,
     right: World,
@@ -70,7 +71,7 @@ fn scan_with_a_grant_between(shards: &mut Shards, number: u64) -> Option<Vec<Row
 #[test]
 fn a_grant_between_two_scans_makes_no_rows_of_two_moments() {
     let mut shards = Shards::new();
-    // The reader knows the left row alone.
+    // The reader knows only the left row.
     assert_eq!(scan_with_a_grant_between(&mut shards, 2), None);
     // And then both.
     shards.left.read(READER, LEFT);

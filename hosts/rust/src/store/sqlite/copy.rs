@@ -43,8 +43,8 @@ impl StoreFile {
 }
 
 impl SqliteStore {
-    /// Reads the file, and changes nothing in it. Nobody may write to it meanwhile. One that differs
-    /// from its checksum is read too: [`StoreFile::undamaged`] refuses it.
+    /// Reads the file, and changes nothing in it. Nobody may write to it meanwhile. One that
+    /// differs from its checksum is read too: [`StoreFile::undamaged`] refuses it.
     ///
     /// # Errors
     ///
@@ -84,9 +84,9 @@ impl SqliteStore {
     /// It is written under a name of its own first, next to it; what calls that were cut off have
     /// left under such a name is removed.
     ///
-    /// Of a history the new store has only the snapshot's first start: to a client that has seen the
-    /// store of the snapshot, it is one that went back. Without a first start it is another store to
-    /// each client that has seen one.
+    /// Of a history the new store has only the snapshot's first start: to a client that has seen
+    /// the store of the snapshot, it is one that went back. Without a first start it is another
+    /// store to each client that has seen one.
     ///
     /// # Errors
     ///
@@ -112,8 +112,8 @@ impl SqliteStore {
 const FIRST_BYTES: u64 = 100;
 
 /// A store whose server has ended in order has no log, or an empty one. Then SQLite is told that
-/// nobody writes to the file, and leaves no files beside it. A log that has something in it is read
-/// too. A server that runs has one, and keeps others off.
+/// nobody writes to the file, and leaves no files next to it. A log that has something in it is
+/// read too. A server that runs has one, and keeps others off.
 fn open_to_read(path: &Path) -> Result<Connection, StoreError> {
     if let Err(error) = path.metadata() {
         return Err(StoreError::says(&match error.kind() {
@@ -141,7 +141,7 @@ fn percent_encoded(path: &Path) -> String {
     path.as_os_str().as_bytes().iter().map(encoded).collect()
 }
 
-/// The path with something behind it.
+/// The path with something after it.
 pub(crate) fn beside(path: &Path, end: &str) -> PathBuf {
     let mut name = OsString::from(path);
     name.push(end);
@@ -311,7 +311,7 @@ pub(crate) mod tests {
         let change = Change::Started { epoch: 7 };
         store.commit(&[change]).unwrap();
         assert!(SqliteStore::read(&file).is_err(), "a server runs on it");
-        // What a server leaves behind that is killed: its log is not in the file yet.
+        // What a server leaves after that is killed: its log is not in the file yet.
         let killed = folder.0.join("killed.db");
         std::fs::copy(&file, &killed).unwrap();
         std::fs::copy(beside(&file, "-wal"), beside(&killed, "-wal")).unwrap();

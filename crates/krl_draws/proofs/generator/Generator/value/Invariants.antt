@@ -2,7 +2,7 @@ use Rattle.std.proofs.Common.{◌≡◌, ◌-◌, ◌++◌, length, take}
 use Rattle.krl_draws.specs.Generator as draw
 use Rattle.krl_draws.proofs.generator.Generator.value.Given as goal
 
--- what was drawn so far stands in front, and what is yet to draw comes behind it
+-- what was drawn so far stands in front, and what is yet to draw comes after it
 abbrev pub invariant-loop-i : goal.invariant-loop-i
 invariant-loop-i l =
     record {

@@ -1,5 +1,5 @@
-//! Clients that always have something on its way, beside a patient one. Messages are handed over in
-//! round trips, and each comes alone: so no clock has a part in it.
+//! Clients that always have something on its way, next to a patient one. Messages are handed over
+//! in round trips, and each comes alone: so no clock has a part in it.
 use super::*;
 use crate::client::jobs::world::{World, row};
 use crate::client::jobs::{Asked, Asking};
@@ -33,7 +33,7 @@ fn world() -> World {
     world
 }
 
-/// One round trip. Behind each message a client goes on as far as it comes, and the hasty one does
+/// One round trip. After each message a client continues as far as it comes, and the hasty one does
 /// this. It answers what the hasty client has said, by its kinds.
 fn trip(world: &mut World, mut hasten: impl FnMut(&mut World)) -> Vec<u8> {
     // What the patient client asks for comes before what the hasty one asks for.

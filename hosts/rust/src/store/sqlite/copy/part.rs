@@ -38,7 +38,7 @@ impl Part {
         &self.path
     }
 
-    /// Brings the file to the disk, under this name alone.
+    /// Brings the file to the disk, under this name only.
     pub fn take_name(self, name: &Path) -> Result<(), StoreError> {
         self.file.sync_all().map_err(|error| cannot("write", &self.path, &error))?;
         take_name_by(&self.path, name, |from, to| std::fs::hard_link(from, to))
