@@ -179,7 +179,7 @@ class Declared:
     def section(crate, shown):
         """The declarations of a crate."""
         files = itertools.groupby(shown, key=lambda it: it[0][1])
-        blocks = [f"// src/{file}.rt\n" + "\n".join(block(*it) for _, it in items) for file, items in files]
+        blocks = [f"// src/{file}.rt\n" + "".join(block(*it) for _, it in items) for file, items in files]
         return f"\n## `{crate}`\n\n```rust\n" + "\n".join(blocks) + "```\n"
 
     def rows(self):

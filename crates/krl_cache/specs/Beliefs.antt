@@ -17,6 +17,7 @@ use Rattle.krl_messages.specs.Values.{Value}
 use Rattle.krl_cache.specs.declared.scanned.Scanned.{Scanned}
 use Rattle.krl_cache.specs.declared.scanned.Scanned.TheVariants as scanned
 
+-- what a client believes of each point
 pub record Belief : Type 0 where
   pub range_at : ℕ → RangePart
   pub key_at : ℕ → KeyPart
@@ -76,6 +77,7 @@ lower s keep b = record {
 abbrev pub is_covered : Belief → ℕ → Bool
 is_covered b p = reads_key (b.key_at p) || reads_gap (b.range_at p)
 
+-- each point of the span is known
 abbrev pub CoversAll : Belief → Bounds → Type 0
 CoversAll b s = (p : ℕ) → IsPointOf s p → is_covered b p ≡ true
 

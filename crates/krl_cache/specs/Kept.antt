@@ -15,10 +15,12 @@ use Rattle.krl_cache.specs.Beliefs.{Belief}
 
 -- What lists say of a point: the first that speaks of it, otherwise N
 
+-- of its range part
 abbrev pub range_reported_at : List RangePiece → ℕ → RangePart
 range_reported_at [] p = range.N
 range_reported_at (x ∷ xs) p = if contains x.span p then x.part else range_reported_at xs p
 
+-- of its key part
 abbrev pub key_said : List KeyPiece → ℕ → KeyPart
 key_said [] p = key.N
 key_said (k ∷ ks) p = if nat_eq p k.point then k.part else key_said ks p

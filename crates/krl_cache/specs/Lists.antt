@@ -20,7 +20,6 @@ value_of (Some e) = e.value
 abbrev pub belief_by : (ℕ → RangePart) → (ℕ → Option Entry) → Belief
 belief_by ranges entries = record {
   range_at = ranges;
-  key_at = λ p. part_of
-      (entries p);
+  key_at = λ p. part_of (entries p);
   value_at = λ p. value_of (entries p);
 }

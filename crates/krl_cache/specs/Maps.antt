@@ -20,9 +20,11 @@ unfoldable pub part_at : (ℕ → Option RangePart) → ℕ → RangePart
 part_at f zero = unwrap_or (f 0) range.N
 part_at f (suc p) = unwrap_or (f (suc p)) (part_at f p)
 
+-- the two maps, by their entries
 pub record Maps : Type 0 where
   pub starts : List (ℕ × RangePart)
   pub entries : List (ℕ × Entry)
 
+-- the belief that they stand for
 abbrev pub maps_believe : Maps → Belief
 maps_believe x = belief_by (part_at (at x.starts)) (at x.entries)

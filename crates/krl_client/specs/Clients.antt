@@ -23,6 +23,7 @@ pub data LastWrite : Type 0 where
   Outstanding : (change : WriteOp) → LastWrite
   Judged : (outcome : Outcome) → LastWrite
 
+-- a client that runs
 pub record Client : Type 0 where
   pub number : ℕ
   pub incarnation : ℕ
@@ -35,6 +36,7 @@ pub record Client : Type 0 where
   pub belief : Belief
   pub pins : ℕ → Option Bounds  -- 0 to 7
 
+-- nothing is pinned
 abbrev pub no_pins : ℕ → Option Bounds
 no_pins i = None
 
@@ -59,17 +61,15 @@ has_joined k = nat_lt 0 k.epoch
 
 -- Its requests and writes
 
+-- the lock request is not answered yet
 abbrev pub is_waiting : LockRequest → Bool
-is_waiting NotAsked = false
-is_waiting Granted = false
-is_waiting Absent = false
-is_waiting Dropped = false
 is_waiting (Waiting point hi mode) = true
+is_waiting other = false
 
+-- the write that is not answered yet
 abbrev pub outstanding : LastWrite → Option WriteOp
-outstanding Unwritten = None
 outstanding (Outstanding change) = Some change
-outstanding (Judged outcome) = None
+outstanding other = None
 
 abbrev pub is_in : Bounds → Option WriteOp → Bool
 is_in s None = false
@@ -103,14 +103,17 @@ abbrev pub free_from : (ℕ → Option Bounds) → ℕ → ℕ → Option ℕ
 free_from pins i zero = None
 free_from pins i (suc n) = if_taken (pins i) i (free_from pins (suc i) n)
 
+-- the least free id
 abbrev pub free_pin : Client → Option ℕ
 free_pin k = free_from k.pins 0 max_pins
 
+-- the pins with another one of this id
 abbrev pub with_pin : (ℕ → Option Bounds) → ℕ → Option Bounds → ℕ → Option Bounds
 with_pin pins i s j = if nat_eq j i then s else pins j
 
 -- What it says
 
+-- a message of the client
 abbrev pub from : Client → ToServerBody → ToServer
 from k what = record { client = k.number; incarnation = k.incarnation; body = what }
 

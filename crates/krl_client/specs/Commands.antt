@@ -37,6 +37,7 @@ pub record Reason : Type 0 where
   pub holds : Bool
   pub refusal : CommandRefused
 
+-- the refusal, if this holds
 abbrev pub due : CommandRefused → Bool → Reason
 due r b = record { holds = b; refusal = r }
 
@@ -106,12 +107,14 @@ start_refusal c incarnation =
 
 -- Effects of a command that is not refused, and what it sends
 
+-- a range is asked for
 abbrev pub locked : Client → ℕ → ℕ → Mode → Client
 locked k point hi mode = record k { req = suc k.req; asked = Waiting point hi mode }
 
 abbrev pub says_lock : Client → ℕ → ℕ → Mode → ToServer
 says_lock k point hi mode = requests k (asked.Lock k.req point hi mode)
 
+-- a write is asked for
 abbrev pub wrote : Client → WriteOp → Client
 wrote k change = record k { writes = suc k.writes; written = Outstanding change }
 
@@ -125,9 +128,11 @@ lowered k s keep = record k { belief = lower s keep k.belief }
 abbrev pub says_release : Client → Bounds → Mode → ToServer
 says_release k s keep = requests k (asked.Release s keep)
 
+-- the span is pinned by this id
 abbrev pub pinned : Client → Bounds → ℕ → Client
 pinned k s id = record k { pins = with_pin k.pins id (Some s) }
 
+-- the id is free again
 abbrev pub unpinned : Client → ℕ → Client
 unpinned k id = record k { pins = with_pin k.pins id None }
 

@@ -8,6 +8,7 @@ use Rattle.krl_client.specs.declared.last_write.LastWrite as kept_written
 use Rattle.krl_client.specs.declared.last_write.LastWrite.TheVariants as written
 use Rattle.krl_client.specs.Clients.{Client, LockRequest, NotAsked, Waiting, Granted, Absent, Dropped, LastWrite, Unwritten, Outstanding, Judged}
 
+-- its last lock request
 abbrev pub asked_of : kept_asked.LockRequest → LockRequest
 asked_of lock_request.NotAsked = NotAsked
 asked_of (lock_request.Waiting point hi mode) = Waiting point hi mode
@@ -15,6 +16,7 @@ asked_of lock_request.Granted = Granted
 asked_of lock_request.Absent = Absent
 asked_of lock_request.Dropped = Dropped
 
+-- its last write
 abbrev pub written_of : kept_written.LastWrite → LastWrite
 written_of written.Unwritten = Unwritten
 written_of (written.Outstanding change) = Outstanding change

@@ -19,6 +19,7 @@ use Rattle.krl_cache.specs.Beliefs.{adopt, adopt_all}
 use Rattle.krl_client.specs.Clients.{Client, LockRequest, NotAsked, Granted, Absent, Dropped, Waiting, LastWrite, Unwritten, Outstanding, Judged, is_waiting, is_writing_in, meets_pin, from, requests}
 use Rattle.krl_client.specs.Commands.{lowered, says_release}
 
+-- what a message comes to
 pub data Case : Type 0 where
   Ignores AcksAgain : Case
   Adopts : (epoch : ℕ) → Case
@@ -31,6 +32,7 @@ fits (push.Grant req hs) = have_values hs
 fits (push.Absent req point) = true
 fits (push.Answer number outcome h) = has_its_value h
 
+-- the case of a message to this incarnation
 abbrev pub case_of_body : Client → ToClientBody → Case
 case_of_body k (told.Epoch epoch) = if nat_lt k.epoch epoch then Adopts epoch else Ignores
 case_of_body k (told.Push epoch number what) =
@@ -61,11 +63,11 @@ asked_after k req now reply = if is_waiting now && nat_eq req k.req then reply e
 
 -- the last write after an answer to the write of that number
 abbrev pub judged_as : Client → ℕ → Outcome → LastWrite → LastWrite
-judged_as k number outcome Unwritten = Unwritten
 judged_as k number outcome (Outstanding change) =
     if nat_eq number k.writes then Judged outcome else Outstanding change
-judged_as k number outcome (Judged old) = Judged old
+judged_as k number outcome other = other
 
+-- the client after a push that it accepts
 abbrev pub accepted : Client → PushBody → Client
 accepted k (push.Grant req hs) = record k {
   seen = suc k.seen;
@@ -86,11 +88,8 @@ accepted k (push.Answer number outcome h) = record k {
 
 -- a waiting request is dropped
 abbrev pub dropped : LockRequest → LockRequest
-dropped NotAsked = NotAsked
-dropped Granted = Granted
-dropped Absent = Absent
-dropped Dropped = Dropped
 dropped (Waiting point hi mode) = Dropped
+dropped other = other
 
 -- the outstanding write, the cache and the pins stay
 abbrev pub joined : Client → ℕ → Client
@@ -98,19 +97,20 @@ joined k epoch = record k { epoch = epoch; seen = 0; req = 0; asked = dropped k.
 
 -- Each case
 
+-- its report of these pieces
 abbrev pub says_report : Pieces → Client → ToServer
 says_report ps k = from k (said.Report k.epoch ps)
 
+-- it has accepted all pushes so far
 abbrev pub says_ack : Client → ToServer
 says_ack k = requests k asked.Ack
 
 -- the client after a message of this case
 abbrev pub after : Client → Case → Client
-after k Ignores = k
-after k AcksAgain = k
 after k (Adopts epoch) = joined k epoch
 after k (Accepts what) = accepted k what
 after k (Lowers s keep) = lowered k s keep
+after k other = k
 
 -- and what it sends, if ps are its pieces
 abbrev pub sends : Pieces → Client → Case → List ToServer

@@ -10,11 +10,8 @@ use Rattle.krl_client.specs.Messages.{says_report, says_ack}
 
 -- the waiting lock request
 abbrev pub lock_again : Client → LockRequest → List ToServer
-lock_again k NotAsked = []
-lock_again k Granted = []
-lock_again k Absent = []
-lock_again k Dropped = []
 lock_again k (Waiting point hi mode) = says_lock k point hi mode ∷ []
+lock_again k other = []
 
 -- the outstanding write
 abbrev pub write_again : Client → Option WriteOp → List ToServer

@@ -19,9 +19,9 @@ pub use Rattle.krl_durable.specs.Invariants.{IsRow, IsEntries, missing_of, IsRec
 pub use Rattle.krl_durable.specs.Kept.{IsKept, AreBelowEnd}
 pub use Rattle.krl_durable.specs.Remade.{MakesAgain}
 pub use Rattle.krl_durable.specs.InitialEntries.{stands_before, IsGood, Refuses, AreGood, key_of_entry}
-pub use Rattle.krl_durable.specs.Registers.{Register, HasIncarnations, Durable, missing_order, HasLasts, with_record, HasOutcomes, record_of}
+pub use Rattle.krl_durable.specs.Registers.{Register, HasIncarnations, Durable, not_left, HasLasts, with_record, HasOutcomes, record_of}
 pub use Rattle.krl_durable.specs.Writes.{judge}
 pub use Rattle.krl_durable.specs.declared.record.Record.{Record}
 pub use Rattle.krl_messages.specs.Values.{Value}
 pub use Rattle.krl_modes.specs.declared.point.TheConstants.{END}
-unfoldable pub use Rattle.krl_modes.specs.Limits.{max_entries, max_room}
+unfoldable pub use Rattle.krl_modes.specs.Limits.{standard_room, max_room}

@@ -1,6 +1,6 @@
 -- The register, by what an `IndexMap` says of its entries.
 use Rattle.krl_durable.proofs.Names.{◌≡◌, ℕ, Bool, true, false, cond, nat_eq, List, [], ◌∷◌, Option, None, Some, refl, sym, ap, subst, ◌∙◌, is_some, nat_lt, IsSome, IfSome, AllByRecursion}
-use Rattle.krl_durable.proofs.Names.{filter_map, lookup, set_value, Record, Register, record_of, with_record, missing_order, HasOutcomes, HasLasts, HasIncarnations, IsRow, IsRecord, missing_of}
+use Rattle.krl_durable.proofs.Names.{filter_map, lookup, set_value, Record, Register, record_of, with_record, not_left, HasOutcomes, HasLasts, HasIncarnations, IsRow, IsRecord, missing_of}
 use Rattle.indexmap.specs.IndexMap.{insert_entry}
 use borrow.Author.Tests.{eqb-true}
 
@@ -74,10 +74,10 @@ clients_seen [] h = tt
 clients_seen (e ∷ es) h = (h.0.0, clients_seen es h.1)
 
 -- the clients of the rows that have not left
-pub missing_seen : (es : Register) → filter_map missing_of es ≡ missing_order es
+pub missing_seen : (es : Register) → filter_map missing_of es ≡ not_left es
 missing_seen [] = refl
 missing_seen (e ∷ es) = one e.1.left refl (missing_seen es)
   where
-    one : (b : Bool) → e.1.left ≡ b → filter_map missing_of es ≡ missing_order es → filter_map missing_of (e ∷ es) ≡ missing_order (e ∷ es)
+    one : (b : Bool) → e.1.left ≡ b → filter_map missing_of es ≡ not_left es → filter_map missing_of (e ∷ es) ≡ not_left (e ∷ es)
     one true is h = rw is h
     one false is h = rw is (ap (λ (rest : List ℕ). e.0 ∷ rest) h)

@@ -8,6 +8,7 @@ use Rattle.krl_modes.specs.declared.limits.TheConstants.{MAX_CLIENTS}
 use Rattle.krl_durable.specs.Registers.{Durable, HasIncarnations, HasOutcomes, HasLasts}
 use Rattle.krl_durable.specs.Writes.{IsRoom, IsReach}
 
+-- each key is below END
 abbrev pub AreBelowEnd : {V : Type 0} → List (ℕ × V) → Type 0
 AreBelowEnd es = AllByRecursion (λ e. nat_lt e.0 END ≡ true) es
 

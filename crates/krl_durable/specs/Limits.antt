@@ -1,15 +1,9 @@
 -- The limits of what survives: for how many entries there is room, and how many slots one grant takes at most.
 use Rattle.std.specs.Prelude.{◌≤◌, length}
 use Rattle.std.specs.FinMap as map
-use Rattle.krl_modes.specs.declared.limits.TheConstants.{STANDARD_REACH}
-use Rattle.krl_modes.specs.Limits.{max_entries}
 use Rattle.krl_durable.specs.declared.limits.Limits.{Limits}
 use Rattle.krl_durable.specs.Registers.{Durable}
 use Rattle.krl_durable.specs.Writes.{IsRoom, IsReach}
-
--- those if none are named
-abbrev pub standard_limits : Limits
-standard_limits = record { room = max_entries; reach = STANDARD_REACH }
 
 -- the same, with these limits
 abbrev pub sized : Limits → Durable → Durable

@@ -29,9 +29,9 @@ with_record [] c r = (c, r) ∷ []
 with_record (e ∷ es) c r = if nat_eq c e.0 then (c, r) ∷ es else e ∷ with_record es c r
 
 -- the clients that have not left, by first registration
-abbrev pub missing_order : Register → List ℕ
-missing_order [] = []
-missing_order (e ∷ es) = if e.1.left then missing_order es else e.0 ∷ missing_order es
+abbrev pub not_left : Register → List ℕ
+not_left [] = []
+not_left (e ∷ es) = if e.1.left then not_left es else e.0 ∷ not_left es
 
 -- of this incarnation no write has been judged
 abbrev pub new_record : ℕ → Record

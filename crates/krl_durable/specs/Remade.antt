@@ -6,7 +6,8 @@ use Rattle.krl_durable.specs.declared.refused.EntriesRefused.{EntriesRefused}
 use Rattle.krl_durable.specs.declared.refused.EntriesRefused.TheVariants as entries_refused
 use Rattle.krl_durable.specs.declared.limits.Limits.{Limits}
 use Rattle.krl_durable.specs.Registers.{Register, Durable}
-use Rattle.krl_durable.specs.Limits.{Fits, sized, standard_limits}
+use Rattle.krl_durable.specs.Limits.{Fits, sized}
+use Rattle.krl_durable.specs.StandardLimits.{standard_limits}
 use Rattle.krl_durable.specs.InitialEntries.{Refuses}
 use Rattle.krl_durable.specs.Migrations.{DurableV1}
 

@@ -4,12 +4,12 @@ use Rattle.std.specs.FinMap as map
 use Rattle.krl_modes.specs.declared.mode.Mode.{Mode}
 use Rattle.krl_modes.specs.Modes.{range_of, key_of}
 use Rattle.krl_modes.specs.Parts.{lets_insert, is_range_X, is_key_X}
-use Rattle.krl_modes.specs.Limits.{max_room}
-use Rattle.krl_messages.specs.Ascending.{max_holdings}
+use Rattle.krl_modes.specs.Limits.{max_room, max_holdings}
 use Rattle.krl_messages.specs.declared.write_op.WriteOp.{WriteOp}
 use Rattle.krl_messages.specs.declared.write_op.WriteOp.TheVariants as write
 use Rattle.krl_messages.specs.declared.outcome.Outcome.{Outcome}
 use Rattle.krl_messages.specs.declared.outcome.Outcome.TheVariants as outcome
+use Rattle.krl_messages.specs.Outcomes.{is_applied}
 use Rattle.krl_durable.specs.declared.record.Record.{Record}
 use Rattle.krl_durable.specs.Index.{Index, slot_of}
 use Rattle.krl_durable.specs.Registers.{Durable, record_of, with_record}
@@ -56,11 +56,7 @@ written m (write.Delete k) = map.remove m k
 
 -- it does so only if it is Applied
 abbrev pub index_after : Index → WriteOp → Outcome → Index
-index_after m op outcome.Applied = written m op
-index_after m op outcome.Exists = m
-index_after m op outcome.Absent = m
-index_after m op outcome.NotHeld = m
-index_after m op outcome.Full = m
+index_after m op o = if is_applied o then written m op else m
 
 -- the next write of a client, and its outcome, noted in its record
 abbrev pub noted : Record → Outcome → Record

@@ -10,7 +10,7 @@ ghost use Rattle.krl_blocks.specs.Runs.{runs_of};
 ghost use Rattle.krl_modes.specs.declared.point.TheConstants.{END};
 ghost use Rattle.krl_durable.specs.Index.{slot_of, low_of, span_of};
 ghost use Rattle.krl_durable.specs.Slots.{IsSlotOf, IsSpanOf};
-ghost use Rattle.krl_durable.specs.Registers.{record_of, missing_order, registered, departed};
+ghost use Rattle.krl_durable.specs.Registers.{record_of, not_left, registered, departed};
 ghost use Rattle.krl_durable.specs.Registers.{IsIncarnation};
 ghost use Rattle.krl_durable.specs.Kept.{IsKept};
 ghost use Rattle.krl_durable.specs.Invariants.{IsRow};
@@ -20,7 +20,7 @@ ghost use Rattle.krl_durable.specs.Migrations.{migrated_entries, migrated, Canno
 ghost use Rattle.krl_messages.specs.Writes.{op_key};
 ghost use Rattle.krl_durable.specs.Writes.{IsRoom, IsReach, judge, applied};
 ghost use Rattle.krl_modes.specs.declared.limits.TheConstants.{MAX_CLIENTS};
-ghost use Rattle.krl_modes.specs.Limits.{max_entries};
+ghost use Rattle.krl_modes.specs.Limits.{standard_room};
 
 use crate::durable_v1::DurableV1;
 use crate::index::Index;
@@ -95,9 +95,9 @@ impl Durable {
     /// is END or more, or by `Twice` if its key stands before; and `OutOfMemory` at any point.
     pub fn new(alloc: Global, entries: &[(u64, Value)]) -> Result<Durable, EntriesRefused>
         ensures { MatchResult result
-            (λ d. (length entries.now ≤ max_entries) × AreGood entries.now (length entries.now)
+            (λ d. (length entries.now ≤ standard_room) × AreGood entries.now (length entries.now)
             × (d ≡ fresh entries.now))
-            (Refuses max_entries entries.now) }
+            (Refuses standard_room entries.now) }
     {
         let index = Index::new(alloc, Room::standard(), entries)?;
         Ok(Durable {
@@ -151,14 +151,14 @@ impl Durable {
     ///
     /// # Errors
     ///
-    /// `StillRegistered`, with the first of `missing_order`, if some registered client has not
-    /// left; and `OutOfMemory` at any point.
+    /// `StillRegistered`, with the first of `not_left`, if some registered client has not left; and
+    /// `OutOfMemory` at any point.
     pub fn migrate(alloc: Global, old: &DurableV1) -> Result<Durable, NotMigrated>
         ensures { MatchResult result
-            (λ d. (missing_order old.now.register ≡ []) × (d ≡ migrated old.now))
+            (λ d. (not_left old.now.register ≡ []) × (d ≡ migrated old.now))
             (CannotMigrate old.now) }
     {
-        let missing = old.missing_order(alloc)?;
+        let missing = old.not_left(alloc)?;
         if let Some(client) = missing.first() {
             return Err(NotMigrated::StillRegistered(*client));
         }
@@ -362,10 +362,10 @@ impl Durable {
     }
 
     /// The clients that have not left, by first registration.
-    pub fn missing_order(&self, alloc: Global) -> Result<Vec<u64>, AllocError>
-        ensures { IfOk result (λ clients. clients.items ≡ missing_order self.now.register) }
+    pub fn not_left(&self, alloc: Global) -> Result<Vec<u64>, AllocError>
+        ensures { IfOk result (λ clients. clients.items ≡ not_left self.now.register) }
     {
-        self.register.missing_order(alloc)
+        self.register.not_left(alloc)
     }
 
     /// How a write is judged, by whether the table grants what it needs.

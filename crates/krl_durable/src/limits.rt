@@ -1,6 +1,6 @@
 //! The limits that a server is started with.
 ghost use Rattle.std.specs.Prelude.{◌≡◌};
-ghost use Rattle.krl_durable.specs.Limits.{standard_limits};
+ghost use Rattle.krl_durable.specs.StandardLimits.{standard_limits};
 
 use crate::reach::Reach;
 use crate::room::Room;

@@ -2,7 +2,7 @@
 ghost use Rattle.std.specs.Prelude.{◌≡◌, ◌<◌, nat_eq, [], IsSome, IfSome, OnOk, OnErr, IfOk};
 ghost use Rattle.std.specs.List.{AllByRecursion, IsDistinct, filter_map};
 ghost use Rattle.std.specs.Map.{keys_of};
-ghost use Rattle.krl_durable.specs.Registers.{record_of, with_record, missing_order};
+ghost use Rattle.krl_durable.specs.Registers.{record_of, with_record, not_left};
 ghost use Rattle.krl_durable.specs.Invariants.{IsRow, IsRecord, missing_of};
 ghost use Rattle.krl_modes.specs.declared.limits.TheConstants.{MAX_CLIENTS};
 
@@ -135,8 +135,8 @@ impl Register {
     }
 
     /// The clients that have not left, by first registration.
-    pub fn missing_order(&self, alloc: Global) -> Result<Vec<u64>, AllocError>
-        ensures { IfOk result (λ clients. clients.items ≡ missing_order self.now) }
+    pub fn not_left(&self, alloc: Global) -> Result<Vec<u64>, AllocError>
+        ensures { IfOk result (λ clients. clients.items ≡ not_left self.now) }
     {
         clients_missing(alloc, &self.records)
     }

@@ -5,7 +5,8 @@ use Rattle.krl_messages.specs.Members.{In}
 use Rattle.krl_client.specs.Clients.{Client}
 use Rattle.krl_client.specs.Commands.{locked}
 use Rattle.krl_client.specs.Messages.{says_ack}
-use Rattle.krl_durable.specs.Limits.{Fits, standard_limits}
+use Rattle.krl_durable.specs.Limits.{Fits}
+use Rattle.krl_durable.specs.StandardLimits.{standard_limits}
 use Rattle.krl_server.specs.Servers.{Server}
 use Rattle.krl_server.specs.Steps.{start}
 use Rattle.krl_server.specs.Effects.{effect}

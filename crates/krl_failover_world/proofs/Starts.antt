@@ -5,7 +5,7 @@ use Rattle.krl_messages.specs.declared.to_client.ToClientBody.TheVariants as tol
 use Rattle.std.specs.Bool.{◌==◌}
 use Rattle.std.specs.FinMap as map
 use Rattle.krl_messages.specs.Values.{Value}
-use Rattle.krl_durable.specs.Registers.{missing_order}
+use Rattle.krl_durable.specs.Registers.{not_left}
 use Rattle.krl_machine.specs.Links.{Link}
 use Rattle.krl_machine.specs.Worlds.{Logged, IsMissing}
 use Rattle.krl_server.specs.Servers.{Server, lists}
@@ -180,4 +180,4 @@ pub begins : (first : ℕ → Option Value) (f : Fenced) (s : Server) (of : ℕ 
 begins first f s of log reached is h =
     let phase = subst (λ w. ((w.shared.phase ≡ Serving) × (f.bound ≡ w.shared.epoch)) ⊎ ((w.shared.phase ≡ Recovering) × (f.bound < w.shared.epoch))) is (fenced_inv first END f reached).phase in
     subst (λ w. Begins (record { world = w; bound = f.bound; old = f.old; copy = f.copy }) s (start s.durable) of log) (sym is)
-    (begins_with f.bound f.old f.copy s of log (missing_order s.durable.register) (λ c e. missing_known s.durable.register c e (of c) (h.link c).known) h phase)
+    (begins_with f.bound f.old f.copy s of log (not_left s.durable.register) (λ c e. missing_known s.durable.register c e (of c) (h.link c).known) h phase)

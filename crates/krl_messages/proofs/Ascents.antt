@@ -2,7 +2,8 @@
 use Rattle.std.proofs.Common.{◌≡◌, ◌≤◌, ℕ, Bool, true, ◌&&◌, List, [], ◌∷◌, length, refl, nat_le, arith}
 use Rattle.std.proofs.lemmas.Bool.{leb-true, le-leb, and_parts, and_from}
 use Rattle.krl_messages.specs.declared.holding.Holding.{Holding}
-use Rattle.krl_messages.specs.Ascending.{Ascend, ascend_from, are_holdings, max_holdings}
+use Rattle.krl_messages.specs.Ascending.{Ascend, ascend_from, are_holdings}
+use Rattle.krl_modes.specs.Limits.{max_holdings}
 use Rattle.krl_messages.specs.Places.{AreHoldings}
 
 up : (least : ℕ) (hs : List Holding) → ascend_from least hs ≡ true → Ascend hs

@@ -1,11 +1,7 @@
 -- Holdings in ascending order.
 use Rattle.std.specs.Prelude.{ℕ, ◌≤◌, nat_le, Bool, true, ◌&&◌, List, [], ◌∷◌, length}
-use Rattle.krl_modes.specs.declared.limits.TheConstants.{MAX_HOLDINGS}
+use Rattle.krl_modes.specs.Limits.{max_holdings}
 use Rattle.krl_messages.specs.declared.holding.Holding.{Holding}
-
--- the most that one message carries
-abbrev pub max_holdings : ℕ
-max_holdings = MAX_HOLDINGS
 
 -- the span ends before the next holding's begins, or where it begins
 abbrev pub IsBefore : Holding → List Holding → Type 0

@@ -6,7 +6,4 @@ use Rattle.krl_messages.specs.declared.outcome.Outcome.TheVariants as outcome
 -- the write was done
 abbrev pub is_applied : Outcome → Bool
 is_applied outcome.Applied = true
-is_applied outcome.Exists = false
-is_applied outcome.Absent = false
-is_applied outcome.NotHeld = false
-is_applied outcome.Full = false
+is_applied other = false

@@ -1,7 +1,8 @@
 -- What holds of each list of holdings.
 use Rattle.std.specs.Prelude.{◌≤◌, List, length}
 use Rattle.krl_messages.specs.declared.holding.Holding.{Holding}
-use Rattle.krl_messages.specs.Ascending.{max_holdings, Ascend}
+use Rattle.krl_messages.specs.Ascending.{Ascend}
+use Rattle.krl_modes.specs.Limits.{max_holdings}
 
 -- some holdings, in order
 pub record AreHoldings (hs : List Holding) : Type 0 where

@@ -1,6 +1,7 @@
 //! Holdings that are gathered one by one.
 ghost use Rattle.std.specs.Prelude.{◌≡◌, ◌<◌, ◌≤◌, [], ◌∷◌, ◌++◌, length, IfOk};
-ghost use Rattle.krl_messages.specs.Ascending.{Ascend, max_holdings};
+ghost use Rattle.krl_messages.specs.Ascending.{Ascend};
+ghost use Rattle.krl_modes.specs.Limits.{max_holdings};
 
 use crate::holding::Holding;
 use crate::holdings::Holdings;

@@ -1,6 +1,7 @@
 //! What a client holds of several slots.
 ghost use Rattle.std.specs.Prelude.{◌≡◌, ◌≤◌, ◌↔◌, length, IfOk, IsSome, IfSome};
-ghost use Rattle.krl_messages.specs.Ascending.{Ascend, ascend_from, are_holdings, max_holdings};
+ghost use Rattle.krl_messages.specs.Ascending.{Ascend, ascend_from, are_holdings};
+ghost use Rattle.krl_modes.specs.Limits.{max_holdings};
 ghost use Rattle.krl_messages.specs.Places.{AreHoldings};
 ghost use Rattle.krl_messages.specs.Several.{have_values};
 

@@ -84,7 +84,7 @@ fn inboxes(alloc: Global) -> Result<Vec<Inbox<ToClient>>, AllocError>
     ensures { IfOk result (λ inboxes. inboxes.items ≡ replicate MAX_CLIENTS []) }
 {
     let mut inboxes = Vec::with_capacity(alloc, MAX_CLIENTS)?;
-    for _ in 0..64u64 {
+    for _ in 0..MAX_CLIENTS as u64 {
         inboxes.push(Inbox::new(alloc))?;
     }
     Ok(inboxes)

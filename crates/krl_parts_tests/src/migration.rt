@@ -71,7 +71,7 @@ fn has_survived(old: &DurableV1, records: &[(u64, Record)]) -> bool {
 // Whether the clients that have not left are these, asked for again if memory was refused.
 fn are_missing(old: &DurableV1, alloc: Global, expected: &[u64]) -> bool {
     for _ in 0..CALLS {
-        if let Ok(clients) = old.missing_order(alloc) {
+        if let Ok(clients) = old.not_left(alloc) {
             return clients.as_slice() == expected;
         }
     }

@@ -2,7 +2,7 @@
 use Rattle.std.proofs.Common.{◌≡◌, ℕ, zero, suc, ◌+◌, ◌≤◌, ◌<◌, true, false, length, List, [], ◌∷◌, Option, Result, Ok, Err, refl, sym, ap, subst, ◌∙◌, arith, inl, inr, add-one, length-append}
 use Rattle.std.specs.Prelude.{IfOk, OnOk, is_ok, is_some, slice_get, ◌≢◌}
 use Rattle.std.specs.Int.{w64, to_be_bytes}
-use Rattle.krl_modes.specs.Limits.{max_entries}
+use Rattle.krl_modes.specs.Limits.{standard_room}
 use Rattle.krl_durable.specs.declared.refused.EntriesRefused.TheVariants as index
 use Rattle.krl_steps.specs.declared.refused.Refused.{Refused}
 use Rattle.krl_steps.specs.declared.refused.Refused.TheVariants as refused
@@ -48,9 +48,9 @@ length_filled (suc n) = omega (arith, length-append (filled n) ((n, to_be_bytes 
 
 -- more than there may be are refused
 pub fill_refused : (s s' : Stage) (n : ℕ) (out : List ℕ) → 65536 < n → out ≡ refused_line refused.Full → s' ≡ record s { begun = true; world = fresh [] } → Seeds s (filled n) out s'
-unfolding max_entries
+unfolding standard_room
 fill_refused s s' n out l line leaves =
-    let many : max_entries < length (filled n) = omega (arith, length_filled n, l) in
+    let many : standard_room < length (filled n) = omega (arith, length_filled n, l) in
     inr (refused.Full, record { due = (index.Full, many, refl); has_memory = λ e. absurd (let other : refused.Full ≡ refused.OutOfMemory = e in cc); prints = line; leaves = leaves })
 
 -- the beginning of a settling, and how it ends

@@ -5,7 +5,7 @@ use Rattle.std.proofs.lemmas.Bool.Decides.{nat_tests, eqb_tells}
 use Rattle.std.specs.Prelude.{is_some, cond, not}
 use Rattle.krl_modes.specs.declared.point.TheConstants.{END}
 use Rattle.krl_modes.specs.Spans.{Bounds}
-use Rattle.krl_modes.specs.Limits.{max_entries}
+use Rattle.krl_modes.specs.Limits.{standard_room}
 use Rattle.krl_messages.specs.Values.{Value}
 use Rattle.krl_messages.specs.declared.to_server.ToServer.{ToServer}
 use Rattle.krl_messages.specs.declared.to_client.ToClient.{ToClient}
@@ -194,7 +194,7 @@ good_or_not es (suc n) =
 
 pub can_begin_or_not : (entries : List (ℕ × Value)) → CanBegin entries ⊎ ((r : Refused) × CannotBegin entries r × (r ≢ refused.OutOfMemory))
 can_begin_or_not entries =
-    elim (cases_lt max_entries (length entries)) [
+    elim (cases_lt standard_room (length entries)) [
       | inl l ↦ inr (refused.Full, (index.Full, l, refl), λ e. absurd (let bad : refused.Full ≡ refused.OutOfMemory = e in cc))
       | inr l ↦
           elim (good_or_not entries (length entries)) [

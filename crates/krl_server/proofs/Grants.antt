@@ -8,7 +8,8 @@ use Rattle.std.specs.FinMap as fin
 use Rattle.krl_table.specs.Grants.{nobody_waits, can_take, goes_on, taken_after, taken_by, taken, granted_by, granted}
 use Rattle.krl_durable.specs.Writes.{IsReach}
 use Rattle.krl_table.proofs.Rows.Slots.{low_under}
-use Rattle.krl_messages.specs.Ascending.{IsBefore, Ascend, max_holdings}
+use Rattle.krl_messages.specs.Ascending.{IsBefore, Ascend}
+use Rattle.krl_modes.specs.Limits.{max_holdings}
 use Rattle.krl_server.proofs.Slots.{is_slot_true, span_here}
 use Rattle.krl_server.proofs.Updates.{row_here, row_other, row_modes}
 use Rattle.krl_server.proofs.Tests.{if_case}

@@ -17,7 +17,7 @@ pub use Rattle.krl_durable.specs.Index.{slots, is_slot, Index, low_of, span_of, 
 pub use Rattle.krl_durable.specs.Slots.{IsSlotOf}
 pub use Rattle.krl_durable.specs.Invariants.{HasOutcome}
 pub use Rattle.krl_durable.specs.Kept.{IsKept}
-pub use Rattle.krl_durable.specs.Registers.{missing_order, new_record, with_record, departed, record_of, registered, IsIncarnation, HasOutcomes, left_by, Durable, Register}
+pub use Rattle.krl_durable.specs.Registers.{not_left, new_record, with_record, departed, record_of, registered, IsIncarnation, HasOutcomes, left_by, Durable, Register}
 pub use Rattle.krl_durable.specs.Writes.{applied, held, applied_by, judge, noted, judged_change, judged_insert, index_after, written}
 pub use Rattle.krl_durable.specs.declared.record.Record.{Record}
 pub use Rattle.krl_messages.proofs.Members.{in_right, in_to_all, in_both, in_left}
@@ -79,4 +79,4 @@ pub use Rattle.krl_table.specs.Reports.{adopted, conflicts, rebuilt}
 pub use Rattle.krl_table.specs.Waiters.{waiter_at, waiter_of, front_of, WaitsNowhere, AreWaiting}
 pub use Rattle.krl_table.specs.Rows.{set_mode, column, is_compatible_there, Rows, mode_at, waits, all_below, blank_rows, blank_row, Row, set_row}
 pub use Rattle.krl_table.specs.Sound.{IsPlaced, IsTable}
-unfoldable pub use Rattle.krl_modes.specs.Limits.{max_clients, max_entries}
+unfoldable pub use Rattle.krl_modes.specs.Limits.{max_clients, standard_room}

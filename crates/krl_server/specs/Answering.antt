@@ -16,6 +16,7 @@ use Rattle.krl_server.specs.Effects.{Done, with_rows, holdings, pushes}
 abbrev pub can_push : Session → Bool
 can_push session = not (is_some session.unacked) && nat_lt session.last_push END
 
+-- there can be a push to the waiter, and there is an answer: no entry, or a grant
 abbrev pub is_answerable : Server → ℕ → Waiter → Bool
 is_answerable s n u = can_push (s.sessions u.client)
     && (asks_absent s.durable.index u || is_wanted_compatible s.rows n u)
@@ -51,6 +52,7 @@ grants s t =
     pushes g t.waiter.client
     (push.Grant t.waiter.req (holdings g t.waiter.client (taken s.durable.reach s.durable.index s.rows t.slot)))
 
+-- the first waiter is answered
 abbrev pub answer_first : Server → Turn → Done
 answer_first s t = if asks_absent s.durable.index t.waiter then tells_absent s t else grants s t
 

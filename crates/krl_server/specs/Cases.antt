@@ -22,6 +22,7 @@ use Rattle.krl_table.specs.Rows.{column, waits}
 use Rattle.krl_table.specs.Reports.{conflicts}
 use Rattle.krl_server.specs.Servers.{Server, is_recovering, lists}
 
+-- what a message comes to
 pub data Case : Type 0 where
   Ignored : Case
   Registers : Case  -- a new incarnation
@@ -123,10 +124,9 @@ case_of_body s c r (said.Request request) =
 -- 2 and 3: of an incarnation above the registered one, or if none is registered
 abbrev pub case_of_newer : ToServerBody → Case
 case_of_newer said.Hello = Registers
-case_of_newer said.Bye = Ignored
-case_of_newer (said.Report epoch pieces) = Ignored
-case_of_newer (said.Request request) = Ignored
+case_of_newer other = Ignored
 
+-- by the record of its client
 abbrev pub case_of_record : Server → ToServer → Option Record → Case
 case_of_record s m None = case_of_newer m.body
 case_of_record s m (Some r) =
@@ -140,6 +140,7 @@ case_of_record s m (Some r) =
 abbrev pub is_malformed : ToServer → Bool
 is_malformed m = not (nat_lt m.client max_clients) || (nat_eq m.incarnation 0 || nat_lt END m.incarnation)
 
+-- the case of a message
 abbrev pub case_of : Server → ToServer → Case
 case_of s m = if is_malformed m then Ignored else case_of_record s m (record_of s.durable.register m.client)
 

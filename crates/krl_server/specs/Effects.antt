@@ -13,7 +13,7 @@ use Rattle.krl_messages.specs.declared.pieces.Pieces.{Pieces}
 use Rattle.krl_messages.specs.declared.write_op.WriteOp.{WriteOp}
 use Rattle.krl_messages.specs.declared.write_op.WriteOp.TheVariants as write
 use Rattle.krl_messages.specs.declared.outcome.Outcome.{Outcome}
-use Rattle.krl_messages.specs.declared.outcome.Outcome.TheVariants as outcome
+use Rattle.krl_messages.specs.Outcomes.{is_applied}
 use Rattle.krl_messages.specs.declared.to_server.ToServer.{ToServer}
 use Rattle.krl_messages.specs.declared.to_client.ToClient.{ToClient}
 use Rattle.krl_messages.specs.declared.to_client.ToClientBody.{ToClientBody}
@@ -32,6 +32,7 @@ use Rattle.krl_server.specs.declared.session.Session.{Session}
 use Rattle.krl_server.specs.Servers.{Server, blank_session, unlist, set_session, incarnation_of}
 use Rattle.krl_server.specs.Cases.{Case, Ignored, Registers, Leaves, Tells, Alarms, Rebuilds, Repeats, Acknowledges, Lowers, Waits, Judges, AnswersAgain}
 
+-- the server after a call, and what it sends
 pub record Done : Type 0 where
   pub server : Server
   pub outs : List ToClient  -- in the order in which they are sent
@@ -46,21 +47,22 @@ silent s = record { server = s; outs = [] }
 abbrev pub out_to : Server → ℕ → ToClientBody → ToClient
 out_to s c body = record { client = c; incarnation = incarnation_of s c; body = body }
 
+-- the epoch of the server
 abbrev pub epoch_to : Server → ℕ → ToClient
 epoch_to s c = out_to s c (told.Epoch s.durable.epoch)
 
+-- the push of this number
 abbrev pub push_to : Server → ℕ → ℕ → PushBody → ToClient
 push_to s c number body = out_to s c (told.Push s.durable.epoch number body)
 
+-- the callback of a span: the client is to keep at most this mode there
 abbrev pub callback_to : Server → ℕ → Bounds → Mode → ToClient
 callback_to s c span keep = out_to s c (told.Callback s.durable.epoch span keep)
 
 -- a value goes with a key part that reads it
 abbrev pub shown : KeyPart → Option Value → Option Value
 shown key.N v = None
-shown key.S v = v
-shown key.U v = v
-shown key.X v = v
+shown other v = v
 
 -- what the client holds on the slot
 abbrev pub holding : Server → ℕ → ℕ → Holding
@@ -77,6 +79,7 @@ holdings s c (n ∷ ns) = holding s n c ∷ holdings s c ns
 
 -- Changes of the server
 
+-- the server with another session of this client, or with other rows
 abbrev pub with_session : Server → ℕ → Session → Server
 with_session s c session = record s { sessions = set_session s.sessions c session }
 
@@ -104,6 +107,7 @@ adopts s c pieces = record s { rows = adopted s.durable.index s.rows c pieces; m
 abbrev pub acknowledged : Server → ℕ → Server
 acknowledged s c = with_session s c (record (s.sessions c) { unacked = None })
 
+-- the client gives up what is more than this mode in the span
 abbrev pub lowers : Server → ℕ → Bounds → Mode → Server
 lowers s c span keep = with_rows s (lowered s.durable.index s.rows c span keep)
 
@@ -120,12 +124,9 @@ rows_written m rows c (write.Insert k v) = split m rows k c
 rows_written m rows c (write.Put k v) = rows
 rows_written m rows c (write.Delete k) = merged m rows k
 
+-- it does so only if it is Applied
 abbrev pub rows_after : Index → Rows → ℕ → WriteOp → Outcome → Rows
-rows_after m rows c op outcome.Applied = rows_written m rows c op
-rows_after m rows c op outcome.Exists = rows
-rows_after m rows c op outcome.Absent = rows
-rows_after m rows c op outcome.NotHeld = rows
-rows_after m rows c op outcome.Full = rows
+rows_after m rows c op o = if is_applied o then rows_written m rows c op else rows
 
 -- a new write is done and noted
 abbrev pub writes : Server → ℕ → WriteOp → Outcome → Server
@@ -148,6 +149,7 @@ pushes s c body =
 abbrev pub answers : Server → ℕ → ℕ → WriteOp → Outcome → Done
 answers s c number op o = pushes s c (push.Answer number o (holding s (slot_of s.durable.index (op_key op)) c))
 
+-- what each case makes of the server, and what it sends to the message's client
 abbrev pub effect : Server → ToServer → Case → Done
 effect s m Ignored = silent s
 effect s m Registers =

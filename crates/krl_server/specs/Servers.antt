@@ -6,6 +6,7 @@ use Rattle.krl_durable.specs.Registers.{Durable, record_of}
 use Rattle.krl_table.specs.Rows.{Rows}
 use Rattle.krl_server.specs.declared.session.Session.{Session}
 
+-- a server that runs
 pub record Server : Type 0 where
   pub durable : Durable
   pub rows : Rows
@@ -13,6 +14,7 @@ pub record Server : Type 0 where
   -- who was registered at the start, and has since neither reported, nor registered again, nor left
   pub missing : List ℕ
 
+-- the session of a client to which nothing was pushed in this epoch
 abbrev pub blank_session : Session
 blank_session = record { last_push = 0; unacked = None; last_request = 0 }
 

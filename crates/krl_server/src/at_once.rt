@@ -16,7 +16,7 @@ use crate::grant_room::{GrantRoom, most_slots};
 use crate::out::{Outbox, ServerOut};
 use crate::state::State;
 use krl_messages::ToServer;
-use krl_modes::END;
+use krl_modes::{END, MAX_CLIENTS};
 use krl_queue::Waiter;
 use std::alloc::{AllocError, Global};
 
@@ -94,7 +94,7 @@ impl State {
             return Ok(None);
         }
         let room = GrantRoom::new(alloc, most_slots(&self.durable, point, hi))?;
-        let mut outbox = Outbox::new(alloc, 1 + 63 * self.count_waiting())?;
+        let mut outbox = Outbox::new(alloc, 1 + (MAX_CLIENTS - 1) * self.count_waiting())?;
         let waiter = Waiter {
             client: message.client,
             req,

@@ -78,7 +78,7 @@ impl State {
             return;
         }
         let wanted = mode_of(&modes, waiter.client).join(waiter.mode);
-        for client in 0..64u64 {
+        for client in 0..MAX_CLIENTS as u64 {
             let held = mode_of(&modes, client);
             self.call_back_one(&waiter, wanted, span, client, held, outbox);
         }

@@ -169,16 +169,15 @@ impl State {
         ensures room { self.new.table.room ≡ self.old.table.room }
         ensures rest { self.new ≡ record self.old { table = self.new.table } }
     {
-        match outcome {
-            Outcome::Applied => match op {
+        if let Outcome::Applied = outcome {
+            match op {
                 WriteOp::Insert { key, value: _ } => {
                     let key = Point::new(key).unwrap();
                     self.table.split(&self.durable, key, client);
                 }
                 WriteOp::Put { .. } => {}
                 WriteOp::Delete { key } => self.table.merge(&self.durable, key),
-            },
-            Outcome::Exists | Outcome::Absent | Outcome::NotHeld | Outcome::Full => {}
+            }
         }
     }
 

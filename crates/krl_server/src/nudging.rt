@@ -14,7 +14,7 @@ ghost use Rattle.krl_modes.specs.declared.limits.TheConstants.{MAX_CLIENTS};
 use crate::out::Outbox;
 use crate::state::State;
 use krl_messages::{Items, ToClient};
-use krl_modes::Point;
+use krl_modes::{MAX_CLIENTS, Point};
 use krl_table::FirstWaiter;
 use std::alloc::{AllocError, Global};
 
@@ -78,7 +78,7 @@ impl State {
         }
         match self.first_waiter_of(client) {
             Some((slot, first)) => {
-                let mut outbox = Outbox::new(alloc, 63)?;
+                let mut outbox = Outbox::new(alloc, MAX_CLIENTS - 1)?;
                 self.call_back_for(slot, &first, &mut outbox);
                 Ok(outbox.into_items())
             }

@@ -1,7 +1,7 @@
 //! The server, as a host runs it.
 ghost use Rattle.std.specs.Prelude.{◌≡◌, ◌<◌, ◌≤◌, ℕ, false, [], length, MatchOption, MatchResult};
 ghost use Rattle.std.specs.Prelude.{IfOk, OnErr};
-ghost use Rattle.krl_durable.specs.Registers.{missing_order};
+ghost use Rattle.krl_durable.specs.Registers.{not_left};
 ghost use Rattle.krl_durable.specs.Changes.{IsChange};
 ghost use Rattle.krl_table.specs.Rows.{blank_row};
 ghost use Rattle.krl_table.specs.Kept.{rows_of};
@@ -80,12 +80,12 @@ fn parts_of(
     ensures room { IfOk result (λ parts. durable.now.room < parts.0.room) }
     ensures full { IfOk result (λ parts. length parts.1 ≡ MAX_CLIENTS) }
     ensures blank { IfOk result (λ parts. (c : ℕ) → sessions_of parts.1 c ≡ blank_session) }
-    ensures missing { IfOk result (λ parts. parts.2 ≡ missing_order durable.now.register) }
+    ensures missing { IfOk result (λ parts. parts.2 ≡ not_left durable.now.register) }
     ensures rooms { IfOk result (λ parts. length parts.3 ≡ MAX_CLIENTS) }
 {
     // By its clause `kept` the prover knows what holds of all that survives.
     let _kept = durable.epoch();
-    let clients = durable.missing_order(alloc)?;
+    let clients = durable.not_left(alloc)?;
     let sessions = Sessions::blank(alloc)?;
     let table = Table::new(alloc, durable.room())?;
     let rooms = GrantRooms::none(alloc)?;

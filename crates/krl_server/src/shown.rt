@@ -71,7 +71,7 @@ impl State {
         ensures { result.items ≡ waited_for (meaning self.now) client }
     {
         let mut others = ArrayVec::new();
-        for other in 0..64u64 {
+        for other in 0..MAX_CLIENTS as u64 {
             if self.waits_for(client, other) {
                 others.push(other);
             }

@@ -4,7 +4,8 @@ ghost use Rattle.krl_messages.specs.declared.to_client.PushBody.TheVariants as p
 ghost use Rattle.std.specs.List.{AllByRecursion};
 ghost use Rattle.krl_durable.specs.Index.{is_slot};
 ghost use Rattle.krl_modes.specs.Modes.{key_of};
-ghost use Rattle.krl_messages.specs.Ascending.{Ascend, max_holdings};
+ghost use Rattle.krl_messages.specs.Ascending.{Ascend};
+ghost use Rattle.krl_modes.specs.Limits.{max_holdings};
 ghost use Rattle.krl_server.specs.Servers.{incarnation_of};
 ghost use Rattle.krl_server.specs.StateMeaning.{meaning, sessions_of};
 ghost use Rattle.krl_server.specs.FoundCases.{IsFormed};

@@ -34,7 +34,7 @@ impl State {
             return 0;
         }
         let mut count = 0;
-        for client in 0..64u64 {
+        for client in 0..MAX_CLIENTS as u64 {
             if self.waits(client) {
                 count += 1;
             }

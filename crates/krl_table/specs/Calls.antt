@@ -47,15 +47,14 @@ enqueued m rows u =
 -- on a new slot, the mode of another client than its writer, which has this range part on the old
 -- one
 abbrev pub mode_beside : RangePart → Mode
-mode_beside range.N = mode.N
-mode_beside range.S = mode.N
 mode_beside range.I = mode.RangeIN
-mode_beside range.X = mode.N
+mode_beside other = mode.N
 
 -- on a new slot: its writer has the range part that it had on the old one, and key part X
 abbrev pub split_modes : (ℕ → Mode) → ℕ → ℕ → Mode
 split_modes modes c d = if nat_eq d c then at_or_above (range_of (modes c)) key.X else mode_beside (range_of (modes d))
 
+-- k becomes a slot, taken from the slot n
 abbrev pub split_at : Rows → ℕ → ℕ → ℕ → Rows
 split_at rows n k c =
     set_row (set_row rows n (with_queue (rows n) (beyond k (rows n).queue))) k
@@ -65,6 +64,7 @@ split_at rows n k c =
 abbrev pub split : Index → Rows → ℕ → ℕ → Rows
 split m rows k c = split_at rows (slot_of m k) k c
 
+-- the slot k goes, and the slot n takes it over
 abbrev pub merge_into : Rows → ℕ → ℕ → Rows
 merge_into rows n k = set_row (set_row rows n (with_queue (rows n) ((rows k).queue ++ (rows n).queue))) k blank_row
 
@@ -93,6 +93,7 @@ abbrev pub raised_on : Rows → List ℕ → Waiter → Rows
 raised_on rows [] u = rows
 raised_on rows (n ∷ ns) u = raised_on (raised rows n u) ns u
 
+-- the others, if the first waits no more
 abbrev pub behind_first : List Waiter → List Waiter
 behind_first [] = []
 behind_first (u ∷ us) = us

@@ -8,6 +8,7 @@ use Rattle.krl_table.specs.Rows.{Rows}
 use Rattle.krl_table.specs.Calls.{granted_first, raised, raised_on}
 use Rattle.krl_table.specs.Replies.{is_wanted_compatible}
 
+-- the queue is empty
 abbrev pub nobody_waits : List Waiter → Bool
 nobody_waits [] = true
 nobody_waits (u ∷ us) = false

@@ -9,6 +9,7 @@ use Rattle.krl_queue.specs.declared.waiter.Waiter.{Waiter}
 use Rattle.krl_queue.specs.Waiting.{first_of}
 use Rattle.krl_durable.specs.Index.{Index, slots}
 
+-- what stands on a slot
 pub record Row : Type 0 where
   pub modes : ℕ → Mode  -- by client
   pub queue : List Waiter  -- the first is answered first

@@ -45,7 +45,7 @@ impl Extents {
         ensures there { (c : ℕ) → c < MAX_CLIENTS → Lies (extent_in self.old.by_client c) from
             → Lies (extent_in self.new.by_client c) to }
     {
-        for client in 0..64u64 {
+        for client in 0..MAX_CLIENTS as u64 {
             let extent = self.of(client).following(from, to);
             self.by_client[client as usize] = extent;
         }

@@ -139,7 +139,7 @@ impl SlotRow {
         ensures { result ≡ all_below max_clients
             (λ d. nat_eq d client || compatible mode (mode_of self.now.modes d)) }
     {
-        for other in 0..64u64 {
+        for other in 0..MAX_CLIENTS as u64 {
             let held = self.mode(other);
             // Most clients hold nothing here, and that is found at once.
             if held != Mode::N && other != client && !mode.compatible(held) {
@@ -184,7 +184,7 @@ impl SlotRow {
         // By its clause `full` the prover knows that there are 64.
         let _modes = self.all_modes();
         let mut row = SlotRow::blank();
-        for other in 0..64u64 {
+        for other in 0..MAX_CLIENTS as u64 {
             let (range, _) = self.mode(other).parts();
             row.modes[other as usize] = if other == client {
                 Mode::at_or_above(range, KeyPart::X)
@@ -203,7 +203,7 @@ fn all_are_n(modes: &[Mode; MAX_CLIENTS]) -> bool
     let modes = *modes;
     // With no early end the compiler compares many modes at a time.
     let mut all = true;
-    for client in 0..64usize {
+    for client in 0..MAX_CLIENTS {
         all = all & (modes[client] == Mode::N);
     }
     all

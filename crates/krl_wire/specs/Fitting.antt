@@ -4,7 +4,8 @@ use Rattle.std.specs.List.{AllByRecursion}
 use Rattle.krl_modes.specs.Spans.{Bounds}
 use Rattle.krl_modes.specs.declared.point.TheConstants.{TOP}
 use Rattle.krl_messages.specs.Values.{Value}
-use Rattle.krl_messages.specs.Ascending.{Ascend, max_holdings}
+use Rattle.krl_messages.specs.Ascending.{Ascend}
+use Rattle.krl_modes.specs.Limits.{max_holdings}
 use Rattle.krl_messages.specs.declared.holding.Holding.{Holding}
 use Rattle.krl_messages.specs.declared.range_pieces.RangePiece.{RangePiece}
 use Rattle.krl_messages.specs.declared.key_pieces.KeyPiece.{KeyPiece}

@@ -3,7 +3,7 @@ use Rattle.std.specs.Prelude.{◌≡◌, ◌<◌, ℕ, Option, None, Some, is_so
 use Rattle.std.specs.FinMap as map
 use Rattle.krl_modes.specs.declared.limits.TheConstants.{MAX_CLIENTS}
 use Rattle.krl_modes.specs.declared.limits.TheConstants.{STANDARD_REACH}
-use Rattle.krl_modes.specs.Limits.{max_entries}
+use Rattle.krl_modes.specs.Limits.{standard_room}
 use Rattle.krl_durable.specs.Registers.{Durable, record_of}
 use Rattle.krl_client.specs.Fields as client_fields
 use Rattle.krl_server.specs.Servers.{incarnation_or_0}
@@ -19,7 +19,7 @@ abbrev pub server_there : Option KeptNode → KeptNode
 server_there (Some n) = n
 server_there None =
     kept.Down (record {
-      room = max_entries;
+      room = standard_room;
       reach = STANDARD_REACH;
       index = map.from_entries [];
       epoch = 0;

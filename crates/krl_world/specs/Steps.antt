@@ -3,7 +3,7 @@ use Rattle.std.specs.Prelude.{◌≡◌, ℕ, zero, suc, ◌⊎◌, ◌≤◌, t
 use Rattle.krl_modes.specs.Spans.{Bounds}
 use Rattle.krl_messages.specs.declared.pieces.Pieces.{Pieces}
 use Rattle.krl_messages.specs.declared.outcome.Outcome.{Outcome}
-use Rattle.krl_messages.specs.declared.outcome.Outcome.TheVariants as outcome
+use Rattle.krl_messages.specs.Outcomes.{is_applied}
 use Rattle.krl_messages.specs.declared.to_server.ToServer.{ToServer}
 use Rattle.krl_messages.specs.declared.to_client.ToClient.{ToClient}
 use Rattle.krl_durable.specs.declared.refused.EntriesRefused.{EntriesRefused}
@@ -14,7 +14,7 @@ use Rattle.krl_durable.specs.Kept.{IsKept}
 use Rattle.krl_durable.specs.Limits.{Fits, sized}
 use Rattle.krl_durable.specs.Migrations as migrations
 use Rattle.krl_durable.specs.Migrations.{DurableV1, migrated}
-use Rattle.krl_durable.specs.Registers.{Durable, missing_order}
+use Rattle.krl_durable.specs.Registers.{Durable, not_left}
 use Rattle.krl_server.specs.Servers.{Server}
 use Rattle.krl_server.specs.Cases.{Case, Ignored, Registers, Leaves, Tells, Alarms, Rebuilds, Repeats, Acknowledges, Lowers, Waits, Judges, AnswersAgain, case_of}
 use Rattle.krl_server.specs.Steps as server
@@ -29,7 +29,7 @@ use Rattle.krl_client.specs.Commands.{lock_refusal, write_refusal, scan_refusal,
 use Rattle.krl_client.specs.Messages as receiver
 use Rattle.krl_client.specs.Ticks.{tick, says_hello}
 use Rattle.krl_modes.specs.declared.limits.TheConstants.{MAX_CLIENTS}
-use Rattle.krl_modes.specs.Limits.{max_entries}
+use Rattle.krl_modes.specs.Limits.{standard_room}
 use Rattle.krl_messages.specs.Values.{Value}
 use Rattle.krl_world.specs.declared.message.Message.{Message}
 use Rattle.krl_world.specs.declared.message.Message.TheVariants as message
@@ -49,17 +49,17 @@ use Rattle.krl_world.specs.States.{ServerPlace, Up, Down, State, opened, client_
 
 -- a world may begin with these entries
 abbrev pub CanBegin : List (ℕ × Value) → Type 0
-CanBegin entries = (length entries ≤ max_entries) × AreGood entries (length entries)
+CanBegin entries = (length entries ≤ standard_room) × AreGood entries (length entries)
 
 -- or with this durable part, as a server keeps it: there is an epoch for the start, and each registered client has left
 pub record CanOpen (d : Durable) : Type 0 where
   pub kept : IsKept d
   pub starts : server.can_start d ≡ true
-  pub left : missing_order d.register ≡ []
+  pub left : not_left d.register ≡ []
 
 -- why no world begins with these entries
 abbrev pub CannotBegin : List (ℕ × Value) → Refused → Type 0
-CannotBegin entries r = (e : EntriesRefused) × Refuses max_entries entries e × (r ≡ refused_by_index e)
+CannotBegin entries r = (e : EntriesRefused) × Refuses standard_room entries e × (r ≡ refused_by_index e)
 
 -- why no world begins with this durable part
 abbrev pub CannotOpen : Durable → Refused → Type 0
@@ -70,7 +70,7 @@ CannotOpen d r = (r ≡ refused.OutOfMemory) ⊎ ((r ≡ refused.Spent) × (serv
 abbrev pub CannotMigrate : DurableV1 → Refused → Type 0
 CannotMigrate d r =
     ((e : NotMigrated) × migrations.CannotMigrate d e × (r ≡ refused_by_migration e))
-    ⊎ ((missing_order d.register ≡ []) × CannotOpen (migrated d) r)
+    ⊎ ((not_left d.register ≡ []) × CannotOpen (migrated d) r)
 
 -- Refusals, apart from memory: the first reason in the written order
 
@@ -135,8 +135,7 @@ refusal_of w step.CrashServer = server_down w.server
 
 -- the write, if this outcome is Applied
 abbrev pub if_applied : Outcome → AppliedWrite → List AppliedWrite
-if_applied outcome.Applied x = x ∷ []
-if_applied other x = []
+if_applied o x = if is_applied o then x ∷ [] else []
 
 -- the write that the server applies with a message of this case, if it applies one
 abbrev pub applies : ToServer → Case → List AppliedWrite

@@ -8,7 +8,7 @@ ghost use Rattle.krl_blocks.specs.Runs.{runs_of};
 ghost use Rattle.krl_messages.specs.declared.to_server.ToServer.{ToServer};
 ghost use Rattle.krl_world.specs.declared.message.Message.TheVariants as sent_message;
 ghost use Rattle.krl_steps.specs.declared.step.Step.TheVariants as steps;
-ghost use Rattle.krl_durable.specs.Registers.{missing_order};
+ghost use Rattle.krl_durable.specs.Registers.{not_left};
 ghost use Rattle.krl_durable.specs.Migrations.{migrated};
 ghost use Rattle.krl_world.specs.States.{index_of, unused, opened, fresh, range_held, key_held};
 ghost use Rattle.krl_world.specs.Steps.{Steps, CanBegin, CannotBegin, CanOpen, CannotOpen};
@@ -81,7 +81,7 @@ fn places_of_nobody(alloc: Global, durable: &Durable) -> Result<Vec<ClientPlace>
     ensures { IfOk result (λ places. AreUnstarted durable.now MAX_CLIENTS places.items) }
 {
     let mut places = Vec::with_capacity(alloc, MAX_CLIENTS)?;
-    for number in 0..64u64 {
+    for number in 0..MAX_CLIENTS as u64 {
         places.push(ClientPlace::unstarted(durable, number))?;
     }
     Ok(places)
@@ -122,7 +122,7 @@ impl WorldFields {
         durable: Durable,
     ) -> Result<WorldFields, Refused>
         requires same { durable ≡ opening }
-        requires left { missing_order opening.register ≡ [] }
+        requires left { not_left opening.register ≡ [] }
         ensures { MatchResult result
             (λ w. CanOpen opening × (meaning w ≡ opened opening))
             (CannotOpen opening) }

@@ -175,7 +175,7 @@ fn judges(durable: &Durable, change: Change, held: bool, expected: Outcome) -> b
 // Whether these are missing, asked for again if memory was refused.
 fn are_missing(durable: &Durable, alloc: Global, expected: &[u64]) -> bool {
     for _ in 0..CALLS {
-        if let Ok(clients) = durable.missing_order(alloc) {
+        if let Ok(clients) = durable.not_left(alloc) {
             return clients.as_slice() == expected;
         }
     }

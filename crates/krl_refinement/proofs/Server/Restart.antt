@@ -1,6 +1,6 @@
 -- A crash and a start of the server.
 use Rattle.krl_refinement.proofs.Names.{◌≡◌, ℕ, suc, ◌≤◌, Bool, true, false, Option, Some, None, List, [], ◌∷◌, ◌⊎◌, inl, inr, refl, sym, ap, subst, ◌∙◌, nat_eq, none-some, END, Record, Register}
-use Rattle.krl_refinement.proofs.Names.{Durable, record_of, missing_order, blank_rows, Link, no_range, no_key, Logged, IsMissing, crash, start, finish, Steps, none, more, Server, blank_session}
+use Rattle.krl_refinement.proofs.Names.{Durable, record_of, not_left, blank_rows, Link, no_range, no_key, Logged, IsMissing, crash, start, finish, Steps, none, more, Server, blank_session}
 use Rattle.krl_refinement.proofs.Names.{is_recovering, lists, can_start, IsSound, blank_range, blank_key, not_both, start_sound, IsRecord, Shows, DurableShows, down_world_of, world_of, BoundStays}
 use Rattle.krl_refinement.proofs.Names.{CrashFollows, StartFollows, IsIdle, Opens}
 use Rattle.std.specs.Prelude.{if◌then◌else◌, ◌||◌}
@@ -11,15 +11,15 @@ use Rattle.krl_refinement.proofs.Server.Follows.{up_phase}
 pub crash_follows : (s : Server) (of : ℕ → Link) (log : List Logged) → Shows s of → IsSound s → CrashFollows s of log
 crash_follows s of log h i = record { steps = more none (crash (up_phase s.missing)); shows = λ c. (h.link c).known; sound = start_sound s.durable i.near }
 
-pub missing_known : (es : Register) (c : ℕ) → lists (missing_order es) c ≡ false → (l : Link) → IsRecord (record_of es c) l → (l.left ≡ true) ⊎ (l.reg ≡ 0)
+pub missing_known : (es : Register) (c : ℕ) → lists (not_left es) c ≡ false → (l : Link) → IsRecord (record_of es c) l → (l.left ≡ true) ⊎ (l.reg ≡ 0)
 missing_known [] c e l h = inr h.reg
 missing_known (x ∷ es) c e l h = by_left x.1.left refl (nat_eq c x.0) refl e h (missing_known es c)
   where
-    by_left : (b : Bool) → x.1.left ≡ b → (a : Bool) → nat_eq c x.0 ≡ a → lists (if b then missing_order es else x.0 ∷ missing_order es) c ≡ false → IsRecord (if a then Some x.1 else record_of es c) l → (lists (missing_order es) c ≡ false → (l : Link) → IsRecord (record_of es c) l → (l.left ≡ true) ⊎ (l.reg ≡ 0)) → (l.left ≡ true) ⊎ (l.reg ≡ 0)
+    by_left : (b : Bool) → x.1.left ≡ b → (a : Bool) → nat_eq c x.0 ≡ a → lists (if b then not_left es else x.0 ∷ not_left es) c ≡ false → IsRecord (if a then Some x.1 else record_of es c) l → (lists (not_left es) c ≡ false → (l : Link) → IsRecord (record_of es c) l → (l.left ≡ true) ⊎ (l.reg ≡ 0)) → (l.left ≡ true) ⊎ (l.reg ≡ 0)
     by_left true f true g e h ih = inl (h.left ∙ f)
     by_left true f false g e h ih = ih e l h
-    by_left false f true g e h ih = let y : (true || lists (missing_order es) c) ≡ false = subst (λ b. (b || lists (missing_order es) c) ≡ false) g e in absurd (cc)
-    by_left false f false g e h ih = ih (sym (ap (λ b. b || lists (missing_order es) c) g) ∙ e) l h
+    by_left false f true g e h ih = let y : (true || lists (not_left es) c) ≡ false = subst (λ b. (b || lists (not_left es) c) ≡ false) g e in absurd (cc)
+    by_left false f false g e h ih = ih (sym (ap (λ b. b || lists (not_left es) c) g) ∙ e) l h
 
 abbrev pub started_with : Durable → List ℕ → Server
 started_with d ms = record { durable = record d { epoch = suc d.epoch }; rows = blank_rows; sessions = λ c. blank_session; missing = ms }
@@ -62,7 +62,7 @@ started_bound (x ∷ xs) of g c = record { range = λ p. refl; key = λ p. refl 
 -- a start is a start, and a finish if nobody is missing
 pub start_follows : (d : Durable) (of : ℕ → Link) (log : List Logged) → can_start d ≡ true → DurableShows d of → IsSound (steps.start d) → StartFollows d of log
 start_follows d of log can known i =
-    let ms = missing_order d.register in
+    let ms = not_left d.register in
     record {
       follows = record {
         after = started_links of ms;
@@ -78,7 +78,7 @@ start_follows d of log can known i =
     }
 
 -- the first start, if each client that is known has left
-pub opens : (d : Durable) (of : ℕ → Link) → missing_order d.register ≡ [] → DurableShows d of → ((c : ℕ) → IsIdle (of c)) → ((q : ℕ) → END ≤ q → map.get d.index q ≡ None) → Opens d of
+pub opens : (d : Durable) (of : ℕ → Link) → not_left d.register ≡ [] → DurableShows d of → ((c : ℕ) → IsIdle (of c)) → ((q : ℕ) → END ≤ q → map.get d.index q ≡ None) → Opens d of
 opens d of gone known idle near = record {
   shows = subst (λ ms. Shows (started_with d ms) of) (sym gone)
       (record {

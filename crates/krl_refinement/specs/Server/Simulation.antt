@@ -10,7 +10,7 @@ use Rattle.krl_messages.specs.declared.to_client.ToClient.{ToClient}
 use Rattle.krl_messages.specs.Members.{In}
 use Rattle.krl_machine.specs.Links.{Link}
 use Rattle.krl_machine.specs.Worlds.{Logged, World, Steps, Reachable}
-use Rattle.krl_durable.specs.Registers.{Durable, missing_order}
+use Rattle.krl_durable.specs.Registers.{Durable, not_left}
 use Rattle.krl_server.specs.Servers.{Server, is_recovering}
 use Rattle.krl_server.specs.Cases.{case_of, clears}
 use Rattle.krl_server.specs.Steps.{ServerStep, alarms, nudge, start, can_start}
@@ -90,5 +90,5 @@ pub record ServerFollows : Type 0 where
   pub crash : (s : Server) (of : ℕ → Link) (log : List Logged) → Shows s of → IsSound s → CrashFollows s of log
   pub start : (d : Durable) (of : ℕ → Link) (log : List Logged) → can_start d ≡ true → DurableShows d of →
       IsSound (start d) → StartFollows d of log
-  pub opens : (d : Durable) (of : ℕ → Link) → missing_order d.register ≡ [] → DurableShows d of →
+  pub opens : (d : Durable) (of : ℕ → Link) → not_left d.register ≡ [] → DurableShows d of →
       ((c : ℕ) → IsIdle (of c)) → ((q : ℕ) → END ≤ q → map.get d.index q ≡ None) → Opens d of

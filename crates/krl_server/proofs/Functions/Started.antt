@@ -1,5 +1,5 @@
 -- A server that starts, and one that has taken a step.
-use Rattle.krl_server.proofs.Names.{Session, ◌≡◌, ℕ, zero, suc, ◌≤◌, ◌<◌, List, [], ◌∷◌, ◌++◌, length, refl, sym, ap, subst, ◌∙◌, fun_ext, lt-ltb, END, ToServer, ToClient, Durable, missing_order, IsKept}
+use Rattle.krl_server.proofs.Names.{Session, ◌≡◌, ℕ, zero, suc, ◌≤◌, ◌<◌, List, [], ◌∷◌, ◌++◌, length, refl, sym, ap, subst, ◌∙◌, fun_ext, lt-ltb, END, ToServer, ToClient, Durable, not_left, IsKept}
 use Rattle.krl_server.proofs.Names.{blank_row, rows_of, IsOver, State, ServerOut, Server, blank_session, meaning, sessions_of, IsFormed, ServerStep, start, IsSettled, IsSound, Result, Ok, Err, IfOk}
 use Rattle.krl_server.proofs.Names.{OnOk, OnErr, max_messages, IsServer, IsStarted, HasStepped, IsWithin, AreRegistered}
 use Rattle.krl_server.specs.Invariant.{IsOrdered}
@@ -8,7 +8,7 @@ use Rattle.krl_server.proofs.Invariant.Kept.{server_keeps}
 use Rattle.krl_server.proofs.Invariant.Within.{all_within}
 use Rattle.krl_server.proofs.Functions.Known.{durable_within}
 
-module _ (d : Durable) (st : State) (lt : d.epoch < END) (durable : st.durable ≡ record d { epoch = suc d.epoch }) (rows : (n : ℕ) → rows_of st.table.map n ≡ blank_row) (over : IsOver d.index st.table.map) (room : d.room < st.table.room) (full : length st.sessions ≡ 64) (sessions : (c : ℕ) → sessions_of st.sessions c ≡ blank_session) (missing : st.missing ≡ missing_order d.register) where
+module _ (d : Durable) (st : State) (lt : d.epoch < END) (durable : st.durable ≡ record d { epoch = suc d.epoch }) (rows : (n : ℕ) → rows_of st.table.map n ≡ blank_row) (over : IsOver d.index st.table.map) (room : d.room < st.table.room) (full : length st.sessions ≡ 64) (sessions : (c : ℕ) → sessions_of st.sessions c ≡ blank_session) (missing : st.missing ≡ not_left d.register) where
   means_start : meaning st ≡ start d
   means_start =
       ap (λ x. record (meaning st) { durable = x }) durable

@@ -1,7 +1,7 @@
 -- Numbers stay within END, and lists within their bounds.
 use Rattle.krl_server.proofs.Names.{◌≡◌, ◌≢◌, ℕ, suc, ◌+◌, ◌-◌, ◌≤◌, ◌<◌, Bool, true, false, not, cond, ◌||◌, Some, None, List, [], ◌∷◌, length, ◌⊎◌, inl, inr, refl, sym, ap, subst, ◌∙◌, ⊎_elim}
 use Rattle.krl_server.proofs.Names.{arith, nat_eq, eq-eqb, eqb-true, ltb-true, ltb-false, eqb-false, or_parts, not-false, none-some, same_Some, nat_lt, is_some, if◌then◌else◌, END, WriteOp, Outcome}
-use Rattle.krl_server.proofs.Names.{ToServer, ToClient, PushBody, eq_cases, Record, Index, slot_of, Register, Durable, record_of, with_record, new_record, left_by, missing_order, op_key, In}
+use Rattle.krl_server.proofs.Names.{ToServer, ToClient, PushBody, eq_cases, Record, Index, slot_of, Register, Durable, record_of, with_record, new_record, left_by, not_left, op_key, In}
 use Rattle.krl_server.proofs.Names.{judge, judged_insert, noted, index_after, applied_by, Rows, max_clients, dropped, granted, asks_absent, Session, Server, is_recovering, lists}
 use Rattle.krl_server.proofs.Names.{unlist, set_session, blank_session, Ignored, judged, case_of, case_of_record, is_malformed, Done, acknowledged, pushes, effect, Turn, answer_first, tells_absent}
 use Rattle.krl_server.proofs.Names.{grants, Answered, stops, goes_on, Ends, Kind, at_once, recovers, serves, start, can_start, kind_of, AreApart, clients_of, IsEntry, IsDurableWithin, IsWithin}
@@ -99,30 +99,30 @@ unlisted_apart (e ∷ es) c h = by_eq (nat_eq c e) (unlisted_apart es c h.1)
 still_missing : (ms : List ℕ) (c d : ℕ) → lists (unlist ms c) d ≡ true → (d ≢ c) × (lists ms d ≡ true)
 still_missing ms c d e = let ne : d ≢ c = λ f. not_both (lists (unlist ms c) d) e (ap (lists (unlist ms c)) f ∙ unlist_here ms c) in (ne, sym (unlist_other ms c d ne) ∙ e)
 
-ordered_known : (es : Register) (c : ℕ) → AreApart (clients_of es) → lists (missing_order es) c ≡ true → (r : Record) × (record_of es c ≡ Some r) × (r.left ≡ false)
+ordered_known : (es : Register) (c : ℕ) → AreApart (clients_of es) → lists (not_left es) c ≡ true → (r : Record) × (record_of es c ≡ Some r) × (r.left ≡ false)
 ordered_known [] c h e = absurd (cc)
 ordered_known (x ∷ es) c h e = by_left x.1.left refl (nat_eq c x.0) refl e (ordered_known es c h.1)
   where
-    by_left : (b : Bool) → x.1.left ≡ b → (a : Bool) → nat_eq c x.0 ≡ a → lists (if b then missing_order es else x.0 ∷ missing_order es) c ≡ true → (lists (missing_order es) c ≡ true → (r : Record) × (record_of es c ≡ Some r) × (r.left ≡ false)) → (r : Record) × ((if a then Some x.1 else record_of es c) ≡ Some r) × (r.left ≡ false)
+    by_left : (b : Bool) → x.1.left ≡ b → (a : Bool) → nat_eq c x.0 ≡ a → lists (if b then not_left es else x.0 ∷ not_left es) c ≡ true → (lists (not_left es) c ≡ true → (r : Record) × (record_of es c ≡ Some r) × (r.left ≡ false)) → (r : Record) × ((if a then Some x.1 else record_of es c) ≡ Some r) × (r.left ≡ false)
     by_left true f true g e ih = let y = ih e in absurd (h.0 (subst (λ d. In d (clients_of es)) (eqb-true c x.0 g) (known_in es c y.0 y.1)))
     by_left true f false g e ih = ih e
     by_left false f true g e ih = (x.1, refl, f)
-    by_left false f false g e ih = ih (sym (ap (λ b. b || lists (missing_order es) c) g) ∙ e)
+    by_left false f false g e ih = ih (sym (ap (λ b. b || lists (not_left es) c) g) ∙ e)
 
-ordered_in : (es : Register) (d : ℕ) → In d (missing_order es) → In d (clients_of es)
+ordered_in : (es : Register) (d : ℕ) → In d (not_left es) → In d (clients_of es)
 ordered_in [] d at = absurd at
 ordered_in (x ∷ es) d at = by_left x.1.left at (ordered_in es d)
   where
-    by_left : (b : Bool) → In d (if b then missing_order es else x.0 ∷ missing_order es) → (In d (missing_order es) → In d (clients_of es)) → In d (x.0 ∷ clients_of es)
+    by_left : (b : Bool) → In d (if b then not_left es else x.0 ∷ not_left es) → (In d (not_left es) → In d (clients_of es)) → In d (x.0 ∷ clients_of es)
     by_left true h ih = inr (ih h)
     by_left false (inl e) ih = inl e
     by_left false (inr h) ih = inr (ih h)
 
-ordered_apart : (es : Register) → AreApart (clients_of es) → AreApart (missing_order es)
+ordered_apart : (es : Register) → AreApart (clients_of es) → AreApart (not_left es)
 ordered_apart [] h = tt
 ordered_apart (x ∷ es) h = by_left x.1.left (ordered_apart es h.1)
   where
-    by_left : (b : Bool) → AreApart (missing_order es) → AreApart (if b then missing_order es else x.0 ∷ missing_order es)
+    by_left : (b : Bool) → AreApart (not_left es) → AreApart (if b then not_left es else x.0 ∷ not_left es)
     by_left true ih = ih
     by_left false ih = ((λ at. h.0 (ordered_in es x.0 at)), ih)
 

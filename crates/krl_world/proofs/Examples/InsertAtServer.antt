@@ -1,5 +1,5 @@
 -- What the server does in another short run: a client may insert into the gap below 20, and inserts 15.
-use Rattle.krl_world.proofs.Names.{◌≡◌, ℕ, Some, None, List, [], ◌∷◌, ◌++◌, refl, sym, subst, Value, Holding, ToServer, ToClient, PushBody, Index, max_entries, max_clients, Server, Waits, Judges}
+use Rattle.krl_world.proofs.Names.{◌≡◌, ℕ, Some, None, List, [], ◌∷◌, ◌++◌, refl, sym, subst, Value, Holding, ToServer, ToClient, PushBody, Index, standard_room, max_clients, Server, Waits, Judges}
 use Rattle.krl_world.proofs.Names.{case_of, effect, Turn, next_turn, answer_first, Answered, stops, goes_on, callbacks, Acts, kind_of, Ends, serves, ServerStep}
 use Rattle.std.specs.FinMap as map
 use Rattle.krl_modes.specs.declared.mode.Mode.TheVariants as mode
@@ -86,7 +86,7 @@ reads_lock m e = subst (λ k. Ends (effect (joined m) lock k) (kind_of k) (grant
 -- The insert
 
 pub insert_case : (m : Index) → map.entries m ≡ two → case_of (granted m) insert ≡ Judges 1 (write.Insert 15 (5 ∷ [])) outcome.Applied
-unfolding max_clients max_entries
+unfolding max_clients standard_room
 insert_case m e = simp (e, map.get-entries)
 
 insert_outs : (m : Index) → map.entries m ≡ two → map.entries (map.insert m 15 (5 ∷ [])) ≡ three → (effect (granted m) insert (Judges 1 (write.Insert 15 (5 ∷ [])) outcome.Applied)).outs ≡ answer ∷ []

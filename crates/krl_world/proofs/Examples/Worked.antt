@@ -1,6 +1,6 @@
 -- What the server does in a short run: a client sends Hello, and locks the gap below 10 and the entry there.
 use Rattle.krl_modes.specs.declared.limits.TheConstants.{STANDARD_REACH}
-use Rattle.krl_world.proofs.Names.{◌≡◌, ℕ, Option, Some, None, List, [], ◌∷◌, ◌++◌, refl, sym, subst, Value, Holding, ToServer, ToClient, Index, slots, max_entries, max_clients, Server, Registers, Waits}
+use Rattle.krl_world.proofs.Names.{◌≡◌, ℕ, Option, Some, None, List, [], ◌∷◌, ◌++◌, refl, sym, subst, Value, Holding, ToServer, ToClient, Index, slots, standard_room, max_clients, Server, Registers, Waits}
 use Rattle.krl_world.proofs.Names.{case_of, effect, Turn, turn_at, turn_among, next_turn, answer_first, Answered, stops, goes_on, callbacks_at, callbacks_among, callbacks, Acts, kind_of, Ends}
 use Rattle.krl_world.proofs.Names.{serves, ServerStep, start}
 use Rattle.std.specs.FinMap as map
@@ -32,7 +32,7 @@ grant = record { client = 0; incarnation = 1; body = told.Push 1 1 (push.Grant 1
 -- The server, with this index
 
 abbrev pub begun : Index → Server
-begun m = start (record { room = max_entries; reach = STANDARD_REACH; index = m; epoch = 0; register = [] })
+begun m = start (record { room = standard_room; reach = STANDARD_REACH; index = m; epoch = 0; register = [] })
 
 abbrev pub joined : Index → Server
 joined m = (effect (begun m) hello Registers).server

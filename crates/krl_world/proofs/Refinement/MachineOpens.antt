@@ -2,7 +2,7 @@
 -- registered with it and left, and the server crashed and started up to the epoch. It wrote nothing.
 use Rattle.krl_world.proofs.Names.{◌≡◌, ◌≢◌, ℕ, zero, suc, ◌≤◌, ◌∙◌, Bool, true, false, Option, Some, None, List, [], ◌∷◌, ◌⊎◌, inl, inr, refl, sym, ap, subst, arith, nat_eq, if◌then◌else◌, eq-eqb}
 use Rattle.krl_world.proofs.Names.{ne_eqb, eqb-true, AllByRecursion, IsDistinct, none-some, same_Some, END, Value, Shared, Link, Notice, LinkSteps, starts, crashes, leaves, registers, sees_off, idle}
-use Rattle.krl_world.proofs.Names.{next, steps_reachable, steps_on, link_steps, Record, Register, record_of, missing_order, HasIncarnations, incarnation_or_0, IsRecord, IsIdle}
+use Rattle.krl_world.proofs.Names.{next, steps_reachable, steps_on, link_steps, Record, Register, record_of, not_left, HasIncarnations, incarnation_or_0, IsRecord, IsIdle}
 use Rattle.std.proofs.lemmas.Map.Keys.{IsDistinct-head, IsDistinct-tail}
 use Rattle.std.specs.Map.{keys_of}
 use Rattle.krl_modes.proofs.Basics.{not_both}
@@ -122,11 +122,11 @@ opening_reached index e es once h = steps_reachable index END (world_at index 1 
 
 -- What it shows
 
-pub left_all : (es : Register) → missing_order es ≡ [] → (c : ℕ) (r : Record) → record_of es c ≡ Some r → r.left ≡ true
+pub left_all : (es : Register) → not_left es ≡ [] → (c : ℕ) (r : Record) → record_of es c ≡ Some r → r.left ≡ true
 left_all [] h c r e = absurd (none-some r e)
 left_all (x ∷ xs) h c r e = by_left x.1.left refl h (nat_eq c x.0) e (λ k. left_all xs k c r)
   where
-    by_left : (b : Bool) → x.1.left ≡ b → (if b then missing_order xs else x.0 ∷ missing_order xs) ≡ [] → (a : Bool) → (if a then Some x.1 else record_of xs c) ≡ Some r → (missing_order xs ≡ [] → record_of xs c ≡ Some r → r.left ≡ true) → r.left ≡ true
+    by_left : (b : Bool) → x.1.left ≡ b → (if b then not_left xs else x.0 ∷ not_left xs) ≡ [] → (a : Bool) → (if a then Some x.1 else record_of xs c) ≡ Some r → (not_left xs ≡ [] → record_of xs c ≡ Some r → r.left ≡ true) → r.left ≡ true
     by_left true f h true e later = sym (ap (λ (y : Record). y.left) (same_Some x.1 r e)) ∙ f
     by_left true f h false e later = later h e
     by_left false f h a e later = absurd (cc)
@@ -136,7 +136,7 @@ known_by None h = record { reg = refl; left = refl; done = refl }
 known_by (Some r) h = let gone : r.left ≡ true = h r refl in
     record { reg = refl; left = sym gone; done = λ n. absurd (not_both r.left gone n); applied = λ o n e. absurd (not_both r.left gone n) }
 
-pub opening_known : (es : Register) → missing_order es ≡ [] → (c : ℕ) → IsRecord (record_of es c) (links_of es c)
+pub opening_known : (es : Register) → not_left es ≡ [] → (c : ℕ) → IsRecord (record_of es c) (links_of es c)
 opening_known es h c = known_by (record_of es c) (left_all es h c)
 
 pub opening_idle : (es : Register) (c : ℕ) → IsIdle (links_of es c)
