@@ -1,9 +1,9 @@
 -- What is printed of nodes on threads, and the exit status.
 use Rattle.std.specs.Prelude.{◌≡◌, ◌⊎◌, ℕ, List, [], codes, Result, Ok, Err}
 use Rattle.std.specs.Io.KnownBytes.{Appends}
-use Rattle.krl_nodes.specs.declared.run.NodesReport.{NodesReport}
-use Rattle.krl_nodes.specs.declared.run.NotRun.{NotRun}
-use Rattle.krl_nodes.specs.declared.run.NotRun.TheVariants as not_run
+use Rattle.krl_nodes_demo.specs.declared.run.NodesReport.{NodesReport}
+use Rattle.krl_nodes_demo.specs.declared.run.NotRun.{NotRun}
+use Rattle.krl_nodes_demo.specs.declared.run.NotRun.TheVariants as not_run
 use Rattle.krl_text.specs.Printing.{rows_line}
 use Rattle.krl_text.specs.Transfers.{Known}
 use Rattle.krl_script.specs.RandomRuns.{WroteFrontOf}

@@ -4,7 +4,7 @@
 
 ghost use Rattle.std.specs.Prelude.{◌≡◌, None, true, IfOk};
 ghost use Rattle.krl_script.specs.RandomRuns.{random_line, WroteLineOf};
-ghost use Rattle.krl_nodes.specs.Deliveries.{seeds_of};
+ghost use Rattle.krl_nodes_demo.specs.Deliveries.{seeds_of};
 ghost use Rattle.krl.specs.Statuses.{RanTo, DroveTo, CameToRest, random_status, rest_status};
 
 mod nodes;
@@ -14,7 +14,7 @@ mod status;
 use krl_command_line::{
     Form, NO_RUN, NodesOptions, RandomOptions, Request, read, say_of_run, say_of_script,
 };
-use krl_nodes::{Gate, NodesReport, NotRun, run_nodes, run_nodes_by};
+use krl_nodes_demo::{Gate, NodesReport, NotRun, run_nodes, run_nodes_by};
 use krl_picture::{write_drawing, write_picture};
 use krl_script::{Progress, Rest, bring_to_rest, busy_run, random_run, run_script};
 use krl_text::{AnyReader, AnyWriter, ScriptFault, Sink, Source, read_text};

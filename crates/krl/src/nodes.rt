@@ -4,7 +4,7 @@ ghost use Rattle.krl.specs.Nodes.{nodes_line, ToldNodes};
 
 use krl_client::Status;
 use krl_command_line::say_of_run;
-use krl_nodes::{Gate, NodesReport, NotRun};
+use krl_nodes_demo::{Gate, NodesReport, NotRun};
 use krl_text::{ScriptFault, Sink, print, write_line};
 use std::alloc::{AllocError, Global};
 use std::thread;

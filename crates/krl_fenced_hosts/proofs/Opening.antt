@@ -8,8 +8,8 @@ use Rattle.krl_server.specs.Replays.{raised}
 use Rattle.krl_server.specs.Steps.{start}
 use Rattle.krl_world.specs.States.{Up, Down, opened}
 use Rattle.krl_world.specs.Steps.{CanOpen}
-use Rattle.krl_failover_laws.specs.Worlds.{FencedWorld, set_old}
-use Rattle.krl_failover_laws.specs.Worlds as fenced
+use Rattle.krl_failover.specs.Worlds.{FencedWorld, set_old}
+use Rattle.krl_failover.specs.Worlds as fenced
 use Rattle.krl_host_laws.proofs.Clients.{beside}
 use Rattle.krl_fenced_hosts.specs.Processes.{Process, StoreWorld, set_process}
 use Rattle.krl_fenced_hosts.proofs.Scenes.{is_store, Seen, Scene, one, nothing, one_self, Ahead, AheadAt, Shown, process_cases}

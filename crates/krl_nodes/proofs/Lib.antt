@@ -11,7 +11,6 @@ pub mod Events
 pub mod Nodes
 pub mod Opens
 pub mod Scans
-pub mod RunRows
 pub mod Sent
 pub mod SentClient
 pub mod SentServer

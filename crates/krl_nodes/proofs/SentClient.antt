@@ -1,12 +1,10 @@
--- A client may go to another thread.
+-- A client may go to another thread, and so may a policy that is drawn.
 use denote.Struct.Declared.{shape}
 use denote.Builtin.{bool, u64}
 use denote.Param.Send.{IsSend, struct_send, recorded_send, view_send, sendable}
 use Rattle.krl_client.proofs.Crosses.{global_sent, client_sent}
 use Rattle.krl_world.specs.contracts.node.ClientPlace as seat
 use Rattle.krl_nodes.specs.contracts.client.ClientNode as node
-use Rattle.krl_nodes.specs.contracts.run.Writer as writer
-use Rattle.krl_nodes.specs.contracts.delivery.Delivery as delivery
 use Rattle.krl_nodes.specs.contracts.drawn.Drawn as drawn
 use Rattle.krl_draws.specs.contracts.generator.Generator as draws
 use Rattle.krl_nodes.proofs.Sent.{seat_sent}
@@ -34,12 +32,5 @@ draws_sent = view_send _ _ _ _ _ draws_inside
 drawn_inside : IsSend drawn.TheInside.the_row
 drawn_inside = let a = draws_sent in search sendable depth 24 fits 4000
 
-drawn_sent : IsSend (drawn.the_field).row
+pub drawn_sent : IsSend (drawn.the_field).row
 drawn_sent = view_send _ _ _ _ _ drawn_inside
-
-pub delivery_sent : IsSend (delivery.the_field).row
-delivery_sent = let a = drawn_sent in search sendable depth 24 fits 4000
-
-pub writer_sent : IsSend writer.the_row
-writer_sent = recorded_send _ _ (writer.the_type).to (writer.the_type).to_one
-    (struct_send (shape writer.the_type) (node_sent, (delivery_sent, (bool_sent, tt))))

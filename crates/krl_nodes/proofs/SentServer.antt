@@ -6,9 +6,8 @@ use Rattle.krl_server.proofs.Crosses.{server_sent}
 use Rattle.krl_client.proofs.Crosses.{global_sent}
 use Rattle.krl_world.specs.contracts.node.ServerPlace as desk
 use Rattle.krl_nodes.specs.contracts.server.ServerNode as node
-use Rattle.krl_nodes.specs.contracts.run.Serving as serving
 use Rattle.krl_nodes.proofs.Sent.{seat_sent}
-use Rattle.krl_nodes.proofs.SentClient.{bool_sent, delivery_sent}
+use Rattle.krl_nodes.proofs.SentClient.{bool_sent}
 
 desk_sent : IsSend (desk.the_field).row
 desk_sent = let a = server_sent in let b = durable_sent in search sendable depth 24 fits 4000
@@ -19,7 +18,3 @@ node_inside = recorded_send _ _ (node.TheInside.the_type).to (node.TheInside.the
 
 pub node_sent : IsSend (node.the_field).row
 node_sent = view_send _ _ _ _ _ node_inside
-
-pub serving_sent : IsSend serving.the_row
-serving_sent = recorded_send _ _ (serving.the_type).to (serving.the_type).to_one
-    (struct_send (shape serving.the_type) (node_sent, (delivery_sent, tt)))

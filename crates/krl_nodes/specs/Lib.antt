@@ -7,5 +7,3 @@ pub mod Turns
 pub mod Picks
 pub mod Sorting
 pub mod Nodes
-pub mod Deliveries
-pub mod RunRows

@@ -7,9 +7,7 @@
 #![tactic(auto)]
 
 mod client;
-mod delivery;
 mod drawn;
-mod gate;
 mod inbox;
 mod office;
 mod orders;
@@ -17,21 +15,17 @@ mod policy;
 mod post;
 mod refused;
 pub mod rule;
-mod run;
 mod seating;
 mod server;
 mod sorting;
 mod turns;
 pub mod view;
-pub mod work;
 
 pub use client::ClientNode;
 pub use drawn::Drawn;
-pub use gate::Gate;
 pub use office::Office;
 pub use orders::{ClientOrder, ServerOrder, Turn};
 pub use policy::{Pick, Policy};
 pub use post::{Chair, Post, Reader};
 pub use refused::{NotClosed, NotRetired, NotSeated};
-pub use run::{NodesReport, NotRun, PolicySeeds, run_nodes, run_nodes_by};
 pub use server::ServerNode;

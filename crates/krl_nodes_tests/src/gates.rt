@@ -3,7 +3,7 @@ ghost use Rattle.krl_modes.specs.declared.point.TheConstants.{END};
 
 use crate::acts::are_numbers;
 use krl_client::{Status, WriteStatus};
-use krl_nodes::{Gate, NodesReport, NotRun, run_nodes, run_nodes_by};
+use krl_nodes_demo::{Gate, NodesReport, NotRun, run_nodes, run_nodes_by};
 use std::sync::Wait;
 use std::sync::atomic::{AtomicBool, AtomicU64, Ordering};
 use std::thread;

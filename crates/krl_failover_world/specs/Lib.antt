@@ -1,3 +1,0 @@
-pub mod OldShows
-pub mod Follows
-pub mod OldServers

@@ -1,0 +1,93 @@
+-- A client that is held stays as it is.
+use Rattle.std.proofs.Common.{◌≡◌, ◌≢◌, ℕ, suc, ◌∙◌, false, List, [], ◌∷◌, Some, None, Option, sym, ap, arith}
+use Rattle.std.specs.Prelude.{nat_eq, if◌then◌else◌}
+use Rattle.std.proofs.Math.Logic.{⊎_elim}
+use Rattle.std.proofs.lemmas.Bool.Decides.{nat_tests}
+use Rattle.krl_messages.specs.declared.to_server.ToServer.{ToServer}
+use Rattle.krl_messages.specs.declared.to_client.ToClient.{ToClient}
+use Rattle.krl_client.specs.Clients.{Client, begun}
+use Rattle.krl_client.specs.Commands.{locked, wrote, says_lock, says_write, says_release, says_bye}
+use Rattle.krl_client.specs.Messages as receiver
+use Rattle.krl_client.specs.Ticks.{tick, says_hello}
+use Rattle.krl_world.specs.declared.message.Message.{Message}
+use Rattle.krl_world.specs.declared.message.Message.TheVariants as message
+use Rattle.krl_steps.specs.declared.step.Step.{Step}
+use Rattle.krl_steps.specs.declared.step.Step.TheVariants as step
+use Rattle.krl_steps.specs.declared.step.Command.{Command}
+use Rattle.krl_steps.specs.declared.step.Command.TheVariants as command
+use Rattle.krl_steps.specs.declared.answer.Answer.{Answer}
+use Rattle.krl_world.specs.States.{State, ClientPlace, ServerPlace, Up, Down, client_of, seated}
+use Rattle.krl_world.specs.Steps.{Takes, Delivers, ServerReads, ClientReads, Obeys, message_at, span, nudged, started, crashed}
+use Rattle.krl_shards.specs.declared.part.Part.{Part}
+use Rattle.krl_world_laws.specs.Shards.Scans.{Rows, Moment, IsStill, AnswerMeanwhile}
+use Rattle.krl_world_laws.specs.Shards.Held.{IsNotTo, IsOthersCommand, IsElsewhere, RunsHeld, IsMeanwhile, AnswerHeld, ScanWhileHeld}
+use Rattle.krl_world_laws.proofs.Shards.Scanned.{scan_meanwhile}
+
+not_same : (c d : ℕ) → d ≢ c → nat_eq c d ≡ false
+not_same c d h = grind (arith, nat_tests)
+
+same_world : (v w : State) (c : ℕ) → w ≡ v → IsStill v w c
+same_world v w c e = ap (λ x. client_of x c) (sym e)
+
+-- another client's place changes
+other_place : (v w : State) (c d : ℕ) (x : ClientPlace) (ms : List ToServer) → d ≢ c → w ≡ seated v d x ms → IsStill v w c
+other_place v w c d x ms ne e =
+    sym (ap (λ y. client_of y c) e ∙ ap (λ t. (if t then x else v.places c).client) (not_same c d ne))
+
+pub server_reads : (v w : State) (c : ℕ) (n : ServerPlace) (m : ToServer) → ServerReads v n m w → IsStill v w c
+server_reads v w c (Up s) m h = sym (ap (λ y. client_of y c) h.3)
+server_reads v w c (Down d) m h = same_world v w c h
+
+client_reads : (v w : State) (c : ℕ) (k : Option Client) (m : ToClient) → m.client ≢ c → ClientReads v k m w → IsStill v w c
+client_reads v w c (Some k) m ne h = other_place v w c m.client _ (receiver.sends h.0 k (receiver.case_of k m)) ne h.2
+client_reads v w c None m ne h = same_world v w c h
+
+delivers : (v w : State) (c : ℕ) (m : Option Message) → IsNotTo c m → Delivers v m w → IsStill v w c
+delivers v w c (Some (message.ToServer m)) ne h = server_reads v w c v.server m h
+delivers v w c (Some (message.ToClient m)) ne h = client_reads v w c (client_of v m.client) m ne h
+delivers v w c None ne h = absurd h
+
+obeys : (v w : State) (c d : ℕ) (k : Client) (what : Command) (answer : Answer) → IsOthersCommand c d what → Obeys v d k what answer w → IsStill v w c
+obeys v w c d k (command.Lock point hi m) answer ne h = other_place v w c d _ (says_lock (locked k point hi m) point hi m ∷ []) ne h.1
+obeys v w c d k (command.Write op) answer ne h = other_place v w c d _ (says_write (wrote k op) op ∷ []) ne h.1
+obeys v w c d k (command.Scan lo hi) answer ne h = same_world v w c h.1
+obeys v w c d k (command.Lower lo hi keep) answer ne h = other_place v w c d _ (says_release k (span lo hi) keep ∷ []) ne h.1
+obeys v w c d k (command.Pin lo hi) answer ne h = other_place v w c d _ [] ne h.3
+obeys v w c d k (command.Unpin id) answer ne h = other_place v w c d _ [] ne h.1
+obeys v w c d k command.Leave answer ne h = other_place v w c d _ (says_bye k ∷ []) ne h.1
+
+pub nudges : (v w : State) (c d : ℕ) (n : ServerPlace) → w ≡ nudged v n d → IsStill v w c
+nudges v w c d (Up s) e = sym (ap (λ y. client_of y c) e)
+nudges v w c d (Down x) e = same_world v w c e
+
+pub starts : (v w : State) (c : ℕ) (n : ServerPlace) → w ≡ started v n → IsStill v w c
+starts v w c (Up s) e = same_world v w c e
+starts v w c (Down x) e = sym (ap (λ y. client_of y c) e)
+
+pub crashes : (v w : State) (c : ℕ) (n : ServerPlace) → w ≡ crashed v n → IsStill v w c
+crashes v w c (Up s) e = sym (ap (λ y. client_of y c) e)
+crashes v w c (Down x) e = same_world v w c e
+
+one_step : (v w : State) (c : ℕ) (s : Step) (answer : Answer) → Takes v s answer w → IsElsewhere v c s → IsStill v w c
+one_step v w c (step.Deliver i) answer t ne = delivers v w c (message_at v.sent i) ne t.1.1
+one_step v w c (step.Command d what) answer t ne = obeys v w c d t.1.0 what answer ne t.1.2
+one_step v w c (step.Tick d) answer t ne = other_place v w c d _ (tick t.1.1.2.0 t.1.1.0) ne t.1.1.2.2
+one_step v w c (step.Nudge d) answer t ne = nudges v w c d v.server t.1.1
+one_step v w c (step.StartClient d) answer t ne = other_place v w c d _ (says_hello (begun d (suc (v.places d).last_incarnation)) ∷ []) ne t.1.1
+one_step v w c (step.CrashClient d) answer t ne = other_place v w c d _ [] ne t.1.1
+one_step v w c step.StartServer answer t ne = starts v w c v.server t.1.1
+one_step v w c step.CrashServer answer t ne = crashes v w c v.server t.1.1
+
+held : (v w : State) (c : ℕ) (steps : List Step) → RunsHeld v c steps w → IsStill v w c
+held v w c [] e = same_world v w c e
+held v w c (s ∷ steps) r = one_step v r.1 c s r.0 r.2 r.3 ∙ held r.1 w c steps r.4
+
+meanwhile : (v w : State) (c : ℕ) → IsMeanwhile v w c → IsStill v w c
+meanwhile v w c h = ⊎_elim (λ (r : RunsHeld v c h.0 w). held v w c h.0 r) (λ (r : RunsHeld w c h.0 v). sym (held w v c h.0 r)) h.1
+
+answer_held : (w : Moment) (c : ℕ → ℕ) (ps : List Part) (rows : Rows) → AnswerHeld w c ps rows → AnswerMeanwhile w c ps rows
+answer_held w c [] rows e = e
+answer_held w c (p ∷ ps) rows a = (a.0, a.1, a.2, meanwhile a.0 (w p.shard) (c p.shard) a.3, a.4, answer_held w c ps a.2 a.5, a.6)
+
+pub scan_while_held : ScanWhileHeld
+scan_while_held bounds w c m lo hi parts rows reach together f answer = scan_meanwhile bounds w c m lo hi parts rows reach together f (answer_held w c parts rows answer)

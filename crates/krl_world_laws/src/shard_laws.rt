@@ -1,0 +1,48 @@
+//! Laws of scans over several servers.
+ghost use Rattle.krl_world_laws.specs.Shards.Scans.{ScanOfAll, ScanMeanwhile, TogetherIsUnion};
+ghost use Rattle.krl_world_laws.specs.Shards.Scans.{SomeTogether};
+ghost use Rattle.krl_world_laws.specs.Shards.Held.{ScanWhileHeld};
+ghost use Rattle.krl_world_laws.specs.Shards.Pushes.{ScanWithoutPushes};
+ghost use Rattle.krl_world_laws.specs.Shards.Somewhere.{ScansBothSomewhere};
+
+/// A scan over shards that is answered from caches only is that range of all the shards' indexes
+/// together, at the moment when it is made: for any worlds of these shards, in each of which its
+/// client answers the part of the scan that the shard has.
+pub fn scan_of_all()
+    ensures { ScanOfAll }
+{}
+
+/// So it is if the parts were read one after another, as long as none of these clients changed:
+/// the rows are that range of all indexes together at each moment meanwhile.
+pub fn scan_meanwhile()
+    ensures { ScanMeanwhile }
+{}
+
+/// So it is while these clients are held: while each takes no message and no command but scans,
+/// and doesn't tick, start or crash, whatever the servers and all other clients do.
+pub fn scan_while_held()
+    ensures { ScanWhileHeld }
+{}
+
+/// Only a push that a client accepts matters: if the parts are read one after another, and no
+/// part's client accepts one between the first part's scan and its own, the rows are that range of
+/// all indexes together at the moment of the first scan. Meanwhile the clients may obey callbacks
+/// and commands, tick, crash and start.
+pub fn scan_without_pushes()
+    ensures { ScanWithoutPushes }
+{}
+
+/// The indexes together are their union if each has keys of its own shard only.
+pub fn together_is_union()
+    ensures { TogetherIsUnion }
+{}
+
+/// There is an index of all shards together.
+pub fn some_together()
+    ensures { SomeTogether }
+{}
+
+/// Some worlds of two shards answer a scan of both from caches only, and it gives an entry.
+pub fn scans_both_somewhere()
+    ensures { ScansBothSomewhere }
+{}
