@@ -74,7 +74,8 @@ impl<O: Origin> Cache<O> {
         // lease has ended and another one has begun.
         let (_, pin) = writing.pin_for_update(MARK..MARK + 1)?;
         // From here on nobody answers anything.
-        pin.delete(MARK)?;
+        let unmarked = pin.delete(MARK)?;
+        debug_assert!(matches!(unmarked, Outcome::Applied | Outcome::Absent), "{unmarked}");
         self.step(Step::Unmarked);
         let mut filling = self.origin.begin_filling()?;
         let stored = filling.versions()?;

@@ -67,7 +67,7 @@ impl<O: Origin> Cache<O> {
     pub(crate) fn is_filled(&self, filling: u64) -> bool {
         let mut marked = None;
         let find = |row: &krl::Row| marked = filling_of(row, &self.identity);
-        self.reader.for_each_cached(MARK..=MARK, find) && marked == Some(filling)
+        self.reader.for_each_cached(MARK..=MARK, find) == Ok(true) && marked == Some(filling)
     }
 
     /// Reads the mark from krl.

@@ -80,7 +80,7 @@ impl<O: Origin> Cache<O> {
         let look = changes.look(&stored, pinned.holds());
         if look == Look::RolledBack {
             for key in keys {
-                let known = self.writer.cached(key..=key).ok_or(Error::PinIsVoid)?;
+                let known = self.writer.cached(key..=key)?.ok_or(Error::PinIsVoid)?;
                 let stored = stored.get(&key).copied();
                 self.settle(pinned.pin_of(key)?, key, Known::of(known.first()), stored)?;
             }

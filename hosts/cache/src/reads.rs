@@ -139,7 +139,7 @@ impl<O: Origin> Cache<O> {
         let keys = keys_of(&keys)?;
         let by = self.moment();
         ROOM.with_borrow_mut(|room| {
-            if !self.reader.cached_into(keys, room) || !self.is_filled(by.filling) {
+            if !self.reader.cached_into(keys, room)? || !self.is_filled(by.filling) {
                 return Ok(None);
             }
             let rows: Option<Vec<_>> = room.iter().map(|row| self.find(row, by)).collect();
@@ -161,7 +161,7 @@ impl<O: Origin> Cache<O> {
         ROOM.with_borrow_mut(|room| {
             let by = self.moment();
             let mut ahead = Ahead { bodies: Vec::new(), filling: by.filling };
-            if !self.reader.cached_into(keys.clone(), room) {
+            if !self.reader.cached_into(keys.clone(), room)? {
                 self.counters.asked.add(1);
                 *room = self.ask(keys, loaded, by, &mut ahead)?;
             }
@@ -207,7 +207,7 @@ impl<O: Origin> Cache<O> {
         if keys.end - keys.start > FEW {
             return Vec::new();
         }
-        let is_known = |key: u64| self.reader.for_each_cached(key..=key, |_| ());
+        let is_known = |key: u64| self.reader.for_each_cached(key..=key, |_| ()) == Ok(true);
         keys.clone().filter(|key| !is_known(*key)).collect()
     }
 
@@ -256,7 +256,7 @@ impl<O: Origin> Cache<O> {
             return Ok(());
         }
         for (key, version) in self.load(&missing, loaded)? {
-            let known = self.reader.cached(key..=key);
+            let known = self.reader.cached(key..=key)?;
             let known = known.as_deref().and_then(|rows| rows.first()).and_then(Version::of);
             if known == Some(version) {
                 self.repair(key)?;

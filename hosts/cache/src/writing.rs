@@ -45,7 +45,7 @@ impl Drop for Writing<'_> {
 
 impl Writing<'_> {
     fn knows(&self, keys: Range<u64>) -> bool {
-        self.writer.for_each_cached(keys, |_| ())
+        self.writer.for_each_cached(keys, |_| ()) == Ok(true)
     }
 }
 

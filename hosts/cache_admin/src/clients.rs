@@ -10,8 +10,8 @@ impl Clients {
     pub fn join(&self, servers: Servers) -> Result<(Client, Client), Failure> {
         let (servers, folder) = (self.with_tls(servers)?, lock_folder()?);
         let join = |number: u8| {
-            let builder = Client::builder(servers.clone()).number(number);
-            builder.lock_folder(&folder).join().map_err(|error| not_done(&error))
+            let builder = Client::builder_with_numbers(servers.clone(), [number], &folder);
+            builder.join().map_err(|error| not_done(&error))
         };
         Ok((join(self.number)?, join(self.number + 1)?))
     }

@@ -2,7 +2,7 @@
 //!
 //! The two take turns, as two clients of one server in this process. Each turn gives the middle one
 //! of many batches, and a figure is that of the best turn.
-use krl::{Client, Listener, MemoryStore, Server, Value};
+use krl::{Client, Listener, MemoryStore, Outcome, Server, Value};
 use std::hint::black_box;
 use std::path::{Path, PathBuf};
 use std::process::Command;
@@ -26,7 +26,7 @@ fn main() {
     let server = Server::start(listener, MemoryStore::default()).unwrap();
     let client = Client::join(server.address(), 0, folder.join("rust.lock")).unwrap();
     for key in 0..100 {
-        client.insert(key, Value::from(key)).unwrap();
+        assert_eq!(client.insert(key, Value::from(key)), Ok(Outcome::Applied));
     }
     // Only what was written is held.
     client.forget(..).unwrap();
@@ -60,9 +60,9 @@ fn keep_least(least: &mut Times, times: Times) {
 fn in_rust(client: &Client, rows: u64, reads: u32) -> Times {
     client.read(0..rows).unwrap();
     let mut room = Vec::new();
-    let again = || assert!(client.cached_into(0..rows, &mut room) && room[0].key == 0);
+    let again = || assert!(client.cached_into(0..rows, &mut room).unwrap() && room[0].key == 0);
     let again = middle(reads, again);
-    [again, middle(reads, || assert!(black_box(client.cached(0..rows)).is_some()))]
+    [again, middle(reads, || assert!(matches!(black_box(client.cached(0..rows)), Ok(Some(_)))))]
 }
 
 /// The time of a call, from the middle one of the batches.

@@ -72,7 +72,7 @@ class error : public std::runtime_error {
     krlc_code code() const noexcept { return code_; }
     /* The shard that refused the call, from 0, or -1. */
     int shard() const noexcept { return shard_; }
-    /* With KRLC_UNSERVED, why the server does not serve the client. */
+    /* With KRLC_UNSERVED and KRLC_NOT_MADE, why the server does not serve the client, if it gave a reason. */
     krlc_reason reason() const noexcept { return reason_; }
     /* Whether a write that failed so may have been applied, or may still be: a read of the key shows it. */
     bool is_unknown_outcome() const noexcept { return krlc_is_unknown_outcome(code_); }

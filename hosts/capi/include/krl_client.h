@@ -140,7 +140,7 @@ typedef enum krlc_code {
 
     /* Errors after which a write may have been applied, or may still be: see `krlc_is_unknown_outcome`. */
 
-    /* No answer came within the timeout. */
+    /* No answer came within the timeout. A write was sent: see KRLC_NOT_MADE. */
     KRLC_TIMED_OUT = 40,
     /* No answer came within the timeout, and the server reported why it does not serve the client. */
     KRLC_UNSERVED = 41,
@@ -169,7 +169,8 @@ typedef enum krlc_code {
     KRLC_NO_THREAD = 64,
     /* Of krl_host.h: the connection has to end. No call of this header returns it. */
     KRLC_DISCONNECT = 65,
-    /* Of one of several writes: it was not made. No call returns it. */
+    /* The write was not sent within the timeout: the client was not connected, or waited for a lock. The error has the
+     * server's reason if it gave one. Also of one of several writes: it was not made. */
     KRLC_NOT_MADE = 66
 } krlc_code;
 
@@ -358,8 +359,8 @@ KRLC_NODISCARD uint32_t krlc_status_at(krlc_client *client, size_t place, krlc_s
  * empty range has no rows. */
 
 /* Reads from the cache only: KRLC_OK, or KRLC_MISS if the cache does not have the whole range. It sends nothing, takes
- * no lock, and does not wait for other reads. Errors: KRLC_MISUSE, KRLC_BAD_RANGE, KRLC_FORKED; the sentence is left
- * out. */
+ * no lock, and does not wait for other reads. Errors: KRLC_MISUSE, KRLC_FORKED, and KRLC_BAD_RANGE as of `krlc_read`,
+ * with a map also for keys of a shard that the client has not joined; the sentence is left out. */
 KRLC_NODISCARD uint32_t krlc_cached(krlc_client *client, uint64_t lo, uint64_t hi, krlc_rows *rows);
 
 /* The same into the caller's room for `room` rows. `count` receives the number of the rows: also with KRLC_TOO_SHORT,

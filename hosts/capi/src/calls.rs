@@ -21,7 +21,7 @@ use crate::options::{NUMBERS, Options, options_at};
 use crate::status::Status;
 use crate::table::{Table, Write};
 use crate::writes::{GivenWrite, write_all, writes};
-use krl::{Row, Waited};
+use krl::{Error, Row, Waited};
 use std::ffi::{c_char, c_void};
 use std::ptr;
 use std::time::Duration;
@@ -204,7 +204,7 @@ pub unsafe extern "C" fn krlc_cached(
     let read = || {
         // SAFETY: the caller frees both after this call, and uses the rows in no other one.
         let (table, rows) = unsafe { (table(client)?, emptied(rows)?) };
-        let is_cached = table.cached_into(range(lo, hi)?, rows);
+        let is_cached = table.cached_into(range(lo, hi)?, rows)?;
         if !is_cached {
             rows.clear();
         }
@@ -237,7 +237,7 @@ pub unsafe extern "C" fn krlc_cached_into(
             }
             found += 1;
         };
-        if !table.for_each_cached(range(lo, hi)?, copy) {
+        if !table.for_each_cached(range(lo, hi)?, copy)? {
             return Ok(Code::Miss);
         }
         // SAFETY: the caller vouches for the room.
@@ -254,7 +254,9 @@ pub unsafe extern "C" fn krlc_cached_row(client: *mut Client, key: u64, row: *mu
         // SAFETY: the caller frees the client after this call.
         let table = unsafe { table(client) }?;
         let mut found = None;
-        if !table.for_each_cached(input::key(key)?, |row| found = Some(*row)) {
+        // A range of one key is none only if its shard is not joined.
+        let is_cached = table.for_each_cached(input::key(key)?, |row| found = Some(*row));
+        if !is_cached.map_err(|_| Error::BadKey)? {
             return Ok(Code::Miss);
         }
         let Some(found) = found else { return Ok(Code::Absent) };
@@ -279,7 +281,7 @@ pub unsafe extern "C" fn krlc_read(
         // SAFETY: the caller frees both after this call, and uses the rows in no other one.
         let (table, rows) = unsafe { (table(client)?, emptied(rows)?) };
         let keys = range(lo, hi)?;
-        if !table.cached_into(keys.clone(), rows) {
+        if !table.cached_into(keys.clone(), rows)? {
             rows.clear();
             *rows = table.read(keys, table.timeout_of(timeout_ms))?;
         }

@@ -112,6 +112,7 @@ impl From<&Error> for Code {
         match refused {
             Error::TimedOut => Code::TimedOut,
             Error::Unserved(_) => Code::Unserved,
+            Error::NotSent(_) => Code::NotMade,
             Error::TurnedAway => Code::TurnedAway,
             Error::OtherShard(_) => Code::OtherShard,
             Error::StoreWentBack => Code::StoreWentBack,
@@ -156,6 +157,7 @@ mod tests {
         let errors = [
             Error::TimedOut,
             Error::Unserved(krl::Refusal::Denied),
+            Error::NotSent(None),
             Error::TurnedAway,
             Error::StoreWentBack,
             Error::LeaseEnded,

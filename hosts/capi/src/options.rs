@@ -221,11 +221,11 @@ impl Wish<'_> {
     pub fn join(self) -> Result<Joined, Fault> {
         let table = match self.place {
             Place::One(servers) => {
-                let builder = Client::builder(self.tls.show_to(servers));
+                let servers = self.tls.show_to(servers);
                 let mut builder = match self.number {
-                    Number::One(number) => builder.number(number).lock_file(self.lock_file),
+                    Number::One(number) => Client::builder(servers, number, self.lock_file),
                     Number::FirstOf(numbers) => {
-                        builder.numbers(numbers).lock_folder(self.lock_file)
+                        Client::builder_with_numbers(servers, numbers, self.lock_file)
                     }
                 };
                 if let Some(timeout) = self.timeout {
@@ -237,12 +237,14 @@ impl Wish<'_> {
                 Table::One(builder.join()?)
             }
             Place::Sharded(map) => {
-                let builder = ShardedClient::builder(with_tls(&map, &self.tls)?).keys(self.keys);
-                let builder = builder.lock_folder(self.lock_file);
-                let mut builder = match self.number {
-                    Number::One(number) => builder.number(number),
-                    Number::FirstOf(numbers) => builder.numbers(numbers),
+                let (map, folder) = (with_tls(&map, &self.tls)?, self.lock_file);
+                let builder = match self.number {
+                    Number::One(number) => ShardedClient::builder(map, number, folder),
+                    Number::FirstOf(numbers) => {
+                        ShardedClient::builder_with_numbers(map, numbers, folder)
+                    }
                 };
+                let mut builder = builder.keys(self.keys);
                 if let Some(timeout) = self.timeout {
                     builder = builder.timeout(timeout);
                 }

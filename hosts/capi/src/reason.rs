@@ -22,7 +22,7 @@ impl Reason {
     /// That of a call that was refused.
     pub fn of_call(refused: &Error) -> Reason {
         match refused {
-            Error::Unserved(refusal) => (*refusal).into(),
+            Error::Unserved(refusal) | Error::NotSent(Some(refusal)) => (*refusal).into(),
             _ => Reason::None,
         }
     }

@@ -78,16 +78,16 @@ impl Table {
         }
     }
 
-    pub fn cached_into(&self, keys: Range<u64>, rows: &mut Vec<Row>) -> bool {
+    pub fn cached_into(&self, keys: Range<u64>, rows: &mut Vec<Row>) -> Answer<bool> {
         match self {
-            Table::One(client) => client.cached_into(keys, rows),
+            Table::One(client) => Ok(client.cached_into(keys, rows)?),
             Table::Sharded(client) => client.cached_into(keys, rows),
         }
     }
 
-    pub fn for_each_cached(&self, keys: Range<u64>, visit: impl FnMut(&Row)) -> bool {
+    pub fn for_each_cached(&self, keys: Range<u64>, visit: impl FnMut(&Row)) -> Answer<bool> {
         match self {
-            Table::One(client) => client.for_each_cached(keys, visit),
+            Table::One(client) => Ok(client.for_each_cached(keys, visit)?),
             Table::Sharded(client) => client.for_each_cached(keys, visit),
         }
     }

@@ -10,7 +10,7 @@ const THIS: &str = include_str!("clients_page.rs");
 #[rustfmt::skip]
 fn lines() -> Result<(), Box<dyn Error>> {
     let servers: Servers = "127.0.0.1:7400".parse()?;
-    let client = Client::builder(servers).number(3).lock_file("client-3.lock").join()?;
+    let client = Client::join(servers, 3, "client-3.lock")?;
     if client.insert(15, Value::try_from("hello")?)? == Outcome::Exists {
         println!("there is a row already");
     }

@@ -1,7 +1,8 @@
 //! Programs in C and C++ over the shared library, against servers in this process: plain, and with
 //! the sanitizers of the compiler.
 use krl::{
-    Access, Client, Leases, Listener, MemoryStore, Server, Servers, Shard, ShardMap, TlsConfig,
+    Access, Client, Leases, Listener, MemoryStore, Outcome, Server, Servers, Shard, ShardMap,
+    TlsConfig,
 };
 use std::fs;
 use std::io::{BufRead, BufReader};
@@ -357,7 +358,7 @@ fn the_example_of_a_host() {
     assert_eq!(printed.next().unwrap().unwrap(), "15=hello");
     let servers: Servers = world.place.parse().unwrap();
     let other = Client::join(servers, 4, world.folder.join("other.lock")).unwrap();
-    other.put(15, "world".try_into().unwrap()).unwrap();
+    assert_eq!(other.put(15, "world".try_into().unwrap()), Ok(Outcome::Applied));
     assert_eq!(printed.next().unwrap().unwrap(), "changed");
     assert!(program.wait().unwrap().success());
 }

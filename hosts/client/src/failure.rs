@@ -89,7 +89,15 @@ impl From<Error> for Failure {
                  this command needs (its status page says who waits for whom)"
                     .into(),
             ),
+            Error::NotSent(None) => Failure::NoAnswer(
+                "the write was not made: it was not sent in time, since the server is away, or \
+                 another client holds what it needs (its status page says who waits for whom)"
+                    .into(),
+            ),
             Error::Unserved(why) => Failure::NoAnswer(why.to_string()),
+            Error::NotSent(Some(why)) => {
+                Failure::NoAnswer(format!("the write was not made: {why}"))
+            }
             Error::StoreWentBack | Error::LeaseEnded | Error::Stopped => {
                 Failure::NoAnswer(refused.to_string())
             }
@@ -234,6 +242,8 @@ mod tests {
         for (refused, status) in [
             (Error::TimedOut, 3),
             (Error::Unserved(full), 3),
+            (Error::NotSent(None), 3),
+            (Error::NotSent(Some(full)), 3),
             (Error::StoreWentBack, 3),
             (Error::LeaseEnded, 3),
             (Error::Stopped, 3),
@@ -249,7 +259,7 @@ mod tests {
             let written = Failure::of_write(refused.into(), 15);
             assert_eq!(written.status(), status, "{refused:?}");
             let is_told = written.to_string().ends_with("may have been applied: read the key 15");
-            assert_eq!(is_told, status == 3, "{written}");
+            assert_eq!(is_told, refused.is_unknown_outcome(), "{written}");
         }
     }
 }

@@ -157,14 +157,13 @@ fn join_table(
     let (begun, timeout) = (Instant::now(), options.timeout);
     let table = match place {
         Place::One(servers) => {
-            let builder = Client::builder(servers).number(number).timeout(timeout);
-            let builder = builder.wait_if_in_use(if_in_use);
-            builder.lock_file(files.of_number(number)).join()?.into()
+            let builder = Client::builder(servers, number, files.of_number(number));
+            builder.timeout(timeout).wait_if_in_use(if_in_use).join()?.into()
         }
         Place::Sharded(map, keys) => {
-            let builder = ShardedClient::builder(map.clone()).number(number).timeout(timeout);
-            let builder = builder.wait_if_in_use(if_in_use).keys(keys.clone());
-            builder.lock_folder(files.folder()).join()?.into()
+            let builder = ShardedClient::builder(map.clone(), number, files.folder());
+            let builder = builder.timeout(timeout).wait_if_in_use(if_in_use);
+            builder.keys(keys.clone()).join()?.into()
         }
     };
     Ok(Session { table, place: place.clone(), number, joined_in: begun.elapsed() })

@@ -82,9 +82,9 @@ impl Table {
     }
 
     /// The rows of the range, if the cache knows all of it.
-    pub fn cached_into(&self, keys: Range<u64>, rows: &mut Vec<Row>) -> bool {
+    pub fn cached_into(&self, keys: Range<u64>, rows: &mut Vec<Row>) -> Answer<bool> {
         match self {
-            Table::One(client) => client.cached_into(keys, rows),
+            Table::One(client) => Ok(client.cached_into(keys, rows)?),
             Table::Sharded(client) => client.cached_into(keys, rows),
         }
     }

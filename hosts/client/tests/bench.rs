@@ -1,7 +1,7 @@
 //! A benchmark measures, leaves no rows, and touches nobody's rows.
 mod support;
 
-use krl::{Address, Value};
+use krl::{Address, Outcome, Value};
 use krl_testing::relay::{Plan, Relay};
 use nix::sys::signal::Signal;
 use std::time::{Duration, Instant};
@@ -53,7 +53,7 @@ fn a_benchmark_prints_a_table() {
 #[test]
 fn rows_that_are_there_are_left_alone() {
     let world = World::new("there");
-    world.client(1).insert(20, Value::from(1)).unwrap();
+    assert_eq!(world.client(1).insert(20, Value::from(1)), Ok(Outcome::Applied));
     let ended = world.run(&WORDS);
     assert_eq!((ended.status, ended.out.as_str()), (1, ""), "{ended:?}");
     assert!(ended.errors.contains("keys from 0 to 49"), "{ended:?}");

@@ -160,7 +160,7 @@ fn a_server_that_does_not_answer_is_status_3() {
         "{told:?}"
     );
     let client = world.client(1);
-    client.insert(15, Value::from(1)).unwrap();
+    assert_eq!(client.insert(15, Value::from(1)), Ok(Outcome::Applied));
     let (_, pin) = client.pin_for_read(10..20).unwrap();
     let told = world.run(&["--timeout", "300ms", "put", "15", "a"]);
     assert_eq!((told.status, told.out.as_str()), (3, ""), "{told:?}");

@@ -46,7 +46,7 @@ fn readers_read_and_writers_wait_while_a_command_runs() {
     for update in [&[][..], &["--update"]] {
         let world = World::new(if update.is_empty() { "shared" } else { "update" });
         let (reader, writer) = (world.client(1), world.client(2));
-        writer.insert(15, Value::from(1)).unwrap();
+        assert_eq!(writer.insert(15, Value::from(1)), Ok(Outcome::Applied));
         let [started, ends] = ["started", "ends"].map(|name| world.folder.join(name));
         let script = format!(
             "touch {}; while [ ! -e {} ]; do sleep 0.05; done",
@@ -73,7 +73,7 @@ fn a_held_range_takes_no_new_rows_and_its_neighbours_do() {
     let world = World::new("gaps");
     let writer = world.client(2);
     for key in [5, 25] {
-        writer.insert(key, Value::from(1)).unwrap();
+        assert_eq!(writer.insert(key, Value::from(1)), Ok(Outcome::Applied));
     }
     let mut program = world.spawn(&["hold", "10", "20", "--", "sleep", "60"]);
     world.wait_until_held(63);
@@ -109,7 +109,7 @@ fn most_open(log: &Path) -> usize {
 #[test]
 fn one_at_a_time_holds_a_range_for_update() {
     let world = World::new("once");
-    world.client(1).insert(15, Value::from(1)).unwrap();
+    assert_eq!(world.client(1).insert(15, Value::from(1)), Ok(Outcome::Applied));
     assert_eq!(most_at_once(&world, &["hold", "10", "20", "--update"]), 1);
     assert_eq!(most_at_once(&world, &["hold", "16", "18", "--update"]), 1, "no row is there");
     assert!(most_at_once(&world, &["hold", "10", "20"]) > 1, "without --update it is shared");
@@ -158,7 +158,7 @@ fn signals_go_to_the_command() {
 fn a_signal_while_it_waits_for_the_range_ends_it_and_its_client_leaves() {
     let world = World::new("waits");
     let client = world.client(1);
-    client.insert(15, Value::from(1)).unwrap();
+    assert_eq!(client.insert(15, Value::from(1)), Ok(Outcome::Applied));
     let (_, pin) = client.pin_for_update(10..20).unwrap();
     let mut program = world.spawn(&["hold", "10", "20", "--update", "--", "true"]);
     wait_for("it waits", || world.server.status().waits.iter().any(|wait| wait.client == 63));

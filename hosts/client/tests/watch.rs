@@ -28,8 +28,8 @@ fn next(lines: &mut Lines<BufReader<ChildStdout>>, count: usize) -> Vec<String> 
 fn a_watch_prints_the_range_and_each_change() {
     let world = World::new("watch");
     let client = world.client(1);
-    client.insert(15, value("a")).unwrap();
-    client.insert(25, value("b")).unwrap();
+    assert_eq!(client.insert(15, value("a")), Ok(Outcome::Applied));
+    assert_eq!(client.insert(25, value("b")), Ok(Outcome::Applied));
     let (mut program, mut lines) = watch(&world, &["10", "20", "--count", "3"]);
     assert_eq!(next(&mut lines, 2), ["# change 0, rows 1", "15=a"]);
     assert_eq!(client.put(15, value("c")), Ok(Outcome::Applied));
@@ -48,7 +48,7 @@ fn each_change_that_stands_is_shown_once() {
     const CHANGES: u64 = 40;
     let world = World::new("stands");
     let client = world.client(1);
-    client.insert(15, value("start")).unwrap();
+    assert_eq!(client.insert(15, value("start")), Ok(Outcome::Applied));
     let (mut program, mut lines) = watch(&world, &["15..16", "--count", "40"]);
     assert_eq!(next(&mut lines, 2), ["# change 0, rows 1", "15=start"]);
     for turn in 1..=CHANGES {
@@ -63,7 +63,7 @@ fn each_change_that_stands_is_shown_once() {
 fn a_write_that_changes_nothing_is_no_change() {
     let world = World::new("same");
     let client = world.client(1);
-    client.insert(15, value("a")).unwrap();
+    assert_eq!(client.insert(15, value("a")), Ok(Outcome::Applied));
     let (mut program, mut lines) = watch(&world, &["10", "20", "--count", "1"]);
     assert_eq!(next(&mut lines, 2), ["# change 0, rows 1", "15=a"]);
     assert_eq!(client.put(15, value("a")), Ok(Outcome::Applied));
@@ -77,7 +77,7 @@ fn a_write_that_changes_nothing_is_no_change() {
 #[test]
 fn a_watch_that_sees_no_change_asks_the_server_nothing() {
     let world = World::new("quiet");
-    world.client(1).insert(15, value("a")).unwrap();
+    assert_eq!(world.client(1).insert(15, value("a")), Ok(Outcome::Applied));
     let (mut program, mut lines) = watch(&world, &["10", "20"]);
     assert_eq!(next(&mut lines, 2).len(), 2);
     thread::sleep(Duration::from_millis(500));
@@ -111,7 +111,7 @@ fn ctrl_c_ends_a_watch_with_status_0_and_gives_the_range_back() {
 fn a_watch_outlives_a_writer_that_holds_the_range_for_long() {
     let world = World::new("long");
     let client = world.client(1);
-    client.insert(15, value("a")).unwrap();
+    assert_eq!(client.insert(15, value("a")), Ok(Outcome::Applied));
     let (mut program, mut lines) =
         watch(&world, &["10", "20", "--count", "1", "--timeout", "300ms"]);
     assert_eq!(next(&mut lines, 2).len(), 2);

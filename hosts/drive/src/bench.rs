@@ -101,13 +101,13 @@ fn scans(at: &Address, folder: &Path) -> Done {
     println!("first scan of {SCAN} rows: {first:?}");
     let mut rows = Vec::new();
     let cached = median(20_000, |turn| {
-        let is_cached = client.cached_into(range(7 * turn), &mut rows);
+        let is_cached = client.cached_into(range(7 * turn), &mut rows)?;
         expect(is_cached && rows.len() as u64 == SCAN, "a scan is cached")
     })?;
     println!("cached scan of {SCAN} rows: {cached:?}");
     let one = median(20_000, |turn| {
         let lo = range(7 * turn).start;
-        expect(client.cached_into(lo..=lo, &mut rows) && rows.len() == 1, "a row is cached")
+        expect(client.cached_into(lo..=lo, &mut rows)? && rows.len() == 1, "a row is cached")
     })?;
     println!("cached scan of 1 row: {one:?}");
     client.leave()?;

@@ -1,6 +1,7 @@
 //! Measurements of stores, by hand: servers over SQLite, over etcd and over PostgreSQL, and etcd by
 //! itself, in turns. The cluster has three nodes on this machine, and all use its one disk.
 use crate::Found;
+use crate::applied::applied;
 use crate::cluster::Cluster;
 use crate::gateway::Gateway;
 use crate::site::Site;
@@ -155,7 +156,7 @@ fn put_as_client(at: &Address, writer: u8, folder: &Path) -> Result<u64, Box<dyn
     let client = Client::join(at.clone(), writer, folder.join(format!("{writer}.lock")))?;
     let keys: Vec<u64> = (0..10).map(|place| 1000 * u64::from(writer) + 10 * place).collect();
     for key in &keys {
-        client.insert(*key, Value::from(0))?;
+        applied(client.insert(*key, Value::from(0))?)?;
     }
     let (end, mut applied) = (Instant::now() + SLICE, 0);
     for key in keys.iter().cycle().take_while(|_| Instant::now() < end) {

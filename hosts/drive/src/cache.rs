@@ -322,7 +322,7 @@ fn open(
     let krl: krl::Address = krl.parse()?;
     let join = |number: u8| {
         let lock_file = folder.join(format!("client-{number}.lock"));
-        let builder = Client::builder(krl.clone()).number(number).lock_file(lock_file);
+        let builder = Client::builder(krl.clone(), number, lock_file);
         // A number is free when the lease of a process that died has ended.
         let client = builder.timeout(ENDING).join()?;
         client.set_timeout(timeout);

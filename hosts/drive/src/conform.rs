@@ -15,7 +15,7 @@ type Told = Result<String, krl::Error>;
 pub fn run(address: &str, number: &str, lock_file: &str, seconds: &str) -> Found {
     let address: Address = address.parse()?;
     let timeout = Duration::from_secs_f64(seconds.parse()?);
-    let builder = Client::builder(address).number(number.parse()?).lock_file(lock_file);
+    let builder = Client::builder(address, number.parse()?, lock_file);
     let client = builder.timeout(timeout).join()?;
     print("{\"epoch\": null}");
     if answer_lines(&client)? {
@@ -56,7 +56,7 @@ fn words_of(line: &str) -> impl Iterator<Item = &str> {
 fn answer(client: &Client, words: &[&str]) -> Result<Told, Box<dyn Error>> {
     Ok(match *words {
         ["read", start, stop] => client.read(keys(start, stop)?).map(|rows| told(Some(rows))),
-        ["cached", start, stop] => Ok(told(client.cached(keys(start, stop)?))),
+        ["cached", start, stop] => client.cached(keys(start, stop)?).map(told),
         ["insert", key, value] => client.insert(key.parse()?, value_of(value)?).map(outcome),
         ["put", key, value] => client.put(key.parse()?, value_of(value)?).map(outcome),
         ["delete", key] => client.delete(key.parse()?).map(outcome),

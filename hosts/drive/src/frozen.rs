@@ -1,6 +1,7 @@
 //! A client that only reads, and whose server is frozen: how long it takes until another server
 //! answers it.
 use crate::Found;
+use crate::applied::applied;
 use crate::clients::ENDING;
 use crate::site::Site;
 use crate::stand_bys::{ClientLeases, LEASE, StandBys};
@@ -41,7 +42,7 @@ pub fn run(folder: &Path, rounds: u64, program: &Path, site: Site) -> Found {
 fn join(servers: &StandBys, number: u8, folder: &Path) -> Result<Client, Box<dyn Error>> {
     let (at, lock): (Servers, _) =
         (servers.addresses().parse()?, folder.join(format!("client-{number}.lock")));
-    Ok(Client::builder(at).number(number).lock_file(lock).timeout(ENDING).join()?)
+    Ok(Client::builder(at, number, lock).timeout(ENDING).join()?)
 }
 
 /// The keys of one range.
@@ -51,7 +52,7 @@ fn range(place: u64) -> Range<u64> {
 
 fn fill(client: &Client, ranges: u64) -> Result<(), Box<dyn Error>> {
     for key in (0..ranges).flat_map(|place| range(place).step_by(10)) {
-        client.insert(key, Value::from(key))?;
+        applied(client.insert(key, Value::from(key))?)?;
     }
     Ok(())
 }
@@ -71,7 +72,7 @@ fn freeze(
     servers.server(old).signal("-CONT")?;
     expect(read?.len())?;
     // What it has read before it has kept.
-    expect(reader.cached(first).map_or(0, |rows| rows.len()))?;
+    expect(reader.cached(first)?.map_or(0, |rows| rows.len()))?;
     Ok(took)
 }
 

@@ -2,7 +2,7 @@
 //! over a network that loses nothing.
 use crate::Found;
 use crate::delayed;
-use krl::{Address, Client, Listener, MemoryStore, Outcome, Server, Snapshot, Value};
+use krl::{Address, Client, Listener, MemoryStore, Outcome, Row, Server, Value};
 use std::error::Error;
 use std::ops::Range;
 use std::path::Path;
@@ -115,7 +115,7 @@ impl Run {
 
     /// Waits until a range is called back.
     fn keep(&self, client: &Client, range: &Range<u64>) {
-        while !self.is_over() && client.cached(range.clone()).is_some() {
+        while !self.is_over() && matches!(client.cached(range.clone()), Ok(Some(_))) {
             thread::sleep(LOOK);
         }
     }
@@ -154,8 +154,7 @@ pub fn run(folder: &Path) -> Found {
     std::fs::create_dir_all(folder)?;
     let listener = Listener::bind(&"127.0.0.1:0".parse()?)?;
     let keys = MANY_ROWS.chain(OTHER_ROWS).chain([KEY]);
-    let rows = keys.map(|key| (key, Value::from(key))).collect();
-    let store = MemoryStore { snapshot: Snapshot { rows, ..Snapshot::default() } };
+    let store: MemoryStore = keys.map(|key| Row { key, value: Value::from(key) }).collect();
     let server = Server::start(listener, store)?;
     let Address::Tcp(at) = *server.address() else { return Err("it listens elsewhere".into()) };
     let at = delayed::start(at, DELAY)?;

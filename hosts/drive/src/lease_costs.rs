@@ -1,5 +1,6 @@
 //! What leases cost: a look at the clock after each scan of the cache, and signs.
 use crate::Found;
+use crate::applied::applied;
 use krl::{Client, Leases, Listener, MemoryStore, Row, Server, Value};
 use std::error::Error;
 use std::path::Path;
@@ -53,7 +54,7 @@ fn start(leases: Option<Leases>) -> Result<Server, Box<dyn Error>> {
 /// The client, which reads its 200 rows.
 fn filled(client: Client) -> Result<Client, Box<dyn Error>> {
     for key in 0..200 {
-        client.insert(key, Value::from(key))?;
+        applied(client.insert(key, Value::from(key))?)?;
     }
     client.read(0..200)?;
     Ok(client)
@@ -67,7 +68,7 @@ fn scans(clients: &[Client; 2], count: u64) -> Result<[Duration; 2], Box<dyn Err
         for (client, times) in clients.iter().zip(&mut times) {
             let begun = Instant::now();
             for _ in 0..CALLS {
-                if !client.cached_into(50..50 + count, &mut rows) {
+                if !client.cached_into(50..50 + count, &mut rows)? {
                     return Err("a scan is not cached".into());
                 }
             }

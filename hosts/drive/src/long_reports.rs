@@ -59,7 +59,7 @@ fn beside_reports(folder: &Path) -> Found {
 /// How long a read takes that waits for a report of this order.
 fn waits_for(order: Order, lock_file: &Path) -> Result<Duration, Box<dyn Error>> {
     let listener = Listener::bind(&"127.0.0.1:0".parse()?)?;
-    let server = Server::start(listener, MemoryStore { snapshot: full_table() })?;
+    let server = Server::start(listener, MemoryStore::from(full_table()))?;
     let Address::Tcp(at) = *server.address() else { return Err("it listens elsewhere".into()) };
     let reader = Client::join(at, READER, lock_file)?;
     let report = report(server.status().epoch, order);

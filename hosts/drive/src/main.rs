@@ -29,6 +29,7 @@
 //!
 //! The status is 0 if all is well, 3 if something wrong was read or lost, and 1 if the
 //! drive itself failed.
+mod applied;
 mod bench;
 mod bench_stores;
 mod cache;

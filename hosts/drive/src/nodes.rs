@@ -75,7 +75,7 @@ fn join(number: u8, servers: &str, folder: &Path) -> Result<Client, Box<dyn Erro
         servers = servers.with_tls(certificates::of(&format!("client-{number}"))?);
     }
     // A server that recovers, or is being started, answers late.
-    Ok(Client::builder(servers).number(number).lock_file(lock).timeout(5 * TIMEOUT).join()?)
+    Ok(Client::builder(servers, number, lock).timeout(5 * TIMEOUT).join()?)
 }
 
 /// Reads every writer's ranges again and again, in two threads: one reads only from the cache, and
@@ -91,8 +91,7 @@ pub fn reader(number: u8, servers: &str, folder: &Path) -> Found {
     let [one, other] = keys.map(|key| key..key + 1);
     let ranges = [first.start..second.end, one, first, third, other, second, fourth];
     thread::scope(|scope| {
-        let cached =
-            scope.spawn(|| read_again(&ranges, folder, &log, |keys| Ok(client.cached(keys))));
+        let cached = scope.spawn(|| read_again(&ranges, folder, &log, |keys| client.cached(keys)));
         read_again(&ranges, folder, &log, |keys| answered(client.read(keys)))?;
         cached.join().unwrap_or(Err("the other thread panicked".to_string()))
     })?;
@@ -124,9 +123,10 @@ fn read_again(
 
 /// What was answered, if anything was.
 fn answered<T>(result: Result<T, krl::Error>) -> Result<Option<T>, krl::Error> {
+    use krl::Error::{LeaseEnded, NotSent, TimedOut, Unserved};
     match result {
         Ok(found) => Ok(Some(found)),
-        Err(krl::Error::TimedOut | krl::Error::Unserved(_) | krl::Error::LeaseEnded) => Ok(None),
+        Err(TimedOut | Unserved(_) | NotSent(_) | LeaseEnded) => Ok(None),
         Err(refused) => Err(refused),
     }
 }
@@ -163,7 +163,7 @@ pub fn writer(number: u8, servers: &str, folder: &Path) -> Found {
         }
         let from = now();
         let own = key..key + 1;
-        if let Some(rows) = client.cached(own.clone()) {
+        if let Some(rows) = client.cached(own.clone())? {
             log.note(&note_of(from, &own, &rows).ok_or("a value is no number")?)?;
         }
     }

@@ -1,7 +1,7 @@
 //! What a longer reach of a server saves a reader, and what it costs a writer, by hand: servers of
 //! several reaches in one process, by turns, so that a busy machine is as busy for each.
 use crate::Found;
-use krl::{Client, Listener, MemoryStore, Reach, Server, Snapshot, Value};
+use krl::{Client, Listener, MemoryStore, Reach, Row, Server, Value};
 use std::error::Error;
 use std::fs;
 use std::ops::Range;
@@ -72,13 +72,13 @@ enum What {
 
 impl Site {
     fn start(folder: &Path, reach: usize) -> Done<Site> {
-        let rows = (0..ROWS).map(|key| (key, Value::from(key))).collect();
-        let store = MemoryStore { snapshot: Snapshot { rows, ..Snapshot::default() } };
+        let row = |key| Row { key, value: Value::from(key) };
+        let store: MemoryStore = (0..ROWS).map(row).collect();
         let listener = Listener::bind(&"127.0.0.1:0".parse()?)?;
         let server = Server::builder(listener, store).reach(Reach::of(reach)?).start()?;
         let join = |number: u8| {
             let lock_file = folder.join(format!("reach-{reach}-{number}.lock"));
-            let client = Client::builder(server.address()).number(number).lock_file(lock_file);
+            let client = Client::builder(server.address(), number, lock_file);
             client.timeout(TIMEOUT).join()
         };
         let (reader, writer) = (join(0)?, join(1)?);

@@ -4,6 +4,7 @@
 //! A writer gives a row of each shard the next number, the left row first. So at each moment the
 //! left number is the right one, or one more; and no scan of both may find anything else.
 use crate::Found;
+use crate::applied::applied;
 use crate::clients::Process;
 use crate::kill::start_server;
 use krl::{Outcome, Row, Shard, ShardError, ShardMap, ShardedClient, Value};
@@ -72,14 +73,12 @@ pub fn run(folder: &Path, seconds: u64, kills: u64) -> Found {
     let mut servers = [start(&folder.join("left"))?, start(&folder.join("right"))?];
     let shard = |(first, server): (u64, &ShardServer)| Shard { first, servers: server.at.into() };
     let map = ShardMap::new([0, BOUND].into_iter().zip(&servers).map(shard).collect())?;
-    let join = |number| {
-        let builder = ShardedClient::builder(map.clone()).number(number);
-        builder.lock_folder(folder).timeout(5 * TIMEOUT).join()
-    };
+    let join =
+        |number| ShardedClient::builder(map.clone(), number, folder).timeout(5 * TIMEOUT).join();
     let writer = join(WRITER)?;
     let readers = [join(READERS[0])?, join(READERS[1])?];
     for key in [LEFT, RIGHT] {
-        writer.insert(key, Value::from(0))?;
+        applied(writer.insert(key, Value::from(0))?)?;
     }
     let run = Run::default();
     let counts = thread::scope(|scope| -> Result<Vec<Count>, Box<dyn Error>> {
@@ -160,7 +159,7 @@ impl Run {
         let (mut count, mut last) = (Count::default(), [0, 0]);
         while self.goes_on() {
             let answered = self.answered.load(Ordering::SeqCst);
-            if let Some(rows) = client.cached(BOTH) {
+            if let Ok(Some(rows)) = client.cached(BOTH) {
                 count.cached += 1;
                 self.check(&rows, answered, &mut last);
             } else {
@@ -223,9 +222,12 @@ impl Run {
 
 /// What was answered, if anything was.
 fn answered<T>(result: Result<T, ShardError>) -> Result<Option<T>, ShardError> {
+    let is_unanswered = |error| {
+        matches!(error, krl::Error::TimedOut | krl::Error::Unserved(_) | krl::Error::NotSent(_))
+    };
     match result {
         Ok(found) => Ok(Some(found)),
-        Err(ShardError { error: krl::Error::TimedOut | krl::Error::Unserved(_), .. }) => Ok(None),
+        Err(ShardError { error, .. }) if is_unanswered(error) => Ok(None),
         Err(refused) => Err(refused),
     }
 }

@@ -1,5 +1,6 @@
 //! Who wants a range whose holder was killed or stopped has it soon after the end of its lease.
 use crate::Found;
+use crate::applied::applied;
 use crate::clients::{Process, this};
 use crate::kill::start_server;
 use crate::leases::{LEASE, sleep};
@@ -30,7 +31,7 @@ pub fn hold(address: &str, folder: &Path) -> Found {
     let (mut last, mut was_stopped) = (Instant::now(), false);
     loop {
         let begun = Instant::now();
-        let found = client.cached(0..100);
+        let found = client.cached(0..100)?;
         if was_stopped || begun - last > lease {
             println!("{}", if found.is_some() { ANSWERS } else { REFUSES });
             hold_again(&client)?;
@@ -83,7 +84,7 @@ pub fn run(folder: &Path, rounds: u64) -> Found {
     let _server = start_server(folder, &at.to_string(), "sqlite", LEASE)?;
     let address = Address::Tcp(at);
     let other = Client::join(&address, 1, folder.join("client-1.lock"))?;
-    other.insert(10, Value::from(0))?;
+    applied(other.insert(10, Value::from(0))?)?;
     let (mut stopped, mut killed, mut wrong) = (Vec::new(), Vec::new(), 0);
     for round in 0..rounds {
         let mut holder = Holder::start(&address, folder)?;

@@ -14,7 +14,7 @@ from typing import Any, NamedTuple
 
 from ._waiting import made
 from .errors import BadOption, Closed, Forked, JoinError, LibraryError, LockFileError
-from .errors import LockFileTaken, OutOfMemory, Reason, Refused, Stopped, Unserved
+from .errors import LockFileTaken, NotSent, OutOfMemory, Reason, Refused, Stopped, Unserved
 
 # The file, if it is neither in the package nor where the system looks, and the KRLC_VERSION.
 NAMED_BY, VERSION = "KRL_CLIENT_LIBRARY", 1_000
@@ -186,7 +186,8 @@ def refused(code: int, failure: Failure | None = None) -> Refused:
     error.is_unknown_outcome = library().is_unknown_outcome(code)
     if failure is not None and failure.shard >= 0:
         error.shard = failure.shard
-    if isinstance(error, Unserved) and failure is not None and failure.reason in set(Reason):
+    has_reason = failure is not None and failure.reason in set(Reason)
+    if failure is not None and has_reason and isinstance(error, Unserved | NotSent):
         error.reason = Reason(failure.reason)
     return error
 

@@ -58,6 +58,13 @@ class Unserved(TimedOut, code=41):
     reason: Reason | None = None
 
 
+class NotSent(TimedOut, code=66):
+    """The write was not sent in time, and so was not made. It has the server's ``reason`` if it gave
+    one."""
+
+    reason: Reason | None = None
+
+
 class StoreWentBack(Refused, code=42): """The server's store is an older or another one."""
 class LeaseEnded(Refused, code=43): """The client's lease ended during the write."""
 class TurnedAway(Refused, code=60): """This side of the connection has no right to the number."""

@@ -111,9 +111,11 @@ class CallsTest(Served):
         with one.pin_for_write(5, 15), other.pin(50, 60), self.assertRaises(krl.TimedOut) as refused:
             # The client knows by itself that the first key has no row.
             other.write_all([krl.Delete(55), krl.Put(10, b"2"), krl.Delete(56)], 0.05)
-        wanted = [Outcome.ABSENT, Outcome.UNKNOWN, Outcome.NOT_MADE]
+        # The second one waited for its lock.
+        wanted = [Outcome.ABSENT, Outcome.NOT_MADE, Outcome.NOT_MADE]
         self.assertEqual(refused.exception.outcomes, wanted)
-        self.assertTrue(refused.exception.is_unknown_outcome)
+        self.assertIsInstance(refused.exception, krl.NotSent)
+        self.assertFalse(refused.exception.is_unknown_outcome)
 
     def test_a_call_waits_for_a_time_of_its_own(self) -> None:
         one, other = self.join(0), self.join(1, 3600)
@@ -218,9 +220,9 @@ class PinsTest(Served):
         with one.pin(5, 15) as pin:
             one.read(0, 20)
             other.timeout = 0.3
-            with self.assertRaises(krl.TimedOut) as raised:
+            with self.assertRaises(krl.NotSent) as raised:
                 other.put(10, b"2")
-            self.assertTrue(raised.exception.is_unknown_outcome)
+            self.assertFalse(raised.exception.is_unknown_outcome)
             with self.assertRaises(krl.Pinned) as pinned:
                 one.forget(10, 11)
             self.assertFalse(pinned.exception.is_unknown_outcome)
@@ -337,7 +339,7 @@ class ServersTest(Served):
             with self.assertRaises(krl.TimedOut) as raised:
                 client.put(5, b"2")
             error = raised.exception
-            return isinstance(error, krl.Unserved) and error.reason is Reason.MISSING
+            return isinstance(error, krl.Unserved | krl.NotSent) and error.reason is Reason.MISSING
 
         until(is_told)
         krl.evict(self.address, 7, self.lock_file(7))

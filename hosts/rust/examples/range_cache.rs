@@ -102,7 +102,7 @@ fn node(number: u8, folder: &Path) -> Done {
     let client = join(number, folder)?;
     let (mut cached, mut fetched, mut told) = (0, 0, Instant::now());
     loop {
-        let rows = if let Some(rows) = client.cached(keys.clone()) {
+        let rows = if let Some(rows) = client.cached(keys.clone())? {
             cached += 1;
             rows
         } else {
@@ -133,15 +133,18 @@ fn shown(rows: &[Row]) -> String {
 
 /// Makes the table's rows, and then counts up the values of some of them.
 fn write(folder: &Path) -> Done {
+    use krl::Error::{LeaseEnded, NotSent, TimedOut, Unserved};
     let client = join(WRITER, folder)?;
     for key in (10..=100).step_by(10) {
-        client.insert(key, Value::from(0))?;
+        // A table of an earlier run has the rows already.
+        if client.insert(key, Value::from(0))? == Outcome::Full {
+            return Err("the table is full".into());
+        }
     }
     println!("writer ({}): the table is there", std::process::id());
     for key in KEYS.into_iter().cycle() {
         match add_one(&client, key) {
-            Ok(Outcome::Applied)
-            | Err(krl::Error::TimedOut | krl::Error::Unserved(_) | krl::Error::LeaseEnded) => {}
+            Ok(Outcome::Applied) | Err(TimedOut | Unserved(_) | NotSent(_) | LeaseEnded) => {}
             Ok(outcome) => println!("writer: {key} was not written: {outcome}"),
             Err(refused) => return Err(refused.into()),
         }

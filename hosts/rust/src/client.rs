@@ -18,6 +18,7 @@ pub(crate) mod session;
 pub(crate) mod set;
 pub(crate) mod shared;
 pub(crate) mod silence;
+pub(crate) mod wakes;
 pub(crate) mod within;
 mod writer;
 
@@ -76,7 +77,7 @@ use std::time::{Duration, Instant};
 ///     println!("there is a row already");
 /// }
 /// let rows = client.read(10..20)?;
-/// assert_eq!(client.cached(10..20), Some(rows)); // no message
+/// assert_eq!(client.cached(10..20)?, Some(rows)); // no message
 /// client.leave()?;
 /// # std::fs::remove_dir_all(&folder)?;
 /// # Ok::<(), Box<dyn std::error::Error>>(())
@@ -149,19 +150,30 @@ impl Client {
     /// The rows of the range if the cache covers it, otherwise `None`. It sends nothing, and waits
     /// for nothing but one step of the client, some microseconds. The rows are that range of the
     /// server's table at one moment of the call, also while the server is down. An empty range has
-    /// no rows; of a range that is none, as [`Client::read`] reports, the cache knows nothing.
+    /// no rows.
     ///
     /// Threads that make this call, or one of the next two, do not wait for one another.
-    pub fn cached(&self, keys: impl RangeBounds<u64>) -> Option<Vec<Row>> {
-        with_room(|room| self.cached_into(keys, room).then(|| room.clone()))
+    ///
+    /// # Errors
+    ///
+    /// `BadRange` if the range begins above its end, or ends above 2^63.
+    pub fn cached(&self, keys: impl RangeBounds<u64>) -> Result<Option<Vec<Row>>, Error> {
+        with_room(|room| Ok(self.cached_into(keys, room)?.then(|| room.clone())))
     }
 
-    /// The same, into `rows`, whose room is used again. If the answer is `false`, the rows say
-    /// nothing.
-    #[must_use]
-    pub fn cached_into(&self, keys: impl RangeBounds<u64>, rows: &mut Vec<Row>) -> bool {
+    /// The same, into `rows`, whose room is used again. If the answer is not `Ok(true)`, the rows
+    /// mean nothing.
+    ///
+    /// # Errors
+    ///
+    /// Those of [`Client::cached`].
+    pub fn cached_into(
+        &self,
+        keys: impl RangeBounds<u64>,
+        rows: &mut Vec<Row>,
+    ) -> Result<bool, Error> {
         rows.clear();
-        keys_of(&keys).is_ok_and(|keys| self.shared.scan(&keys, rows))
+        Ok(self.shared.scan(&keys_of(&keys)?, rows))
     }
 
     /// The same, and `visit` gets each row, in key order. It answers whether the cache covers the
@@ -169,14 +181,21 @@ impl Client {
     ///
     /// The rows are copied first, at one moment of the call, and visited after it. So `visit` may
     /// take as long as it likes, and may call the client.
-    #[must_use]
-    pub fn for_each_cached(&self, keys: impl RangeBounds<u64>, visit: impl FnMut(&Row)) -> bool {
+    ///
+    /// # Errors
+    ///
+    /// Those of [`Client::cached`].
+    pub fn for_each_cached(
+        &self,
+        keys: impl RangeBounds<u64>,
+        visit: impl FnMut(&Row),
+    ) -> Result<bool, Error> {
         with_room(|room| {
-            let is_cached = self.cached_into(keys, room);
+            let is_cached = self.cached_into(keys, room)?;
             if is_cached {
                 room.iter().for_each(visit);
             }
-            is_cached
+            Ok(is_cached)
         })
     }
 
@@ -184,9 +203,9 @@ impl Client {
     ///
     /// # Errors
     ///
-    /// `BadKey` for a key of 2^63 - 1 or more; `TimedOut`, `Unserved`, `StoreWentBack` or
-    /// `Stopped`: then the table may have changed or may still change; `LeaseEnded`: then it may
-    /// have changed; `TurnedAway` or `OtherShard`: the write was not sent and changes nothing;
+    /// `BadKey` for a key of 2^63 - 1 or more; `TimedOut`, `Unserved`, `StoreWentBack` or `Stopped`:
+    /// then the table may have changed or may still change; `LeaseEnded`: then it may have changed;
+    /// `NotSent`, `TurnedAway` or `OtherShard`: the write was not sent and changes nothing;
     /// `OutOfMemory`.
     pub fn insert(&self, key: u64, value: Value) -> Result<Outcome, Error> {
         self.within(self.timeout()).insert(key, value)

@@ -9,14 +9,16 @@
 //! send what `wire` spells over `net`.
 //!
 //! ```no_run
-//! use krl::{Client, Server, SqliteStore, Value};
+//! use krl::{Client, Outcome, Server, SqliteStore, Value};
 //!
 //! let listener = std::net::TcpListener::bind("127.0.0.1:7400")?;
 //! let server = Server::start(listener, SqliteStore::open("table.db")?)?;
 //! let client = Client::join(server.address(), 0, "client-0.lock")?;
-//! client.insert(15, Value::from(5))?;
+//! if client.insert(15, Value::from(5))? == Outcome::Exists {
+//!     println!("there is a row already");
+//! }
 //! let rows = client.read(10..20)?;
-//! assert_eq!(client.cached(10..20), Some(rows)); // no message
+//! assert_eq!(client.cached(10..20)?, Some(rows)); // no message
 //! client.leave()?;
 //! # Ok::<(), Box<dyn std::error::Error>>(())
 //! ```
@@ -55,7 +57,7 @@ pub use model::code::Code;
 pub use model::error::{Error, JoinError};
 pub use model::history::{History, Mark};
 pub use model::lease_record::LeaseRecord;
-pub use model::lock::HeldSlot;
+pub use model::lock::{HeldSlot, Mode};
 pub use model::reach::{BadReach, Reach};
 pub use model::refusal::Refusal;
 pub use model::room::{BadRoom, Room};

@@ -9,6 +9,7 @@ pub mod store_tests;
 
 use crate::model::change::Change;
 use crate::model::history::History;
+use crate::model::row::Row;
 use crate::model::snapshot::Snapshot;
 use std::fmt;
 use std::time::Duration;
@@ -160,11 +161,35 @@ impl std::error::Error for StoreError {
     }
 }
 
-/// A store in memory, for tests: nothing of it survives the process.
+/// A store in memory: nothing of it survives the value, and a clone is another store. It is for tests
+/// and trials, and for tables that may be lost.
+///
+/// `default` is an empty one. One with rows is made of these, or of the snapshot of another store:
+///
+/// ```
+/// use krl::{MemoryStore, Row, Store, Value};
+///
+/// let mut store: MemoryStore = [Row { key: 15, value: Value::from(5) }].into_iter().collect();
+/// let copy = MemoryStore::from(store.snapshot()?);
+/// # Ok::<(), krl::StoreError>(())
+/// ```
 #[derive(Clone, Debug, Default)]
 pub struct MemoryStore {
-    /// What is kept.
-    pub snapshot: Snapshot,
+    pub(crate) snapshot: Snapshot,
+}
+
+impl From<Snapshot> for MemoryStore {
+    fn from(snapshot: Snapshot) -> MemoryStore {
+        MemoryStore { snapshot }
+    }
+}
+
+/// A store that no server has served. Of two rows with one key the last one counts.
+impl FromIterator<Row> for MemoryStore {
+    fn from_iter<Rows: IntoIterator<Item = Row>>(rows: Rows) -> MemoryStore {
+        let rows = rows.into_iter().map(|row| (row.key, row.value)).collect();
+        Snapshot { rows, ..Snapshot::default() }.into()
+    }
 }
 
 impl Store for MemoryStore {

@@ -3,7 +3,8 @@ use krl::Waited;
 use krl::{AsyncClient, Client, Error, Fate, MemoryStore, Mutation, Outcome, Row, Server, Value};
 use std::future::Future;
 use std::pin::{Pin, pin};
-use std::sync::Arc;
+use std::sync::atomic::{AtomicUsize, Ordering};
+use std::sync::{Arc, Mutex, mpsc};
 use std::task::{Context, Poll, Wake, Waker};
 use std::thread::{self, Thread};
 use std::time::{Duration, Instant};
@@ -52,6 +53,48 @@ fn block_on_all<T>(futures: impl IntoIterator<Item = impl Future<Output = T>>) -
     }
 }
 
+/// A task that is polled within the call that wakes it, on the thread that makes that.
+struct Eager {
+    /// None once it has ended.
+    running: Mutex<Option<Pin<Box<dyn Future<Output = ()> + Send>>>>,
+    /// How often it was woken since it was last seen to wait.
+    wakes: AtomicUsize,
+}
+
+impl Eager {
+    fn start(task: impl Future<Output = ()> + Send + 'static) {
+        let running = Mutex::new(Some(Box::pin(task) as _));
+        Arc::new(Eager { running, wakes: AtomicUsize::new(0) }).wake();
+    }
+
+    fn poll(&self, waker: &Waker) {
+        let mut running = self.running.lock().unwrap();
+        if let Some(task) = running.as_mut()
+            && task.as_mut().poll(&mut Context::from_waker(waker)).is_ready()
+        {
+            *running = None;
+        }
+    }
+}
+
+impl Wake for Eager {
+    fn wake(self: Arc<Eager>) {
+        if self.wakes.fetch_add(1, Ordering::SeqCst) > 0 {
+            // Whoever polls it just now does so again.
+            return;
+        }
+        let waker = Waker::from(Arc::clone(&self));
+        let mut seen = 1;
+        loop {
+            self.poll(&waker);
+            match self.wakes.compare_exchange(seen, 0, Ordering::SeqCst, Ordering::SeqCst) {
+                Ok(_) => return,
+                Err(more) => seen = more,
+            }
+        }
+    }
+}
+
 /// Whether the future ends when it is polled for the first time.
 fn ends_at_once<T>(future: impl Future<Output = T>) -> bool {
     pin!(future).poll(&mut Context::from_waker(&waker())).is_ready()
@@ -88,7 +131,7 @@ fn each_call_has_its_outcome_and_a_read_from_the_cache_does_not_yield() {
         assert_eq!(client.read(10..20).await, Ok(vec![row(15, 2), row(16, 4)]));
         assert!(ends_at_once(client.read(10..20)));
         assert_eq!(client.forget(10..20).await, Ok(()));
-        assert_eq!(client.client().cached(10..20), None);
+        assert_eq!(client.client().cached(10..20), Ok(None));
         assert_eq!(client.delete(16).await, Ok(Outcome::Applied));
         assert_eq!(client.read(10..20).await, Ok(vec![row(15, 2)]));
         assert_eq!(client.put(krl::END, Value::from(1)).await, Err(Error::BadKey));
@@ -102,6 +145,27 @@ fn each_call_has_its_outcome_and_a_read_from_the_cache_does_not_yield() {
         assert_eq!(client.leave().await, Ok(()));
         assert!(client.read(30..40).await.is_err());
     });
+    server.stop().unwrap();
+}
+
+#[test]
+fn a_task_may_call_the_client_within_the_call_that_wakes_it() {
+    let server = server();
+    let client = client(&server, 0, "eager");
+    let (ended, end) = mpsc::channel();
+    // If the task hangs, so does the thread of its client. So the client is its own.
+    Eager::start(async move {
+        let inserted = client.insert(15, Value::from(1)).await;
+        let (rows, pin) = client.pin_for_update(10..20).await.unwrap();
+        let put = pin.put(15, Value::from(2)).await;
+        drop(pin);
+        let watched = client.wait_for_change(10..20, &[row(15, 2)], Duration::from_millis(1)).await;
+        let left = client.leave().await;
+        ended.send((inserted, rows, put, watched, left)).unwrap();
+    });
+    let applied = Ok(Outcome::Applied);
+    let expected = (applied, vec![row(15, 1)], applied, Ok(Waited::Unchanged), Ok(()));
+    assert_eq!(end.recv_timeout(LONG), Ok(expected));
     server.stop().unwrap();
 }
 
@@ -130,7 +194,7 @@ fn a_task_is_woken_when_a_range_changes() {
         let short = Duration::from_millis(50);
         assert_eq!(watches.wait_for_change(10..20, &rows, short).await, Ok(Waited::Unchanged));
     });
-    let rows = watches.client().cached(10..20).unwrap();
+    let rows = watches.client().cached(10..20).unwrap().unwrap();
     let writer = thread::spawn(move || block_on(changes.insert(15, Value::from(1))));
     assert_eq!(block_on(watches.wait_for_change(10..20, &rows, LONG)), Ok(Waited::Changed));
     assert_eq!(writer.join().unwrap(), Ok(Outcome::Applied));

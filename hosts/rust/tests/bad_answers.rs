@@ -20,8 +20,8 @@ const UNAVAILABLE: Plan =
     Plan::Answer(b"HTTP/1.1 503 Service Unavailable\r\nContent-Length: 0\r\n\r\n");
 
 fn builder(relay: &Relay, config: TlsConfig, setup: &Setup) -> ClientBuilder {
-    let builder = Client::builder(Address::Tls(relay.at())).number(5).tls(config);
-    builder.lock_file(setup.lock(5)).timeout(LONG)
+    let builder = Client::builder(Address::Tls(relay.at()), 5, setup.lock(5));
+    builder.tls(config).timeout(LONG)
 }
 
 fn wait_for(what: &str, mut is_so: impl FnMut() -> bool) {

@@ -1,62 +1,17 @@
 //! Several writes in one wait, at one server and at several.
-use krl::{BatchError, Client, Error, Fate, Listener, MemoryStore, Mutation, Outcome, Row, Server};
-use krl::{Shard, ShardError, ShardMap, ShardedClient, Value};
-use std::path::PathBuf;
+mod two_servers;
+
+use krl::{BatchError, Error, Fate, Mutation, ShardError};
 use std::time::Duration;
+use two_servers::{World, row};
 
 use Mutation::{Delete, Insert, Put, Set};
-use Outcome::{Absent, Applied, Exists};
+use krl::Outcome::{Absent, Applied, Exists};
 
 /// No wait of a test is longer.
 const LONG: Duration = Duration::from_secs(60);
 
 const SHORT: Duration = Duration::from_millis(100);
-
-/// The second shard begins here.
-const BOUND: u64 = 100;
-
-/// Two servers, and a folder that is gone when the test is.
-struct World {
-    servers: Vec<Server>,
-    folder: PathBuf,
-}
-
-impl World {
-    fn new(name: &str) -> World {
-        let folder = std::env::temp_dir().join(format!("krl-batch-{}-{name}", std::process::id()));
-        std::fs::create_dir_all(&folder).unwrap();
-        let start = |_| {
-            let listener = Listener::bind(&"127.0.0.1:0".parse().unwrap()).unwrap();
-            Server::start(listener, MemoryStore::default()).unwrap()
-        };
-        World { servers: (0..2).map(start).collect(), folder }
-    }
-
-    /// A client of the first server.
-    fn join(&self, number: u8) -> Client {
-        let builder = Client::builder(self.servers[0].address()).number(number).timeout(LONG);
-        builder.lock_file(self.folder.join(format!("client-{number}.lock"))).join().unwrap()
-    }
-
-    /// A client of both servers, of which each has some keys.
-    fn join_both(&self, number: u8) -> ShardedClient {
-        let shard =
-            |(first, server): (u64, &Server)| Shard { first, servers: server.address().into() };
-        let shards = [0, BOUND].into_iter().zip(&self.servers).map(shard).collect();
-        let builder = ShardedClient::builder(ShardMap::new(shards).unwrap()).number(number);
-        builder.lock_folder(&self.folder).timeout(LONG).join().unwrap()
-    }
-}
-
-impl Drop for World {
-    fn drop(&mut self) {
-        let _ = std::fs::remove_dir_all(&self.folder);
-    }
-}
-
-fn row(key: u64, number: u64) -> Row {
-    Row { key, value: Value::from(number) }
-}
 
 #[test]
 fn each_write_has_its_outcome_in_order() {
@@ -98,8 +53,10 @@ fn an_error_tells_what_became_of_each_write() {
     let _own = first.pin(50..60).unwrap();
     let failed =
         first.within(SHORT).write_all([Delete(55), Put(row(10, 2)), Delete(56)]).unwrap_err();
-    assert_eq!(failed.fates, [Fate::Judged(Absent), Fate::Unknown, Fate::NotMade]);
-    assert_eq!(failed.error, Error::TimedOut);
+    // The second one waited for its lock.
+    assert_eq!(failed.fates, [Fate::Judged(Absent), Fate::NotMade, Fate::NotMade]);
+    assert_eq!(failed.error, Error::NotSent(None));
+    assert!(!failed.error.is_unknown_outcome());
     drop(pin);
 }
 

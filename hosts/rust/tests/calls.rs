@@ -45,12 +45,12 @@ fn row(key: u64, text: &str) -> Row {
 
 fn each_call(server: &Server, folder: &Folder) {
     let (first, second) = (folder.join(server, 0), folder.join(server, 63));
-    assert_eq!(first.cached(5..5), Some(vec![]));
+    assert_eq!(first.cached(5..5), Ok(Some(vec![])));
     assert_eq!(first.read(5..5), Ok(vec![]));
     assert_eq!(first.forget(5..5), Ok(()));
-    assert_eq!(first.cached(0..100), None);
+    assert_eq!(first.cached(0..100), Ok(None));
     assert_eq!(first.read(0..100), Ok(vec![]));
-    assert_eq!(first.cached(0..100), Some(vec![]));
+    assert_eq!(first.cached(0..100), Ok(Some(vec![])));
     assert_eq!(second.insert(20, value("b")), Ok(Outcome::Applied));
     assert_eq!(second.insert(10, value("a")), Ok(Outcome::Applied));
     assert_eq!(second.insert(10, value("z")), Ok(Outcome::Exists));
@@ -63,7 +63,7 @@ fn each_call(server: &Server, folder: &Folder) {
     assert_eq!(first.delete(10), Ok(Outcome::Absent));
     assert_eq!(second.read(0..100), Ok(vec![row(20, "c")]));
     assert_eq!(second.forget(0..100), Ok(()));
-    assert_eq!(second.cached(0..100), None);
+    assert_eq!(second.cached(0..100), Ok(None));
     assert_eq!(first.leave(), Ok(()));
     assert_eq!(second.leave(), Ok(()));
 }
@@ -78,22 +78,26 @@ fn cached_rows_are_visited_behind_the_scan() {
     }
     let rows = first.read(0..40).unwrap();
     let mut visited = Vec::new();
-    assert!(first.for_each_cached(0..40, |row| {
-        if visited.is_empty() {
-            // Another client takes the range away, and this one continues with its rows.
-            assert_eq!(second.put(20, value("b")), Ok(Outcome::Applied));
-            assert_eq!(first.cached(0..40), None);
-            assert_eq!(first.cached(5..5), Some(vec![]));
-        }
-        visited.push(*row);
-    }));
+    assert!(
+        first
+            .for_each_cached(0..40, |row| {
+                if visited.is_empty() {
+                    // Another client takes the range away, and this one continues with its rows.
+                    assert_eq!(second.put(20, value("b")), Ok(Outcome::Applied));
+                    assert_eq!(first.cached(0..40), Ok(None));
+                    assert_eq!(first.cached(5..5), Ok(Some(vec![])));
+                }
+                visited.push(*row);
+            })
+            .unwrap()
+    );
     assert_eq!(visited, rows);
-    assert!(!first.for_each_cached(0..40, |_| panic!("it is not cached any more")));
+    assert!(!first.for_each_cached(0..40, |_| panic!("it is not cached any more")).unwrap());
     let mut kept = rows;
-    assert!(!first.cached_into(0..40, &mut kept));
+    assert!(!first.cached_into(0..40, &mut kept).unwrap());
     assert_eq!(first.read(0..40).unwrap()[1], row(20, "b"));
-    assert!(first.cached_into(..=20, &mut kept) && kept == [row(10, "a"), row(20, "b")]);
-    assert!(first.for_each_cached(7..7, |_| panic!("it has no rows")));
+    assert!(first.cached_into(..=20, &mut kept).unwrap() && kept == [row(10, "a"), row(20, "b")]);
+    assert!(first.for_each_cached(7..7, |_| panic!("it has no rows")).unwrap());
 }
 
 #[test]
@@ -136,11 +140,11 @@ fn a_call_waits_for_a_time_of_its_own() {
     let (begun, short) = (Instant::now(), Duration::from_millis(50));
     assert_eq!(other.within(short).timeout(), short);
     assert_eq!(other.within(short).read(10..11), Err(Error::TimedOut));
-    assert_eq!(other.within(short).set(10, value("b")), Err(Error::TimedOut));
+    assert_eq!(other.within(short).set(10, value("b")), Err(Error::NotSent(None)));
     assert!(other.within(short).pin_for_read(10..11).is_err());
     let own = other.pin(50..60).unwrap();
-    assert_eq!(own.within(short).put(10, value("b")), Err(Error::TimedOut));
-    assert_eq!(own.within(short).set(10, value("b")), Err(Error::TimedOut));
+    assert_eq!(own.within(short).put(10, value("b")), Err(Error::NotSent(None)));
+    assert_eq!(own.within(short).set(10, value("b")), Err(Error::NotSent(None)));
     drop(own);
     assert!(begun.elapsed() < other.timeout(), "it waited as its other calls do");
     drop(pin);
@@ -155,8 +159,7 @@ fn the_first_free_number_of_several_is_taken() {
     let listener = Listener::bind(&"127.0.0.1:0".parse().unwrap()).unwrap();
     let leases = Leases::of(Duration::from_secs(60)).unwrap();
     let server = Server::builder(listener, MemoryStore::default()).leases(leases).start().unwrap();
-    let builder = || Client::builder(server.address().clone()).numbers(3..=4);
-    let join = || builder().lock_folder(&folder.0).join();
+    let join = || Client::builder_with_numbers(server.address(), 3..=4, &folder.0).join();
     let (first, second) = (join().unwrap(), join().unwrap());
     assert_eq!((first.number(), second.number()), (3, 4));
     let refused = join().unwrap_err();
@@ -165,12 +168,10 @@ fn the_first_free_number_of_several_is_taken() {
     assert_eq!(join().unwrap().number(), 3);
     // Another machine has other lock files: the server reports that the number is in use.
     let there = Folder::new("numbers-there");
-    let other = builder().lock_folder(&there.0).numbers([4, 9]).join().unwrap();
+    let other = Client::builder_with_numbers(server.address(), [4, 9], &there.0).join().unwrap();
     assert_eq!(other.number(), 9);
-    let refused = builder().lock_file(folder.lock(3)).join().unwrap_err();
-    assert!(matches!(refused, JoinError::Incomplete("a folder of lock files")), "{refused}");
-    let refused = builder().numbers([]).lock_folder(&folder.0).join().unwrap_err();
-    assert!(matches!(refused, JoinError::Incomplete("a number")), "{refused}");
+    let none = Client::builder_with_numbers(server.address(), [], &folder.0).join().unwrap_err();
+    assert!(matches!(none, JoinError::Incomplete("a number")), "{none}");
 }
 
 #[test]
@@ -211,14 +212,15 @@ fn what_is_refused() {
     assert_eq!(client.read(0..u64::MAX), Err(Error::BadRange));
     assert_eq!(client.read(0..=1 << 63), Err(Error::BadRange));
     assert_eq!(client.forget(0..=1 << 63), Err(Error::BadRange));
-    assert_eq!(client.cached(0..=1 << 63), None);
+    assert_eq!(client.cached(0..=1 << 63), Err(Error::BadRange));
+    assert_eq!(client.cached_into(0..=1 << 63, &mut Vec::new()), Err(Error::BadRange));
+    assert_eq!(client.for_each_cached(0..=1 << 63, |_| panic!("it is none")), Err(Error::BadRange));
     assert_eq!(client.pin(5..5).err(), Some(Error::BadRange));
     assert_eq!(client.insert(krl::END, Value::default()), Err(Error::BadKey));
     assert_eq!(client.read(0..1 << 63), Ok(vec![]));
     let join = |number, lock: &Path| {
         let wait = Duration::from_millis(300);
-        let server = Client::builder(server.address().clone());
-        server.number(number).lock_file(lock).timeout(wait).join().err()
+        Client::builder(server.address(), number, lock).timeout(wait).join().err()
     };
     let taken = join(1, &folder.lock(1));
     assert!(matches!(taken, Some(JoinError::LockFile(LockFileError::Taken))));
@@ -241,7 +243,7 @@ fn a_server_that_does_not_run_answers_nobody() {
     let folder = Folder::new("nobody");
     let address: Address = "127.0.0.1:1".parse().unwrap();
     let wait = Duration::from_millis(200);
-    let client = Client::builder(address).number(1).lock_file(folder.lock(1));
+    let client = Client::builder(address, 1, folder.lock(1));
     let joined = client.timeout(wait).join();
     assert!(matches!(joined.err(), Some(JoinError::NoAnswer(Some(_)))));
 }
@@ -251,13 +253,13 @@ fn a_pin_keeps_others_waiting() {
     let folder = Folder::new("pin");
     let server = server("127.0.0.1:0");
     let (reader, writer) = (folder.join(&server, 1), folder.join(&server, 2));
-    writer.insert(10, value("a")).unwrap();
+    assert_eq!(writer.insert(10, value("a")), Ok(Outcome::Applied));
     reader.read(0..11).unwrap();
     let pin = reader.pin(0..11).unwrap();
     thread::scope(|scope| {
         let put = scope.spawn(|| writer.put(10, value("b")));
         thread::sleep(Duration::from_millis(300));
-        assert_eq!(reader.cached(0..11), Some(vec![row(10, "a")]));
+        assert_eq!(reader.cached(0..11), Ok(Some(vec![row(10, "a")])));
         let waits = server.status().waits;
         assert!(waits.iter().any(|wait| wait.client == 2 && wait.waits_for == [1]), "{waits:?}");
         drop(pin);
@@ -271,7 +273,7 @@ fn what_a_client_holds_is_counted() {
     let folder = Folder::new("counted");
     let server = server("127.0.0.1:0");
     let client = folder.join(&server, 1);
-    client.insert(10, value("a")).unwrap();
+    assert_eq!(client.insert(10, value("a")), Ok(Outcome::Applied));
     client.read(0..11).unwrap();
     let pin = client.pin(0..11).unwrap();
     let counted = || server.status().holdings.iter().any(|it| it.client == 1 && it.slots > 0);
@@ -288,7 +290,7 @@ fn an_evicted_client_keeps_nobody_waiting() {
     let folder = Folder::new("evict");
     let server = server("127.0.0.1:0");
     let (address, living) = (server.address().clone(), folder.join(&server, 1));
-    living.insert(10, value("a")).unwrap();
+    assert_eq!(living.insert(10, value("a")), Ok(Outcome::Applied));
     assert!(evict(address.clone(), 1, folder.lock(1)).is_err(), "its process lives");
     // A client that is gone without a Bye: this one's thread continues, but nobody hears it after
     // the eviction.

@@ -1,55 +1,10 @@
 //! The states of a range, one after the other, at one server and at several.
-use krl::{Client, Error, Listener, MemoryStore, Outcome, Row, Server, Shard, ShardMap};
-use krl::{ShardedClient, Value};
-use std::path::PathBuf;
+mod two_servers;
+
+use krl::{Error, Outcome, Value};
 use std::thread;
 use std::time::Duration;
-
-/// No wait of a test is longer.
-const LONG: Duration = Duration::from_secs(60);
-
-/// Two servers, and a folder that is gone when the test is.
-struct World {
-    servers: Vec<Server>,
-    folder: PathBuf,
-}
-
-impl World {
-    fn new(name: &str) -> World {
-        let name = format!("krl-changes-{}-{name}", std::process::id());
-        let folder = std::env::temp_dir().join(name);
-        std::fs::create_dir_all(&folder).unwrap();
-        let start = |_| {
-            let listener = Listener::bind(&"127.0.0.1:0".parse().unwrap()).unwrap();
-            Server::start(listener, MemoryStore::default()).unwrap()
-        };
-        World { servers: (0..2).map(start).collect(), folder }
-    }
-
-    fn join(&self, number: u8) -> Client {
-        let builder = Client::builder(self.servers[0].address()).number(number).timeout(LONG);
-        builder.lock_file(self.folder.join(format!("client-{number}.lock"))).join().unwrap()
-    }
-
-    /// A client of both servers, of which the second has the keys from 100 on.
-    fn join_both(&self, number: u8) -> ShardedClient {
-        let shard =
-            |(first, server): (u64, &Server)| Shard { first, servers: server.address().into() };
-        let shards = [0, 100].into_iter().zip(&self.servers).map(shard).collect();
-        let builder = ShardedClient::builder(ShardMap::new(shards).unwrap()).number(number);
-        builder.lock_folder(&self.folder).timeout(LONG).join().unwrap()
-    }
-}
-
-impl Drop for World {
-    fn drop(&mut self) {
-        let _ = std::fs::remove_dir_all(&self.folder);
-    }
-}
-
-fn row(key: u64, number: u64) -> Row {
-    Row { key, value: Value::from(number) }
-}
+use two_servers::{World, row};
 
 #[test]
 fn the_last_state_comes_however_many_are_missed() {

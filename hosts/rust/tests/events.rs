@@ -1,6 +1,6 @@
 //! What a server writes to a log in a short life. It is one test, since a process has one log.
 #![cfg(feature = "tracing")]
-use krl::{Change, Client, MemoryStore, Server, Store, Value, evict};
+use krl::{Change, Client, MemoryStore, Outcome, Server, Store, Value, evict};
 use std::fmt::{Debug, Write as _};
 use std::io::{Read, Write as _};
 use std::net::{TcpListener, TcpStream};
@@ -83,7 +83,7 @@ fn a_server_tells_what_happens_once() {
     lines.expect(1, &["INFO", "the server serves"]);
     let client = Client::join(server.address(), 3, folder.join("client.lock")).unwrap();
     lines.expect(1, &["INFO", "a client has joined", "client=3"]);
-    client.insert(1, Value::from(1)).unwrap();
+    assert_eq!(client.insert(1, Value::from(1)), Ok(Outcome::Applied));
     // A Hello of an older incarnation, again and again, and a string that is no message.
     let mut stranger = TcpStream::connect(server.address().to_string()).unwrap();
     let hello = [&[18, 0, 0, 0, 0, 0, 0, 0, 1, 0, 3][..], &[0; 7], &[1], &[0; 7]].concat();

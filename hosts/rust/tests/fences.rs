@@ -37,8 +37,7 @@ impl Folder {
             Some(shard) => servers.of_shard(bounds(shard)),
             None => servers,
         };
-        let builder = Client::builder(servers).number(3).timeout(LONG);
-        builder.lock_file(self.0.join("client.lock")).join()
+        Client::builder(servers, 3, self.0.join("client.lock")).timeout(LONG).join()
     }
 }
 
@@ -167,7 +166,7 @@ fn a_client_says_nothing_of_the_library_to_a_server_that_confirms_no_shard() {
     let folder = Folder::new("heedless");
     let (address, said) = heedless_server();
     let servers = krl::Servers::from(address).of_shard(bounds("0..9@3"));
-    let builder = Client::builder(servers).number(3).lock_file(folder.0.join("client.lock"));
+    let builder = Client::builder(servers, 3, folder.0.join("client.lock"));
     let refused = builder.timeout(LONG).join().unwrap_err();
     let JoinError::OtherShard(other) = &refused else { panic!("{refused:?}") };
     assert_eq!((other.expected, other.served), (Some(bounds("0..9@3")), None));
@@ -182,8 +181,7 @@ fn who_has_an_old_map_behind_a_split_writes_to_no_side_of_it() {
     let one = server(Some("0..@1"));
     let old_map = map(1, &[(0, &one)]);
     let join = |map: &ShardMap, number| {
-        let builder = ShardedClient::builder(map.clone()).number(number).timeout(LONG);
-        builder.lock_folder(&folder.0).join()
+        ShardedClient::builder(map.clone(), number, &folder.0).timeout(LONG).join()
     };
     let old = join(&old_map, 1).unwrap();
     assert_eq!(old.insert(50, Value::from(1)), Ok(Outcome::Applied));
@@ -195,7 +193,7 @@ fn who_has_an_old_map_behind_a_split_writes_to_no_side_of_it() {
         whole.apply(&Change::Left { client });
     }
     let (lower, upper) = whole.split(40);
-    let store = |snapshot| MemoryStore { snapshot };
+    let store = MemoryStore::from;
     let lower = start(&address, store(lower), Some("0..40@2")).unwrap();
     let upper = start("127.0.0.1:0", store(upper), Some("40..@2")).unwrap();
     let new_map = map(2, &[(0, &lower), (40, &upper)]);
@@ -228,7 +226,7 @@ fn a_client_goes_on_when_its_server_is_started_as_its_shard_again() {
     for shard in ["0..9@2", "0..9@3"] {
         let snapshot = server.monitor().snapshot().unwrap();
         server.stop().unwrap();
-        server = start(&address, MemoryStore { snapshot }, Some(shard)).unwrap();
+        server = start(&address, MemoryStore::from(snapshot), Some(shard)).unwrap();
         let end = Instant::now() + LONG;
         let found = loop {
             match client.read(0..9) {
@@ -245,10 +243,7 @@ fn a_client_goes_on_when_its_server_is_started_as_its_shard_again() {
 
 #[test]
 fn a_store_with_a_key_of_another_shard_is_not_served() {
-    let mut store = MemoryStore::default();
-    for key in [10, 50] {
-        store.snapshot.rows.insert(key, Value::from(0));
-    }
+    let store = [10, 50].map(|key| Row { key, value: Value::from(0) }).into_iter().collect();
     let refused = start("127.0.0.1:0", store, Some("0..40@2")).unwrap_err();
     let ServeError::OtherKey { key: 50, shard } = &refused else { panic!("{refused:?}") };
     assert_eq!(*shard, bounds("0..40@2"));

@@ -95,7 +95,7 @@ fn last_answer_and_write(
     thread::scope(|scope| {
         let write = scope.spawn(|| (write(), begun.elapsed()));
         let mut last = Duration::ZERO;
-        while client.cached(0..100).is_some() {
+        while client.cached(0..100).unwrap().is_some() {
             last = begun.elapsed();
         }
         let (outcome, done) = write.join().unwrap();
@@ -109,17 +109,17 @@ fn a_client_that_is_cut_off_stops_before_another_goes_on() {
     let (folder, server) = (Folder::new("cut"), server(T));
     let network = Network::to(server.address());
     let (cut, other) = (folder.join(&network.address(), 0), folder.join(server.address(), 1));
-    other.insert(10, Value::from(1)).unwrap();
+    assert_eq!(other.insert(10, Value::from(1)), Ok(Outcome::Applied));
     assert_eq!(cut.read(0..100), Ok(vec![row(10, 1)]));
     // It is idle, and stays a client.
     thread::sleep(3 * T);
-    assert_eq!(cut.cached(0..100), Some(vec![row(10, 1)]));
+    assert_eq!(cut.cached(0..100), Ok(Some(vec![row(10, 1)])));
     let before = cut.incarnation();
     network.cut(true);
     let (last, done) = last_answer_and_write(&cut, || other.put(10, Value::from(2)).unwrap());
     assert!(last < done && last <= T, "the last answer after {last:?}, the write after {done:?}");
     assert!(done < T + T / 4 + LATE, "{done:?}");
-    assert_eq!(cut.cached(0..100), None);
+    assert_eq!(cut.cached(0..100), Ok(None));
     network.cut(false);
     assert_eq!(cut.read(0..100), Ok(vec![row(10, 2)]), "it is back by itself");
     assert!(cut.incarnation() > before);
@@ -131,7 +131,7 @@ fn a_write_that_was_on_its_way_is_told_as_such() {
     let (folder, server) = (Folder::new("write"), server(T));
     let network = Network::to(server.address());
     let client = folder.join(&network.address(), 0);
-    client.insert(10, Value::from(1)).unwrap();
+    assert_eq!(client.insert(10, Value::from(1)), Ok(Outcome::Applied));
     network.cut(true);
     // It holds the entry, so this is a write and no request.
     assert_eq!(client.put(10, Value::from(2)), Err(Error::LeaseEnded));
@@ -210,7 +210,7 @@ fn a_longer_lease_of_before_is_waited_for() {
     let again = serve(Listener::bind(&address).unwrap(), &store, T / 2);
     let other = folder.join(&address, 1);
     assert_eq!(other.insert(10, Value::from(1)), Ok(Outcome::Applied));
-    assert_eq!(gone.cached(0..100), None);
+    assert_eq!(gone.cached(0..100), Ok(None));
     assert!(begun.elapsed() >= 3 * T, "{:?}", begun.elapsed());
     assert!(wait_until(|| again.status().longest_lease == T / 2), "{}", again.status());
 }
@@ -228,7 +228,7 @@ fn who_joined_without_a_lease_is_left_to_an_operator() {
     server.stop().unwrap();
     let again = serve(Listener::bind(&address).unwrap(), &store, T);
     thread::sleep(3 * T);
-    assert!(gone.cached(0..100).is_some(), "it answers for ever");
+    assert!(gone.cached(0..100).unwrap().is_some(), "it answers for ever");
     let status = again.status();
     assert!(!status.is_serving && status.missing == [0] && status.unleased == [0], "{status}");
     assert_eq!(status.evicted, 0);
@@ -261,19 +261,19 @@ fn a_second_process_of_a_number_waits_for_the_first_ones_lease() {
     first.read(0..100).unwrap();
     // As from another machine, which has a lock file of its own.
     let join = |timeout| {
-        let client = Client::builder(server.address()).number(0);
-        client.lock_file(folder.0.join("elsewhere.lock")).timeout(timeout).join()
+        let client = Client::builder(server.address(), 0, folder.0.join("elsewhere.lock"));
+        client.timeout(timeout).join()
     };
     let refused = join(3 * T).unwrap_err();
     let runs = |error: &JoinError| {
         matches!(error, JoinError::Unserved(Refusal::LeaseRuns { client: 0, .. }))
     };
     assert!(runs(&refused), "the first one lives: {refused}");
-    assert!(first.cached(0..100).is_some());
+    assert!(first.cached(0..100).unwrap().is_some());
     network.cut(true);
     let begun = Instant::now();
     let second = join(Duration::from_secs(10)).unwrap();
-    assert_eq!(first.cached(0..100), None);
+    assert_eq!(first.cached(0..100), Ok(None));
     assert!(begun.elapsed() > T / 2);
     assert_eq!(second.read(0..100), Ok(vec![]));
 }
@@ -287,7 +287,7 @@ fn an_operator_waits_for_the_end_of_a_lease() {
     network.cut(true);
     let begun = Instant::now();
     evict(server.address(), 0, folder.0.join("new.lock")).unwrap();
-    assert_eq!(client.cached(0..100), None);
+    assert_eq!(client.cached(0..100), Ok(None));
     assert!(begun.elapsed() > T / 2, "{:?}", begun.elapsed());
 }
 

@@ -25,8 +25,8 @@ impl World {
     }
 
     fn try_join(&self, number: u8) -> Result<Client, JoinError> {
-        let builder = Client::builder(self.server.address()).number(number);
-        builder.lock_file(self.lock_file(number)).timeout(LONG).join()
+        let builder = Client::builder(self.server.address(), number, self.lock_file(number));
+        builder.timeout(LONG).join()
     }
 
     fn join(&self, number: u8) -> Client {
@@ -51,7 +51,7 @@ fn a_clone_is_the_same_client() {
     let clone = client.clone();
     assert_eq!(client.insert(1, Value::from(5)), Ok(Outcome::Applied));
     assert_eq!(clone.read(0..9), Ok(vec![row(1, 5)]));
-    assert_eq!(client.cached(0..9), Some(vec![row(1, 5)]));
+    assert_eq!(client.cached(0..9), Ok(Some(vec![row(1, 5)])));
     clone.set_timeout(Duration::from_secs(7));
     assert_eq!(client.timeout(), Duration::from_secs(7));
     drop(client);
@@ -64,7 +64,7 @@ fn a_clone_is_the_same_client() {
 fn a_pin_outlives_the_handle_that_made_it() {
     let world = World::new("pin");
     let (client, other) = (world.join(1), world.join(2));
-    client.insert(1, Value::from(5)).unwrap();
+    assert_eq!(client.insert(1, Value::from(5)), Ok(Outcome::Applied));
     let (rows, pin) = client.pin_for_update(0..9).unwrap();
     drop(client);
     let task = Task { pin, rows };
@@ -92,7 +92,7 @@ fn one_that_has_left_stays_so_for_all_its_clones() {
     let world = World::new("left");
     let client = world.join(1);
     let (clone, pin) = (client.clone(), client.pin(0..9).unwrap());
-    client.insert(1, Value::from(5)).unwrap();
+    assert_eq!(client.insert(1, Value::from(5)), Ok(Outcome::Applied));
     client.read(0..9).unwrap();
     assert_eq!(clone.leave(), Ok(()));
     for again in [&client, &clone] {
@@ -100,7 +100,7 @@ fn one_that_has_left_stays_so_for_all_its_clones() {
         assert_eq!(again.within(LONG).leave(), Ok(()));
         assert_eq!(again.read(0..9), Err(Error::Other(Code::Gone)));
         assert_eq!(again.insert(2, Value::from(5)), Err(Error::Other(Code::Gone)));
-        assert_eq!(again.cached(0..9), None);
+        assert_eq!(again.cached(0..9), Ok(None));
         assert_eq!(again.wait_for_change(0..9, &[], LONG), Ok(Waited::Changed));
     }
     assert!(!pin.holds());
@@ -114,7 +114,7 @@ fn one_that_has_left_stays_so_for_all_its_clones() {
 fn threads_that_leave_at_once_are_all_told_that_it_is_done() {
     let world = World::new("at-once");
     let client = world.join(1);
-    client.insert(1, Value::from(5)).unwrap();
+    assert_eq!(client.insert(1, Value::from(5)), Ok(Outcome::Applied));
     let leaving: Vec<_> = (0..8)
         .map(|_| {
             let client = client.clone();
@@ -135,6 +135,6 @@ fn one_whose_server_is_away_may_leave_again() {
     world.server.stop().unwrap();
     assert_eq!(client.within(Duration::from_millis(50)).leave(), Err(Error::TimedOut));
     let listener = TcpListener::bind(address.to_string()).unwrap();
-    let _server = Server::start(listener, MemoryStore { snapshot }).unwrap();
+    let _server = Server::start(listener, MemoryStore::from(snapshot)).unwrap();
     assert_eq!(client.within(LONG).leave(), Ok(()));
 }

@@ -1,6 +1,6 @@
 //! Who holds what, as a monitor learns it while the server runs.
 use krl::{Client, END, HeldRun, HeldSearch, HeldSlot, Listener, Locks, LocksError, MemoryStore};
-use krl::{Outcome, Server, Snapshot, Value};
+use krl::{Mode, Outcome, Row, Server, Value};
 use std::path::PathBuf;
 use std::sync::atomic::{AtomicBool, Ordering};
 use std::thread;
@@ -17,8 +17,7 @@ impl World {
         let folder = std::env::temp_dir().join(format!("krl-locks-{}-{name}", std::process::id()));
         std::fs::create_dir_all(&folder).unwrap();
         let listener = Listener::bind(&"127.0.0.1:0".parse().unwrap()).unwrap();
-        let rows = keys.map(|key| (key, Value::from(key))).collect();
-        let store = MemoryStore { snapshot: Snapshot { rows, ..Snapshot::default() } };
+        let store: MemoryStore = keys.map(|key| Row { key, value: Value::from(key) }).collect();
         World { server: Server::start(listener, store).unwrap(), folder }
     }
 
@@ -38,8 +37,8 @@ impl Drop for World {
     }
 }
 
-fn slot(lo: u64, hi: u64, client: u8, mode: &'static str) -> HeldSlot {
-    HeldSlot { lo, hi, client, mode }
+fn slot(lo: u64, hi: u64, client: u8, mode: Mode) -> HeldSlot {
+    HeldSlot::new(client, lo..hi, mode)
 }
 
 #[test]
@@ -50,11 +49,11 @@ fn two_hold_and_one_waits() {
     let (_, pin) = first.pin_for_read(0..21).unwrap();
     second.read(15..).unwrap();
     let expected = [
-        slot(0, 11, 1, "RangeS-S"),
-        slot(11, 21, 1, "RangeS-S"),
-        slot(11, 21, 2, "RangeS-S"),
-        slot(21, 31, 2, "RangeS-S"),
-        slot(31, END + 1, 2, "RangeS-S"),
+        slot(0, 11, 1, Mode::RangeSS),
+        slot(11, 21, 1, Mode::RangeSS),
+        slot(11, 21, 2, Mode::RangeSS),
+        slot(21, 31, 2, Mode::RangeSS),
+        slot(31, END + 1, 2, Mode::RangeSS),
     ];
     let locks = world.locks(0..END + 1, 100);
     assert_eq!((locks.held.as_slice(), locks.next), (expected.as_slice(), None));
@@ -131,8 +130,8 @@ fn a_full_table_comes_in_pages_between_the_turns() {
         (locks, reads.join().unwrap())
     });
     let expected: Vec<_> = (0..ROWS)
-        .map(|key| slot(key, key + 1, 1, "RangeS-S"))
-        .chain([slot(ROWS, END + 1, 1, "RangeS-S")])
+        .map(|key| slot(key, key + 1, 1, Mode::RangeSS))
+        .chain([slot(ROWS, END + 1, 1, Mode::RangeSS)])
         .collect();
     for Locks { held, next, is_of_one_moment, .. } in locks {
         assert_eq!((next, is_of_one_moment), (None, false));
@@ -170,7 +169,7 @@ fn a_search_in_runs_finds_what_a_search_for_slots_finds() {
         second.read(key..=key).unwrap();
     }
     let found = search(&world, 0..END + 1, 1000);
-    let whole = HeldRun { lo: 0, hi: END + 1, client: 1, mode: "RangeS-S", slots: ROWS + 1 };
+    let whole = HeldRun::new(1, 0..END + 1, Mode::RangeSS, ROWS + 1);
     assert_eq!((found[1].as_slice(), found[63].len()), ([whole].as_slice(), 50));
     let slots: Vec<_> = world.locks(0..END + 1, 10_000).held;
     let of_second = slots.iter().filter(|slot| slot.client == 63);

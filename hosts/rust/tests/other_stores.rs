@@ -48,10 +48,10 @@ fn row(key: u64) -> Row {
 /// Whether the client has dropped its cache, within half a minute.
 fn drops_its_cache(client: &Client) -> bool {
     let end = Instant::now() + Duration::from_secs(30);
-    while client.cached(0..100).is_some() && Instant::now() < end {
+    while client.cached(0..100).unwrap().is_some() && Instant::now() < end {
         thread::sleep(Duration::from_millis(5));
     }
-    client.cached(0..100).is_none()
+    client.cached(0..100).unwrap().is_none()
 }
 
 /// How a read ends once the server has answered or refused the client, within half a minute.

@@ -27,7 +27,7 @@ fn a_writer_that_pins_again_at_once_keeps_no_reader_out() {
     let server = Server::start(listener, MemoryStore::default()).unwrap();
     let [writer, reader] =
         [1, 2].map(|number| Client::join(server.address(), number, lock_file(number)).unwrap());
-    writer.insert(10, Value::from(0)).unwrap();
+    assert_eq!(writer.insert(10, Value::from(0)), Ok(Outcome::Applied));
     let is_over = AtomicBool::new(false);
     let written = thread::scope(|scope| {
         let thread = scope.spawn(|| {

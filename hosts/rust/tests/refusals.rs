@@ -1,7 +1,8 @@
 //! A server reports why it does not serve a client, to hosts that take host frames.
 mod peer;
 
-use krl::{Change, Client, Error, JoinError, MemoryStore, Refusal, Server, Value, evict};
+use krl::evict;
+use krl::{Change, Client, Error, JoinError, MemoryStore, Refusal, Server, Snapshot, Value};
 use peer::{HELLO, HOST_ANSWER, HOST_HELLO, Peer, frame, incarnation};
 use std::io::{Read, Write};
 use std::net::{SocketAddr, TcpListener};
@@ -21,12 +22,12 @@ fn server(store: MemoryStore) -> Server {
 
 /// A store of a server on which these clients registered, and from which they have not left.
 fn store(clients: &[u8]) -> MemoryStore {
-    let mut store = MemoryStore::default();
-    store.snapshot.apply(&Change::Started { epoch: 1 });
+    let mut snapshot = Snapshot::default();
+    snapshot.apply(&Change::Started { epoch: 1 });
     for client in clients {
-        store.snapshot.apply(&Change::Registered { client: *client, incarnation: 17 });
+        snapshot.apply(&Change::Registered { client: *client, incarnation: 17 });
     }
-    store
+    snapshot.into()
 }
 
 fn lock_file(name: &str) -> PathBuf {
@@ -123,7 +124,7 @@ fn a_server_of_another_version() {
     ];
     for (answer, version) in answers {
         let lock = lock_file(&format!("version-{version}"));
-        let client = Client::builder(says(answer)).number(3).lock_file(&lock).timeout(2 * LONG);
+        let client = Client::builder(says(answer), 3, &lock).timeout(2 * LONG);
         let begun = Instant::now();
         let error = client.join().unwrap_err();
         assert!(begun.elapsed() < LONG, "{:?}", begun.elapsed());
@@ -161,17 +162,16 @@ fn a_peer_without_host_frames_is_told_nothing() {
 /// Why a client of this number does not join.
 fn not_joined(server: &Server, number: u8, name: &str) -> JoinError {
     let (address, lock) = (server.address().clone(), lock_file(name));
-    let client = Client::builder(address).number(number).lock_file(&lock).timeout(SHORT).join();
+    let client = Client::builder(address, number, &lock).timeout(SHORT).join();
     std::fs::remove_file(lock).unwrap();
     client.unwrap_err()
 }
 
 #[test]
 fn a_client_of_an_older_incarnation() {
-    let mut store = MemoryStore::default();
-    let registered = 1 << 62;
-    store.snapshot.apply(&Change::Registered { client: 3, incarnation: registered });
-    let error = not_joined(&server(store), 3, "older");
+    let (mut snapshot, registered) = (Snapshot::default(), 1 << 62);
+    snapshot.apply(&Change::Registered { client: 3, incarnation: registered });
+    let error = not_joined(&server(snapshot.into()), 3, "older");
     let expected = Refusal::Incarnation { client: 3, registered };
     assert!(matches!(error, JoinError::Unserved(why) if why == expected), "{error:?}");
 }
@@ -181,7 +181,7 @@ fn a_client_whose_clock_is_far_ahead() {
     let (server, lock) = (server(MemoryStore::default()), lock_file("ahead"));
     // Of the year 2046.
     std::fs::write(&lock, "krl client 03 incarnation 02426388266503144698\n").unwrap();
-    let client = Client::builder(server.address().clone()).number(3).lock_file(&lock);
+    let client = Client::builder(server.address().clone(), 3, &lock);
     let error = client.timeout(SHORT).join().unwrap_err();
     let JoinError::Unserved(refusal) = error else { panic!("{error:?}") };
     assert!(matches!(refusal, Refusal::FarAhead { client: 3, .. }), "{refusal:?}");
@@ -195,10 +195,9 @@ fn a_client_whose_clock_is_far_ahead() {
 
 #[test]
 fn an_operator_evicts_a_client_whose_clock_was_ahead() {
-    let mut store = MemoryStore::default();
-    let registered = 1 << 62;
-    store.snapshot.apply(&Change::Registered { client: 3, incarnation: registered });
-    let (server, lock) = (server(store), lock_file("evicted"));
+    let (mut snapshot, registered) = (Snapshot::default(), 1 << 62);
+    snapshot.apply(&Change::Registered { client: 3, incarnation: registered });
+    let (server, lock) = (server(snapshot.into()), lock_file("evicted"));
     evict(server.address().clone(), 3, &lock).unwrap();
     assert_eq!(incarnation(&lock), registered + 1);
     std::fs::remove_file(lock).unwrap();
@@ -212,7 +211,7 @@ fn a_client_that_was_replaced() {
     evict(server.address().clone(), 3, &evicting).unwrap();
     let registered = incarnation(&evicting);
     client.set_timeout(Duration::from_millis(1500));
-    let expected = Error::Unserved(Refusal::Incarnation { client: 3, registered });
+    let expected = Error::NotSent(Some(Refusal::Incarnation { client: 3, registered }));
     assert_eq!(client.insert(1, Value::from(1)), Err(expected));
     std::fs::remove_file(evicting).unwrap();
     std::fs::remove_file(lock).unwrap();
@@ -221,7 +220,7 @@ fn a_client_that_was_replaced() {
 #[test]
 fn a_server_that_misses_reports() {
     let (server, lock) = (server(store(&[3, 7])), lock_file("missing"));
-    let client = Client::builder(server.address().clone()).number(5).lock_file(&lock);
+    let client = Client::builder(server.address().clone(), 5, &lock);
     // It joins, and no request is answered before the reports have come. The server may have told
     // nothing yet at a timeout.
     let (client, end) = (client.timeout(LONG).join().unwrap(), Instant::now() + LONG);

@@ -75,7 +75,7 @@ fn wait_until(is_so: impl Fn() -> bool) -> bool {
 fn looked_up(client: &Client, ends: &AtomicBool) -> Vec<Option<Vec<Row>>> {
     let mut found = Vec::new();
     while !ends.load(Ordering::Relaxed) {
-        found.push(client.cached(1..2));
+        found.push(client.cached(1..2).unwrap());
         found.dedup();
         // Otherwise it might keep the other callers from the client for long.
         thread::sleep(Duration::from_micros(50));
@@ -96,8 +96,12 @@ impl Drop for Over<'_> {
 /// From when it has heard from the server on, the client never answers the 2 again.
 fn notices(place: &Place, client: &Client) {
     let (asked, ends) = (Barrier::new(3), AtomicBool::new(false));
-    assert_eq!(client.cached(1..2), Some(vec![row(1, 2)]), "no server runs: it has heard nothing");
-    assert_eq!(client.cached(0..600), None, "a read of it waits");
+    assert_eq!(
+        client.cached(1..2),
+        Ok(Some(vec![row(1, 2)])),
+        "no server runs: it has heard nothing"
+    );
+    assert_eq!(client.cached(0..600), Ok(None), "a read of it waits");
     thread::scope(|scope| {
         let over = Over(&ends);
         let looks = scope.spawn(|| looked_up(client, &ends));
@@ -122,7 +126,7 @@ fn notices(place: &Place, client: &Client) {
         assert!(wait_until(|| server.status().store_alarms == 1), "{}", server.status());
         assert!(server.status().to_string().contains("ALARM: the store lacks"));
         assert_eq!(client.put(1, Value::from(3)), Ok(Outcome::Applied));
-        assert_eq!(client.cached(1..2), Some(vec![row(1, 3)]));
+        assert_eq!(client.cached(1..2), Ok(Some(vec![row(1, 3)])));
         server.stop().unwrap();
     });
 }
@@ -132,7 +136,7 @@ fn a_copy_of_an_older_epoch() {
     let place = Place::new("older");
     let server = place.serve();
     let first = place.join(place.address(), 1);
-    first.insert(1, Value::from(1)).unwrap();
+    assert_eq!(first.insert(1, Value::from(1)), Ok(Outcome::Applied));
     first.leave().unwrap();
     server.stop().unwrap();
     place.copy();
@@ -141,7 +145,7 @@ fn a_copy_of_an_older_epoch() {
     }
     let server = place.serve();
     let client = place.join(place.address(), 2);
-    client.put(1, Value::from(2)).unwrap();
+    assert_eq!(client.put(1, Value::from(2)), Ok(Outcome::Applied));
     client.read(1..2).unwrap();
     server.stop().unwrap();
     place.bring_back();
@@ -153,11 +157,11 @@ fn a_copy_whose_next_epoch_is_the_one_that_the_client_has_joined() {
     let place = Place::new("equal");
     let server = place.serve();
     let client = place.join(place.address(), 2);
-    client.insert(1, Value::from(1)).unwrap();
+    assert_eq!(client.insert(1, Value::from(1)), Ok(Outcome::Applied));
     server.stop().unwrap();
     place.copy();
     let server = place.serve();
-    client.put(1, Value::from(2)).unwrap();
+    assert_eq!(client.put(1, Value::from(2)), Ok(Outcome::Applied));
     client.read(1..2).unwrap();
     assert_eq!(client.epoch(), Ok(2));
     server.stop().unwrap();
@@ -173,16 +177,16 @@ fn a_copy_that_has_gone_further_meanwhile() {
     place.copy();
     let server = place.serve();
     let client = place.join(place.address(), 2);
-    client.insert(1, Value::from(2)).unwrap();
+    assert_eq!(client.insert(1, Value::from(2)), Ok(Outcome::Applied));
     client.read(1..2).unwrap();
     server.stop().unwrap();
     place.bring_back();
     let elsewhere = Address::Unix(place.folder.join("elsewhere"));
     let server = place.serve_at(&elsewhere);
     let other = place.join(elsewhere, 3);
-    other.insert(1, Value::from(1)).unwrap();
+    assert_eq!(other.insert(1, Value::from(1)), Ok(Outcome::Applied));
     for key in 10..40 {
-        other.insert(key, Value::from(key)).unwrap();
+        assert_eq!(other.insert(key, Value::from(key)), Ok(Outcome::Applied));
     }
     other.leave().unwrap();
     server.stop().unwrap();
@@ -194,11 +198,11 @@ fn a_snapshot_of_the_files_of_a_running_server() {
     let place = Place::new("snapshot");
     let server = place.serve();
     let client = place.join(place.address(), 2);
-    client.insert(1, Value::from(1)).unwrap();
+    assert_eq!(client.insert(1, Value::from(1)), Ok(Outcome::Applied));
     // The server has nothing to do just now: its file and its log are those of one moment.
     place.copy();
     std::fs::copy(place.folder.join("table.db-wal"), place.folder.join("copy.db-wal")).unwrap();
-    client.put(1, Value::from(2)).unwrap();
+    assert_eq!(client.put(1, Value::from(2)), Ok(Outcome::Applied));
     client.read(1..2).unwrap();
     server.stop().unwrap();
     place.bring_back();
@@ -217,7 +221,7 @@ fn a_server_that_starts_again_raises_no_alarm() {
         assert_eq!(rows.len() as u64, turn + 1);
         server.stop().unwrap();
         server = place.serve();
-        assert_eq!(client.cached(0..100), Some(rows));
+        assert_eq!(client.cached(0..100), Ok(Some(rows)));
         assert!(wait_until(|| server.status().is_serving));
         assert_eq!(server.status().store_alarms, 0);
     }
@@ -232,12 +236,12 @@ fn what_a_client_had_pinned_is_free_and_its_old_pins_free_nothing() {
     place.copy();
     let server = place.serve();
     let client = place.join(place.address(), 2);
-    client.insert(1, Value::from(2)).unwrap();
+    assert_eq!(client.insert(1, Value::from(2)), Ok(Outcome::Applied));
     let (_, old) = client.pin_for_read(0..10).unwrap();
     server.stop().unwrap();
     place.bring_back();
     let server = place.serve();
-    assert!(wait_until(|| client.cached(0..10).is_none()));
+    assert!(wait_until(|| client.cached(0..10).unwrap().is_none()));
     let other = place.join(place.address(), 3);
     assert_eq!(other.insert(1, Value::from(3)), Ok(Outcome::Applied), "nothing is pinned");
     let (rows, pin) = client.pin_for_read(0..10).unwrap();
@@ -256,11 +260,11 @@ fn a_client_that_leaves_a_store_that_went_back() {
     let place = Place::new("leaves");
     let server = place.serve();
     let client = place.join(place.address(), 2);
-    client.insert(1, Value::from(1)).unwrap();
+    assert_eq!(client.insert(1, Value::from(1)), Ok(Outcome::Applied));
     server.stop().unwrap();
     place.copy();
     let server = place.serve();
-    client.put(1, Value::from(2)).unwrap();
+    assert_eq!(client.put(1, Value::from(2)), Ok(Outcome::Applied));
     server.stop().unwrap();
     place.bring_back();
     thread::scope(|scope| {

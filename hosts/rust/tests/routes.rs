@@ -81,8 +81,13 @@ fn a_zombie_takes_nothing_of_its_successor() {
         zombie.say(&frame(HELLO, 3, 1, &[]));
         zombie.say(&frame(ACK, 3, 1, &[1, turn]));
         let begun = Instant::now();
-        writer.put(10, Value::from(turn)).unwrap();
-        writer.insert(10, Value::from(turn)).unwrap();
+        // There is a row from the first turn on.
+        let judged = (writer.put(10, Value::from(turn)), writer.insert(10, Value::from(turn)));
+        let [put, insert] = match turn {
+            0 => [Outcome::Absent, Outcome::Applied],
+            _ => [Outcome::Applied, Outcome::Exists],
+        };
+        assert_eq!(judged, (Ok(put), Ok(insert)));
         assert_eq!(heir.read(0..20).unwrap().len(), 1);
         assert!(begun.elapsed() < Duration::from_secs(5), "{:?}", begun.elapsed());
     }

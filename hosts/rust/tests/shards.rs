@@ -36,15 +36,15 @@ impl World {
     }
 
     fn join(&self, number: u8) -> ShardedClient {
-        let builder = ShardedClient::builder(self.map.clone()).number(number);
-        builder.lock_folder(&self.folder).timeout(LONG).join().unwrap()
+        let builder = ShardedClient::builder(self.map.clone(), number, &self.folder);
+        builder.timeout(LONG).join().unwrap()
     }
 
     /// A client of only one shard.
     fn join_one(&self, shard: usize, number: u8) -> Client {
         let lock_file = self.folder.join(format!("client-{number}.lock"));
         let servers = self.map.shards()[shard].servers.clone();
-        Client::builder(servers).number(number).lock_file(lock_file).timeout(LONG).join().unwrap()
+        Client::builder(servers, number, lock_file).timeout(LONG).join().unwrap()
     }
 
     /// Makes rows by a client that then leaves: one that stays would hold them to change them.
@@ -72,14 +72,14 @@ fn calls_go_to_the_shards_that_have_the_keys() {
     let world = World::new("calls");
     world.insert_rows([10, 99, 100, 300]);
     let client = world.join(1);
-    assert_eq!(client.cached(0..400), None);
+    assert_eq!(client.cached(0..400), Ok(None));
     let all = [row(10, 10), row(99, 99), row(100, 100), row(300, 300)];
     assert_eq!(client.read(..), Ok(all.to_vec()));
-    assert_eq!(client.cached(50..=100), Some(all[1..3].to_vec()));
+    assert_eq!(client.cached(50..=100), Ok(Some(all[1..3].to_vec())));
     let mut keys = Vec::new();
-    assert!(client.for_each_cached(.., |row| keys.push(row.key)));
+    assert!(client.for_each_cached(.., |row| keys.push(row.key)).unwrap());
     assert_eq!(keys, [10, 99, 100, 300]);
-    assert_eq!((client.cached(7..7), client.read(7..7)), (Some(vec![]), Ok(vec![])));
+    assert_eq!((client.cached(7..7), client.read(7..7)), (Ok(Some(vec![])), Ok(vec![])));
     assert_eq!(client.put(99, Value::from(1)), Ok(Outcome::Applied));
     assert_eq!(client.put(101, Value::from(1)), Ok(Outcome::Absent));
     assert_eq!(client.insert(100, Value::from(1)), Ok(Outcome::Exists));
@@ -89,7 +89,7 @@ fn calls_go_to_the_shards_that_have_the_keys() {
     let counts = world.servers.iter().map(|server| server.monitor().snapshot().unwrap().rows.len());
     assert_eq!(counts.collect::<Vec<_>>(), [2, 1]);
     assert_eq!(client.forget(..), Ok(()));
-    assert_eq!((client.cached(10..11), client.cached(300..301)), (None, None));
+    assert_eq!((client.cached(10..11), client.cached(300..301)), (Ok(None), Ok(None)));
     client.leave().unwrap();
 }
 
@@ -101,7 +101,7 @@ fn a_delete_of_the_last_key_of_a_shard_stays_in_the_shard() {
     assert_eq!(client.delete(99), Ok(Outcome::Applied));
     assert_eq!(client.read(..), Ok(vec![row(100, 100)]));
     assert_eq!(client.insert(99, Value::from(5)), Ok(Outcome::Applied));
-    assert_eq!(client.cached(99..100), Some(vec![row(99, 5)]));
+    assert_eq!(client.cached(99..100), Ok(Some(vec![row(99, 5)])));
 }
 
 #[test]
@@ -121,7 +121,7 @@ fn errors_tell_the_shard() {
     assert_eq!((refused.shard, refused.error), (Some(1), Error::TimedOut));
     assert_eq!(refused.to_string(), "shard 1: no answer came in time");
     // The other shard continues, and so do the caches.
-    assert_eq!(client.cached(0..50), Some(vec![row(10, 10)]));
+    assert_eq!(client.cached(0..50), Ok(Some(vec![row(10, 10)])));
     assert_eq!(client.put(10, Value::from(1)), Ok(Outcome::Applied));
     let refused = client.put(300, Value::from(1)).unwrap_err();
     assert_eq!(refused.shard, Some(1));
@@ -135,20 +135,20 @@ fn a_client_of_some_keys_joins_their_shards_alone() {
     let mut world = World::new("keys");
     world.insert_rows([10, 300]);
     world.servers.remove(0).stop().unwrap();
-    let builder = ShardedClient::builder(world.map.clone()).number(1).timeout(LONG);
-    let client = builder.lock_folder(&world.folder).keys(200..301).join().unwrap();
+    let builder = ShardedClient::builder(world.map.clone(), 1, &world.folder).timeout(LONG);
+    let client = builder.keys(200..301).join().unwrap();
     assert_eq!(client.read(BOUND..), Ok(vec![row(300, 300)]));
-    assert_eq!(client.cached(200..), Some(vec![row(300, 300)]));
+    assert_eq!(client.cached(200..), Ok(Some(vec![row(300, 300)])));
     assert_eq!(client.put(300, Value::from(1)), Ok(Outcome::Applied));
     assert_eq!(client.status().len(), 1);
     assert_eq!(client.read(99..), Err(Error::BadRange.into()));
     assert_eq!(client.forget(..), Err(Error::BadRange.into()));
     assert_eq!(client.pin(0..5).map(drop), Err(Error::BadRange.into()));
-    assert_eq!(client.cached(0..5), None);
+    assert_eq!(client.cached(0..5), Err(Error::BadRange.into()));
     assert_eq!(client.put(99, Value::from(1)), Err(Error::BadKey.into()));
     client.leave().unwrap();
-    let builder = ShardedClient::builder(world.map.clone()).number(1);
-    let error = builder.lock_folder(&world.folder).keys(5..5).join().unwrap_err();
+    let builder = ShardedClient::builder(world.map.clone(), 1, &world.folder);
+    let error = builder.keys(5..5).join().unwrap_err();
     assert!(matches!(error.error, JoinError::Incomplete(_)), "{error}");
 }
 
@@ -156,13 +156,14 @@ fn a_client_of_some_keys_joins_their_shards_alone() {
 fn a_number_that_is_taken_at_one_shard_is_not_joined() {
     let world = World::new("number");
     let first = world.join(1);
-    let builder = ShardedClient::builder(world.map.clone()).number(1);
-    let error = builder.lock_folder(&world.folder).join().unwrap_err();
+    let error = ShardedClient::join(world.map.clone(), 1, &world.folder).unwrap_err();
     assert_eq!(error.shard, Some(0));
     assert!(matches!(error.error, JoinError::LockFile(LockFileError::Taken)), "{error:?}");
     first.leave().unwrap();
     world.join(1).leave().unwrap();
-    let incomplete = ShardedClient::builder(world.map.clone()).number(1).join().unwrap_err();
+    let none = ShardedClient::builder_with_numbers(world.map.clone(), [], &world.folder);
+    let incomplete = none.join().unwrap_err();
+    assert!(matches!(incomplete.error, JoinError::Incomplete("a number")), "{incomplete}");
     assert_eq!(incomplete.shard, None);
 }
 
@@ -175,7 +176,7 @@ fn a_range_that_is_pinned_does_not_change_at_any_shard() {
     assert_eq!(rows, [row(10, 10), row(300, 300)]);
     writer.set_timeout(SHORT);
     for key in [10, 300] {
-        assert_eq!(writer.put(key, Value::from(1)).unwrap_err().error, Error::TimedOut);
+        assert_eq!(writer.put(key, Value::from(1)).unwrap_err().error, Error::NotSent(None));
     }
     drop(pin);
     writer.set_timeout(LONG);
@@ -183,7 +184,7 @@ fn a_range_that_is_pinned_does_not_change_at_any_shard() {
         assert_eq!(writer.put(key, Value::from(1)), Ok(Outcome::Applied));
     }
     let pin = client.pin(0..400).unwrap();
-    assert_eq!(client.cached(..), Some(vec![row(10, 1), row(300, 1)]));
+    assert_eq!(client.cached(..), Ok(Some(vec![row(10, 1), row(300, 1)])));
     assert_eq!(client.forget(..).unwrap_err().error, Error::Pinned);
     drop(pin);
 }
@@ -219,10 +220,10 @@ fn a_call_waits_for_a_time_of_its_own() {
     let why = |refused: ShardError| (refused.error, refused.shard);
     let within = other.within(short);
     assert_eq!(within.read(100..101).map_err(why), Err((Error::TimedOut, Some(1))));
-    assert_eq!(within.set(99, Value::from(1)).map_err(why), Err((Error::TimedOut, Some(0))));
+    assert_eq!(within.set(99, Value::from(1)).map_err(why), Err((Error::NotSent(None), Some(0))));
     assert_eq!(within.pin_for_update(99..101).map_err(why).err(), Some((Error::TimedOut, Some(0))));
     let (own, value) = (pinned.within(short), Value::from(1));
-    assert_eq!(own.insert(100, value).map_err(why), Err((Error::TimedOut, Some(1))));
+    assert_eq!(own.insert(100, value).map_err(why), Err((Error::NotSent(None), Some(1))));
     assert_eq!(own.put(99, value).map_err(why), Err((Error::PinIsVoid, Some(0))));
     assert!(begun.elapsed() < other.timeout(), "it waited as its other calls do");
     drop(pin);
@@ -246,7 +247,7 @@ fn a_client_that_waits_keeps_nothing_that_comes_behind() {
         client.read(BOUND..400).unwrap();
         let (left, right) = (world.join_one(0, 2), world.join_one(1, 3));
         let held = left.pin(0..50).unwrap();
-        left.put(10, Value::from(1)).unwrap();
+        assert_eq!(left.put(10, Value::from(1)), Ok(Outcome::Applied));
         thread::scope(|scope| {
             let waiting = scope.spawn(|| calls(&client));
             let server = &world.servers[0];
@@ -254,7 +255,7 @@ fn a_client_that_waits_keeps_nothing_that_comes_behind() {
             assert!(is_so_soon(waits), "nobody waits");
             // Time for a read to begin to take its parts.
             thread::sleep(SHORT);
-            right.put(300, Value::from(2)).unwrap();
+            assert_eq!(right.put(300, Value::from(2)), Ok(Outcome::Applied));
             assert!(!waiting.is_finished());
             drop(held);
             assert_eq!(waiting.join().unwrap(), Ok(vec![row(10, 1), row(300, 2)]));

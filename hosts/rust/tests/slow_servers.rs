@@ -19,7 +19,7 @@ fn lock_file(name: &str) -> PathBuf {
 /// A client that tries to join for so long, and why it does not.
 fn fails_to_join(server: SocketAddr, name: &str, timeout: Duration) -> (JoinError, Duration) {
     let (lock, begun) = (lock_file(name), Instant::now());
-    let client = Client::builder(server).number(5).lock_file(&lock).timeout(timeout);
+    let client = Client::builder(server, 5, &lock).timeout(timeout);
     let joined = client.join();
     let took = begun.elapsed();
     std::fs::remove_file(lock).unwrap();
@@ -99,7 +99,7 @@ fn a_server_that_takes_nothing_holds_no_call_beyond_its_timeout() {
 fn an_incarnation_is_in_the_lock_file_before_it_is_said() {
     let listener = TcpListener::bind("127.0.0.1:0").unwrap();
     let (address, lock) = (listener.local_addr().unwrap(), lock_file("kept"));
-    let client = Client::builder(address).number(5).lock_file(&lock);
+    let client = Client::builder(address, 5, &lock);
     thread::scope(|scope| {
         scope.spawn(|| client.timeout(Duration::from_millis(300)).join());
         let (mut stream, _) = listener.accept().unwrap();
@@ -149,7 +149,7 @@ fn reads_of_the_cache_go_on_while_a_write_hangs() {
     let (address, lock) = (listener.local_addr().unwrap(), lock_file("cache"));
     let server = Server::start(listener, MemoryStore::default()).unwrap();
     let (network, frozen) = network(address);
-    let client = Client::builder(network).number(5).lock_file(&lock);
+    let client = Client::builder(network, 5, &lock);
     let client = client.timeout(Duration::from_secs(5)).join().unwrap();
     for key in [10, 30] {
         assert_eq!(client.insert(key, Value::from(1)), Ok(Outcome::Applied));

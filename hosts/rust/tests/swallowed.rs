@@ -34,7 +34,7 @@ impl World {
     }
 
     fn join(&self) -> Client {
-        let builder = Client::builder(self.relay.at()).number(5).lock_file(&self.lock);
+        let builder = Client::builder(self.relay.at(), 5, &self.lock);
         builder.timeout(LONG).join().unwrap()
     }
 }

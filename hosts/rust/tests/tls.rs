@@ -54,7 +54,7 @@ fn who_is_not_certified_is_turned_away_at_once_and_says_nothing() {
         assert!(matches!(error, JoinError::TurnedAway(_)), "{what}: {error}");
         assert!(begun.elapsed() < AT_ONCE, "{what}: {:?}", begun.elapsed());
     }
-    let none = Client::builder(server.address()).number(6).lock_file(setup.lock(6)).join();
+    let none = Client::builder(server.address(), 6, setup.lock(6)).join();
     assert!(matches!(none, Err(JoinError::TurnedAway(_))), "no certificate");
     let status = settled(&server);
     assert_eq!((status.taken, status.changes), (0, 0));
@@ -207,7 +207,10 @@ fn what_is_replayed_is_no_message() {
     let servers = krl::Servers::from(Address::Tls(between));
     let servers = servers.with_tls(setup.config(&["krl:client:3"]));
     let client = Client::join(&servers, 3, setup.lock(3)).unwrap();
-    client.insert(10, Value::try_from("a value that nobody sees").unwrap()).unwrap();
+    assert_eq!(
+        client.insert(10, Value::try_from("a value that nobody sees").unwrap()),
+        Ok(Outcome::Applied)
+    );
     client.leave().unwrap();
     let before = settled(&server);
     let recorded = heard.lock().unwrap().clone();

@@ -1,5 +1,5 @@
 //! How many lock requests it takes to read many rows for the first time, or to hold them.
-use krl::{Client, Listener, MemoryStore, Reach, Server, Snapshot, Value};
+use krl::{Client, Listener, MemoryStore, Reach, Row, Server, Value};
 use std::path::PathBuf;
 use std::thread;
 use std::time::{Duration, Instant};
@@ -20,8 +20,8 @@ impl World {
         let name = format!("krl-warming-{}-{name}", std::process::id());
         let folder = std::env::temp_dir().join(name);
         std::fs::create_dir_all(&folder).unwrap();
-        let rows = (0..ROWS).map(|key| (key, Value::from(key))).collect();
-        let store = MemoryStore { snapshot: Snapshot { rows, ..Snapshot::default() } };
+        let row = |key| Row { key, value: Value::from(key) };
+        let store: MemoryStore = (0..ROWS).map(row).collect();
         let listener = Listener::bind(&"127.0.0.1:0".parse().unwrap()).unwrap();
         let server = Server::builder(listener, store).reach(reach).start().unwrap();
         World { server, folder }
@@ -29,7 +29,7 @@ impl World {
 
     fn join(&self, number: u8) -> Client {
         let lock_file = self.folder.join(format!("client-{number}.lock"));
-        let client = Client::builder(self.server.address()).number(number).lock_file(lock_file);
+        let client = Client::builder(self.server.address(), number, lock_file);
         client.timeout(LONG).join().unwrap()
     }
 
@@ -92,8 +92,8 @@ fn a_read_goes_on_after_a_shorter_grant() {
                 assert!(Instant::now() < end, "the reader does not wait");
                 thread::sleep(Duration::from_millis(1));
             }
-            assert_eq!(reader.cached(0..500).map(|rows| rows.len()), Some(500));
-            assert_eq!(reader.cached(0..501), None);
+            assert_eq!(reader.cached(0..500).unwrap().map(|rows| rows.len()), Some(500));
+            assert_eq!(reader.cached(0..501), Ok(None));
             drop(pin);
             assert_eq!(read.join().unwrap(), 1000);
         });

@@ -80,7 +80,7 @@ impl Shown<'_> {
     }
 
     fn as_json(&self) -> Value {
-        let ClientStatus { client, connection, silent_for, lease } = self.status;
+        let ClientStatus { client, connection, silent_for, lease, .. } = self.status;
         let lease = match lease {
             LeaseLeft::Unending => None,
             LeaseLeft::Ends(left) => Some(left.as_secs_f64()),
@@ -98,7 +98,7 @@ impl Shown<'_> {
     }
 
     fn as_row(&self) -> [String; HEADS.len()] {
-        let ClientStatus { client, connection, silent_for, lease } = self.status;
+        let ClientStatus { client, connection, silent_for, lease, .. } = self.status;
         let or_none = |time: Option<Duration>| time.map_or_else(|| NONE.to_string(), brief);
         [
             client.to_string(),
@@ -161,7 +161,7 @@ fn line(row: &[String; HEADS.len()], widths: &[usize; HEADS.len()]) -> String {
 #[cfg(test)]
 mod tests {
     use super::*;
-    use krl::{ClientConnection, HeldSlots, PeerAddress};
+    use krl::{ClientConnection, HeldSlots, Mode, PeerAddress};
 
     fn seconds(seconds: f64) -> Duration {
         Duration::from_secs_f64(seconds)
@@ -169,33 +169,17 @@ mod tests {
 
     fn status() -> Status {
         let peer = PeerAddress::Tcp("10.0.0.9:51234".parse().unwrap());
-        let connected = ClientStatus {
-            client: 3,
-            connection: Some(ClientConnection { peer, open_for: seconds(7_400.0) }),
-            silent_for: Some(seconds(0.2)),
-            lease: LeaseLeft::Ends(seconds(9.75)),
-        };
-        let gone = ClientStatus {
-            client: 12,
-            connection: None,
-            silent_for: None,
-            lease: LeaseLeft::Unending,
-        };
-        let wait = Wait {
-            client: 3,
-            point: 10,
-            hi: krl::END + 1,
-            mode: "RangeX-X",
-            waited: seconds(4.5),
-            waits_for: vec![5, 7],
-        };
-        Status {
-            clients: vec![connected, gone],
-            waits: vec![wait],
-            holdings: vec![HeldSlots { client: 3, slots: 8 }],
-            missing: vec![12],
-            ..Status::default()
-        }
+        let mut connected = ClientStatus::new(3, LeaseLeft::Ends(seconds(9.75)));
+        connected.connection = Some(ClientConnection::new(peer, seconds(7_400.0)));
+        connected.silent_for = Some(seconds(0.2));
+        let gone = ClientStatus::new(12, LeaseLeft::Unending);
+        let mut status = Status::default();
+        status.clients = vec![connected, gone];
+        status.waits =
+            vec![Wait::new(3, 10..krl::END + 1, Mode::RangeXX, seconds(4.5), vec![5, 7])];
+        status.holdings = vec![HeldSlots::new(3, 8)];
+        status.missing = vec![12];
+        status
     }
 
     #[test]

@@ -82,8 +82,8 @@ impl Question {
 
     pub fn as_json(&self, locks: &Locks) -> String {
         let held = |slot: &HeldSlot| {
-            let HeldSlot { lo, hi, mode, client } = slot;
-            json!({ "lo": lo, "hi": end_as_json(*hi), "mode": mode, "client": client })
+            let HeldSlot { lo, hi, mode, client, .. } = slot;
+            json!({ "lo": lo, "hi": end_as_json(*hi), "mode": mode.name(), "client": client })
         };
         let text = json!({
             "lo": self.points.start,
@@ -99,8 +99,8 @@ impl Question {
     pub fn as_text(&self, locks: &Locks) -> String {
         let mut lines = vec![line(["from", "below", "mode", "client"])];
         lines.extend(locks.held.iter().map(|slot| {
-            let HeldSlot { lo, hi, mode, client } = slot;
-            line([&lo.to_string(), &hi.to_string(), mode, &client.to_string()])
+            let HeldSlot { lo, hi, mode, client, .. } = slot;
+            line([&lo.to_string(), &hi.to_string(), mode.name(), &client.to_string()])
         }));
         lines.extend(locks.waits.iter().map(waiting));
         if !locks.is_of_one_moment {
@@ -160,6 +160,7 @@ pub fn ask(options: &LocksOptions) -> Result<String, Box<dyn Error>> {
 #[cfg(test)]
 mod tests {
     use super::*;
+    use krl::Mode;
 
     fn question(points: Range<u64>, limit: usize) -> Question {
         Question { points, limit }
@@ -198,23 +199,20 @@ mod tests {
     }
 
     fn locks() -> Locks {
-        let wait = Wait {
-            client: 3,
-            point: 10,
-            hi: 20,
-            mode: "RangeX-X",
-            waited: Duration::from_millis(40),
-            waits_for: vec![1, 2],
-        };
-        Locks {
-            held: vec![
-                HeldSlot { lo: 0, hi: 11, client: 1, mode: "RangeS-S" },
-                HeldSlot { lo: 11, hi: TOP, client: 2, mode: "X" },
-            ],
-            next: None,
-            waits: vec![wait],
-            is_of_one_moment: true,
-        }
+        let waited = Duration::from_millis(40);
+        let mut locks = Locks::default();
+        locks.held =
+            vec![HeldSlot::new(1, 0..11, Mode::RangeSS), HeldSlot::new(2, 11..TOP, Mode::X)];
+        locks.waits = vec![Wait::new(3, 10..20, Mode::RangeXX, waited, vec![1, 2])];
+        locks.is_of_one_moment = true;
+        locks
+    }
+
+    /// The same, and there are more.
+    fn locks_in_part() -> Locks {
+        let mut locks = locks();
+        locks.next = Some(7);
+        locks
     }
 
     #[test]
@@ -225,7 +223,8 @@ mod tests {
                      \x20                11 9223372036854775808 X             2\n\
                      client 3 waits for 1, 2: RangeX-X from 10 below 20, for 40 ms\n";
         assert_eq!(question.as_text(&locks()), whole);
-        let part = Locks { next: Some(7), is_of_one_moment: false, ..locks() };
+        let mut part = locks_in_part();
+        part.is_of_one_moment = false;
         let part = question.as_text(&part);
         let notes = part.strip_prefix(whole).unwrap();
         assert!(notes.contains("not of one moment\n"), "{notes}");
@@ -234,7 +233,7 @@ mod tests {
 
     #[test]
     fn json() {
-        let text = question(0..20, 64).as_json(&Locks { next: Some(7), ..locks() });
+        let text = question(0..20, 64).as_json(&locks_in_part());
         let value: serde_json::Value = serde_json::from_str(&text).unwrap();
         assert_eq!(value["locks"][1], json!({ "lo": 11, "hi": null, "mode": "X", "client": 2 }));
         assert_eq!(value["waits"][0]["hi"], 20);

@@ -71,7 +71,7 @@ impl News {
                 let others = waits_for.iter().map(u8::to_string).collect::<Vec<_>>().join(",");
                 let seconds = waited.as_secs();
                 tracing::warn!(
-                    client, waits_for = %others, mode, lo = point, hi, seconds,
+                    client, waits_for = %others, mode = mode.name(), lo = point, hi, seconds,
                     "a client has waited for long"
                 );
             }
@@ -88,7 +88,7 @@ mod tests {
 
     fn wait(client: u8, seconds: u64) -> Wait {
         let waited = Duration::from_secs(seconds);
-        Wait { client, point: 15, hi: 16, mode: "X", waited, waits_for: vec![3] }
+        Wait::new(client, 15..16, krl::Mode::X, waited, vec![3])
     }
 
     #[test]

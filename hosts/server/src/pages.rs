@@ -353,7 +353,7 @@ pub fn wait_as_json(wait: &Wait) -> serde_json::Value {
         "client": wait.client,
         "point": wait.point,
         "hi": locks::end_as_json(wait.hi),
-        "mode": wait.mode,
+        "mode": wait.mode.name(),
         "waited_seconds": wait.waited.as_secs_f64(),
         "waits_for": wait.waits_for,
     })
@@ -527,11 +527,13 @@ mod tests {
 
     #[test]
     fn a_server_that_recovers_is_not_ready() {
-        let mut status = Status { missing: vec![1, 7], ..Status::default() };
+        let mut status = Status::default();
+        status.missing = vec![1, 7];
         let page = readiness(&status);
         assert_eq!(page.status, StatusCode::SERVICE_UNAVAILABLE);
         assert_eq!(page.text, "recovering: the clients 1, 7 have to report, or to be evicted\n");
-        let failed = Status { failure: Some("no disk".to_string()), ..status.clone() };
+        let mut failed = status.clone();
+        failed.failure = Some("no disk".to_string());
         assert_eq!(readiness(&failed).text, "failed: no disk\n");
         assert_eq!(readiness(&Status::default()).text, "starting\n");
         status.is_serving = true;
@@ -540,24 +542,12 @@ mod tests {
 
     #[test]
     fn json_has_the_status() {
-        let wait = Wait {
-            client: 3,
-            point: 10,
-            hi: 20,
-            mode: "RangeX-X",
-            waited: Duration::from_millis(40),
-            waits_for: vec![0, 2],
-        };
-        let holdings = vec![HeldSlots { client: 2, slots: 7 }];
-        let status = Status {
-            epoch: 4,
-            rows: 5,
-            waits: vec![wait],
-            holdings,
-            commits: 9,
-            unleased: vec![6],
-            ..Status::default()
-        };
+        let waited = Duration::from_millis(40);
+        let mut status = Status::default();
+        (status.epoch, status.rows, status.commits) = (4, 5, 9);
+        status.waits = vec![Wait::new(3, 10..20, krl::Mode::RangeXX, waited, vec![0, 2])];
+        status.holdings = vec![HeldSlots::new(2, 7)];
+        status.unleased = vec![6];
         let rates = Some(Rates { commits: 2.5, ..Rates::default() });
         let page = as_json(&status, &State::Starts, "0..500@3".parse().ok(), rates);
         let value: serde_json::Value = serde_json::from_str(&page.text).unwrap();

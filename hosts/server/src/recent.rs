@@ -175,11 +175,15 @@ mod tests {
     fn sample(at: Instant, epoch: u64, commits: u64) -> Sample {
         let counted = Counted { commits, ..Counted::default() };
         let counts = Counts { buckets: vec![(10, commits)], count: commits, sum: 7 * commits };
-        Sample { at, epoch, counted, measured: Measured { commits: counts, ..Measured::default() } }
+        let mut measured = Measured::default();
+        measured.commits = counts;
+        Sample { at, epoch, counted, measured }
     }
 
     fn status(epoch: u64, commits: u64) -> Status {
-        Status { epoch, commits, ..Status::default() }
+        let mut status = Status::default();
+        (status.epoch, status.commits) = (epoch, commits);
+        status
     }
 
     #[test]

@@ -26,7 +26,7 @@ fn granted(serving: &Serving) -> u64 {
 }
 
 fn join(serving: &Serving, lock_file: &Path) -> Client {
-    let client = Client::builder(&serving.address).number(3).lock_file(lock_file);
+    let client = Client::builder(&serving.address, 3, lock_file);
     client.timeout(LONG).join().unwrap()
 }
 
@@ -65,7 +65,7 @@ fn each_start_has_its_own_reach() {
         assert_eq!(granted(&serves) - before, grants, "reach {reach}");
         serves.signal(&["KILL"]);
         serves.ended();
-        assert_eq!(client.cached(0..ROWS), Some(expected.clone()), "it is held on");
+        assert_eq!(client.cached(0..ROWS), Ok(Some(expected.clone())), "it is held on");
     }
 }
 

@@ -23,7 +23,7 @@ fn full() -> Snapshot {
 }
 
 fn join(serving: &Serving, lock_file: &Path, number: u8) -> Client {
-    let builder = Client::builder(&serving.address).number(number).lock_file(lock_file);
+    let builder = Client::builder(&serving.address, number, lock_file);
     builder.timeout(LONG).join().unwrap()
 }
 
@@ -76,8 +76,8 @@ fn a_full_server_is_split_and_its_clients_go_on() {
     let servers = [&store, &upper].map(|store| Serving::start(store));
     let map = ShardMap::new(vec![shard(0, &servers[0]), shard(80_000, &servers[1])]).unwrap();
     let clients = [1, 2, 9].map(|number| {
-        let builder = ShardedClient::builder(map.clone()).number(number);
-        builder.lock_folder(folder.path()).timeout(LONG).join().unwrap()
+        let builder = ShardedClient::builder(map.clone(), number, folder.path());
+        builder.timeout(LONG).join().unwrap()
     });
     let expected: Vec<u64> = (0..FULL).map(|key| 2 * key).collect();
     for client in &clients {

@@ -17,7 +17,7 @@ fn row(key: u64, number: u64) -> Row {
 fn looked_up(client: &Client, ends: &AtomicBool) -> Vec<Option<Vec<Row>>> {
     let mut found = Vec::new();
     while !ends.load(Ordering::Relaxed) {
-        found.push(client.cached(1..2));
+        found.push(client.cached(1..2).unwrap());
         found.dedup();
         // Otherwise it might keep the other callers from the client for long.
         thread::sleep(Duration::from_micros(50));
@@ -65,7 +65,7 @@ fn a_client_that_lives_through_a_restore_drops_its_cache_and_joins_anew() {
     assert_eq!(restored.status.code(), Some(0), "{}", errors(&restored));
     assert!(text(&run(&["check", &new])).contains("clients that have left: 3"));
 
-    assert_eq!(client.cached(1..2), Some(vec![row(1, 7)]), "it has heard nothing");
+    assert_eq!(client.cached(1..2), Ok(Some(vec![row(1, 7)])), "it has heard nothing");
     let (asked, ends) = (Barrier::new(2), AtomicBool::new(false));
     let serving = thread::scope(|scope| {
         let over = Over(&ends);

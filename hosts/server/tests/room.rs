@@ -16,7 +16,7 @@ fn serve(store: &Path, room: &str) -> Serving {
 }
 
 fn join(serving: &Serving, lock_file: &Path) -> Client {
-    let client = Client::builder(&serving.address).number(3).lock_file(lock_file);
+    let client = Client::builder(&serving.address, 3, lock_file);
     client.timeout(LONG).join().unwrap()
 }
 

@@ -68,7 +68,7 @@ fn a_signal_ends_a_server_within_a_second() {
     let ended = serving.ended();
     assert_eq!(ended.status.code(), Some(0));
     assert!(ended.took < Duration::from_secs(1), "{:?}", ended.took);
-    assert_eq!(client.cached(7..8).map(|rows| rows.len()), Some(1));
+    assert_eq!(client.cached(7..8).unwrap().map(|rows| rows.len()), Some(1));
 }
 
 #[test]

@@ -15,7 +15,7 @@ fn serve(store: &Path, shard: &str) -> Serving {
 
 fn join(serving: &Serving, shard: &str, lock_file: &Path) -> Result<Client, JoinError> {
     let servers = Servers::from(&serving.address).of_shard(shard.parse().unwrap());
-    Client::builder(servers).number(3).lock_file(lock_file).timeout(LONG).join()
+    Client::builder(servers, 3, lock_file).timeout(LONG).join()
 }
 
 #[test]

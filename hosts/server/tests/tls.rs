@@ -256,7 +256,7 @@ fn a_server_over_an_older_store_says_so_once_and_ends_with_status_3() {
     assert_eq!(ended.and_then(|status| status.code()), Some(3), "{log}");
     let told = "the store lacks what the holder of the identity 3 has seen of it";
     assert_eq!(log.matches(told).count(), 1, "{log}");
-    until("the client has dropped its cache", || client.cached(1..2).is_none());
+    until("the client has dropped its cache", || client.cached(1..2).unwrap().is_none());
     let serving = setup.serve_at(&at, &[]);
     assert_eq!(client.put(1, Value::from(3)), Ok(Outcome::Applied), "it has joined anew");
     drop(serving);

@@ -110,7 +110,7 @@ pub fn ended<Asked, Answer>(
     let waiting = place.as_ref()?;
     let answer = match waiting.call.answer() {
         Some(answer) => answer,
-        None if time >= waiting.deadline => Err(client.give_up(&waiting.call, time)),
+        None if time >= waiting.deadline => client.give_up(&waiting.call, time),
         None => return None,
     };
     let Waiting { asked, made, .. } = place.take()?;

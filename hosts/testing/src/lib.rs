@@ -19,6 +19,7 @@ pub mod deaf_relay;
 pub mod etcd_relay;
 pub mod ports;
 pub mod relay;
+pub mod wake_count;
 
 /// An address of this text, of a type of the package whose test asks.
 #[cfg(any(feature = "cluster", feature = "database"))]

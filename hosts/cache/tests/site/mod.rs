@@ -60,7 +60,7 @@ impl Krl {
         let server: krl::Address = server.parse().unwrap();
         let join = |number: u8| {
             let lock_file = self.folder.join(format!("client-{number}.lock"));
-            let builder = Client::builder(server.clone()).number(number).lock_file(lock_file);
+            let builder = Client::builder(server.clone(), number, lock_file);
             builder.timeout(LONG).join().unwrap()
         };
         let (reader, writer) = (join(2 * number), join(2 * number + 1));

@@ -182,25 +182,26 @@ static void waits(krlc_client *client, krlc_client *other, krlc_rows *rows) {
     EXPECT(KRLC_TIMED_OUT, krlc_read(client, 300, 310, rows, 0, &error));
     WANT(krlc_is_unknown_outcome(error.code));
     EXPECT(KRLC_OK, krlc_set_timeout(client, LONG_MS, &error));
-    /* Timeouts of single calls: the client's would be longer than the test may take. */
+    /* Timeouts of single calls: the client's would be longer than the test may take. A write that waits for its lock is
+     * not sent, and so is not made. */
     EXPECT(KRLC_TIMED_OUT, krlc_read(client, 300, 310, rows, 50, &error));
-    EXPECT(KRLC_TIMED_OUT, krlc_insert(client, 301, "", 0, 50, &error));
-    EXPECT(KRLC_TIMED_OUT, krlc_put(client, 301, "", 0, 50, &error));
-    EXPECT(KRLC_TIMED_OUT, krlc_set(client, 301, "", 0, 50, &error));
-    EXPECT(KRLC_TIMED_OUT, krlc_delete(client, 301, 50, &error));
+    EXPECT(KRLC_NOT_MADE, krlc_insert(client, 301, "", 0, 50, &error));
+    EXPECT(KRLC_NOT_MADE, krlc_put(client, 301, "", 0, 50, &error));
+    EXPECT(KRLC_NOT_MADE, krlc_set(client, 301, "", 0, 50, &error));
+    EXPECT(KRLC_NOT_MADE, krlc_delete(client, 301, 50, &error));
     /* The client knows by itself that the first key has no row. */
     krlc_write writes[] = {write_of(KRLC_DELETE, 320, ""), write_of(KRLC_PUT, 301, ""), write_of(KRLC_PUT, 321, "")};
-    EXPECT(KRLC_TIMED_OUT, krlc_write_all(client, writes, 3, 50, &error));
-    WANT(writes[0].outcome == KRLC_ABSENT && writes[1].outcome == KRLC_UNKNOWN && writes[2].outcome == KRLC_NOT_MADE);
+    EXPECT(KRLC_NOT_MADE, krlc_write_all(client, writes, 3, 50, &error));
+    WANT(writes[0].outcome == KRLC_ABSENT && writes[1].outcome == KRLC_NOT_MADE && writes[2].outcome == KRLC_NOT_MADE);
     WANT(krlc_is_unknown_outcome(KRLC_UNKNOWN) && !krlc_is_unknown_outcome(KRLC_NOT_MADE));
     EXPECT(KRLC_TIMED_OUT, krlc_pin_for_read(client, 300, 310, rows, &none, 50, &error));
     EXPECT(KRLC_TIMED_OUT, krlc_pin_for_update(client, 300, 310, rows, &none, 50, &error));
     EXPECT(KRLC_TIMED_OUT, krlc_pin_for_write(client, 300, 310, rows, &none, 50, &error));
     WANT(none == NULL);
-    EXPECT(KRLC_TIMED_OUT, krlc_pin_insert(second, 301, "", 0, 50, &error));
-    EXPECT(KRLC_TIMED_OUT, krlc_pin_put(second, 301, "", 0, 50, &error));
-    EXPECT(KRLC_TIMED_OUT, krlc_pin_set(second, 301, "", 0, 50, &error));
-    EXPECT(KRLC_TIMED_OUT, krlc_pin_delete(second, 301, 50, &error));
+    EXPECT(KRLC_NOT_MADE, krlc_pin_insert(second, 301, "", 0, 50, &error));
+    EXPECT(KRLC_NOT_MADE, krlc_pin_put(second, 301, "", 0, 50, &error));
+    EXPECT(KRLC_NOT_MADE, krlc_pin_set(second, 301, "", 0, 50, &error));
+    EXPECT(KRLC_NOT_MADE, krlc_pin_delete(second, 301, 50, &error));
     krlc_pin_free(second);
     krlc_pin_free(pin);
     EXPECT(KRLC_OK, krlc_read(client, 300, 310, rows, 0, &error));

@@ -100,7 +100,8 @@ class log {
 };
 
 bool is_unanswered(const krl::error &failed) {
-    return failed.code() == KRLC_TIMED_OUT || failed.code() == KRLC_UNSERVED || failed.code() == KRLC_LEASE_ENDED;
+    return failed.code() == KRLC_TIMED_OUT || failed.code() == KRLC_UNSERVED || failed.code() == KRLC_LEASE_ENDED ||
+           failed.code() == KRLC_NOT_MADE;
 }
 
 krl::options options_of(const std::string &number, const std::string &servers, const std::string &folder) {

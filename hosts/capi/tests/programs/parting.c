@@ -11,7 +11,9 @@ static void *write_on(void *key) {
     uint32_t code;
     while ((code = krlc_put(client, (uint64_t)(uintptr_t)key, "new", 3, 0, &error)) <= KRLC_ANSWERS)
         continue;
-    WANT(krlc_is_unknown_outcome(code) && (code == KRLC_TIMED_OUT || code == KRLC_UNSERVED));
+    /* A client sends one write at a time: of the others, those that wait were not sent. */
+    WANT(code == KRLC_NOT_MADE || code == KRLC_TIMED_OUT || code == KRLC_UNSERVED);
+    WANT(krlc_is_unknown_outcome(code) == (code != KRLC_NOT_MADE));
     return NULL;
 }
 

@@ -114,13 +114,13 @@ void timeouts(krl::client &client, krl::client &other) {
     auto held = other.pin_for_write(300, 310);
     auto own = client.pin_for_read(320, 330);
     throws(KRLC_TIMED_OUT, [&] { (void)client.read(300, 310, 50ms); });
-    throws(KRLC_TIMED_OUT, [&] { (void)client.insert(301, "", 50ms); });
-    throws(KRLC_TIMED_OUT, [&] { (void)client.set(301, "", 50ms); });
-    throws(KRLC_TIMED_OUT, [&] { (void)client.erase(301, 50ms); });
+    throws(KRLC_NOT_MADE, [&] { (void)client.insert(301, "", 50ms); });
+    throws(KRLC_NOT_MADE, [&] { (void)client.set(301, "", 50ms); });
+    throws(KRLC_NOT_MADE, [&] { (void)client.erase(301, 50ms); });
     throws(KRLC_TIMED_OUT, [&] { (void)client.pin_for_update(300, 310, 50ms); });
-    throws(KRLC_TIMED_OUT, [&] { (void)own.pin.put(301, "", 50ms); });
-    throws(KRLC_TIMED_OUT, [&] { (void)own.pin.set(301, "", 50ms); });
-    throws(KRLC_TIMED_OUT, [&] { (void)own.pin.erase(301, 50ms); });
+    throws(KRLC_NOT_MADE, [&] { (void)own.pin.put(301, "", 50ms); });
+    throws(KRLC_NOT_MADE, [&] { (void)own.pin.set(301, "", 50ms); });
+    throws(KRLC_NOT_MADE, [&] { (void)own.pin.erase(301, 50ms); });
     held.pin.release();
     want(client.read(300, 310, 60s).empty(), "a read after the pin");
 }

@@ -177,7 +177,7 @@ impl Worker {
         let lo = (self.keys.start + place).min(self.keys.end - self.rows);
         let keys = lo..lo + self.rows;
         let begun = Instant::now();
-        if self.table.cached_into(keys.clone(), &mut self.room) {
+        if self.table.cached_into(keys.clone(), &mut self.room).is_ok_and(|is_cached| is_cached) {
             self.measured.cached.record_if(counted, begun.elapsed());
             return;
         }

@@ -1,4 +1,5 @@
 //! Where the answer to a job comes: a caller waits for it, or a task that polls it is woken.
+use crate::client::wakes::Wakes;
 use std::sync::mpsc::{RecvTimeoutError, TryRecvError};
 use std::sync::{Arc, Condvar, Mutex, MutexGuard, PoisonError};
 use std::task::{Context, Poll, Waker};
@@ -16,20 +17,23 @@ pub(crate) struct Answering<T>(Arc<Place<T>>);
 struct Place<T> {
     state: Mutex<State<T>>,
     changed: Condvar,
+    wakes: Wakes,
 }
 
 #[derive(Debug)]
 enum State<T> {
-    /// There is no answer yet. This task is woken when there is one, or when none comes any more.
+    /// There is no answer yet. This task is to be woken when there is one, or when none comes any
+    /// more.
     Open(Option<Waker>),
     Answered(T),
     /// The answer was taken, or none comes any more.
     Over,
 }
 
-/// A place for one answer.
-pub(crate) fn place<T>() -> (Answering<T>, Answer<T>) {
-    let place = Arc::new(Place { state: Mutex::new(State::Open(None)), changed: Condvar::new() });
+/// A place for one answer. A task that waits for it is woken with `wakes`.
+pub(crate) fn place<T>(wakes: &Wakes) -> (Answering<T>, Answer<T>) {
+    let (state, changed) = (Mutex::new(State::Open(None)), Condvar::new());
+    let place = Arc::new(Place { state, changed, wakes: wakes.clone() });
     (Answering(Arc::clone(&place)), Answer(place))
 }
 
@@ -79,10 +83,10 @@ impl<T> Answer<T> {
     pub fn poll(&self, context: &Context<'_>) -> Poll<Option<T>> {
         let mut state = self.0.lock();
         if let State::Open(waker) = &mut *state {
-            match waker {
-                Some(waker) => waker.clone_from(context.waker()),
-                None => *waker = Some(context.waker().clone()),
-            }
+            let known = waker.replace(context.waker().clone());
+            // It may be the last of a task, whose own calls end then.
+            drop(state);
+            drop(known);
             return Poll::Pending;
         }
         Poll::Ready(state.take().ok())
@@ -121,8 +125,8 @@ impl<T> Place<T> {
         *state = end;
         drop(state);
         self.changed.notify_all();
-        if let Some(waker) = waker {
-            waker.wake();
+        if let Some(task) = waker {
+            self.wakes.add(task);
         }
     }
 }
@@ -130,23 +134,13 @@ impl<T> Place<T> {
 #[cfg(test)]
 mod tests {
     use super::*;
-    use std::sync::atomic::{AtomicUsize, Ordering};
-    use std::task::Wake;
+    use krl_testing::wake_count::WakeCount;
 
     const LONG: Duration = Duration::from_secs(30);
 
-    #[derive(Default)]
-    struct Count(AtomicUsize);
-
-    impl Wake for Count {
-        fn wake(self: Arc<Count>) {
-            self.0.fetch_add(1, Ordering::Relaxed);
-        }
-    }
-
     #[test]
     fn an_answer_is_taken_once() {
-        let (answering, answer) = place();
+        let (answering, answer) = place(&Wakes::default());
         assert_eq!(answer.try_recv(), Err(TryRecvError::Empty));
         answering.give(7);
         assert_eq!(answer.recv_timeout(LONG), Ok(7));
@@ -155,7 +149,7 @@ mod tests {
 
     #[test]
     fn one_who_waits_learns_that_no_answer_comes() {
-        let (answering, answer) = place::<u8>();
+        let (answering, answer) = place::<u8>(&Wakes::default());
         let waiting = std::thread::spawn(move || answer.recv_timeout(LONG));
         drop(answering);
         assert_eq!(waiting.join().unwrap(), Err(RecvTimeoutError::Disconnected));
@@ -164,17 +158,21 @@ mod tests {
     #[test]
     fn a_task_is_woken_once_by_an_answer_and_by_its_absence() {
         for gives in [true, false] {
-            let (count, (answering, answer)) = (Arc::new(Count::default()), place());
-            let waker = Waker::from(Arc::clone(&count));
-            assert!(answer.poll(&Context::from_waker(&waker)).is_pending());
-            assert!(answer.poll(&Context::from_waker(&waker)).is_pending());
+            let (count, wakes) = (WakeCount::new(), Wakes::default());
+            let (answering, answer) = place(&wakes);
+            let task = count.waker();
+            assert!(answer.poll(&Context::from_waker(&task)).is_pending());
+            assert!(answer.poll(&Context::from_waker(&task)).is_pending());
             if gives {
                 answering.give(7);
             } else {
                 drop(answering);
             }
-            assert_eq!(count.0.load(Ordering::Relaxed), 1);
-            let found = answer.poll(&Context::from_waker(&waker));
+            assert_eq!(count.get(), 0, "the client may be locked still");
+            wakes.wake_all();
+            wakes.wake_all();
+            assert_eq!(count.get(), 1);
+            let found = answer.poll(&Context::from_waker(&task));
             assert_eq!(found, Poll::Ready(gives.then_some(7)));
         }
     }

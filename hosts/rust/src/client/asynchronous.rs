@@ -18,7 +18,8 @@ use std::sync::Arc;
 use std::time::{Duration, Instant};
 
 /// A client whose calls are futures, for tasks of any executor. It has no executor and no timer of
-/// its own: the client's thread wakes the tasks.
+/// its own: the client's thread wakes the tasks. It has locked nothing then, so an executor may poll
+/// a task within the call that wakes it.
 ///
 /// Each call is that of [`Client`] of the same name, with its outcomes and errors, and ends by the
 /// client's timeout, or a little later while the client connects. A call begins when its future is
@@ -30,7 +31,7 @@ use std::time::{Duration, Instant};
 /// thread that may wait, and [`AsyncClient::leave`] before the last clone is dropped.
 ///
 /// ```
-/// use krl::{AsyncClient, Client, MemoryStore, Server, Value};
+/// use krl::{AsyncClient, Client, MemoryStore, Outcome, Server, Value};
 /// # use std::{pin::pin, sync::Arc, task::{Context, Poll, Wake, Waker}, thread::{self, Thread}};
 /// # struct Unpark(Thread);
 /// # impl Wake for Unpark {
@@ -54,7 +55,7 @@ use std::time::{Duration, Instant};
 /// let server = Server::start(listener, MemoryStore::default())?;
 /// let client = AsyncClient::from(Client::join(server.address(), 0, lock_file)?);
 /// block_on(async {
-///     client.insert(15, Value::from(5)).await?;
+///     assert_eq!(client.insert(15, Value::from(5)).await?, Outcome::Applied);
 ///     assert_eq!(client.read(10..20).await?.len(), 1);
 ///     client.leave().await
 /// })?;
@@ -83,7 +84,7 @@ impl AsyncClient {
     /// Those of [`Client::read`].
     pub async fn read(&self, keys: impl RangeBounds<u64>) -> Result<Vec<Row>, Error> {
         let keys = keys_of(&keys)?;
-        match self.client.cached(keys.clone()) {
+        match self.client.cached(keys.clone())? {
             Some(rows) => Ok(rows),
             None => ask(self.shared(), |jobs| jobs.read(keys)).await,
         }
@@ -406,7 +407,7 @@ async fn set_by(
         let Some(following) = set::after(next, outcome) else { return Ok(outcome) };
         next = following;
         if Instant::now() >= end {
-            return Err(Error::TimedOut);
+            return Err(Error::NotSent(None));
         }
     }
 }

@@ -11,71 +11,27 @@ use std::path::{Path, PathBuf};
 use std::time::Duration;
 
 /// What a client is given before it joins: its servers, its number and its lock file, and how long
-/// its calls wait. The number and the lock file have to be said, or several numbers and a folder.
+/// its calls wait. [`Client::builder`] and [`Client::builder_with_numbers`] make one.
 #[derive(Clone, Debug)]
 #[must_use = "a builder does nothing before `join`"]
 pub struct ClientBuilder {
     servers: Servers,
-    numbers: Vec<u8>,
-    lock_file: Option<LockPlace>,
+    numbers: Numbers,
     waits: Waits,
 }
 
-/// Where the lock file of a number is.
+/// Which numbers a client may have, and where their lock files are.
 #[derive(Clone, Debug)]
-enum LockPlace {
-    File(PathBuf),
-    Folder(PathBuf),
-}
-
-impl LockPlace {
-    fn of(&self, number: u8) -> PathBuf {
-        match self {
-            LockPlace::File(file) => file.clone(),
-            LockPlace::Folder(folder) => folder.join(format!("client-{number}.lock")),
-        }
-    }
+enum Numbers {
+    /// This one, by this file.
+    One(u8, PathBuf),
+    /// The first free one of these, by its file in this folder.
+    FirstFree(Vec<u8>, PathBuf),
 }
 
 impl ClientBuilder {
-    pub(crate) fn new(servers: Servers) -> ClientBuilder {
-        ClientBuilder { servers, numbers: vec![], lock_file: None, waits: Waits::by_default() }
-    }
-
-    /// The client's number, from 0 to 63. One process at a time may be the client of a number.
-    pub fn number(mut self, number: u8) -> ClientBuilder {
-        self.numbers = vec![number];
-        self
-    }
-
-    /// Several numbers, of which the client takes the first that is free: [`Client::number`]
-    /// reports which. They need a [`ClientBuilder::lock_folder`]. A number whose lock file another
-    /// process has is left for the next one at once, and one of which the server reports that
-    /// another process has it after a second.
-    ///
-    /// ```no_run
-    /// # use krl::{Address, Client};
-    /// let address: Address = "127.0.0.1:7400".parse()?;
-    /// let client = Client::builder(address).numbers(0..=9).lock_folder("/var/lib/app").join()?;
-    /// # Ok::<(), Box<dyn std::error::Error>>(())
-    /// ```
-    pub fn numbers(mut self, numbers: impl IntoIterator<Item = u8>) -> ClientBuilder {
-        self.numbers = numbers.into_iter().collect();
-        self
-    }
-
-    /// The folder of the lock files, in place of one file: that of number 3 is `client-3.lock`
-    /// there. The folder has to be there.
-    pub fn lock_folder(mut self, path: impl Into<PathBuf>) -> ClientBuilder {
-        self.lock_file = Some(LockPlace::Folder(path.into()));
-        self
-    }
-
-    /// The file that keeps a second process of this machine off the number, and that holds the
-    /// incarnation of the last one. It is made if there is none.
-    pub fn lock_file(mut self, path: impl Into<PathBuf>) -> ClientBuilder {
-        self.lock_file = Some(LockPlace::File(path.into()));
-        self
+    fn new(servers: Servers, numbers: Numbers) -> ClientBuilder {
+        ClientBuilder { servers, numbers, waits: Waits::by_default() }
     }
 
     /// What the client shows to its servers if they listen by TLS, and whom it believes. It is
@@ -108,20 +64,23 @@ impl ClientBuilder {
     ///
     /// # Errors
     ///
-    /// `Incomplete` if no number or no lock file was said, or several numbers and one file;
-    /// `LockFile` if other processes have the files of all numbers; otherwise those of
-    /// [`Client::join`].
+    /// Those of [`Client::join`]. Of a builder for several numbers, `LockFile` if other processes have
+    /// the files of all of them, and `Incomplete` if there are none.
     pub fn join(self) -> Result<Client, JoinError> {
-        let place = self.lock_file.ok_or(JoinError::Incomplete("a lock file"))?;
         let (servers, waits) = (self.servers, self.waits);
-        let join = |number, waits| {
-            joining::join(servers.clone(), number, &place.of(number), waits, Errand::Work)
+        let join = |number, waits, lock_file: &Path| {
+            joining::join(servers.clone(), number, lock_file, waits, Errand::Work)
         };
-        match (&self.numbers[..], &place) {
-            ([], _) => Err(JoinError::Incomplete("a number")),
-            (&[number], _) => join(number, waits),
-            (_, LockPlace::File(_)) => Err(JoinError::Incomplete("a folder of lock files")),
-            (numbers, LockPlace::Folder(_)) => {
+        let (numbers, folder) = match self.numbers {
+            Numbers::One(number, lock_file) => return join(number, waits, &lock_file),
+            Numbers::FirstFree(numbers, folder) => (numbers, folder),
+        };
+        let join =
+            |number, waits| join(number, waits, &folder.join(format!("client-{number}.lock")));
+        match numbers[..] {
+            [] => Err(JoinError::Incomplete("a number")),
+            [number] => join(number, waits),
+            ref numbers => {
                 let joined = numbers::join_first(numbers, waits, join, |error| error);
                 joined.unwrap_or(Err(JoinError::LockFile(LockFileError::Taken)))
             }
@@ -150,20 +109,42 @@ impl Client {
         joining::join(servers.into(), number, lock_file, waits, Errand::Work)
     }
 
-    /// Says more of a client before it joins: how long its calls wait.
+    /// A builder for a client of this number with this lock file, as [`Client::join`] takes them: it
+    /// says more before the client joins, such as how long its calls wait.
     ///
     /// ```no_run
     /// # use krl::{Address, Client};
     /// # use std::time::Duration;
     /// let address: Address = "127.0.0.1:7400".parse()?;
-    /// let client = Client::builder(address)
-    ///     .number(3)
-    ///     .lock_file("client-3.lock")
-    ///     .timeout(Duration::from_secs(2))
-    ///     .join()?;
+    /// let builder = Client::builder(address, 3, "client-3.lock");
+    /// let client = builder.timeout(Duration::from_secs(2)).join()?;
     /// # Ok::<(), Box<dyn std::error::Error>>(())
     /// ```
-    pub fn builder(servers: impl Into<Servers>) -> ClientBuilder {
-        ClientBuilder::new(servers.into())
+    pub fn builder(
+        servers: impl Into<Servers>,
+        number: u8,
+        lock_file: impl Into<PathBuf>,
+    ) -> ClientBuilder {
+        ClientBuilder::new(servers.into(), Numbers::One(number, lock_file.into()))
+    }
+
+    /// A builder for a client that takes the first of these numbers that is free: [`Client::number`]
+    /// tells which. The lock files are in the folder, which has to be there: that of number 3 is
+    /// `client-3.lock`. A number whose lock file another process has is left for the next one at once,
+    /// and one of which the server tells that another process has it after a second.
+    ///
+    /// ```no_run
+    /// # use krl::{Address, Client};
+    /// let address: Address = "127.0.0.1:7400".parse()?;
+    /// let client = Client::builder_with_numbers(address, 0..=9, "/var/lib/app").join()?;
+    /// # Ok::<(), Box<dyn std::error::Error>>(())
+    /// ```
+    pub fn builder_with_numbers(
+        servers: impl Into<Servers>,
+        numbers: impl IntoIterator<Item = u8>,
+        lock_folder: impl Into<PathBuf>,
+    ) -> ClientBuilder {
+        let numbers = Numbers::FirstFree(numbers.into_iter().collect(), lock_folder.into());
+        ClientBuilder::new(servers.into(), numbers)
     }
 }

@@ -9,6 +9,9 @@ use std::time::{Duration, Instant};
 const LOOKS: Duration = Duration::from_millis(250);
 
 /// The tasks that wait for answers, by when they give up.
+///
+/// What is known of a task is dropped when nothing is locked any more: it may be the last of the
+/// task, whose own calls end then.
 #[derive(Debug, Default)]
 pub(crate) struct Deadlines {
     waiting: Mutex<BTreeMap<(Instant, JobId), Waker>>,
@@ -17,15 +20,14 @@ pub(crate) struct Deadlines {
 impl Deadlines {
     /// The task of this job is woken at its deadline.
     pub fn put(&self, end: Instant, job: JobId, waker: &Waker) {
-        self.lock()
-            .entry((end, job))
-            .and_modify(|known| known.clone_from(waker))
-            .or_insert_with(|| waker.clone());
+        let known = self.lock().insert((end, job), waker.clone());
+        drop(known);
     }
 
     /// The job has ended.
     pub fn remove(&self, end: Instant, job: JobId) {
-        self.lock().remove(&(end, job));
+        let known = self.lock().remove(&(end, job));
+        drop(known);
     }
 
     /// How soon to look again. A deadline that is put later may be earlier than all others.
@@ -54,23 +56,12 @@ impl Deadlines {
 #[cfg(test)]
 mod tests {
     use super::*;
-    use std::sync::Arc;
-    use std::sync::atomic::{AtomicUsize, Ordering};
-    use std::task::Wake;
-
-    #[derive(Default)]
-    struct Count(AtomicUsize);
-
-    impl Wake for Count {
-        fn wake(self: Arc<Count>) {
-            self.0.fetch_add(1, Ordering::Relaxed);
-        }
-    }
+    use krl_testing::wake_count::WakeCount;
 
     #[test]
     fn a_task_is_woken_once_at_its_deadline_unless_it_has_ended() {
-        let (count, now) = (Arc::new(Count::default()), Instant::now());
-        let (waker, second) = (Waker::from(Arc::clone(&count)), Duration::from_secs(1));
+        let (count, now) = (WakeCount::new(), Instant::now());
+        let (waker, second) = (count.waker(), Duration::from_secs(1));
         let deadlines = Deadlines::default();
         assert_eq!(deadlines.next_in(now), LOOKS);
         for (end, job) in [(now + second, 1), (now, 2), (now, 3)] {
@@ -80,8 +71,8 @@ mod tests {
         deadlines.remove(now, 3);
         deadlines.wake_due(now);
         deadlines.wake_due(now);
-        assert_eq!(count.0.load(Ordering::Relaxed), 1);
+        assert_eq!(count.get(), 1);
         deadlines.wake_due(now + second);
-        assert_eq!(count.0.load(Ordering::Relaxed), 2);
+        assert_eq!(count.get(), 2);
     }
 }

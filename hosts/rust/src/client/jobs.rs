@@ -15,12 +15,14 @@ mod yielding;
 use crate::client::answer::{Answer, Answering, place};
 use crate::client::pins::Pins;
 use crate::client::scratch::{copied, kept};
+use crate::client::wakes::Wakes;
 use crate::lease::clocks::Now;
 use crate::model::change::{Outcome, Write};
 use crate::model::code::Code;
 use crate::model::error::Error;
+use crate::model::lock::Mode;
 use crate::model::row::Row;
-use crate::proved::client_handle::{Cache, ClientHandle, Mode, Scan};
+use crate::proved::client_handle::{Cache, ClientHandle, Scan};
 use crate::wire::message::Message;
 use std::ops::Range;
 use std::sync::mpsc::SyncSender;
@@ -134,6 +136,7 @@ pub(crate) struct Jobs {
     now: Now,
     /// In the order in which they came.
     open: Vec<(JobId, Job)>,
+    wakes: Wakes,
     written: Option<Written>,
     watched: Vec<Watched>,
     /// What the client knows may have changed since the watched ranges were looked at.
@@ -180,6 +183,7 @@ impl Jobs {
             speech: Speech::Free,
             client,
             open: Vec::new(),
+            wakes: Wakes::default(),
             written: None,
             watched: Vec::new(),
             is_changed: false,
@@ -257,7 +261,7 @@ impl Jobs {
     fn add<T>(&mut self, job: impl FnOnce(Reply<T>) -> Job) -> Asked<T> {
         self.next += 1;
         self.end_lease_if_over();
-        let (reply, answer) = place();
+        let (reply, answer) = place(&self.wakes);
         let job = job(Reply::Own(reply));
         match self.stage {
             Stage::Ended => {}
@@ -273,7 +277,7 @@ impl Jobs {
     /// The answer to something that needs no job.
     fn answer_at_once<T>(&mut self, answer: Result<T, Error>) -> Asked<T> {
         self.next += 1;
-        let (reply, asked) = place();
+        let (reply, asked) = place(&self.wakes);
         reply.give(answer);
         Asked { id: self.next, is_urgent: true, answer: asked }
     }
@@ -358,6 +362,11 @@ impl Jobs {
     /// What the client knows, for threads that read it next to these calls.
     pub fn cache(&self) -> Cache {
         self.client.cache()
+    }
+
+    /// The tasks that were answered. Whoever makes a call of the client wakes them after it.
+    pub fn wakes(&self) -> Wakes {
+        self.wakes.clone()
     }
 
     /// Gives the client a message of the server, and continues with its jobs at once: a callback

@@ -5,6 +5,7 @@ use crate::client::deadlines::Deadlines;
 use crate::client::jobs::Jobs;
 use crate::client::lock_file::LockFile;
 use crate::client::session::Session;
+use crate::client::wakes::Wakes;
 use crate::client::writer::{Writer, Written};
 use crate::lease::clocks::Now;
 use crate::log::event_log;
@@ -32,10 +33,13 @@ const CONNECTION: u64 = 0;
 /// What the thread of the connection and the callers share.
 ///
 /// What waits to be written is locked after `session` and never before it, and no stream is touched
-/// while `session` is held. A scan of the cache takes none of these locks.
+/// while `session` is held. A scan of the cache takes none of these locks. Tasks that were answered
+/// are woken when none of `session`, `reading` and `lock_file` is held: they may call the client
+/// within that.
 pub(crate) struct Link {
     servers: Servers,
     session: Mutex<Session>,
+    wakes: Wakes,
     cache: Cache,
     writer: Writer,
     waker: Arc<Waker>,
@@ -93,6 +97,7 @@ impl Link {
         let (poller, waker) = Poller::new()?;
         let link = Link {
             cache: jobs.cache(),
+            wakes: jobs.wakes(),
             session: Mutex::new(Session::new(servers.clone(), jobs, backoff::seed())),
             servers,
             writer: Writer::default(),
@@ -118,16 +123,25 @@ impl Link {
         &self.cache
     }
 
-    /// The session as it is now. The clocks are read when nobody else has it.
-    pub fn session(&self) -> MutexGuard<'_, Session> {
+    /// The session as it is now. The clocks are read when nobody else has it. Tasks that a call of it
+    /// answers are woken later.
+    fn session(&self) -> MutexGuard<'_, Session> {
         let mut session = lock(&self.session);
         session.at(Now::read());
         session
     }
 
+    /// Makes a call of the session now, and wakes the tasks that were answered. What the client says
+    /// leaves later.
+    fn with_session<T>(&self, call: impl FnOnce(&mut Session) -> T) -> T {
+        let answer = call(&mut self.session());
+        self.wakes.wake_all();
+        answer
+    }
+
     /// Makes a call of the client now. What it says leaves later.
     pub fn with_jobs<T>(&self, call: impl FnOnce(&mut Jobs) -> T) -> T {
-        call(self.session().jobs())
+        self.with_session(|session| call(session.jobs()))
     }
 
     /// Why there is no connection just now, if there is none. It is said once.
@@ -184,7 +198,7 @@ impl Link {
             let address = self.session().address().clone();
             let Err(end) = self.connect_and_serve(&address, &mut poller);
             self.writer.close();
-            let pause = self.session().disconnected(end);
+            let pause = self.with_session(|session| session.disconnected(end));
             self.rest(pause);
         }
     }
@@ -211,6 +225,7 @@ impl Link {
     /// Connects, and serves the connection until it ends.
     fn connect_and_serve(&self, address: &Address, poller: &mut Poller) -> io::Result<Infallible> {
         self.begin_anew_if_due()?;
+        self.wakes.wake_all();
         let carrier = Carrier::connect(address, self.servers.tls(), CONNECT)?;
         self.keep_incarnation()?;
         let first = self.session().connected()?;
@@ -256,6 +271,12 @@ impl Link {
     /// Takes what has come on the connection, and continues with what the client was asked. It
     /// answers when that is due again if nothing comes: the thread sleeps until then.
     fn go_on(&self, ready: impl Iterator<Item = Ready>) -> io::Result<Duration> {
+        let due_in = self.go_on_reading(ready);
+        self.wakes.wake_all();
+        due_in
+    }
+
+    fn go_on_reading(&self, ready: impl Iterator<Item = Ready>) -> io::Result<Duration> {
         let mut reading = lock(&self.reading);
         let reading = reading.as_mut().ok_or(ErrorKind::NotConnected)?;
         if let Some(error) = reading.failed.take() {
@@ -386,6 +407,7 @@ impl Drop for Ended<'_> {
         self.0.session().jobs().end();
         *lock(&self.0.thread) = Thread::HasEnded;
         self.0.changed.notify_all();
+        self.0.wakes.wake_all();
     }
 }
 

@@ -17,7 +17,7 @@ pub(crate) fn set<E: From<Error>>(
         let Some(following) = after(next, outcome) else { return Ok(outcome) };
         next = following;
         if Instant::now() >= end {
-            return Err(Error::TimedOut.into());
+            return Err(Error::NotSent(None).into());
         }
     }
 }
@@ -92,7 +92,7 @@ mod tests {
             count += 1;
             Ok(if write == put() { Outcome::Absent } else { Outcome::Exists })
         });
-        assert_eq!(ended, Err(Error::TimedOut));
+        assert_eq!(ended, Err(Error::NotSent(None)));
         assert!(count > 1 && Instant::now() >= end);
     }
 }

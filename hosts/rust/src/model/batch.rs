@@ -6,6 +6,7 @@ use std::fmt;
 
 /// One of the writes of a [`Client::write_all`](crate::Client::write_all).
 #[derive(Clone, Copy, Debug, PartialEq, Eq)]
+#[non_exhaustive]
 pub enum Mutation {
     /// A new row: the outcome is `Applied`, `Exists` or `Full`.
     Insert(Row),
@@ -154,7 +155,7 @@ mod tests {
         for why in [Error::TimedOut, Error::LeaseEnded, Error::StoreWentBack, Error::Stopped] {
             assert_eq!(ended(why).fates(4), [&judged[..], &[Unknown, NotMade]].concat());
         }
-        for why in [Error::PinIsVoid, Error::TurnedAway, Error::OutOfMemory] {
+        for why in [Error::NotSent(None), Error::PinIsVoid, Error::TurnedAway, Error::OutOfMemory] {
             assert_eq!(ended(why).fates(4), [&judged[..], &[NotMade, NotMade]].concat());
         }
         let whole = Judged { outcomes: vec![Applied, Exists], ended: None };

@@ -17,6 +17,7 @@ pub enum Write {
 
 /// How a write was judged. Only `Applied` has changed the table.
 #[derive(Clone, Copy, Debug, PartialEq, Eq)]
+#[must_use = "the write may have changed nothing: only `Applied` has"]
 pub enum Outcome {
     /// The table has changed as the write says.
     Applied,

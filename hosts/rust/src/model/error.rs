@@ -11,13 +11,19 @@ use std::io;
 #[non_exhaustive]
 pub enum Error {
     /// No answer came within the client's timeout. A read or a forget has changed nothing that is
-    /// seen. A write may have changed the table or may still change it: the client continues to ask
-    /// for it, until it is answered or the client is gone.
+    /// seen. A write was sent, and may have changed the table or may still change it: the client
+    /// continues to ask for it, until it is answered or the client is gone. A write that was not
+    /// sent ends with `NotSent`.
     TimedOut,
     /// The same, and the server has just reported why it does not serve the client. If it serves
     /// another store than the one that the client has seen, a call that waits ends so at once: the
     /// client has dropped its cache and its pins, and joins again when it finds its own store.
     Unserved(Refusal),
+    /// The write was not sent within the client's timeout: the client was not connected, or waited
+    /// for the lock that the write needs. The write was not made and will not be, and changes
+    /// nothing. If the server has just reported why it does not serve the client, this is the
+    /// reason.
+    NotSent(Option<Refusal>),
     /// This side of the connection has no right to the client: the two sides don't take each
     /// other's certificates, or the certificate or the user is not that of the client's number. If
     /// the client has one server, this comes as soon as two connections in a row have ended for it,
@@ -64,7 +70,7 @@ pub enum JoinError {
     LockFile(LockFileError),
     /// A number above 63.
     BadNumber,
-    /// A builder was not told this.
+    /// What a builder was given has none of this: a number, or keys of a shard.
     Incomplete(&'static str),
     /// The server did not answer within the client's timeout. There is none, which the error of the
     /// connection shows; or it recovers, or knows a greater incarnation of this number, and does
@@ -98,6 +104,7 @@ impl Error {
         match self {
             Error::TimedOut | Error::StoreWentBack | Error::LeaseEnded | Error::OutOfMemory => true,
             Error::Unserved(refusal) => refusal.may_pass(),
+            Error::NotSent(refusal) => refusal.is_none_or(Refusal::may_pass),
             Error::TurnedAway
             | Error::OtherShard(_)
             | Error::PinIsVoid
@@ -120,7 +127,8 @@ impl Error {
             | Error::StoreWentBack
             | Error::LeaseEnded
             | Error::Stopped => true,
-            Error::TurnedAway
+            Error::NotSent(_)
+            | Error::TurnedAway
             | Error::OtherShard(_)
             | Error::BadRange
             | Error::BadKey
@@ -129,6 +137,15 @@ impl Error {
             | Error::TooManyPins
             | Error::OutOfMemory
             | Error::Other(_) => false,
+        }
+    }
+
+    /// The same reason for a write that was not sent: it is known then that it was not made.
+    pub(crate) fn of_unsent_write(self) -> Error {
+        match self {
+            Error::TimedOut => Error::NotSent(None),
+            Error::Unserved(refusal) => Error::NotSent(Some(refusal)),
+            other => other,
         }
     }
 }
@@ -153,6 +170,13 @@ impl fmt::Display for Error {
         match self {
             Error::TimedOut => f.write_str("no answer came in time"),
             Error::Unserved(refusal) => write!(f, "no answer came in time: {refusal}"),
+            Error::NotSent(None) => f.write_str(
+                "the write was not made: it was not sent in time, since the client was not \
+                 connected or waited for a lock",
+            ),
+            Error::NotSent(Some(refusal)) => {
+                write!(f, "the write was not made: it was not sent in time: {refusal}")
+            }
             Error::TurnedAway => f.write_str(
                 "the connection was turned away: the certificate or the user gives no right to the \
                  client",
@@ -246,12 +270,28 @@ mod tests {
     use crate::model::client_set::ClientSet;
 
     #[test]
+    fn a_write_that_was_not_sent_is_known_to_be_not_made() {
+        for error in [Error::TimedOut, Error::Unserved(Refusal::Denied)] {
+            assert!(error.is_unknown_outcome());
+            assert!(!error.of_unsent_write().is_unknown_outcome());
+        }
+        assert_eq!(
+            Error::Unserved(Refusal::Denied).of_unsent_write(),
+            Error::NotSent(Some(Refusal::Denied))
+        );
+        assert_eq!(Error::TurnedAway.of_unsent_write(), Error::TurnedAway);
+    }
+
+    #[test]
     fn what_passes_by_itself_may_be_tried_again() {
         let missing = Refusal::Missing(ClientSet::default());
         let running = Refusal::LeaseRuns { client: 3, registered: 7 };
         for refusal in [missing, running, Refusal::Full { connections: 256 }] {
             assert!(Error::Unserved(refusal).is_retryable(), "{refusal}");
+            assert!(Error::NotSent(Some(refusal)).is_retryable(), "{refusal}");
         }
+        assert!(Error::NotSent(None).is_retryable());
+        assert!(!Error::NotSent(Some(Refusal::Denied)).is_retryable());
         for error in [Error::TimedOut, Error::StoreWentBack, Error::LeaseEnded, Error::OutOfMemory]
         {
             assert!(error.is_retryable(), "{error}");

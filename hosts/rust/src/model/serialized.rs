@@ -1,4 +1,5 @@
-//! How values, rooms and reaches are serialized, by the feature `serde`.
+//! How values, modes, rooms and reaches are serialized, by the feature `serde`.
+use crate::model::lock::Mode;
 use crate::model::reach::Reach;
 use crate::model::room::Room;
 use crate::model::row::Value;
@@ -50,6 +51,13 @@ impl<'de> Visitor<'de> for ValueVisitor {
 impl Serialize for Room {
     fn serialize<S: Serializer>(&self, serializer: S) -> Result<S::Ok, S::Error> {
         self.rows().serialize(serializer)
+    }
+}
+
+/// As its name.
+impl Serialize for Mode {
+    fn serialize<S: Serializer>(&self, serializer: S) -> Result<S::Ok, S::Error> {
+        serializer.serialize_str(self.name())
     }
 }
 

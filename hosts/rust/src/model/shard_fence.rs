@@ -70,7 +70,9 @@ impl fmt::Display for OtherShard {
             (Some(expected), Some(served)) => {
                 write!(f, "the client takes the server for {expected}, and it serves {served}: ")?;
                 f.write_str(match expected.map_version().cmp(&served.map_version()) {
-                    Ordering::Less => "the client's map is an older one, and has to be loaded again",
+                    Ordering::Less => {
+                        "the client's map is an older one, and has to be loaded again"
+                    }
                     Ordering::Equal => "the address is that of another shard",
                     Ordering::Greater => {
                         "the server was started by an older map, or the address is of another one"

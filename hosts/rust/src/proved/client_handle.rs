@@ -5,6 +5,7 @@ use crate::lease::of_client::{End, Lease};
 use crate::lease::terms::Older;
 use crate::model::change::{Outcome, Write};
 use crate::model::code::Code;
+use crate::model::lock::Mode;
 use crate::model::row::Row;
 use crate::proved::ffi;
 use crate::proved::gate::{Owner, Reader, Reading};
@@ -13,25 +14,6 @@ use std::io;
 use std::mem;
 use std::ops::Range;
 use std::sync::Arc;
-
-/// What a client asks for.
-#[derive(Clone, Copy, Debug, PartialEq, Eq)]
-pub(crate) enum Mode {
-    /// To change an entry.
-    X = 3,
-    /// To read entries and the gaps below them.
-    RangeSS = 4,
-    /// To read the same, and to be the only one who may change the entries next.
-    RangeSU = 5,
-    /// To insert into a gap.
-    RangeIN = 6,
-    /// To insert into a gap, and to read the entry at its end.
-    RangeIS = 7,
-    /// To read a gap and insert into it, and to read the entry at its end.
-    RangeXS = 10,
-    /// To read and change all.
-    RangeXX = 12,
-}
 
 /// What a scan of the cache found.
 #[derive(Clone, Copy, Debug, PartialEq, Eq)]

@@ -2,7 +2,7 @@
 use crate::model::change::{Change, Outcome, Record, Write};
 use crate::model::client_number::{ClientNumber, PerClient};
 use crate::model::code::Code;
-use crate::model::lock::{HeldSlot, Waiting, mode_name};
+use crate::model::lock::{HeldSlot, Mode, Waiting};
 use crate::model::reach::Reach;
 use crate::model::room::Room;
 use crate::model::row::Row;
@@ -191,6 +191,7 @@ impl ServerHandle {
             return Ok(None);
         }
         let ffi::RawWaiting { request, point, hi, mode, .. } = raw;
+        let mode = Mode::of(mode).ok_or(Code::BadMode)?;
         let waits_for = self.waited_for(client)?;
         Ok(Some(Waiting { client, request, point, hi, mode, waits_for }))
     }
@@ -215,7 +216,8 @@ impl ServerHandle {
         // SAFETY: the handle stays in its place, and `&mut` gives it to this call only.
         let raw = unsafe { ffi::krl_server_next_held(self.handle.raw(), client.into(), from) };
         let ffi::RawHeldSlot { lo, hi, mode, holds, .. } = raw;
-        (holds != 0).then(|| HeldSlot { lo, hi, client, mode: mode_name(mode) })
+        let mode = Mode::of(mode).filter(|_| holds != 0)?;
+        Some(HeldSlot { lo, hi, client, mode })
     }
 
     /// Takes what waits to be sent, as frames, into the front of `room`, and says how many bytes

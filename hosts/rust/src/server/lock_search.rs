@@ -1,6 +1,6 @@
 //! A search for who holds what, which a server's loop makes in pages between its turns.
 use crate::model::client_number::ClientNumber;
-use crate::model::lock::HeldSlot;
+use crate::model::lock::{HeldSlot, Mode};
 use crate::server::shown::watch::Wait;
 use std::ops::Range;
 use std::time::Duration;
@@ -14,6 +14,7 @@ const SHORT: Duration = Duration::from_millis(1);
 
 /// Neighboring slots of which a client holds something in one mode.
 #[derive(Clone, Copy, Debug, PartialEq, Eq, PartialOrd, Ord)]
+#[non_exhaustive]
 pub struct HeldRun {
     /// The first point of the first slot.
     pub lo: u64,
@@ -21,8 +22,8 @@ pub struct HeldRun {
     pub hi: u64,
     /// The client.
     pub client: u8,
-    /// The name of the mode that the client holds.
-    pub mode: &'static str,
+    /// The mode that the client holds.
+    pub mode: Mode,
     /// How many slots they are.
     pub slots: u64,
 }
@@ -49,7 +50,7 @@ pub(crate) struct Search {
     from: u64,
     found: usize,
     /// The mode of the last slot that was found of this client.
-    mode: Option<&'static str>,
+    mode: Option<Mode>,
 }
 
 /// What a server finds at once.
@@ -64,6 +65,12 @@ pub(crate) struct Page {
 }
 
 impl HeldRun {
+    /// A run of so many slots of these points, for tests of what shows locks.
+    #[must_use]
+    pub fn new(client: u8, points: Range<u64>, mode: Mode, slots: u64) -> HeldRun {
+        HeldRun { lo: points.start, hi: points.end, client, mode, slots }
+    }
+
     pub(crate) fn of(slot: &HeldSlot) -> HeldRun {
         let HeldSlot { lo, hi, client, mode } = *slot;
         HeldRun { lo, hi, client, mode, slots: 1 }
@@ -162,7 +169,7 @@ mod tests {
     use super::*;
 
     fn slot(client: u8, lo: u64, hi: u64) -> HeldSlot {
-        HeldSlot { lo, hi, client, mode: "RangeS-S" }
+        HeldSlot { lo, hi, client, mode: Mode::RangeSS }
     }
 
     fn run(client: u8, lo: u64, hi: u64, slots: u64) -> HeldRun {
@@ -229,7 +236,7 @@ mod tests {
     /// 40 to 50.
     fn in_two_modes(client: u8, from: u64) -> Option<HeldSlot> {
         let lo = if (40..50).contains(&from) { 50 } else { from };
-        let mode = if lo < 20 { "RangeS-S" } else { "X" };
+        let mode = if lo < 20 { Mode::RangeSS } else { Mode::X };
         (client == 2 && lo < 60).then_some(HeldSlot { mode, ..slot(2, lo, lo + 1) })
     }
 
@@ -237,7 +244,7 @@ mod tests {
     fn neighbors_of_one_mode_are_one_run() {
         let mut search = Search::of_runs(0..100, 3);
         let held = search.page(in_two_modes, || false);
-        let write = |lo, hi, slots| HeldRun { mode: "X", ..run(2, lo, hi, slots) };
+        let write = |lo, hi, slots| HeldRun { mode: Mode::X, ..run(2, lo, hi, slots) };
         assert_eq!(held, [run(2, 0, 20, 20), write(20, 40, 20), write(50, 60, 10)]);
         let held = Search::of_runs(0..100, 1).page(in_two_modes, || false);
         assert_eq!(held, [run(2, 0, 20, 20)], "a run has as many slots as there are");

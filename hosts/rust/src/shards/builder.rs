@@ -16,13 +16,14 @@ use std::thread::{self, ScopedJoinHandle};
 use std::time::Duration;
 
 /// What a sharded client is given before it joins: its map, its number and the folder of its lock
-/// files, and how long its calls wait. The number and the folder have to be said.
+/// files, and how long its calls wait. [`ShardedClient::builder`] and
+/// [`ShardedClient::builder_with_numbers`] make one.
 #[derive(Clone, Debug)]
 #[must_use = "a builder does nothing before `join`"]
 pub struct ShardedBuilder {
     map: ShardMap,
     numbers: Vec<u8>,
-    lock_folder: Option<PathBuf>,
+    lock_folder: PathBuf,
     keys: Range<u64>,
     waits: Waits,
 }
@@ -30,32 +31,6 @@ pub struct ShardedBuilder {
 type JoinedShard = Result<Client, JoinError>;
 
 impl ShardedBuilder {
-    pub(crate) fn new(map: ShardMap) -> ShardedBuilder {
-        let (numbers, lock_folder, waits) = (vec![], None, Waits::by_default());
-        ShardedBuilder { map, numbers, lock_folder, keys: 0..END + 1, waits }
-    }
-
-    /// The client's number at each shard, from 0 to 63.
-    pub fn number(mut self, number: u8) -> ShardedBuilder {
-        self.numbers = vec![number];
-        self
-    }
-
-    /// Several numbers, of which the client takes the first that is free at each of its shards, as
-    /// [`ClientBuilder::numbers`] says.
-    ///
-    /// [`ClientBuilder::numbers`]: crate::ClientBuilder::numbers
-    pub fn numbers(mut self, numbers: impl IntoIterator<Item = u8>) -> ShardedBuilder {
-        self.numbers = numbers.into_iter().collect();
-        self
-    }
-
-    /// The folder of the lock files, one for each shard and number. It has to be there.
-    pub fn lock_folder(mut self, path: impl Into<PathBuf>) -> ShardedBuilder {
-        self.lock_folder = Some(path.into());
-        self
-    }
-
     /// The keys for which the client is: all of them by default. It joins only the shards that have
     /// some of these keys, so that a server of another shard may be down. A call with keys of a
     /// shard that it has not joined is refused by `BadRange` or `BadKey`.
@@ -84,15 +59,13 @@ impl ShardedBuilder {
     ///
     /// # Errors
     ///
-    /// `Incomplete` if no number or no folder was said, or no shard has any of the keys; `LockFile`
-    /// if other processes have the lock files of all numbers; otherwise those of [`Client::join`],
-    /// with the shard.
+    /// `Incomplete` if no shard has any of the keys, or there are no numbers; `LockFile` if other
+    /// processes have the lock files of all numbers; otherwise those of [`Client::join`], with the
+    /// shard.
     pub fn join(self) -> Result<ShardedClient, ShardJoinError> {
         let of_none = |error| ShardJoinError { shard: None, error };
-        let missing = of_none(JoinError::Incomplete("a folder of lock files"));
-        let folder = self.lock_folder.as_deref().ok_or(missing)?;
         let places = self.places().ok_or(of_none(JoinError::Incomplete("keys of a shard")))?;
-        let join = |number, waits| self.join_as(number, waits, folder, places.clone());
+        let join = |number, waits| self.join_as(number, waits, places.clone());
         match self.numbers[..] {
             [] => Err(of_none(JoinError::Incomplete("a number"))),
             [number] => join(number, self.waits),
@@ -108,13 +81,12 @@ impl ShardedBuilder {
         &self,
         number: u8,
         waits: Waits,
-        folder: &Path,
         places: Range<usize>,
     ) -> Result<ShardedClient, ShardJoinError> {
         let joined: Vec<JoinedShard> = thread::scope(|scope| {
             let joining = places.clone().map(|place| {
                 let shard = &self.map.shards()[place];
-                let lock_file = lock_file(folder, shard, number);
+                let lock_file = lock_file(&self.lock_folder, shard, number);
                 let servers = self.map.servers_of(place, shard);
                 let join = move || joining::join(servers, number, &lock_file, waits, Errand::Work);
                 thread::Builder::new().spawn_scoped(scope, join)
@@ -154,12 +126,25 @@ impl ShardedClient {
         number: u8,
         lock_folder: impl AsRef<Path>,
     ) -> Result<ShardedClient, ShardJoinError> {
-        ShardedClient::builder(map).number(number).lock_folder(lock_folder.as_ref()).join()
+        ShardedClient::builder(map, number, lock_folder.as_ref()).join()
     }
 
-    /// Says more of a client before it joins: how long its calls wait, and for which keys it is.
-    pub fn builder(map: ShardMap) -> ShardedBuilder {
-        ShardedBuilder::new(map)
+    /// A builder for a client of this number, as [`ShardedClient::join`] takes it: it says more before
+    /// the client joins, such as how long its calls wait, and for which keys it is.
+    pub fn builder(map: ShardMap, number: u8, lock_folder: impl Into<PathBuf>) -> ShardedBuilder {
+        ShardedClient::builder_with_numbers(map, [number], lock_folder)
+    }
+
+    /// A builder for a client that takes the first of these numbers that is free at each of its
+    /// shards, as [`Client::builder_with_numbers`] does at one server. The folder has to be there.
+    pub fn builder_with_numbers(
+        map: ShardMap,
+        numbers: impl IntoIterator<Item = u8>,
+        lock_folder: impl Into<PathBuf>,
+    ) -> ShardedBuilder {
+        let numbers = numbers.into_iter().collect();
+        let (lock_folder, waits) = (lock_folder.into(), Waits::by_default());
+        ShardedBuilder { map, numbers, lock_folder, keys: 0..END + 1, waits }
     }
 }
 

@@ -38,7 +38,7 @@ use std::time::Duration;
 /// ```
 /// # let folder = std::env::temp_dir().join(format!("krl-doc-sharded-{}", std::process::id()));
 /// # std::fs::create_dir_all(&folder)?;
-/// use krl::{MemoryStore, Server, Shard, ShardMap, ShardedClient, Value};
+/// use krl::{MemoryStore, Outcome, Server, Shard, ShardMap, ShardedClient, Value};
 /// use std::net::TcpListener;
 ///
 /// let first = Server::start(TcpListener::bind("127.0.0.1:0")?, MemoryStore::default())?;
@@ -48,8 +48,8 @@ use std::time::Duration;
 ///     Shard { first: 1000, servers: second.address().into() },
 /// ])?;
 /// let client = ShardedClient::join(map, 0, &folder)?;
-/// client.insert(999, Value::from(1))?;
-/// client.insert(1000, Value::from(2))?;
+/// assert_eq!(client.insert(999, Value::from(1))?, Outcome::Applied);
+/// assert_eq!(client.insert(1000, Value::from(2))?, Outcome::Applied);
 /// assert_eq!(client.read(990..1010)?.len(), 2); // both tables at one moment
 /// client.leave()?;
 /// # std::fs::remove_dir_all(&folder)?;
@@ -240,31 +240,49 @@ impl ShardedClient {
 
     /// The rows of the range if the caches know all of it at one moment, otherwise `None`. It sends
     /// nothing, and waits for nothing but one step of each shard's client, some microseconds. While
-    /// it scans, no client of these shards takes a message or a call. An empty range has no rows;
-    /// of a range that is none the caches know nothing.
-    pub fn cached(&self, keys: impl RangeBounds<u64>) -> Option<Vec<Row>> {
-        with_room(|room| self.cached_into(keys, room).then(|| room.clone()))
+    /// it scans, no client of these shards takes a message or a call. An empty range has no rows.
+    ///
+    /// # Errors
+    ///
+    /// `BadRange`, without a shard, if the range begins above its end, ends above 2^63, or has keys
+    /// of a shard that is not joined.
+    pub fn cached(&self, keys: impl RangeBounds<u64>) -> Result<Option<Vec<Row>>, ShardError> {
+        with_room(|room| Ok(self.cached_into(keys, room)?.then(|| room.clone())))
     }
 
-    /// The same, into `rows`, whose room is used again. If the answer is `false`, the rows say
-    /// nothing.
-    #[must_use]
-    pub fn cached_into(&self, keys: impl RangeBounds<u64>, rows: &mut Vec<Row>) -> bool {
-        let parts = self.joined.parts(keys);
-        parts.is_ok_and(|parts| self.joined.is_known(&parts, rows))
+    /// The same, into `rows`, whose room is used again. If the answer is not `Ok(true)`, the rows
+    /// mean nothing.
+    ///
+    /// # Errors
+    ///
+    /// Those of [`ShardedClient::cached`].
+    pub fn cached_into(
+        &self,
+        keys: impl RangeBounds<u64>,
+        rows: &mut Vec<Row>,
+    ) -> Result<bool, ShardError> {
+        rows.clear();
+        Ok(self.joined.is_known(&self.joined.parts(keys)?, rows))
     }
 
     /// The same, and `visit` gets each row, in key order. It answers whether the caches know the
-    /// range; if they do not, no row is visited. The rows are visited after the scan, so `visit`
-    /// may take as long as it likes, and may call the client.
-    #[must_use]
-    pub fn for_each_cached(&self, keys: impl RangeBounds<u64>, visit: impl FnMut(&Row)) -> bool {
+    /// range; if they do not, no row is visited. The rows are visited after the scan, so `visit` may
+    /// take as long as it likes, and may call the client.
+    ///
+    /// # Errors
+    ///
+    /// Those of [`ShardedClient::cached`].
+    pub fn for_each_cached(
+        &self,
+        keys: impl RangeBounds<u64>,
+        visit: impl FnMut(&Row),
+    ) -> Result<bool, ShardError> {
         with_room(|room| {
-            let is_cached = self.cached_into(keys, room);
+            let is_cached = self.cached_into(keys, room)?;
             if is_cached {
                 room.iter().for_each(visit);
             }
-            is_cached
+            Ok(is_cached)
         })
     }
 

@@ -216,9 +216,14 @@ impl Client {
         Call(self.at(time).jobs().leave())
     }
 
-    /// Nobody waits for the call any more.
-    pub fn give_up<T>(&mut self, call: &Call<T>, time: Duration) -> Error {
-        self.at(time).give_up(call.0.id)
+    /// Nobody waits for the call any more. It answers how the call ended.
+    ///
+    /// # Errors
+    ///
+    /// Why there is no answer; or those of the call.
+    pub fn give_up<T>(&mut self, call: &Call<T>, time: Duration) -> Result<T, Error> {
+        let why = self.at(time).give_up(call.0.id);
+        call.0.answer.try_recv().unwrap_or(Err(why))
     }
 
     /// What the client knows of a range.

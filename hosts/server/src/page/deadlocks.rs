@@ -59,13 +59,8 @@ mod tests {
     use std::time::Duration;
 
     fn deadlocks(waits: &[(u8, &[u8])]) -> Deadlocks {
-        let wait = |(client, others): &(u8, &[u8])| Wait {
-            client: *client,
-            point: 0,
-            hi: 1,
-            mode: "X",
-            waited: Duration::ZERO,
-            waits_for: others.to_vec(),
+        let wait = |(client, others): &(u8, &[u8])| {
+            Wait::new(*client, 0..1, krl::Mode::X, Duration::ZERO, others.to_vec())
         };
         Deadlocks::of(&waits.iter().map(wait).collect::<Vec<_>>())
     }

@@ -204,7 +204,7 @@ fn bar(axis: &Axis, run: &HeldRun, y: f64) -> String {
         "<rect x=\"{x:.1}\" y=\"{:.0}\" width=\"{width:.1}\" height=\"14\" class=\"held {}\">\
          <title>{}</title></rect>",
         y + 3.0,
-        class(run.mode),
+        class(run.mode.name()),
         run_in_words(run)
     )
 }
@@ -222,14 +222,14 @@ fn hatched(axis: &Axis, wait: &Wait, y: f64, is_deadlocked: bool) -> String {
 }
 
 fn run_in_words(run: &HeldRun) -> String {
-    let HeldRun { lo, hi, client, mode, slots } = *run;
+    let HeldRun { lo, hi, client, mode, slots, .. } = *run;
     let end = end_in_words(hi);
     let count = if slots == 1 { "1 slot".to_string() } else { format!("{slots} slots") };
     format!("client {client} holds {count} from {lo} below {end} in {mode}")
 }
 
 fn wait_in_words(wait: &Wait) -> String {
-    let Wait { client, point, hi, mode, waited, waits_for } = wait;
+    let Wait { client, point, hi, mode, waited, waits_for, .. } = wait;
     let (whom, end, waited) = (list(waits_for), end_in_words(*hi), brief(*waited));
     format!("client {client} waits for {whom}: {mode} from {point} below {end}, for {waited}")
 }

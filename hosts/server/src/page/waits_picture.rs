@@ -117,7 +117,7 @@ mod tests {
 
     fn wait(client: u8, waits_for: &[u8], seconds: u64) -> Wait {
         let waited = Duration::from_secs(seconds);
-        Wait { client, point: 120, hi: 121, mode: "X", waited, waits_for: waits_for.to_vec() }
+        Wait::new(client, 120..121, krl::Mode::X, waited, waits_for.to_vec())
     }
 
     #[test]

@@ -400,8 +400,12 @@ impl World {
     fn judge_refusal(&mut self, client: usize, why: Error) {
         let machine = &self.machines[client];
         let is_so = match why {
-            Error::TimedOut | Error::PinIsVoid | Error::Pinned | Error::LeaseEnded => true,
-            Error::Unserved(refusal) => may_be_refused(refusal),
+            Error::TimedOut
+            | Error::NotSent(None)
+            | Error::PinIsVoid
+            | Error::Pinned
+            | Error::LeaseEnded => true,
+            Error::Unserved(refusal) | Error::NotSent(Some(refusal)) => may_be_refused(refusal),
             Error::TurnedAway => machine.rejections > 0,
             Error::StoreWentBack => self.judge.went_back() || machine.calls.leaving.is_some(),
             // One that has left answers nothing.

@@ -61,7 +61,8 @@ impl Job {
         match self {
             Job::Join(reply) | Job::Forget(_, reply) | Job::Leave(reply) => reply.end(Err(why)),
             Job::Read(_, reply) => reply.end(Err(why)),
-            Job::Write(_, report) => report.refuse(why),
+            // One that is open was not sent, or was judged NotHeld.
+            Job::Write(_, report) => report.refuse(why.of_unsent_write()),
             Job::Hold(_, reply) => reply.end(Err(why)),
         }
     }

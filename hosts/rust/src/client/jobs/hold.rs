@@ -1,8 +1,9 @@
 //! Taking a range part by part, and pinning what is taken.
 use super::{Asked, Job, JobId, Jobs, Reply};
 use crate::model::code::Code;
+use crate::model::lock::Mode;
 use crate::model::row::Row;
-use crate::proved::client_handle::{Mode, Scan};
+use crate::proved::client_handle::Scan;
 use std::ops::Range;
 
 /// What a range is held for.

@@ -11,7 +11,8 @@
 //! not know when they lose interest: so one callback counts for so many writes, and then the next
 //! callback has to come.
 use super::{Job, Jobs};
-use crate::proved::client_handle::{Mode, Shown};
+use crate::model::lock::Mode;
+use crate::proved::client_handle::Shown;
 use std::collections::HashMap;
 use std::collections::hash_map::Entry;
 use std::ops::Range;

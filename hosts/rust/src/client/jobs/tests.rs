@@ -108,7 +108,7 @@ fn whoever_waits_hears_that_the_thread_has_ended() {
 #[test]
 fn what_is_called_back_in_a_pin_is_given_back_behind_it() {
     let mut world = World::new();
-    world.write(1, Write::Insert(row(10, 1)));
+    assert_eq!(world.write(1, Write::Insert(row(10, 1))), Outcome::Applied);
     world.read(0, 0..30);
     let pins = [5..15, 20..25].map(|keys| world.clients[0].pin(keys).unwrap());
     let put = world.clients[1].write(Write::Put(row(10, 2)));
@@ -128,7 +128,7 @@ fn what_is_called_back_in_a_pin_is_given_back_behind_it() {
 #[test]
 fn who_waits_for_a_change_learns_at_once_of_what_goes_with_a_pin() {
     let mut world = World::new();
-    world.write(1, Write::Insert(row(10, 1)));
+    assert_eq!(world.write(1, Write::Insert(row(10, 1))), Outcome::Applied);
     let rows = world.read(0, 0..30);
     let pin = world.clients[0].pin(5..15).unwrap();
     let watched = world.clients[0].watch(0..30, rows);

@@ -26,7 +26,7 @@ impl Watched {
 impl Jobs {
     /// Ends when the client no longer knows that the range has these rows. It asks for nothing.
     pub fn watch(&mut self, keys: Range<u64>, rows: Vec<Row>) -> Asked<()> {
-        let (reply, answer) = place();
+        let (reply, answer) = place(&self.wakes);
         Asked { id: self.watch_for(keys, rows, Reply::Own(reply)), is_urgent: false, answer }
     }
 

@@ -5,7 +5,8 @@ use super::{Job, JobId, Jobs};
 use crate::model::change::{Outcome, Write};
 use crate::model::code::Code;
 use crate::model::error::Error;
-use crate::proved::client_handle::{Mode, Scan, Shown};
+use crate::model::lock::Mode;
+use crate::proved::client_handle::{Scan, Shown};
 use std::time::{Duration, Instant};
 
 /// A delete keeps the slot of its row for so long, while it waits for the slot after it. Whoever

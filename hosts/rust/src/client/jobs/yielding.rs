@@ -17,8 +17,9 @@ mod reach;
 
 use super::{Asking, JobId, Jobs};
 use crate::model::code::Code;
+use crate::model::lock::Mode;
 use crate::model::row::{END, Row};
-use crate::proved::client_handle::{Mode, Scan, Shown};
+use crate::proved::client_handle::{Scan, Shown};
 pub(super) use narrowed::Narrowed;
 use reach::{TooFar, farthest};
 use std::ops::Range;

@@ -6,6 +6,7 @@ use crate::client::session::Session;
 use crate::client::writer::Written;
 use crate::model::error::Error;
 use crate::model::refusal::Refusal;
+use crate::net::poller::Ready;
 use std::sync::MutexGuard;
 use std::sync::mpsc::{RecvTimeoutError, TryRecvError};
 use std::time::{Duration, Instant};
@@ -60,7 +61,7 @@ impl Link {
         answered.unwrap_or_else(|why| match why {
             RecvTimeoutError::Disconnected => Err(Error::Stopped),
             RecvTimeoutError::Timeout => {
-                let why = self.session().give_up(id);
+                let why = self.with_session(|session| session.give_up(id));
                 // It may have come meanwhile.
                 answer.try_recv().unwrap_or(Err(why))
             }
@@ -95,9 +96,15 @@ impl Link {
     /// Waits for something to come, and takes it. It answers whether to continue so.
     pub(super) fn read_once(&self, longest: Duration) -> bool {
         let Ok(ready) = self.poller.wait(longest) else { return false };
+        let goes_on = self.read_ready(ready.into_iter());
+        self.wakes.wake_all();
+        goes_on
+    }
+
+    fn read_ready(&self, ready: impl Iterator<Item = Ready>) -> bool {
         let mut reading = lock(&self.reading);
         let Some(reading) = reading.as_mut().filter(|it| it.failed.is_none()) else { return false };
-        match self.read_on(reading, ready.into_iter()) {
+        match self.read_on(reading, ready) {
             Ok(due_in) => reading.is_due = Instant::now() + due_in,
             Err(error) => reading.failed = Some(error),
         }
@@ -120,7 +127,7 @@ impl Link {
 
     /// Sees whether what is asked can be done, and has the thread of the connection tick.
     fn hurry(&self) {
-        self.session().end_hopeless();
+        self.with_session(Session::end_hopeless);
         self.wake();
     }
 
@@ -131,6 +138,7 @@ impl Link {
         if self.send(session) == Written::Part {
             self.wake();
         }
+        self.wakes.wake_all();
         answer
     }
 

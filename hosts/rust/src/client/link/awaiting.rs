@@ -40,7 +40,7 @@ impl<T> Awaited<T> {
     fn give_up(&mut self) -> Option<Result<T, Error>> {
         let asked = self.asked.take()?;
         self.link.deadlines.remove(self.end, asked.id);
-        let why = self.link.session().give_up(asked.id);
+        let why = self.link.with_session(|session| session.give_up(asked.id));
         // It may have come meanwhile.
         Some(asked.answer.try_recv().unwrap_or(Err(why)))
     }

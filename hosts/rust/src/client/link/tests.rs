@@ -98,7 +98,7 @@ fn a_caller_reads_the_connection_while_it_waits() {
 #[test]
 fn a_caller_learns_of_the_answer_that_the_thread_has_read() {
     let (link, _poller, _theirs) = &connected();
-    let (answering, answer) = crate::client::answer::place();
+    let (answering, answer) = crate::client::answer::place(&link.wakes);
     std::thread::scope(|scope| {
         let begun = Instant::now();
         // The look at the turn below may take it from the caller, which then tries again.

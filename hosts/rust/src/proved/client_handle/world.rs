@@ -1,7 +1,8 @@
 //! A server and two clients of the library in one process, whose messages are handed over at once.
-use super::{ClientHandle, Mode, Scan};
+use super::{ClientHandle, Scan};
 use crate::lease::clocks::Now;
 use crate::model::change::Change;
+use crate::model::lock::Mode;
 use crate::model::reach::Reach;
 use crate::model::room::Room;
 use crate::model::row::{Row, Value};

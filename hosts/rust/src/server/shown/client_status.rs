@@ -7,6 +7,7 @@ use std::time::{Duration, Instant};
 /// A client that is registered and has not left, at one moment.
 #[derive(Clone, Debug, PartialEq, Eq)]
 #[cfg_attr(feature = "serde", derive(serde::Serialize))]
+#[non_exhaustive]
 pub struct ClientStatus {
     /// Its number.
     pub client: u8,
@@ -21,11 +22,29 @@ pub struct ClientStatus {
 /// The connection of a client.
 #[derive(Clone, Copy, Debug, PartialEq, Eq)]
 #[cfg_attr(feature = "serde", derive(serde::Serialize))]
+#[non_exhaustive]
 pub struct ClientConnection {
     /// Who is at the other end.
     pub peer: PeerAddress,
     /// How long it has been open.
     pub open_for: Duration,
+}
+
+impl ClientStatus {
+    /// A client without a connection that was never heard, with this of its lease, for tests of what
+    /// shows clients.
+    #[must_use]
+    pub fn new(client: u8, lease: LeaseLeft) -> ClientStatus {
+        ClientStatus { client, connection: None, silent_for: None, lease }
+    }
+}
+
+impl ClientConnection {
+    /// A connection to this peer that has been open for so long, for tests of what shows clients.
+    #[must_use]
+    pub fn new(peer: PeerAddress, open_for: Duration) -> ClientConnection {
+        ClientConnection { peer, open_for }
+    }
 }
 
 /// When something last came from each client.

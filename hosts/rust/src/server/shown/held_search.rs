@@ -18,12 +18,21 @@ pub struct HeldSearch {
 
 /// What a page of a search has found.
 #[derive(Clone, Debug, PartialEq, Eq)]
+#[non_exhaustive]
 pub struct HeldPage {
     /// The clients that are looked up to their ends now, by number, each with all of its runs that
     /// meet the range, or the first of them, in ascending order.
     pub clients: Vec<(u8, Vec<HeldRun>)>,
     /// How long the server's loop was busy with this page.
     pub took: Duration,
+}
+
+impl HeldPage {
+    /// A page that has found this, for tests of what searches.
+    #[must_use]
+    pub fn new(clients: Vec<(u8, Vec<HeldRun>)>, took: Duration) -> HeldPage {
+        HeldPage { clients, took }
+    }
 }
 
 impl HeldSearch {
@@ -81,10 +90,10 @@ fn append(held: &mut Vec<HeldRun>, page: Vec<HeldRun>) {
 #[cfg(test)]
 mod tests {
     use super::*;
-    use crate::model::lock::HeldSlot;
+    use crate::model::lock::{HeldSlot, Mode};
 
     fn slot(client: u8, lo: u64, hi: u64) -> HeldSlot {
-        HeldSlot { lo, hi, client, mode: "RangeS-S" }
+        HeldSlot { lo, hi, client, mode: Mode::RangeSS }
     }
 
     #[test]
@@ -94,7 +103,7 @@ mod tests {
         append(&mut held, vec![run(2, 10, 20), run(3, 0, 10)]);
         let joined = HeldRun { slots: 2, ..run(2, 0, 20) };
         assert_eq!(held, [run(1, 0, 10), joined, run(3, 0, 10)]);
-        append(&mut held, vec![HeldRun { mode: "X", ..run(3, 10, 20) }]);
+        append(&mut held, vec![HeldRun { mode: Mode::X, ..run(3, 10, 20) }]);
         assert_eq!(held.len(), 4, "it is of another mode");
     }
 

@@ -13,7 +13,8 @@ use std::time::Duration;
 const LONGEST_WAIT: Duration = Duration::from_secs(10);
 
 /// Who holds and who waits in a range.
-#[derive(Clone, Debug, PartialEq, Eq)]
+#[derive(Clone, Debug, Default, PartialEq, Eq)]
+#[non_exhaustive]
 pub struct Locks {
     /// The slots that meet the range, in ascending order, each by those who hold something of it,
     /// in ascending order.
@@ -101,9 +102,10 @@ impl std::error::Error for LocksError {}
 #[cfg(test)]
 mod tests {
     use super::*;
+    use crate::model::lock::Mode;
 
     fn slot(client: u8, lo: u64, hi: u64) -> HeldSlot {
-        HeldSlot { lo, hi, client, mode: "RangeS-S" }
+        HeldSlot { lo, hi, client, mode: Mode::RangeSS }
     }
 
     #[test]
@@ -126,7 +128,7 @@ mod tests {
             client: 3,
             point: 10,
             hi: 20,
-            mode: "RangeX-X",
+            mode: Mode::RangeXX,
             waited: Duration::ZERO,
             waits_for: Vec::new(),
         };

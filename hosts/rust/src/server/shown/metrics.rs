@@ -213,6 +213,7 @@ impl Unit {
 #[cfg(test)]
 mod tests {
     use super::*;
+    use crate::model::lock::Mode;
     use std::collections::HashSet;
 
     fn page() -> String {
@@ -220,7 +221,7 @@ mod tests {
             client: 3,
             point: 10,
             hi: 20,
-            mode: "RangeX-X",
+            mode: Mode::RangeXX,
             waited: Duration::from_millis(40),
             waits_for: vec![0, 2],
         };

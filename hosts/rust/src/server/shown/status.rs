@@ -10,6 +10,7 @@ use std::time::Duration;
 /// A server at one moment.
 #[derive(Clone, Debug, Default, PartialEq, Eq)]
 #[cfg_attr(feature = "serde", derive(serde::Serialize))]
+#[non_exhaustive]
 pub struct Status {
     /// How many times a server has started on this store.
     pub epoch: u64,
@@ -153,13 +154,14 @@ impl fmt::Display for Status {
 #[cfg(test)]
 mod tests {
     use super::*;
+    use crate::model::lock::Mode;
 
     fn status() -> Status {
         let wait = Wait {
             client: 3,
             point: 10,
             hi: 20,
-            mode: "RangeX-X",
+            mode: Mode::RangeXX,
             waited: Duration::from_millis(40),
             waits_for: vec![0, 2],
         };

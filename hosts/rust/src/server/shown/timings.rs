@@ -70,6 +70,7 @@ pub struct Counts {
 
 /// What a server has measured since it started. Times are in microseconds.
 #[derive(Clone, Debug, Default, PartialEq, Eq)]
+#[non_exhaustive]
 pub struct Measured {
     /// From when a client's request for a lock came first until it was granted.
     pub grants: Counts,

@@ -1,12 +1,14 @@
 //! Who waits, for whom, and for how long.
 use crate::model::client_number::ClientNumber;
 use crate::model::client_set::ClientSet;
-use crate::model::lock::{Waiting, mode_name};
+use crate::model::lock::{Mode, Waiting};
+use std::ops::Range;
 use std::time::{Duration, Instant};
 
 /// A client that waits for a lock.
 #[derive(Clone, Debug, PartialEq, Eq)]
 #[cfg_attr(feature = "serde", derive(serde::Serialize))]
+#[non_exhaustive]
 pub struct Wait {
     /// The client.
     pub client: u8,
@@ -14,8 +16,8 @@ pub struct Wait {
     pub point: u64,
     /// It asks for the points below this one.
     pub hi: u64,
-    /// The name of the mode that it asks for.
-    pub mode: &'static str,
+    /// The mode that it asks for.
+    pub mode: Mode,
     /// For how long it was seen to wait.
     pub waited: Duration,
     /// The clients that it waits for: those that wait before it, and those that hold what is not
@@ -27,11 +29,35 @@ pub struct Wait {
 /// How much a client holds.
 #[derive(Clone, Copy, Debug, PartialEq, Eq)]
 #[cfg_attr(feature = "serde", derive(serde::Serialize))]
+#[non_exhaustive]
 pub struct HeldSlots {
     /// The client.
     pub client: u8,
     /// The number of slots, each an entry with the gap below it, of which it holds something.
     pub slots: u64,
+}
+
+impl Wait {
+    /// A client that has waited so long for this mode at these points, and for these clients. It is
+    /// for tests of what shows waits.
+    #[must_use]
+    pub fn new(
+        client: u8,
+        points: Range<u64>,
+        mode: Mode,
+        waited: Duration,
+        waits_for: Vec<u8>,
+    ) -> Wait {
+        Wait { client, point: points.start, hi: points.end, mode, waited, waits_for }
+    }
+}
+
+impl HeldSlots {
+    /// A client that holds something of so many slots, for tests of what shows that.
+    #[must_use]
+    pub fn new(client: u8, slots: u64) -> HeldSlots {
+        HeldSlots { client, slots }
+    }
 }
 
 /// A request that was seen to wait, and since when.
@@ -137,7 +163,7 @@ impl Watch {
 
 fn wait(waiting: Waiting, since: Instant, now: Instant) -> Wait {
     let Waiting { client, point, hi, mode, waits_for, .. } = waiting;
-    let (mode, waited) = (mode_name(mode), now.saturating_duration_since(since));
+    let waited = now.saturating_duration_since(since);
     Wait { client, point, hi, mode, waited, waits_for }
 }
 
@@ -146,7 +172,7 @@ mod tests {
     use super::*;
 
     fn waiting(client: u8, request: u64) -> Waiting {
-        Waiting { client, request, point: 5, hi: 9, mode: 6, waits_for: vec![0] }
+        Waiting { client, request, point: 5, hi: 9, mode: Mode::RangeIN, waits_for: vec![0] }
     }
 
     #[test]
@@ -159,7 +185,7 @@ mod tests {
             client: 1,
             point: 5,
             hi: 9,
-            mode: "RangeI-N",
+            mode: Mode::RangeIN,
             waited: later - start,
             waits_for: vec![0],
         };

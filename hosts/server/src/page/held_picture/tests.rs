@@ -1,32 +1,32 @@
 use super::*;
-use krl::{ClientConnection, ClientStatus, END, LeaseLeft, PeerAddress};
+use krl::{ClientConnection, ClientStatus, END, LeaseLeft, Mode, PeerAddress};
 
 fn client(client: u8, silent: u64) -> ClientStatus {
     let peer = PeerAddress::Tcp("10.0.0.5:41234".parse().unwrap());
-    ClientStatus {
-        client,
-        connection: Some(ClientConnection { peer, open_for: Duration::from_secs(60) }),
-        silent_for: Some(Duration::from_secs(silent)),
-        lease: LeaseLeft::Ends(Duration::from_secs(9)),
-    }
+    let mut status = ClientStatus::new(client, LeaseLeft::Ends(Duration::from_secs(9)));
+    status.connection = Some(ClientConnection::new(peer, Duration::from_secs(60)));
+    status.silent_for = Some(Duration::from_secs(silent));
+    status
 }
 
 fn wait(client: u8, waits_for: &[u8]) -> Wait {
     let waited = Duration::from_millis(4500);
-    Wait { client, point: 20, hi: 21, mode: "RangeX-X", waited, waits_for: waits_for.to_vec() }
+    Wait::new(client, 20..21, Mode::RangeXX, waited, waits_for.to_vec())
 }
 
 fn status(waits: Vec<Wait>) -> Status {
-    let clients = vec![client(3, 0), client(5, 6), client(9, 0)];
-    Status { clients, waits, ..Status::default() }
+    let mut status = Status::default();
+    status.clients = vec![client(3, 0), client(5, 6), client(9, 0)];
+    status.waits = waits;
+    status
 }
 
-fn run(client: u8, lo: u64, hi: u64, mode: &'static str) -> HeldRun {
-    HeldRun { lo, hi, client, mode, slots: 2 }
+fn run(client: u8, lo: u64, hi: u64, mode: Mode) -> HeldRun {
+    HeldRun::new(client, lo..hi, mode, 2)
 }
 
 fn held(next: Option<u64>) -> Held {
-    let runs = vec![run(3, 0, 20, "RangeS-S"), run(5, 20, END + 1, "RangeS-U")];
+    let runs = vec![run(3, 0, 20, Mode::RangeSS), run(5, 20, END + 1, Mode::RangeSU)];
     Held { runs, next, age: Some(Duration::ZERO) }
 }
 
@@ -79,7 +79,7 @@ fn what_is_left_out_is_named() {
 
 #[test]
 fn a_part_with_edges_inside_has_a_picture_of_its_own() {
-    let runs = (0..100).map(|at| run(3, (1 << 60) + at, (1 << 60) + at + 1, "X")).collect();
+    let runs = (0..100).map(|at| run(3, (1 << 60) + at, (1 << 60) + at + 1, Mode::X)).collect();
     let held = Held { runs, ..Held::default() };
     let status = status(Vec::new());
     let picture = HeldPicture { status: &status, held: &held, points: 0..END + 1, path: "/" };

@@ -1,5 +1,5 @@
 use super::*;
-use krl::{MemoryStore, Server};
+use krl::{MemoryStore, Mode, Server};
 use std::net::TcpListener;
 
 fn server() -> Server {
@@ -8,13 +8,13 @@ fn server() -> Server {
 }
 
 fn run(client: u8, lo: u64, hi: u64) -> HeldRun {
-    HeldRun { lo, hi, client, mode: "S", slots: 1 }
+    HeldRun::new(client, lo..hi, Mode::S, 1)
 }
 
 /// A page on these clients, each of which holds the points up to its number.
 fn page(clients: Range<u8>) -> HeldPage {
     let runs = |client: u8| vec![run(client, 0, 1 + u64::from(client))];
-    HeldPage { clients: clients.map(|it| (it, runs(it))).collect(), took: Duration::ZERO }
+    HeldPage::new(clients.map(|it| (it, runs(it))).collect(), Duration::ZERO)
 }
 
 /// A search that is not done, and one that is.

@@ -1,8 +1,8 @@
 use super::*;
-use krl::{ClientStatus, Counts, Wait};
+use krl::{ClientStatus, Counts, Mode, Wait};
 
 fn client(client: u8, lease: LeaseLeft) -> ClientStatus {
-    ClientStatus { client, connection: None, silent_for: None, lease }
+    ClientStatus::new(client, lease)
 }
 
 fn ends(seconds: u64) -> LeaseLeft {
@@ -11,12 +11,15 @@ fn ends(seconds: u64) -> LeaseLeft {
 
 fn serving() -> Status {
     let clients = vec![client(3, ends(9)), client(7, LeaseLeft::Unending)];
-    Status { epoch: 7, rows: 41, is_serving: true, clients, ..Status::default() }
+    let mut status = Status::default();
+    (status.epoch, status.rows, status.is_serving) = (7, 41, true);
+    status.clients = clients;
+    status
 }
 
 fn wait(client: u8, other: u8) -> Wait {
     let waited = Duration::from_millis(4500);
-    Wait { client, point: 5, hi: 6, mode: "X", waited, waits_for: vec![other] }
+    Wait::new(client, 5..6, Mode::X, waited, vec![other])
 }
 
 fn held() -> Held {
@@ -62,13 +65,10 @@ fn the_head_has_the_state() {
 
 #[test]
 fn what_is_wrong_is_an_alarm() {
-    let status = Status {
-        alarms: vec![3],
-        store_alarms: 1,
-        failure: Some("no <disk>".to_string()),
-        waits: vec![wait(3, 7), wait(7, 3)],
-        ..serving()
-    };
+    let mut status = serving();
+    (status.alarms, status.store_alarms) = (vec![3], 1);
+    status.failure = Some("no <disk>".to_string());
+    status.waits = vec![wait(3, 7), wait(7, 3)];
     let html = html(&status);
     for told in [
         "The server has failed: no &lt;disk&gt;",
@@ -85,9 +85,11 @@ fn what_is_wrong_is_an_alarm() {
 
 #[test]
 fn a_recovery_names_who_is_missing_and_its_end() {
-    let recovering = Status { is_serving: false, missing: vec![3], ..serving() };
+    let mut recovering = serving();
+    (recovering.is_serving, recovering.missing) = (false, vec![3]);
     assert!(html(&recovering).contains("the reports of the clients 3, at most 9.0 s more."));
-    let both = Status { missing: vec![3, 7], ..recovering };
+    let mut both = recovering;
+    both.missing = vec![3, 7];
     let told = "the clients 3 and 7, until all have reported or an operator evicts them.";
     assert!(html(&both).contains(told), "{}", html(&both));
 }
@@ -106,7 +108,7 @@ fn an_old_look_is_told_and_so_is_none() {
 
 #[test]
 fn a_part_has_links_to_its_parts_and_to_the_whole() {
-    let run = |at: u64| krl::HeldRun { lo: at, hi: at + 1, client: 3, mode: "X", slots: 1 };
+    let run = |at: u64| krl::HeldRun::new(3, at..at + 1, Mode::X, 1);
     let runs = (0..100).map(|at| run((1 << 60) + at)).collect();
     let held = Held { runs, next: Some(1 << 61), age: Some(Duration::ZERO) };
     let status = serving();
@@ -143,7 +145,8 @@ fn the_page_is_small_and_asks_nobody_else() {
 
 #[test]
 fn each_picture_has_a_text() {
-    let status = Status { waits: vec![wait(3, 7)], ..serving() };
+    let mut status = serving();
+    status.waits = vec![wait(3, 7)];
     let held = held();
     let histograms = Some(Histograms::default());
     let html = Overview { histograms, ..overview(&status, &held) }.html();

@@ -1,6 +1,7 @@
 use super::super::world::{World, row};
 use super::super::{Asking, Dropped, WasSent};
 use super::*;
+use crate::model::batch::Fate;
 use Mutation::{Delete, Insert, Put, Set};
 use Outcome::{Absent, Applied, Exists};
 
@@ -109,7 +110,10 @@ fn a_batch_that_waits_for_a_lock_tells_what_it_has_done() {
     assert!(asked.answer.try_recv().is_err(), "the second row is pinned");
     assert_eq!(world.clients[0].was_sent(asked.id), WasSent::No);
     world.clients[0].abandon(asked.id, Error::TimedOut);
-    assert_eq!(answer(&asked), judged(&[Applied], Some(Error::TimedOut)));
+    let ended = answer(&asked);
+    assert_eq!(ended, judged(&[Applied], Some(Error::NotSent(None))));
+    let fates = [Fate::Judged(Applied), Fate::NotMade, Fate::NotMade];
+    assert_eq!(ended.fates(3), fates, "it is unknown of no write whether it was made");
     world.clients[1].unpin(pin);
     world.settle();
     assert_eq!(world.read(1, 0..20), [row(10, 2), row(11, 1)]);
