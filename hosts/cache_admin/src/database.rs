@@ -1,6 +1,6 @@
 //! The database that has a table, and what is done with the table there.
 use crate::failure::Failure;
-use crate::fill;
+use crate::fill::{self, Filled};
 use krl::Client;
 use krl_cache::{Cache, OriginError, PostgresAddress, PostgresOrigin, SqliteOrigin, StoreFilling};
 use krl_cache::{Table, TableFault};
@@ -59,14 +59,14 @@ pub trait CachedTable {
     /// What the table lacks, and which rights the role lacks.
     fn faults(&self, role: Option<&str>) -> Result<Vec<TableFault>, OriginError>;
 
-    /// Fills a server that these two clients have joined, and answers how many rows the table has.
-    fn fill_server(self: Box<Self>, reader: Client, writer: Client) -> Result<usize, Failure>;
+    /// Fills a server that these two clients have joined.
+    fn fill_server(self: Box<Self>, reader: Client, writer: Client) -> Result<Filled, Failure>;
 
     /// Continues with a database that has another identity and lacks nothing.
     fn accept(self: Box<Self>, reader: Client, writer: Client) -> Result<(), Failure>;
 
-    /// Writes a new store, and answers how many rows the table has.
-    fn fill_store(&self, path: &Path) -> Result<usize, Failure>;
+    /// Writes a new store.
+    fn fill_store(&self, path: &Path) -> Result<Filled, Failure>;
 }
 
 impl CachedTable for PostgresOrigin<()> {
@@ -82,7 +82,7 @@ impl CachedTable for PostgresOrigin<()> {
         Ok(faults)
     }
 
-    fn fill_server(self: Box<Self>, reader: Client, writer: Client) -> Result<usize, Failure> {
+    fn fill_server(self: Box<Self>, reader: Client, writer: Client) -> Result<Filled, Failure> {
         fill::server(*self, reader, writer)
     }
 
@@ -90,7 +90,7 @@ impl CachedTable for PostgresOrigin<()> {
         Ok(Cache::builder(reader, writer, *self).accept_and_open()?.close()?)
     }
 
-    fn fill_store(&self, path: &Path) -> Result<usize, Failure> {
+    fn fill_store(&self, path: &Path) -> Result<Filled, Failure> {
         fill::store(StoreFilling::begin(self)?, path)
     }
 }
@@ -104,7 +104,7 @@ impl CachedTable for SqliteOrigin<()> {
         self.check()
     }
 
-    fn fill_server(self: Box<Self>, reader: Client, writer: Client) -> Result<usize, Failure> {
+    fn fill_server(self: Box<Self>, reader: Client, writer: Client) -> Result<Filled, Failure> {
         fill::server(*self, reader, writer)
     }
 
@@ -112,7 +112,7 @@ impl CachedTable for SqliteOrigin<()> {
         Ok(Cache::builder(reader, writer, *self).accept_and_open()?.close()?)
     }
 
-    fn fill_store(&self, path: &Path) -> Result<usize, Failure> {
+    fn fill_store(&self, path: &Path) -> Result<Filled, Failure> {
         fill::store(StoreFilling::begin(self)?, path)
     }
 }

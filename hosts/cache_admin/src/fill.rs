@@ -2,14 +2,40 @@
 use crate::arguments::{Destination, TableWords};
 use crate::database::Database;
 use crate::failure::{Failure, not_done};
-use krl::{Client, Snapshot, SqliteStore};
+use krl::{Client, Room, Snapshot, SqliteStore};
 use krl_cache::{Cache, Origin, StoreFilling};
 use krl_rows::Progress;
+use std::fmt;
 use std::fs;
 use std::path::{Path, PathBuf};
 
-/// Fills krl, and answers how many rows the table has.
-pub fn fill(database: &Database, words: &TableWords, to: &Destination) -> Result<usize, Failure> {
+/// A table may become so many times as large before its new store is full.
+const GROWTH: usize = 2;
+
+/// What was filled.
+#[derive(Clone, Copy, Debug, PartialEq, Eq)]
+pub struct Filled {
+    /// How many rows the table has.
+    pub rows: usize,
+    /// The room of a new store.
+    pub room: Option<Room>,
+}
+
+impl fmt::Display for Filled {
+    fn fmt(&self, f: &mut fmt::Formatter<'_>) -> fmt::Result {
+        write!(f, "krl has the versions of {} rows", self.rows)?;
+        self.room.iter().try_for_each(|room| write!(f, ", and room for {room}"))
+    }
+}
+
+/// The room of a new store of so many rows, which a server has that is given no other one.
+fn room_for(rows: usize) -> Room {
+    let room = Room::of(rows.saturating_mul(GROWTH)).unwrap_or(Room::MAX);
+    room.max(Room::default())
+}
+
+/// Fills krl.
+pub fn fill(database: &Database, words: &TableWords, to: &Destination) -> Result<Filled, Failure> {
     let table = database.open(words.table())?;
     match (&to.krl, &to.store) {
         (_, Some(path)) => table.fill_store(path),
@@ -22,7 +48,7 @@ pub fn fill(database: &Database, words: &TableWords, to: &Destination) -> Result
 }
 
 /// Fills a server, and reports how far it has come.
-pub fn server<O: Origin>(table: O, reader: Client, writer: Client) -> Result<usize, Failure> {
+pub fn server<O: Origin>(table: O, reader: Client, writer: Client) -> Result<Filled, Failure> {
     let (mut progress, mut filled) = (None, 0);
     let report = |count: usize, all: usize| {
         let bar = progress.get_or_insert_with(|| Progress::new("filling", Some(all as u64)));
@@ -31,19 +57,21 @@ pub fn server<O: Origin>(table: O, reader: Client, writer: Client) -> Result<usi
     };
     let cache = Cache::builder(reader, writer, table).fill_and_open(report)?;
     cache.close()?;
-    Ok(filled)
+    Ok(Filled { rows: filled, room: None })
 }
 
 /// Writes a new store of a table that is locked.
 ///
 /// It has another name until the table is known to have been locked all the time: no server starts
 /// over a store that may lack a change.
-pub fn store<O: Origin>(filling: StoreFilling<'_, O>, path: &Path) -> Result<usize, Failure> {
+pub fn store<O: Origin>(filling: StoreFilling<'_, O>, path: &Path) -> Result<Filled, Failure> {
     let progress = Progress::new("writing the store", None);
     if path.symlink_metadata().is_ok() {
         return Err(Failure::NotDone(format!("there is a file {} already", path.display())));
     }
-    let snapshot = Snapshot { rows: filling.rows().clone(), ..Snapshot::default() };
+    let rows = filling.rows().clone();
+    let room = room_for(rows.len());
+    let snapshot = Snapshot { rows, room: Some(room), ..Snapshot::default() };
     let judged = snapshot.judge();
     judged.map_err(|code| Failure::NotDone(format!("no server could start on it: {code}")))?;
     let unconfirmed = Unconfirmed(with_end(path, ".unconfirmed"));
@@ -53,7 +81,7 @@ pub fn store<O: Origin>(filling: StoreFilling<'_, O>, path: &Path) -> Result<usi
         .map_err(|error| Failure::NotDone(format!("{} cannot be made: {error}", path.display())))?;
     drop((unconfirmed, progress));
     sync_folder_of(path).map_err(|error| not_done(&error))?;
-    Ok(rows)
+    Ok(Filled { rows, room: Some(room) })
 }
 
 /// A store that has not its own name yet. It is removed when this is dropped.
@@ -76,4 +104,16 @@ fn with_end(path: &Path, end: &str) -> PathBuf {
 fn sync_folder_of(path: &Path) -> std::io::Result<()> {
     let folder = path.parent().filter(|folder| !folder.as_os_str().is_empty());
     fs::File::open(folder.unwrap_or(Path::new(".")))?.sync_all()
+}
+
+#[cfg(test)]
+mod tests {
+    use super::*;
+
+    #[test]
+    fn a_new_store_has_room_for_more_rows_than_it_has() {
+        let room = |rows| room_for(rows).rows();
+        assert_eq!((room(2), room(40_000), room(100_000)), (65_536, 80_000, 200_000));
+        assert_eq!((room(600_000), room(1_048_576)), (1_048_576, 1_048_576));
+    }
 }

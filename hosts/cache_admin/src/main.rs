@@ -43,8 +43,8 @@ fn run(command: Command) -> Result<ExitCode, Failure> {
             output::print(&format!("{}: krl continues with this database\n", table.name))?;
         }
         Command::Fill { database, table, to } => {
-            let rows = fill::fill(&database, &table, &to)?;
-            output::print(&format!("{}: krl has the versions of {rows} rows\n", table.name))?;
+            let filled = fill::fill(&database, &table, &to)?;
+            output::print(&format!("{}: {filled}\n", table.name))?;
         }
     }
     Ok(ExitCode::SUCCESS)

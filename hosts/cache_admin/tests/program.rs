@@ -117,13 +117,31 @@ fn a_new_store_is_filled_at_once() {
     assert!(text.contains("--clients-are-stopped"), "{text}");
     let words = [&words[..], &["--clients-are-stopped"]].concat();
     let filled = ended(folder, &words);
-    assert_eq!(filled, (0, "item: krl has the versions of 2 rows\n".to_string()));
+    let told = "item: krl has the versions of 2 rows, and room for 65536\n".to_string();
+    assert_eq!(filled, (0, told));
     let files: Vec<_> = std::fs::read_dir(folder).unwrap().flatten().collect();
     assert_eq!(files.len(), 1, "{files:?}");
     let (status, text) = ended(folder, &words);
     assert_eq!((status, text.as_str()), (2, "krl-cache: there is a file krl.db already\n"));
     let server = serve(&folder.join("krl.db"));
     assert_eq!(names(folder, &database, &server), expected());
+}
+
+/// A server that is given no room has more than the rows of a large table.
+#[test]
+fn a_large_table_may_grow() {
+    let folder = TempDir::new().unwrap();
+    let folder = folder.path();
+    let connection = krl_cache::rusqlite::Connection::open(folder.join("shop.db")).unwrap();
+    let rows = "WITH RECURSIVE row (id) AS (SELECT 1 UNION ALL SELECT id + 1 FROM row LIMIT 70000)
+        INSERT INTO item SELECT id, 'lamp' FROM row;";
+    let table = "CREATE TABLE item (id INTEGER PRIMARY KEY, name TEXT);";
+    connection.execute_batch(&[table, rows].concat()).unwrap();
+    assert_eq!(ended(folder, &["set-up", "shop.db", "item"]).0, 0);
+    let words = ["fill", "shop.db", "item", "--store", "krl.db", "--clients-are-stopped"];
+    let told = "item: krl has the versions of 70000 rows, and room for 140004\n".to_string();
+    assert_eq!(ended(folder, &words), (0, told));
+    assert_eq!(serve(&folder.join("krl.db")).room().rows(), 140_004);
 }
 
 #[test]
