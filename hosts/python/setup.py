@@ -1,12 +1,7 @@
 """A wheel has the library of one kind of machine in it, and serves each Python 3 there."""
 
-from setuptools import Distribution, setup
+from setuptools import setup
 from wheel.bdist_wheel import bdist_wheel
-
-
-class WithLibrary(Distribution):
-    def has_ext_modules(self):
-        return True
 
 
 class OfEachPython(bdist_wheel):
@@ -14,4 +9,4 @@ class OfEachPython(bdist_wheel):
         return "py3", "none", super().get_tag()[2]
 
 
-setup(distclass=WithLibrary, cmdclass={"bdist_wheel": OfEachPython})
+setup(has_ext_modules=lambda: True, cmdclass={"bdist_wheel": OfEachPython})

@@ -1,82 +1,77 @@
-"""The calls of ``libkrl_client.so``, as ``krl_client.h`` declares and describes them."""
-
-from __future__ import annotations
+"""The calls of ``libkrl_client.so``, as ``krl_client.h`` declares and describes them, and threads
+that make those which wait. A thread that waits within the library hears no signal, and Python runs
+handlers of signals, such as that of Ctrl-C, only on the main thread. So another thread makes the
+waiting calls of the main thread, and those of an event loop."""
 
 import ctypes
 import functools
 import os
 import struct
 from collections.abc import Callable
+from concurrent.futures import Future
+from contextlib import suppress
 from ctypes import byref, c_bool, c_char, c_char_p, c_int32, c_size_t, c_uint32, c_uint64, c_void_p
-from enum import IntEnum
 from pathlib import Path
-from typing import Any, NamedTuple
+from queue import SimpleQueue
+from threading import Semaphore, Thread, current_thread, main_thread
+from types import SimpleNamespace
+from typing import Any, NamedTuple, TypeVar
 
-from ._waiting import made
 from .errors import BadOption, Closed, Forked, JoinError, LibraryError, LockFileError
-from .errors import LockFileTaken, NotSent, OutOfMemory, Reason, Refused, Stopped, Unserved
+from .errors import LockFileTaken, OutOfMemory, Reason, Refused, Stopped
 
-# The file, if it is neither in the package nor where the system looks, and the KRLC_VERSION.
-NAMED_BY, VERSION = "KRL_CLIENT_LIBRARY", 1_000
+T = TypeVar("T")
+# The file, if it is neither in the package nor where the system looks, and the version that it has.
+NAMED_BY, VERSION = "KRL_CLIENT_LIBRARY", "0.1"
 
 # Codes of the header. Those up to ANSWERS are no errors.
-OK, MISS, ANSWERS, MISUSE, BAD_TLS, LOCK_FILE, LOCK_FILE_TAKEN = 0, 5, 15, 16, 23, 24, 29
-BAD_OPTIONS = (MISUSE, 17, 20, 21, 22, BAD_TLS)
-
+OK, MISS, ANSWERS, MISUSE, BAD_TLS = 0, 5, 15, 16, 23
+JOIN_ERRORS: dict[int, type[JoinError]] = {24: LockFileError, 29: LockFileTaken}
+JOIN_ERRORS |= dict.fromkeys((MISUSE, 17, 20, 21, 22, BAD_TLS), BadOption)
 NUMBERS, FOR_EVER = 64, (1 << 64) - 1
-
 END, TOP = (1 << 63) - 1, 1 << 63
 """One past the greatest key, and the end of the widest range."""
+# So many calls wait at once. A client has one lock request at a time on its way, and one write.
+MOST = 32
+
+# Types by letters. "p" is any pointer: ctypes takes a handle, a reference or an array for it.
+_TYPES: dict[str, Any] = {"-": None, "?": c_bool, "i": c_uint32, "n": c_size_t, "q": c_uint64}
+_TYPES |= {"s": c_char_p, "p": c_void_p}
+
+# The calls, with the types of their results and parameters. Those that wait for nobody keep the
+# interpreter's lock; while the others wait, other threads of the program go on.
+_AT_ONCE = """version:i is_unknown_outcome:?i number:ip joined:np status_at:ipnpp cached:ipqqp
+    cached_row:ipqp pin_holds:ip rows_new:p rows_get:ppp rows_free:-p"""
+_WAITING = """join:ippp evict:ipp leave:ipqp free:-p reload_tls:ipp read:ipqqpqp forget:ipqqqp
+    wait_for_change:ipqqsnqp write_all:ippnqp pin_write_all:ippnqp pin_held:ipqqpqp pin_free:-p
+    pin_for_read:ipqqppqp pin_for_update:ipqqppqp pin_for_write:ipqqppqp"""
+_OPTIONS = """size:n servers:s map:s lock_file:s number:i numbers:q timeout_ms:q wait_if_in_use_ms:q
+    tls_authority:s tls_certificate:s tls_key:s table:s lo:q hi:q"""
+
+
+def declared(names: str) -> list[tuple[str, list[Any]]]:
+    """Each name of a declaration as above, with the types of its letters."""
+    parts = (part.split(":") for part in names.split())
+    return [(name, [_TYPES[letter] for letter in letters]) for name, letters in parts]
+
+
+class Failure(ctypes.Structure):  # krlc_error
+    _fields_ = [("code", c_uint32), ("shard", c_int32), ("reason", c_int32), ("text", c_char * 500)]
+
+
+class Options(ctypes.Structure):  # krlc_options
+    _fields_ = [(name, kind) for name, (kind,) in declared(_OPTIONS)]
 
 
 class Row(NamedTuple):
     """A row of the table."""
-
     key: int
     value: bytes
 
 
-class Outcome(IntEnum):
-    """How a write was judged. Only ``APPLIED`` is true: the others changed nothing. After an error,
-    one write of several may be ``UNKNOWN``: a read of its key shows it."""
-
-    APPLIED, EXISTS, ABSENT, FULL, NOT_HELD = range(5)
-    UNKNOWN, NOT_MADE = 46, 66
-
-    def __bool__(self) -> bool:
-        return self is Outcome.APPLIED
-
-
-class Failure(ctypes.Structure):
-    """A ``krlc_error``."""
-
-    _fields_ = [("code", c_uint32), ("shard", c_int32), ("reason", c_int32), ("text", c_char * 500)]
-
-
-class Options(ctypes.Structure):
-    """A ``krlc_options``."""
-
-    _fields_ = [
-        ("size", c_size_t),
-        *((name, c_char_p) for name in ("servers", "map", "lock_file")),
-        ("number", c_uint32),
-        *((name, c_uint64) for name in ("numbers", "timeout_ms", "wait_if_in_use_ms")),
-        *((name, c_char_p) for name in ("tls_authority", "tls_certificate", "tls_key", "table")),
-        *((name, c_uint64) for name in ("lo", "hi")),
-    ]
-
-
-class StatusRoom(ctypes.Structure):
-    """A ``krlc_status``."""
-
-    _fields_ = [
-        *((name, c_uint64) for name in ("shard", "epoch", "incarnation", "lease_left_ms")),
-        ("is_connected", c_bool),
-    ]
-
-
 # A krlc_row: the key, the length of the value, and its bytes. A krlc_write: kind, outcome and row.
-ROW, WRITE = struct.Struct("=QQ32s"), struct.Struct("=IIQQ32s")
+# A krlc_status: shard, epoch, incarnation, what is left of the lease, and whether it is connected.
+ROW, WRITE, STATUS = map(struct.Struct, ("=QQ32s", "=IIQQ32s", "=QQQQ?7x"))
 RowRoom, _new = c_char * ROW.size, tuple.__new__
 
 
@@ -86,132 +81,130 @@ def rows_in(packed: bytes | ctypes.Array[c_char]) -> list[Row]:
 
 
 class Handle(c_void_p):
-    """A client, a pin or rows. It is freed with the last reference to it: each call that uses it
-    has one, so none uses it while it is freed. A null handle stands for one that is gone."""
+    """A client, a pin or rows, which is freed with the last reference to it: each call that uses
+    it has one, so none uses it while it is freed. A null handle stands for one that is gone."""
 
-    free: Callable[[Handle], None] | None = None
-
-    @classmethod
-    def freed_by(cls, name: str) -> Handle:
-        """A null handle, for a call that makes one."""
-        handle = cls()
-        handle.free = getattr(library(), name)
-        return handle
+    def __init__(self, free: str, value: int | None = None) -> None:
+        super().__init__(value)
+        self._free = getattr(library(), free)
 
     def __del__(self) -> None:
-        if self.free is not None and self.value is not None:
-            self.free(self)
+        if self.value is not None:
+            self._free(self)
 
 
 class Rows(Handle):
     """Room for the rows of one answer."""
 
     def __init__(self) -> None:
-        super().__init__(library().rows_new())
-        self.free = library().rows_free
+        super().__init__("rows_free", library().rows_new())
         if self.value is None:
             raise OutOfMemory("memory was refused")
 
     def taken(self) -> list[Row]:
         at = library().rows_get(self, byref(count := c_size_t()))
-        return rows_in(ctypes.string_at(at, count.value * ROW.size)) if count.value else []
-
-
-# The types of a call by letters. "p" is any pointer: ctypes takes a handle, a reference, an array or
-# an address for it.
-_TYPES: dict[str, Any] = {"-": None, "?": c_bool, "i": c_uint32, "n": c_size_t, "q": c_uint64}
-_TYPES |= {"s": c_char_p, "p": c_void_p}
-
-# The calls, each with the types of its result and of its parameters. Those that wait for nobody keep
-# the interpreter's lock; while the others wait, other threads of the program go on.
-_AT_ONCE = """version:i is_unknown_outcome:?i set_timeout:ipqp number:ip joined:np status_at:ipnpp
-    cached:ipqqp cached_row:ipqp pin_holds:ip rows_new:p rows_get:ppp rows_free:-p"""
-_WAITING = """join:ippp evict:ipp leave:ipqp free:-p reload_tls:ipp read:ipqqpqp forget:ipqqqp
-    wait_for_change:ipqqsnqp write_all:ippnqp pin_write_all:ippnqp insert:ipqsnqp put:ipqsnqp
-    set:ipqsnqp delete:ipqqp pin_held:ipqqpqp pin_for_read:ipqqppqp pin_for_update:ipqqppqp
-    pin_for_write:ipqqppqp pin_insert:ipqsnqp pin_put:ipqsnqp pin_set:ipqsnqp pin_delete:ipqqp
-    pin_free:-p"""
-
-
-class Library:
-    """The library. Its attributes are the calls, by their names without ``krlc_``."""
-
-    def __init__(self, place: str) -> None:
-        for loaded, calls in ((ctypes.PyDLL(place), _AT_ONCE), (ctypes.CDLL(place), _WAITING)):
-            for name, types in (call.split(":") for call in calls.split()):
-                function = getattr(loaded, f"krlc_{name}")
-                function.restype, *function.argtypes = [_TYPES[letter] for letter in types]
-                setattr(self, name, function)
-        if not fits(self.version()):
-            raise OSError(f"{place} is version {spelled(self.version())}, not {spelled(VERSION)}")
-
-    def __getattr__(self, name: str) -> Any:
-        raise AttributeError(f"the library has no call krlc_{name}")
+        return rows_in(ctypes.string_at(at, count.value * ROW.size))
 
 
 @functools.cache
-def library() -> Library:
-    """The library, which is loaded once, or a ``LibraryError``."""
-    here, name, tried = Path(__file__).resolve(), "libkrl_client.so", []
+def library() -> SimpleNamespace:
+    """The calls of the library, which is loaded once, or a ``LibraryError``."""
+    here, name, faults = Path(__file__).resolve().parent, "libkrl_client.so", []
     # `make install` puts the package into share/krl/python, next to the folder lib.
-    installed = here.parents[min(4, len(here.parents) - 1)] / "lib"
-    places = [str(here.with_name(name)), str(installed / f"{name}.0"), f"{name}.0"]
-    named = os.environ.get(NAMED_BY)
-    for place in [named] if named else places:
+    places = [f"{here}/{name}", f"{here}/../../../../lib/{name}.0", f"{name}.0"]
+    for place in [os.environ[NAMED_BY]] if os.environ.get(NAMED_BY) else places:
         try:
-            return Library(place)
-        except (OSError, AttributeError) as error:
-            tried.append(str(error))
-    raise LibraryError(
-        "libkrl_client.so cannot be loaded: put it into the package krl or where the system looks "
-        f"for libraries, or name the file by {NAMED_BY}. Tried: {'; '.join(tried)}"
-    )
+            return _loaded(place)
+        except (OSError, AttributeError) as fault:
+            faults.append(str(fault))
+    raise LibraryError(f"{name} cannot be loaded: put it into the package krl or where the system "
+                       f"looks for libraries, or name the file by {NAMED_BY}. "
+                       f"Tried: {'; '.join(faults)}")
 
 
-def fits(version: int) -> bool:
-    """Whether a library of this version has the calls as they are declared here."""
-    return version // 1000 == VERSION // 1000
+def _loaded(place: str) -> SimpleNamespace:
+    """The calls of the library at this place, by their names without ``krlc_``."""
+    calls = SimpleNamespace()
+    for loaded, names in ((ctypes.PyDLL(place), _AT_ONCE), (ctypes.CDLL(place), _WAITING)):
+        for name, types in declared(names):
+            function = getattr(loaded, f"krlc_{name}")
+            function.restype, *function.argtypes = types
+            setattr(calls, name, function)
+    check_version(calls.version())
+    return calls
 
 
-def spelled(version: int) -> str:
-    return f"{version // 1_000_000}.{version // 1000 % 1000}.{version % 1000}"
+def check_version(version: int) -> None:
+    """Raises ``OSError`` if a library of this version has other calls than those declared here."""
+    if (found := f"{version // 1_000_000}.{version // 1000 % 1000}") != VERSION:
+        raise OSError(f"the library has version {found}, and this package needs {VERSION}")
 
 
-def refused(code: int, failure: Failure | None = None) -> Refused:
-    """The error of a client's call that returned this code."""
-    # A null handle is one that Python has let go.
-    kind = Refused.kinds.get(Closed.code if code == MISUSE else code, Stopped)
-    has_sentence = failure is not None and kind not in (Closed, Forked)
-    error = kind(failure.text.decode() if failure and has_sentence else kind.__doc__)
-    error.is_unknown_outcome = library().is_unknown_outcome(code)
-    if failure is not None and failure.shard >= 0:
-        error.shard = failure.shard
-    has_reason = failure is not None and failure.reason in set(Reason)
-    if failure is not None and has_reason and isinstance(error, Unserved | NotSent):
-        error.reason = Reason(failure.reason)
-    return error
+class Workers:
+    """Threads that are started when they are needed, and end with the process."""
+
+    def __init__(self) -> None:
+        self._work: SimpleQueue[Callable[[], None]] = SimpleQueue()
+        self._idle, self._unstarted = Semaphore(0), Semaphore(MOST)
+
+    def begin(self, call: Callable[..., T], *arguments: Any) -> Future[T]:
+        """Has a thread make the call. Raises ``RuntimeError`` if the system has none for it."""
+        future: Future[T] = Future()
+        if not self._idle.acquire(blocking=False) and self._unstarted.acquire(blocking=False):
+            # One that waits for a server must not keep the process from ending.
+            Thread(target=self._run, name="krl", daemon=True).start()
+        self._work.put(lambda: _make(future, call, *arguments))
+        return future
+
+    def _run(self) -> None:
+        while True:
+            self._work.get()()
+            self._idle.release()
 
 
-def not_joined(code: int, failure: Failure) -> JoinError:
-    """The error of a client that did not join."""
-    kinds: dict[int, type[JoinError]] = dict.fromkeys(BAD_OPTIONS, BadOption)
-    kinds |= {LOCK_FILE: LockFileError, LOCK_FILE_TAKEN: LockFileTaken}
-    error = kinds.get(code, JoinError)(failure.text.decode())
-    if code not in kinds and code in Refused.kinds:
-        error.__cause__ = refused(code, failure)
-    return error
+def _make(future: Future[T], call: Callable[..., T], *arguments: Any) -> None:
+    if future.set_running_or_notify_cancel():
+        try:
+            future.set_result(call(*arguments))
+        except BaseException as error:
+            future.set_exception(error)
+
+
+workers = [Workers()]
+# A child process of a fork has none of the threads.
+os.register_at_fork(after_in_child=lambda: workers.__setitem__(0, Workers()))
+
+
+def made(call: Callable[..., T], *arguments: Any) -> T:
+    """Makes a call that may wait. On the main thread Ctrl-C ends the wait, and not the call."""
+    if current_thread() is main_thread():
+        # An interpreter that ends starts no thread any more.
+        with suppress(RuntimeError):
+            return workers[0].begin(call, *arguments).result()
+    return call(*arguments)
 
 
 def call(name: str, *words: Any) -> int:
-    """Makes a call that may wait. It answers a code, or raises what was refused."""
-    failure = Failure()
-    code: int = made(getattr(library(), name), *words, byref(failure))
+    """Makes a call whose last parameter is an error. It returns a code, or raises the error."""
+    function, failure = getattr(library(), name), Failure()
+    code: int = made(function, *words, byref(failure))
     # An error keeps what this function names as long as somebody keeps the error.
     del words
-    return answered(code, failure)
-
-
-def answered(code: int, failure: Failure) -> int:
-    if code > ANSWERS:
+    if code <= ANSWERS:
+        return code
+    if name not in ("join", "evict") and code != BAD_TLS:
         raise refused(code, failure)
-    return code
+    kind = JOIN_ERRORS.get(code, JoinError)
+    raise kind(failure.text.decode()) from (refused(code, failure) if kind is JoinError else None)
+
+
+def refused(code: int, failure: Failure = Failure(shard=-1, reason=-1)) -> Refused:
+    """The error of a client's call that returned this code."""
+    # A null handle is one that Python has let go.
+    kind = Refused.kinds.get(Closed.code if code == MISUSE else code, Stopped)
+    text = "" if kind in (Closed, Forked) else failure.text.decode()
+    error = kind(text or kind.__doc__)
+    error.is_unknown_outcome = library().is_unknown_outcome(code)
+    error.shard = failure.shard if failure.shard >= 0 else None
+    error.reason = Reason(failure.reason) if failure.reason in set(Reason) else None
+    return error

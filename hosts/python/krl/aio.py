@@ -1,127 +1,87 @@
-"""The client for ``asyncio``. Its calls are those of ``krl.Client`` and ``krl.Pin``, and are awaited
-if they may wait:
-
-    async with await krl.aio.join("127.0.0.1:7400", 0, "/var/lib/app/client-0.lock") as client:
-        await client.insert(15, b"hello")
-
-A thread waits in the place of the task. If a task is cancelled its call goes on: a write may be
-applied, and a pin that is taken is freed at once.
-"""
-
-from __future__ import annotations
+"""The client for ``asyncio``: calls of ``krl.Client`` and ``krl.Pin``, awaited if they may wait.
+A thread waits in place of the task. If a task is cancelled, its call goes on: a write may be
+applied, and a pin that is taken is freed at once."""
 
 import asyncio
 import functools
 from collections.abc import AsyncIterator, Callable, Coroutine
-from typing import Any, Concatenate, ParamSpec, Self, TypeVar
+from itertools import islice
+from typing import Any, ParamSpec, Self, TypeVar, overload
 
 from . import client as threads
-from ._library import TOP, Row
-from ._waiting import workers
-from .errors import Closed
+from ._library import TOP, Row, workers
+from .client import Seconds
 
 P = ParamSpec("P")
 T = TypeVar("T")
-C = TypeVar("C")
 W = TypeVar("W")
+Awaited = Callable[P, Coroutine[Any, Any, W]]
 
 
-async def _awaited(call: Callable[..., T], *words: Any, **named: Any) -> T:
-    """Makes a call that may wait, while the event loop goes on."""
-    return await asyncio.wrap_future(workers[0].begin(functools.partial(call, *words, **named)))
-
-
-def _awaitable(
-    call: Callable[Concatenate[C, P], T],
-) -> Callable[Concatenate[Any, P], Coroutine[Any, Any, T]]:
-    """The same call, to be awaited: of the client or the pin of a ``Client`` or ``Pin``."""
+@overload
+def _awaited(call: Callable[P, W]) -> Awaited[P, W]: ...
+@overload
+def _awaited(call: Callable[P, T], kind: Callable[[T], W]) -> Awaited[P, W]: ...
+def _awaited(call: Callable[P, Any], kind: Callable[[Any], Any] | None = None) -> Awaited[P, Any]:
+    """The same call, to be awaited: a thread makes it. ``kind`` is made of its answer."""
 
     @functools.wraps(call)
-    async def awaitable(self: Any, /, *words: P.args, **named: P.kwargs) -> T:
-        return await _awaited(call, self.of_threads, *words, **named)
+    async def awaited(*words: P.args, **named: P.kwargs) -> Any:
+        future = workers[0].begin(functools.partial(call, *words, **named))
+        answer = await asyncio.wrap_future(future)
+        return answer if kind is None else kind(answer)
 
-    return awaitable
-
-
-def _wrapped(
-    kind: Callable[[T], W], call: Callable[P, Coroutine[Any, Any, T]]
-) -> Callable[P, Coroutine[Any, Any, W]]:
-    """The same call, whose answer has calls that are awaited."""
-
-    @functools.wraps(call)
-    async def wrapped(*words: P.args, **named: P.kwargs) -> W:
-        return kind(await call(*words, **named))
-
-    return wrapped
+    return awaited
 
 
 class _Calls:
-    """Those of clients and pins. ``of_threads`` is the same one, with calls that are not awaited."""
+    """The calls of both. ``of_threads`` is the same client or pin, whose calls are not awaited."""
 
-    of_threads: Any
-    insert = _awaitable(threads._Writer.insert)
-    put = _awaitable(threads._Writer.put)
-    set = _awaitable(threads._Writer.set)
-    delete = _awaitable(threads._Writer.delete)
-    write_all = _awaitable(threads._Writer.write_all)
+    def __init__(self, of_threads: threads.Client | threads.Pin) -> None:
+        self.of_threads = of_threads
+        self.insert, self.put = _awaited(of_threads.insert), _awaited(of_threads.put)
+        self.set, self.delete = _awaited(of_threads.set), _awaited(of_threads.delete)
+        self.write_all = _awaited(of_threads.write_all)
 
     async def __aenter__(self) -> Self:
         return self
 
     async def __aexit__(self, *error: object) -> None:
-        await _awaited(self.of_threads.__exit__, *error)
+        await _awaited(self.of_threads.__exit__)(*error)
 
 
 class Pin(_Calls):
     """A pin. It is freed at the end of an ``async with``."""
 
     def __init__(self, pin: threads.Pin) -> None:
-        self.of_threads, self.rows, self.holds = pin, pin.rows, pin.holds
-
-    free = _awaitable(threads.Pin.free)
+        super().__init__(pin)
+        self.rows, self.holds, self.free = pin.rows, pin.holds, _awaited(pin.free)
 
 
 class Client(_Calls):
     """A client. It leaves at the end of an ``async with``."""
 
     def __init__(self, client: threads.Client) -> None:
-        self.of_threads, self.number = client, client.number
-        self.cached, self.status = client.cached, client.status
+        super().__init__(client)
+        self.number, self.cached, self.status = client.number, client.cached, client.status
+        self.forget, self.leave = _awaited(client.forget), _awaited(client.leave)
+        self.pin, self.pin_for_read = _awaited(client.pin, Pin), _awaited(client.pin_for_read, Pin)
+        self.pin_for_update = _awaited(client.pin_for_update, Pin)
+        self.pin_for_write = _awaited(client.pin_for_write, Pin)
+        self._client, self._read = client, _awaited(client.read)
 
-    forget = _awaitable(threads.Client.forget)
-    leave = _awaitable(threads.Client.leave)
-    pin = _wrapped(Pin, _awaitable(threads.Client.pin))
-    pin_for_read = _wrapped(Pin, _awaitable(threads.Client.pin_for_read))
-    pin_for_update = _wrapped(Pin, _awaitable(threads.Client.pin_for_update))
-    pin_for_write = _wrapped(Pin, _awaitable(threads.Client.pin_for_write))
-    _read = _awaitable(threads.Client.read)
-
-    async def read(
-        self, start: int = 0, stop: int = TOP, timeout: float | None = None
-    ) -> list[Row]:
+    async def read(self, start: int = 0, stop: int = TOP, timeout: Seconds = None) -> list[Row]:
         """``krl.Client.read``. What the cache has is read at once."""
         rows = self.cached(start, stop)
-        return rows if rows is not None else await self._read(start, stop, timeout)
+        return await self._read(start, stop, timeout) if rows is None else rows
 
     async def changes(self, start: int = 0, stop: int = TOP) -> AsyncIterator[list[Row]]:
         """``krl.Client.changes``, for ``async for``."""
-        changes = self.of_threads.changes(start, stop)
-        while True:
-            try:
-                rows = await _awaited(changes.look)
-            except Closed:
-                return
-            if rows is not None:
+        self._client.changes(start, stop)  # checks the range
+        looks = self._client._looks(start, stop)
+        while looked := await _awaited(lambda: list(islice(looks, 1)))():
+            if (rows := looked[0]) is not None:
                 yield rows
 
 
-def _joins(join: Callable[P, threads.Client]) -> Callable[P, Coroutine[Any, Any, Client]]:
-    @functools.wraps(join)
-    async def joined(*words: P.args, **named: P.kwargs) -> Client:
-        return Client(await _awaited(join, *words, **named))
-
-    return joined
-
-
-join = _joins(threads.join)
-join_map = _joins(threads.join_map)
+join, join_map = _awaited(threads.join, Client), _awaited(threads.join_map, Client)

@@ -1,20 +1,16 @@
-"""Why a call was refused, and why a client did not join."""
-
-from __future__ import annotations as _annotations
+"""How a write was judged, why a call was refused, and why a client did not join."""
 
 from enum import IntEnum as _IntEnum
-from typing import TYPE_CHECKING as _TYPE_CHECKING
-
-if _TYPE_CHECKING:
-    from ._library import Outcome
 
 
-class Error(Exception): """All errors of this package, except those that Python itself raises."""
-class LibraryError(Error): """``libkrl_client.so`` was not found, or has another version."""
-class JoinError(Error): """The client did not join. ``__cause__`` is what ended it, if one did."""
-class LockFileError(JoinError): """The lock file cannot be used, or another process has it."""
-class LockFileTaken(LockFileError): """Another process has it, or those of all numbers."""
-class BadOption(JoinError, ValueError): """A number, an address, a map, a file or a time is none."""
+class Outcome(_IntEnum):
+    """How a write was judged. Only ``APPLIED`` is true. The last two are those of an error."""
+
+    APPLIED, EXISTS, ABSENT, FULL, NOT_HELD = range(5)
+    UNKNOWN, NOT_MADE = 46, 66
+
+    def __bool__(self) -> bool:
+        return self is Outcome.APPLIED
 
 
 class Reason(_IntEnum):
@@ -24,15 +20,26 @@ class Reason(_IntEnum):
     DENIED, OTHER_SHARD, FAR_AHEAD, OTHER_STORE = range(6, 10)
 
 
+class Error(Exception): """All errors of this package, except those that Python itself raises."""
+class LibraryError(Error): """``libkrl_client.so`` was not found, or has another version."""
+
+
+class JoinError(Error): """The client did not join. ``__cause__`` is what ended it, if one did."""
+class LockFileError(JoinError): """The lock file cannot be used, or another process has it."""
+class LockFileTaken(LockFileError): """Another process has it, or those of all numbers."""
+class BadOption(JoinError, ValueError): """A number, an address, a map, a file or a time is none."""
+
+
 class Refused(Error):
-    """A call of a client was refused. ``code`` is that of ``krl_client.h``, and ``shard`` the
-    shard that refused it, from 0, if the client has a map. ``is_unknown_outcome``: a write may have
-    been applied, or may still be, which a read of the key shows. ``outcomes``: what became of each
-    write, if the call was ``write_all``."""
+    """A call of a client was refused. ``code`` is that of ``krl_client.h``, ``shard`` the one that
+    refused it (with a map), and ``reason`` why the server does not serve the client, if it reported
+    that. ``is_unknown_outcome``: a write may have been applied, or may still be; a read of the key
+    shows it. ``outcomes``: what became of each write."""
 
     code = 0
-    kinds: dict[int, type[Refused]] = {}
+    kinds: "dict[int, type[Refused]]" = {}
     shard: int | None = None
+    reason: Reason | None = None
     outcomes: list[Outcome] = []
     is_unknown_outcome = False
 
@@ -50,21 +57,8 @@ class Closed(Refused, code=27): """The client has left."""
 class Stopped(Refused, code=44): """The client answers nothing any more. Another may be joined."""
 class Forked(Stopped, code=28): """A client does not survive a fork: join in the child process."""
 class TimedOut(Refused, TimeoutError, code=40): """No answer came in time."""
-
-
-class Unserved(TimedOut, code=41):
-    """The same, and the server has reported why, if this client knows that ``reason``."""
-
-    reason: Reason | None = None
-
-
-class NotSent(TimedOut, code=66):
-    """The write was not sent in time, and so was not made. It has the server's ``reason`` if it gave
-    one."""
-
-    reason: Reason | None = None
-
-
+class Unserved(TimedOut, code=41): """The same, and the server has reported why: the ``reason``."""
+class NotSent(TimedOut, code=66): """The write was not sent in time, and so was not made."""
 class StoreWentBack(Refused, code=42): """The server's store is an older or another one."""
 class LeaseEnded(Refused, code=43): """The client's lease ended during the write."""
 class TurnedAway(Refused, code=60): """This side of the connection has no right to the number."""

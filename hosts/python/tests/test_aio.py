@@ -64,6 +64,8 @@ class AsyncTest(Served):
     def test_changes_come_one_after_the_other(self) -> None:
         async def watch() -> None:
             async with await self.joined(0) as one, await self.joined(1) as other:
+                with self.assertRaises(krl.BadRange):
+                    await anext(one.changes(5, 5))
                 changes = one.changes(0, 20)
                 self.assertEqual(await anext(changes), [])
                 later = asyncio.ensure_future(anext(changes))

@@ -3,7 +3,6 @@
 from __future__ import annotations
 
 import gc
-import os
 import shutil
 import signal
 import subprocess
@@ -17,7 +16,7 @@ from typing import TypeVar
 import krl
 from krl import END, TOP, Outcome, Reason, Row
 
-from .serving import PATIENCE, Served, end, free_port, lines_of, until
+from .serving import PATIENCE, Served, end, lines_of, until
 
 T = TypeVar("T")
 
@@ -137,6 +136,20 @@ class CallsTest(Served):
         for timeout in (-1.0, float("nan")):
             with self.assertRaisesRegex(ValueError, "a timeout is"):
                 other.insert(20, b"", timeout)
+
+    def test_a_pin_has_the_timeout_of_its_client_and_then_one_of_its_own(self) -> None:
+        one, other = self.join(0), self.join(1, 3600)
+        one.insert(10, b"1")
+        with one.pin_for_write(5, 15), other.pin(50, 60) as own:
+            self.assertEqual(own.timeout, 3600)
+            own.timeout = 0.05
+            with self.assertRaises(krl.TimedOut):
+                own.put(10, b"2")
+        self.assertEqual(other.timeout, 3600)
+        other.timeout = -1.0
+        with self.assertRaisesRegex(ValueError, "a timeout is"):
+            other.put(10, b"2")
+        other.timeout = PATIENCE
 
     def test_what_a_client_is_shown_as(self) -> None:
         client = self.join(7)
@@ -328,6 +341,18 @@ class ServersTest(Served):
         self.assertEqual(client.read(0, 20), [Row(10, b"2")])
         self.assertEqual(client.epoch(), 2)
 
+    def test_a_write_that_is_sent_and_not_answered_may_have_been_applied(self) -> None:
+        client = self.join(0)
+        client.insert(10, b"1")
+        self.server.send_signal(signal.SIGSTOP)
+        with self.assertRaises(krl.TimedOut) as raised:
+            client.put(10, b"2", timeout=0.3)
+        self.assertNotIsInstance(raised.exception, krl.NotSent)
+        self.assertTrue(raised.exception.is_unknown_outcome)
+        self.assertEqual(raised.exception.outcomes, [Outcome.UNKNOWN])
+        self.server.send_signal(signal.SIGCONT)
+        self.assertEqual(client.put(10, b"3"), Outcome.APPLIED)
+
     def test_a_server_that_waits_for_another_client_says_so_until_that_is_evicted(self) -> None:
         self.end_without_leaving(7)
         client = self.join(0)
@@ -355,6 +380,14 @@ class ServersTest(Served):
         subprocess.run(lines_of(join, *lines), check=True)
         self.start_again()
         self.assertEqual(self.join(0).insert(5, b"1"), Outcome.APPLIED)
+
+    def test_what_a_process_does_as_it_ends_uses_its_client(self) -> None:
+        # It is registered before the client is there.
+        lines = ("import atexit", "atexit.register(lambda: print(client.insert(5, b'1').name))")
+        join = f"client = krl.join({self.address!r}, 7, {str(self.lock_file(7))!r}, {PATIENCE})"
+        ended = subprocess.run(lines_of(*lines, join), capture_output=True, text=True)
+        self.assertEqual((ended.stdout, ended.stderr), ("APPLIED\n", ""))
+        self.assertEqual(self.join(0).read(), [Row(5, b"1")])
 
     def test_a_client_that_nobody_has_leaves(self) -> None:
         krl.join(self.address, 7, self.lock_file(7), PATIENCE).read()
@@ -461,42 +494,6 @@ class ShardsTest(Served):
         with self.assertRaisesRegex(krl.JoinError, "serves 0..100@1") as raised:
             self.join(0)
         self.assertIsInstance(raised.exception.__cause__, krl.OtherShard)
-
-
-class TlsTest(Served):
-    def setUp(self) -> None:
-        super().setUp()
-        script = os.path.join(os.path.dirname(__file__), "..", "..", "packaging", "certificates")
-        self.pki = self.folder / "pki"
-        command = [script, str(self.pki), "server", "client-0", "client-1"]
-        subprocess.run(command, check=True, capture_output=True)
-        self.stop()
-        self.address = f"tls:127.0.0.1:{free_port()}"
-        files = (f"{self.pki}/{name}" for name in ("authority.crt", "server.crt", "server.key"))
-        words = zip(("--tls-authority", "--tls-certificate", "--tls-key"), files)
-        self.server = self.start(*(word for pair in words for word in pair))
-
-    def tls(self, number: int) -> krl.Tls:
-        own = self.pki / f"client-{number}"
-        return krl.Tls(self.pki / "authority.crt", f"{own}.crt", f"{own}.key")
-
-    def test_a_client_shows_its_certificate(self) -> None:
-        words = (self.address, 0, self.lock_file(0), PATIENCE)
-        with krl.join(*words, tls=self.tls(0)) as client:
-            self.assertEqual(client.insert(10, b"1"), Outcome.APPLIED)
-            client.reload_tls()
-            (self.pki / "client-0.key").write_text("none")
-            with self.assertRaisesRegex(krl.BadOption, "client-0.key"):
-                client.reload_tls()
-            self.assertEqual(client.put(10, b"2"), Outcome.APPLIED)
-
-    def test_a_certificate_of_another_number_is_turned_away(self) -> None:
-        with self.assertRaises(krl.JoinError) as raised:
-            krl.join(self.address, 0, self.lock_file(0), PATIENCE, tls=self.tls(1))
-        self.assertIsInstance(raised.exception.__cause__, krl.TurnedAway)
-        with self.assertRaisesRegex(krl.BadOption, "nowhere"):
-            nowhere = krl.Tls("/nowhere/a", "/nowhere/b", "/nowhere/c")
-            krl.join(self.address, 0, self.lock_file(0), tls=nowhere)
 
 
 class BadInputTest(Served):

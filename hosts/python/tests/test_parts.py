@@ -3,7 +3,9 @@
 from __future__ import annotations
 
 import ctypes
+import os
 import re
+import subprocess
 import unittest
 from concurrent.futures import Future
 from pathlib import Path
@@ -12,9 +14,9 @@ from threading import Event, enumerate as threads
 import krl
 from krl import Outcome
 from krl import _library as lib
-from krl._waiting import MOST, Workers
+from krl._library import MOST, Workers
 
-from .serving import PATIENCE
+from .serving import PATIENCE, lines_of
 
 HEADER = Path(__file__).resolve().parents[2] / "capi" / "include" / "krl_client.h"
 
@@ -31,6 +33,12 @@ def letter_of(parameter: str) -> str:
 class HeaderTest(unittest.TestCase):
     def setUp(self) -> None:
         self.code = re.sub(r"/\*.*?\*/", "", HEADER.read_text(), flags=re.DOTALL)
+
+    def members(self, name: str) -> list[tuple[str, str, str]]:
+        """The members of a struct: the type, the star of a pointer, and the name."""
+        body = re.search(rf"typedef struct krlc_{name} {{(.*?)}}", self.code, re.DOTALL)
+        assert body is not None, name
+        return re.findall(r"(?:const )?(\w+) (\*?)(\w+)(?:\[\w+\])?;", body[1])
 
     def number(self, name: str) -> int:
         """The number of a constant."""
@@ -49,33 +57,46 @@ class HeaderTest(unittest.TestCase):
         self.assertGreater(len(named), 25)
         for name, types in named.items():
             self.assertEqual(types, declared[name], name)
-        # What Python needs no call for: it has names and rooms of its own.
-        self.assertEqual(declared.keys() - named, {"cached_into", "code_name"})
+        # What Python needs no call for: it has names, rooms and timeouts of its own, and makes each
+        # write as one of several.
+        writes = {"insert", "put", "set", "delete"}
+        without = {"cached_into", "code_name", "set_timeout", *writes}
+        without |= {f"pin_{write}" for write in writes}
+        self.assertEqual(declared.keys() - named, without)
 
     def test_structs_are_those_of_the_header(self) -> None:
-        kinds = {"error": lib.Failure, "options": lib.Options, "status": lib.StatusRoom}
-        types = {"uint32_t": 4, "int32_t": 4, "uint64_t": 8, "size_t": 8, "bool": 1, "char": 500}
-        for name, kind in kinds.items():
-            body = re.search(rf"typedef struct krlc_{name} {{(.*?)}}", self.code, re.DOTALL)
-            assert body is not None
-            there = re.findall(r"(?:const )?(\w+) (\*?)(\w+)(?:\[\w+\])?;", body[1])
+        types = {"uint32_t": 4, "int32_t": 4, "uint64_t": 8, "size_t": 8, "char": 500}
+        for name, kind in {"error": lib.Failure, "options": lib.Options}.items():
+            there = self.members(name)
             sizes = [8 if star else types[word] for word, star, _ in there]
             fields = kind._fields_
             self.assertEqual(sizes, [ctypes.sizeof(field[1]) for field in fields], name)
             names = [field[0] for field in fields]
             self.assertEqual([text.replace("sentence", "text") for _, _, text in there], names)
+        letters = {"uint64_t": "Q", "uint32_t": "I", "bool": "?", "uint8_t": "32s"}
+        for name, packed in {"row": lib.ROW, "status": lib.STATUS, "write": lib.WRITE}.items():
+            row = "QQ32s" if name == "write" else ""
+            form = "".join(letters[word] for word, _, _ in self.members(name) if word in letters)
+            self.assertEqual(packed.format.replace("7x", ""), f"={form}{row}", name)
+        members = [text for _, _, text in self.members("status")]
+        self.assertEqual([text.replace("_ms", "") for text in members], list(krl.Status._fields))
+        # C fills up to whole words.
+        self.assertEqual(lib.STATUS.size % 8, 0)
         self.assertEqual(lib.ROW.size, 16 + self.number("KRLC_MAX_VALUE_BYTES"))
         self.assertEqual(ctypes.sizeof(lib.RowRoom), lib.ROW.size)
         self.assertEqual(lib.WRITE.size, 8 + lib.ROW.size)
         self.assertEqual(ctypes.sizeof(lib.Failure), 12 + self.number("KRLC_MAX_SENTENCE_BYTES"))
 
     def test_codes_and_reasons_are_those_of_the_header(self) -> None:
-        names = ("OK", "MISS", "ANSWERS", "MISUSE", "BAD_TLS", "LOCK_FILE", "LOCK_FILE_TAKEN")
-        names += ("NUMBERS", "END", "TOP")
-        for name in names:
+        for name in ("OK", "MISS", "ANSWERS", "MISUSE", "BAD_TLS", "NUMBERS", "END", "TOP"):
             self.assertEqual(getattr(lib, name), self.number(f"KRLC_{name}"))
         options = ("MISUSE", "BAD_RANGE", "BAD_NUMBER", "BAD_ADDRESS", "BAD_MAP", "BAD_TLS")
-        self.assertEqual(lib.BAD_OPTIONS, tuple(self.number(f"KRLC_{name}") for name in options))
+        of_join: dict[int, type[krl.JoinError]] = {
+            self.number("KRLC_LOCK_FILE"): krl.LockFileError,
+            self.number("KRLC_LOCK_FILE_TAKEN"): krl.LockFileTaken,
+        }
+        of_join |= {self.number(f"KRLC_{name}"): krl.BadOption for name in options}
+        self.assertEqual(lib.JOIN_ERRORS, of_join)
         outcomes = ("OK", "EXISTS", "ABSENT", "FULL", "NOT_HELD", "UNKNOWN", "NOT_MADE")
         self.assertEqual(list(Outcome), [self.number(f"KRLC_{name}") for name in outcomes])
         for reason in krl.Reason:
@@ -83,25 +104,42 @@ class HeaderTest(unittest.TestCase):
         self.assertEqual(len(krl.Reason), self.code.count("KRLC_REASON_"))
 
     def test_each_error_has_the_code_of_its_name(self) -> None:
-        names = {"BadValue": "TOO_LONG", "Closed": "LEFT"}
+        names = {"BadValue": "TOO_LONG", "Closed": "LEFT", "NotSent": "NOT_MADE"}
         kinds = [kind for kind in vars(krl).values() if isinstance(kind, type)]
         refused = [it for it in kinds if issubclass(it, krl.Refused) and it is not krl.Refused]
         for kind in refused:
             spelled = re.sub(r"(?<!^)([A-Z])", r"_\1", kind.__name__).upper()
             name = names.get(kind.__name__, spelled)
             self.assertEqual(kind.code, self.number(f"KRLC_{name}"), kind)
-        self.assertEqual(len({kind.code for kind in refused}), 16)
+        self.assertEqual(len({kind.code for kind in refused}), 17)
 
     def test_the_library_the_package_and_the_header_have_one_version(self) -> None:
-        self.assertEqual(lib.spelled(lib.VERSION), krl.__version__)
-        parts = [self.number(f"KRLC_VERSION_{part}") for part in ("MAJOR", "MINOR", "PATCH")]
-        self.assertEqual(".".join(map(str, parts)), krl.__version__)
-        self.assertEqual(lib.spelled(12_034_005), "12.34.5")
+        parts = [str(self.number(f"KRLC_VERSION_{part}")) for part in ("MAJOR", "MINOR", "PATCH")]
+        self.assertEqual(".".join(parts), krl.__version__)
+        self.assertEqual(".".join(parts[:2]), lib.VERSION)
 
     def test_another_patch_fits_and_another_minor_or_major_version_does_not(self) -> None:
-        self.assertTrue(lib.fits(lib.VERSION) and lib.fits(lib.VERSION + 1))
-        self.assertFalse(lib.fits(lib.VERSION + 1_000) or lib.fits(lib.VERSION - 1))
-        self.assertFalse(lib.fits(lib.VERSION + 1_000_000))
+        major, minor = map(int, lib.VERSION.split("."))
+        version = major * 1_000_000 + minor * 1_000
+        for fits in (version, version + 1, version + 999):
+            lib.check_version(fits)
+        for other in (version - 1, version + 1_000, version + 1_000_000):
+            with self.assertRaisesRegex(OSError, f"needs {lib.VERSION}"):
+                lib.check_version(other)
+        with self.assertRaisesRegex(OSError, "has version 12.34, "):
+            lib.check_version(12_034_005)
+
+
+class LoadingTest(unittest.TestCase):
+    def test_without_the_library_a_client_learns_where_it_was_looked_for(self) -> None:
+        variables = os.environ | {lib.NAMED_BY: "/nowhere/libkrl_client.so"}
+        lines = ("try: krl.join('unix:none', 0, 'none.lock')", "except krl.LibraryError as error:")
+        command = lines_of(*lines, "    print(error)")
+        ended = subprocess.run(command, capture_output=True, text=True, env=variables)
+        told = f"cannot be loaded: .* {lib.NAMED_BY}.* /nowhere/libkrl_client.so"
+        self.assertRegex(ended.stdout, told)
+        # Nothing is freed that was not made.
+        self.assertEqual(ended.stderr, "")
 
 
 class RowsTest(unittest.TestCase):

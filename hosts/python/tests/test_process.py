@@ -100,7 +100,7 @@ class ForkTest(Served):
             if child == 0:
                 try:
                     pin.free()
-                    krl.client._leave_all()
+                    client._end()
                     del client, pin
                     gc.collect()
                 finally:
