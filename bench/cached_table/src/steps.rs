@@ -3,9 +3,10 @@ use krl_cache::Step;
 use std::sync::{Arc, Mutex, PoisonError};
 use std::time::{Duration, Instant};
 
-/// The parts of a write, in their order. Each ends with a step of the cache, or with the write.
-pub const PARTS: [&str; 7] =
-    ["pin", "begin and lock", "work", "announce", "change", "commit", "give back"];
+/// The parts of a write, in their order. Each ends with a step of the cache, or with the write. The transaction begins
+/// while the announcement is made.
+pub const PARTS: [&str; 6] =
+    ["pin", "announce", "rest of begin and lock", "work", "change and commit", "give back"];
 
 /// How long each part of each write took.
 pub type Parts = [Vec<Duration>; PARTS.len()];
@@ -35,11 +36,10 @@ impl Steps {
     pub fn note(&self, step: Step) {
         match step {
             Step::Pinned => self.take(0),
-            Step::Locked => self.take(1),
-            Step::Announcing => self.take(2),
-            Step::Announced(_) => self.take(3),
-            Step::Applied => self.take(4),
-            Step::Committed => self.take(5),
+            Step::Announced(_) => self.take(1),
+            Step::Locked => self.take(2),
+            Step::Confirmed => self.take(3),
+            Step::Committed => self.take(4),
             _ => {}
         }
     }

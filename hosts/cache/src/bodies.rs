@@ -1,12 +1,17 @@
 //! The bodies that a process keeps in memory.
 use crate::origin::Stored;
 use crate::version::Version;
+use ahash::RandomState;
 use std::collections::{HashMap, VecDeque};
 use std::fmt;
+use std::hash::BuildHasher;
 use std::sync::atomic::{AtomicBool, AtomicU64, AtomicUsize, Ordering};
 use std::sync::{Arc, PoisonError, RwLock, RwLockReadGuard, RwLockWriteGuard};
 
 const SHARDS: usize = 64;
+
+/// So many keys that follow each other are in one shard, so that a read of a range locks few.
+const RUN: u64 = 16;
 
 /// About how many bytes an entry takes without its body.
 const OVERHEAD: usize = 128;
@@ -15,6 +20,8 @@ const OVERHEAD: usize = 128;
 /// committed.**
 pub(crate) struct Bodies<B> {
     shards: Vec<RwLock<Shard<B>>>,
+    /// Spreads the runs of keys over the shards.
+    state: RandomState,
     /// How many bodies were ever kept. Each has the count at which it was.
     kept: AtomicU64,
     bytes: AtomicUsize,
@@ -23,7 +30,7 @@ pub(crate) struct Bodies<B> {
 }
 
 struct Shard<B> {
-    bodies: HashMap<u64, Body<B>>,
+    bodies: HashMap<u64, Body<B>, RandomState>,
     /// The keys in the order in which they are looked at if room is needed.
     queue: VecDeque<u64>,
     bytes: usize,
@@ -49,7 +56,8 @@ pub(crate) struct Moment {
 impl<B> Bodies<B> {
     pub fn new(bytes: usize) -> Bodies<B> {
         let shards = (0..SHARDS).map(|_| RwLock::default()).collect();
-        Bodies { shards, kept: AtomicU64::new(0), bytes: AtomicUsize::new(0), room: bytes / SHARDS }
+        let (state, kept) = (RandomState::new(), AtomicU64::new(0));
+        Bodies { shards, state, kept, bytes: AtomicUsize::new(0), room: bytes / SHARDS }
     }
 
     /// This moment, in this filling.
@@ -57,25 +65,16 @@ impl<B> Bodies<B> {
         Moment { stamp: self.kept.load(Ordering::SeqCst), filling }
     }
 
-    /// The body of the key and the version, if it was kept by then and read from the database in
-    /// the same filling.
-    pub fn find(&self, key: u64, version: Version, by: Moment) -> Option<Arc<B>> {
-        let shard = self.read(key);
-        let found = shard.bodies.get(&key)?;
-        if found.version != version || !found.was_kept(by) {
-            return None;
-        }
-        if !found.was_used.load(Ordering::Relaxed) {
-            found.was_used.store(true, Ordering::Relaxed);
-        }
-        Some(Arc::clone(&found.content))
+    /// Looks bodies up one after another.
+    pub fn finder(&self) -> Finder<'_, B> {
+        Finder { bodies: self, locked: None }
     }
 
     /// Keeps a committed body of this size, which was read or written in this filling.
     pub fn keep(&self, stored: Stored<B>, size: usize, filling: u64) {
         let Stored { key, version, body } = stored;
         let bytes = size + OVERHEAD;
-        let mut shard = self.write(key);
+        let mut shard = self.write(self.place(key));
         let stamp = self.kept.fetch_add(1, Ordering::SeqCst) + 1;
         let before = shard.bytes;
         let was_used = AtomicBool::new(false);
@@ -101,16 +100,46 @@ impl<B> Bodies<B> {
         self.bytes.load(Ordering::Relaxed)
     }
 
-    fn read(&self, key: u64) -> RwLockReadGuard<'_, Shard<B>> {
-        self.shard(key).read().unwrap_or_else(PoisonError::into_inner)
+    /// The shard of a key.
+    fn place(&self, key: u64) -> usize {
+        let hash = self.state.hash_one(key / RUN);
+        usize::try_from(hash % SHARDS as u64).unwrap_or_default()
     }
 
-    fn write(&self, key: u64) -> RwLockWriteGuard<'_, Shard<B>> {
-        self.shard(key).write().unwrap_or_else(PoisonError::into_inner)
+    fn read(&self, place: usize) -> RwLockReadGuard<'_, Shard<B>> {
+        self.shards[place].read().unwrap_or_else(PoisonError::into_inner)
     }
 
-    fn shard(&self, key: u64) -> &RwLock<Shard<B>> {
-        &self.shards[usize::try_from(key % SHARDS as u64).unwrap_or_default()]
+    fn write(&self, place: usize) -> RwLockWriteGuard<'_, Shard<B>> {
+        self.shards[place].write().unwrap_or_else(PoisonError::into_inner)
+    }
+}
+
+/// Looks bodies up. The shard of the last one stays locked for those that follow it, so a finder is
+/// dropped before a body is kept.
+pub(crate) struct Finder<'b, B> {
+    bodies: &'b Bodies<B>,
+    locked: Option<(usize, RwLockReadGuard<'b, Shard<B>>)>,
+}
+
+impl<B> Finder<'_, B> {
+    /// The body of the key and the version, if it was kept by then and read from the database in
+    /// the same filling.
+    pub fn find(&mut self, key: u64, version: Version, by: Moment) -> Option<Arc<B>> {
+        let place = self.bodies.place(key);
+        if self.locked.as_ref().is_some_and(|(locked, _)| *locked != place) {
+            // One lock at a time.
+            self.locked = None;
+        }
+        let (_, shard) = self.locked.get_or_insert_with(|| (place, self.bodies.read(place)));
+        let found = shard.bodies.get(&key)?;
+        if found.version != version || !found.was_kept(by) {
+            return None;
+        }
+        if !found.was_used.load(Ordering::Relaxed) {
+            found.was_used.store(true, Ordering::Relaxed);
+        }
+        Some(Arc::clone(&found.content))
     }
 }
 
@@ -141,7 +170,7 @@ impl<B> Shard<B> {
 
 impl<B> Default for Shard<B> {
     fn default() -> Shard<B> {
-        Shard { bodies: HashMap::new(), queue: VecDeque::new(), bytes: 0 }
+        Shard { bodies: HashMap::default(), queue: VecDeque::new(), bytes: 0 }
     }
 }
 
@@ -160,23 +189,27 @@ mod tests {
         Stored { key, version, body: Arc::new(7) }
     }
 
+    fn find(bodies: &Bodies<u8>, key: u64, version: Version, by: Moment) -> Option<Arc<u8>> {
+        bodies.finder().find(key, version, by)
+    }
+
     #[test]
     fn a_body_counts_from_the_moment_at_which_it_was_kept() {
         let (bodies, version) = (Bodies::new(1 << 20), Version::fresh());
         let before = bodies.now(1);
         bodies.keep(stored(5, version), 1, 1);
-        assert!(bodies.find(5, version, before).is_none());
-        assert!(bodies.find(5, version, bodies.now(1)).is_some());
+        assert!(find(&bodies, 5, version, before).is_none());
+        assert!(find(&bodies, 5, version, bodies.now(1)).is_some());
     }
 
     #[test]
     fn a_body_of_another_version_or_filling_is_not_found() {
         let (bodies, version) = (Bodies::new(1 << 20), Version::fresh());
         bodies.keep(stored(5, version), 1, 1);
-        assert!(bodies.find(5, Version::fresh(), bodies.now(1)).is_none());
-        assert!(bodies.find(5, version, bodies.now(2)).is_none());
+        assert!(find(&bodies, 5, Version::fresh(), bodies.now(1)).is_none());
+        assert!(find(&bodies, 5, version, bodies.now(2)).is_none());
         bodies.keep(stored(5, version), 1, 2);
-        assert!(bodies.find(5, version, bodies.now(2)).is_some());
+        assert!(find(&bodies, 5, version, bodies.now(2)).is_some());
     }
 
     #[test]
@@ -185,9 +218,33 @@ mod tests {
         let versions: Vec<_> = (0..10_000).map(|_| Version::fresh()).collect();
         for (key, version) in (0..).zip(&versions) {
             bodies.keep(stored(key, *version), 1000, 1);
-            assert!(bodies.find(0, versions[0], bodies.now(1)).is_some());
+            assert!(find(&bodies, 0, versions[0], bodies.now(1)).is_some());
         }
         assert!(bodies.bytes() <= 64 * 10_000, "{bodies:?}");
         assert!(bodies.count() > 400, "{bodies:?}");
+    }
+
+    #[test]
+    fn a_finder_finds_what_is_in_other_shards_too() {
+        let bodies = Bodies::new(1 << 20);
+        let versions: Vec<_> = (0..100).map(|_| Version::fresh()).collect();
+        for (key, version) in (0..).zip(&versions) {
+            bodies.keep(stored(100 * key, *version), 1, 1);
+        }
+        let (mut finder, now) = (bodies.finder(), bodies.now(1));
+        for (key, version) in (0..).zip(&versions) {
+            assert!(finder.find(100 * key, *version, now).is_some());
+            assert!(finder.find(100 * key + 1, *version, now).is_none());
+        }
+    }
+
+    #[test]
+    fn keys_are_spread_over_the_shards() {
+        let bodies = Bodies::<u8>::new(1 << 20);
+        for distance in [RUN, 64, 1 << 10, 1 << 40] {
+            let places: std::collections::BTreeSet<usize> =
+                (0..1000).map(|key| bodies.place(key * distance)).collect();
+            assert!(places.len() > SHARDS / 2, "{distance}: {} shards", places.len());
+        }
     }
 }

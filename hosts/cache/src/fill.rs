@@ -111,7 +111,8 @@ impl<O: Origin> Cache<O> {
 
 fn correct(pin: &Pin, key: u64, difference: Difference) -> Result<(), CacheError> {
     let outcome = match difference {
-        Difference::Insert(version) => pin.insert(key, version.value())?,
+        // A writer that waits for the table may have announced the key meanwhile, and be lost.
+        Difference::Insert(version) => pin.set(key, version.value())?,
         Difference::Put(version) => pin.put(key, version.value())?,
         Difference::Delete => pin.delete(key)?,
     };

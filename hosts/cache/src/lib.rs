@@ -34,7 +34,9 @@
 //! A **writer** pins its keys in krl for an update, begins a transaction in the database and locks
 //! them there. It makes its changes, and while the database works it **announces** them by putting a
 //! fresh version into krl for each key. Then it commits. The announcement takes the keys out of
-//! every cache, and nobody has a body of that version before the commit.
+//! every cache, and nobody has a body of that version before the commit. A writer of one row
+//! announces while the transaction begins, and makes its change and commits in one question, if its
+//! pin still holds when the row is locked.
 //!
 //! A **reader** scans krl's rows, usually in its own cache, and answers if it has a body of just
 //! those versions. Otherwise it loads bodies from the database and compares the versions. If they
@@ -51,6 +53,7 @@ mod error;
 mod fill;
 mod mark;
 mod memory;
+mod one_row;
 mod origin;
 mod outcome;
 mod pinned;

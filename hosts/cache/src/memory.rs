@@ -130,6 +130,16 @@ impl<B: Send + Sync + 'static> Origin for MemoryOrigin<B> {
         })
     }
 
+    /// It calls `meanwhile` first: a database may grant its locks long after that.
+    fn begin_while(
+        &self,
+        keys: &[u64],
+        meanwhile: impl FnOnce(),
+    ) -> Result<MemoryTransaction<B>, OriginError> {
+        meanwhile();
+        self.begin(keys)
+    }
+
     fn begin_filling(&self) -> Result<MemoryTransaction<B>, OriginError> {
         self.begin_when(Locked::Table, |state| !state.is_filling && state.locked.is_empty())
     }

@@ -125,8 +125,8 @@ pub trait Origin: Send + Sync {
     /// If the database does not answer, or does not grant the locks in time.
     fn begin(&self, keys: &[u64]) -> Result<Self::Transaction<'_>, OriginError>;
 
-    /// Begins a transaction as [`Origin::begin`] does, and calls `meanwhile` once, while the
-    /// database works or afterwards. By default it begins, and then calls `meanwhile`.
+    /// Begins a transaction as [`Origin::begin`] does, and calls `meanwhile` once: before it, while
+    /// the database works, or afterwards. By default it begins, and then calls `meanwhile`.
     ///
     /// # Errors
     ///
@@ -199,6 +199,24 @@ pub trait Transaction {
     ///
     /// `NotDone` if nothing has changed and nothing will; `Unknown` if that is not known.
     fn commit(self) -> Result<(), CommitError>;
+
+    /// Makes changes as [`Transaction::apply`] does, and commits if all of them were made. By
+    /// default it does one after the other. A database on the network takes both in one question.
+    ///
+    /// # Errors
+    ///
+    /// Those of [`Transaction::commit`]. If a change was refused, it is `NotDone`.
+    fn apply_and_commit(
+        mut self,
+        version: Version,
+        changes: &[(u64, Change<Self::Body>)],
+    ) -> Result<(), CommitError>
+    where
+        Self: Sized,
+    {
+        self.apply(version, changes).map_err(CommitError::NotDone)?;
+        self.commit()
+    }
 }
 
 /// A transaction that has locked the whole table. One that is dropped is rolled back.

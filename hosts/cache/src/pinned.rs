@@ -1,26 +1,38 @@
 //! What a transaction has pinned in krl.
 use crate::error::CacheError;
 use crate::writing::Writing;
-use krl::{Error, Pin};
-use std::collections::BTreeSet;
+use krl::{Error, Pin, Row, Value};
+use std::collections::BTreeMap;
 use std::ops::Range;
 
-/// Pinned spans, and the keys that have a row of krl there.
+/// Pinned spans, and what krl had there when they were pinned.
 pub(crate) struct Pinned {
     pins: Vec<(Range<u64>, Pin)>,
-    rows: BTreeSet<u64>,
+    rows: BTreeMap<u64, Value>,
 }
 
 impl Pinned {
     /// Pins spans, which ascend, for an update.
-    pub fn pin(writing: &Writing<'_>, spans: Vec<Range<u64>>) -> Result<Pinned, Error> {
-        let mut pinned = Pinned { pins: Vec::new(), rows: BTreeSet::new() };
+    pub fn for_update(writing: &Writing<'_>, spans: Vec<Range<u64>>) -> Result<Pinned, Error> {
+        let mut pinned = Pinned { pins: Vec::new(), rows: BTreeMap::new() };
         for span in spans {
             let (rows, pin) = writing.pin_for_update(span.clone())?;
-            pinned.rows.extend(rows.iter().map(|row| row.key));
-            pinned.pins.push((span, pin));
+            pinned.add(span, rows, pin);
         }
         Ok(pinned)
+    }
+
+    /// Pins a key for a write, which takes it out of every cache.
+    pub fn for_write(writing: &Writing<'_>, key: u64) -> Result<Pinned, Error> {
+        let mut pinned = Pinned { pins: Vec::new(), rows: BTreeMap::new() };
+        let (rows, pin) = writing.pin_for_write(key..key + 1)?;
+        pinned.add(key..key + 1, rows, pin);
+        Ok(pinned)
+    }
+
+    fn add(&mut self, span: Range<u64>, rows: Vec<Row>, pin: Pin) {
+        self.rows.extend(rows.into_iter().map(|row| (row.key, row.value)));
+        self.pins.push((span, pin));
     }
 
     /// The pin that has the key.
@@ -31,7 +43,12 @@ impl Pinned {
 
     /// Whether krl had a row of the key when it was pinned.
     pub fn has_row(&self, key: u64) -> bool {
-        self.rows.contains(&key)
+        self.rows.contains_key(&key)
+    }
+
+    /// What krl had of the key when it was pinned.
+    pub fn value_of(&self, key: u64) -> Option<Value> {
+        self.rows.get(&key).copied()
     }
 
     /// Whether all pins hold, and so nobody else has written to krl there.

@@ -1,5 +1,5 @@
 //! Reads.
-use crate::bodies::Moment;
+use crate::bodies::{Finder, Moment};
 use crate::cache::Cache;
 use crate::error::CacheError;
 use crate::mark::{LAST_KEY, keys_of};
@@ -142,7 +142,8 @@ impl<O: Origin> Cache<O> {
             if !self.reader.cached_into(keys, room)? || !self.is_filled(by.filling) {
                 return Ok(None);
             }
-            let rows: Option<Vec<_>> = room.iter().map(|row| self.find(row, by)).collect();
+            let mut bodies = self.bodies.finder();
+            let rows: Option<Vec<_>> = room.iter().map(|row| found(&mut bodies, row, by)).collect();
             self.counters.reads.add(usize::from(rows.is_some()));
             Ok(rows)
         })
@@ -218,23 +219,18 @@ impl<O: Origin> Cache<O> {
         loaded: &Loaded<O::Body>,
     ) -> Scanned<O::Body> {
         let (mut rows, mut missing) = (Vec::with_capacity(scanned.len()), Vec::new());
+        let mut bodies = self.bodies.finder();
         for row in scanned {
             // Only the cache writes to its server: a row without a version is none of a table.
             let Some(version) = Version::of(row) else { return Scanned::Unmarked };
             let key = row.key;
-            let found = self.bodies.find(key, version, by);
+            let found = bodies.find(key, version, by);
             match found.or_else(|| loaded.find(key, version, by.filling)) {
                 Some(body) => rows.push(Row { key, version, body }),
                 None => missing.push((key, version)),
             }
         }
         if missing.is_empty() { Scanned::All(rows) } else { Scanned::Missing(missing) }
-    }
-
-    fn find(&self, row: &krl::Row, by: Moment) -> Option<Row<O::Body>> {
-        let (key, version) = (row.key, Version::of(row)?);
-        let body = self.bodies.find(key, version, by)?;
-        Some(Row { key, version, body })
     }
 
     fn moment(&self) -> Moment {
@@ -313,6 +309,13 @@ impl<O: Origin> Cache<O> {
         let size = self.origin.size_of(&stored.body);
         self.bodies.keep(stored, size, filling);
     }
+}
+
+/// The row with its body, if that is in memory.
+fn found<B>(bodies: &mut Finder<'_, B>, row: &krl::Row, by: Moment) -> Option<Row<B>> {
+    let (key, version) = (row.key, Version::of(row)?);
+    let body = bodies.find(key, version, by)?;
+    Some(Row { key, version, body })
 }
 
 #[cfg(test)]

@@ -8,12 +8,16 @@ pub enum Step {
     Pinned,
     /// The database has locked all keys.
     Locked,
-    /// The changes are sent to the database, and may be made. Nothing is announced.
+    /// The question to the database is sent: the changes, or for a writer of one row the lock.
+    /// Nothing is announced.
     Announcing,
     /// So many keys are announced.
     Announced(usize),
     /// All keys are announced, and the changes are made in the database, and not committed.
     Applied,
+    /// A writer of one row has found that its pin held when the row was locked. It has announced, and
+    /// is about to send the change and the commit.
+    Confirmed,
     /// The database has committed.
     Committed,
     /// So many deleted rows are gone from krl.

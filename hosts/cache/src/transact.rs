@@ -2,10 +2,11 @@
 use crate::cache::Cache;
 use crate::error::CacheError;
 use crate::mark::LAST_KEY;
+use crate::one_row::Expects;
 use crate::origin::{Change, CommitError, Origin, OriginError, Transaction};
 use crate::pinned::Pinned;
 use crate::repair::{remove, write_version};
-use crate::spans::{Width, spans};
+use crate::spans::spans;
 use crate::steps::Step;
 use crate::version::Version;
 use crate::work::Work;
@@ -13,7 +14,7 @@ use std::error::Error;
 use std::sync::Arc;
 
 /// What an application's function returns if it fails.
-type Failure = Box<dyn Error + Send + Sync>;
+pub(crate) type Failure = Box<dyn Error + Send + Sync>;
 
 /// What a transaction changes, and the version that it gives its rows.
 pub(crate) struct Changes<B> {
@@ -41,7 +42,7 @@ impl<O: Origin> Cache<O> {
         key: u64,
         work: impl FnOnce(&O::Body) -> Option<O::Body>,
     ) -> Result<bool, CacheError> {
-        self.transact_by(&[key], Width::Key, |rows| {
+        self.write_one(key, Expects::Row, |rows| {
             let body = rows.get(key)?.and_then(work);
             let is_changed = body.is_some();
             body.map_or(Ok(()), |body| rows.put(key, body))?;
@@ -55,7 +56,7 @@ impl<O: Origin> Cache<O> {
     ///
     /// Those of [`Cache::transact`].
     pub fn insert(&self, key: u64, body: impl Into<Arc<O::Body>>) -> Result<bool, CacheError> {
-        self.transact_by(&[key], Width::Key, |rows| {
+        self.write_one(key, Expects::NoRow, |rows| {
             let is_free = rows.get(key)?.is_none();
             if is_free {
                 rows.put(key, body)?;
@@ -93,22 +94,28 @@ impl<O: Origin> Cache<O> {
         keys: &[u64],
         work: impl FnOnce(&mut Work<'_, O>) -> Result<T, Failure>,
     ) -> Result<T, CacheError> {
-        self.transact_by(keys, Width::KeyAndNext, work)
-    }
-
-    fn transact_by<T>(
-        &self,
-        keys: &[u64],
-        width: Width,
-        work: impl FnOnce(&mut Work<'_, O>) -> Result<T, Failure>,
-    ) -> Result<T, CacheError> {
         let mut keys = keys.to_vec();
         keys.sort_unstable();
         keys.dedup();
         if keys.last().is_none_or(|key| *key > LAST_KEY) {
             return Err(CacheError::BadKey);
         }
-        let done = self.transact_once(keys, width, work);
+        self.count_write(self.transact_once(keys, work))
+    }
+
+    fn write_one<T>(
+        &self,
+        key: u64,
+        expects: Expects,
+        work: impl FnOnce(&mut Work<'_, O>) -> Result<T, Failure>,
+    ) -> Result<T, CacheError> {
+        if key > LAST_KEY {
+            return Err(CacheError::BadKey);
+        }
+        self.count_write(self.write_one_once(key, expects, work))
+    }
+
+    fn count_write<T>(&self, done: Result<T, CacheError>) -> Result<T, CacheError> {
         let counter =
             if done.is_ok() { &self.counters.writes } else { &self.counters.failed_writes };
         counter.add(1);
@@ -118,17 +125,16 @@ impl<O: Origin> Cache<O> {
     fn transact_once<T>(
         &self,
         keys: Vec<u64>,
-        width: Width,
         work: impl FnOnce(&mut Work<'_, O>) -> Result<T, Failure>,
     ) -> Result<T, CacheError> {
         let writing = self.turn()?;
-        let pinned = Pinned::pin(&writing, spans(&keys, width))?;
+        let pinned = Pinned::for_update(&writing, spans(&keys))?;
         self.step(Step::Pinned);
         let transaction = self.begin(&keys, &pinned)?;
         self.step(Step::Locked);
         let mut rows = Work::new(keys, transaction);
         let answer = work(&mut rows).map_err(CacheError::Work)?;
-        let (transaction, changes) = rows.into_parts();
+        let (transaction, changes) = rows.into_parts(Version::fresh());
         self.make(transaction, &pinned, &changes)?;
         self.step(Step::Ended);
         Ok(answer)
@@ -149,8 +155,8 @@ impl<O: Origin> Cache<O> {
         Ok(begun?)
     }
 
-    /// Makes changes of pinned and locked keys.
-    fn make(
+    /// Makes changes of pinned and locked keys, of which nothing is announced yet.
+    pub(crate) fn make(
         &self,
         mut transaction: O::Transaction<'_>,
         pinned: &Pinned,
@@ -164,7 +170,7 @@ impl<O: Origin> Cache<O> {
             return Err(self.abort(transaction, pinned, changes, error));
         }
         self.step(Step::Applied);
-        self.commit(transaction, pinned, changes)?;
+        self.conclude(transaction.commit(), pinned, changes)?;
         self.finish(pinned, changes);
         Ok(())
     }
@@ -225,13 +231,14 @@ impl<O: Origin> Cache<O> {
         Ok(())
     }
 
-    fn commit(
+    /// Finds out what has become of announced changes whose commit was sent.
+    pub(crate) fn conclude(
         &self,
-        transaction: O::Transaction<'_>,
+        committed: Result<(), CommitError>,
         pinned: &Pinned,
         changes: &Changes<O::Body>,
     ) -> Result<(), CacheError> {
-        match transaction.commit() {
+        match committed {
             Ok(()) => {}
             Err(CommitError::NotDone(why)) => {
                 self.take_back(pinned, changes);
@@ -258,7 +265,7 @@ impl<O: Origin> Cache<O> {
 }
 
 /// Commits a transaction that has changed no cached row.
-fn commit_unannounced(transaction: impl Transaction) -> Result<(), CacheError> {
+pub(crate) fn commit_unannounced(transaction: impl Transaction) -> Result<(), CacheError> {
     transaction.commit().map_err(|error| match error {
         CommitError::NotDone(why) => CacheError::Origin(why),
         CommitError::Unknown(why) => CacheError::Unknown(why),

@@ -70,13 +70,13 @@ impl<'o, O: Origin> Work<'o, O> {
         stored.map(|stored| &stored.body)
     }
 
-    /// The transaction, and what is to be changed in the order of the keys.
-    pub(crate) fn into_parts(self) -> (O::Transaction<'o>, Changes<O::Body>) {
+    /// The transaction, and what is to be changed in the order of the keys, by this version.
+    pub(crate) fn into_parts(self, version: Version) -> (O::Transaction<'o>, Changes<O::Body>) {
         let rows = self.transaction.rows();
         let had_row = |key| rows.iter().any(|stored| stored.key == key);
         let change = |(key, body)| Some((key, change(had_row(key), body)?));
         let changes = self.changes.into_iter().filter_map(change).collect();
-        (self.transaction, Changes { version: Version::fresh(), changes })
+        (self.transaction, Changes { version, changes })
     }
 }
 

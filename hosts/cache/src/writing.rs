@@ -28,6 +28,12 @@ impl<'c> Writing<'c> {
         self.spans.borrow_mut().push(span.clone());
         self.writer.pin_for_update(span)
     }
+
+    /// Pins a span for a write.
+    pub fn pin_for_write(&self, span: Range<u64>) -> Result<(Vec<Row>, Pin), Error> {
+        self.spans.borrow_mut().push(span.clone());
+        self.writer.pin_for_write(span)
+    }
 }
 
 impl Drop for Writing<'_> {

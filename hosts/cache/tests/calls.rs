@@ -30,6 +30,23 @@ fn each_call_does_what_its_documentation_states() {
 }
 
 #[test]
+fn a_write_that_changes_nothing_leaves_no_work_to_readers() {
+    let site = Site::new();
+    let (writer, reader) = (site.cache(0), site.cache(1));
+    persist(|| writer.insert(15, "a".to_string()));
+    assert_eq!(text(&reader, 15).unwrap(), "a");
+    let before = reader.statistics();
+    assert!(!persist(|| writer.update(15, |_| None)));
+    // krl has no row of the key, and the table has one.
+    site.table.put_without_the_cache(16, "b".to_string());
+    assert!(!persist(|| writer.insert(16, "c".to_string())));
+    assert_eq!(text(&reader, 15).unwrap(), "a");
+    assert_eq!(text(&reader, 16).unwrap(), "b");
+    let after = reader.statistics();
+    assert_eq!((after.repairs, after.bodies), (before.repairs, before.bodies + 1));
+}
+
+#[test]
 fn the_greatest_key_is_a_key_like_others() {
     let site = Site::new();
     let cache = site.cache(0);

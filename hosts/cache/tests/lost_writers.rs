@@ -54,12 +54,48 @@ fn a_writer_that_dies_after_its_commit_has_changed_everything() {
     }
 }
 
+/// A write of one row.
+type Write = fn(&Rows) -> Result<bool, CacheError>;
+
+/// A writer of one row dies, which updates it or inserts another one.
+fn one_row_dies_after(step: Step, is_committed: bool) {
+    let update: Write = |cache| cache.update(10, |_| Some("new".to_string()));
+    let insert: Write = |cache| cache.insert(11, "more".to_string());
+    let cases =
+        [(update, expected([(10, "new")])), (insert, expected([(10, "old"), (11, "more")]))];
+    for (write, after) in cases {
+        let site = Site::new();
+        let reader = site.cache(0);
+        persist(|| reader.insert(10, "old".to_string()));
+        assert_eq!(texts(&reader, 0..20).len(), 1);
+        let lost = site.dead_writer(step, |cache| {
+            let done = write(cache);
+            panic!("the writer has not ended: {done:?}");
+        });
+        let found = if is_committed { after } else { expected([(10, "old")]) };
+        for cache in [&lost, &reader] {
+            assert_eq!(texts(cache, 0..20), found, "{step:?}");
+        }
+    }
+}
+
+#[test]
+fn a_writer_of_one_row_that_dies_has_changed_nothing_or_everything() {
+    for step in [Step::Pinned, Step::Announcing, Step::Announced(1), Step::Locked, Step::Confirmed]
+    {
+        one_row_dies_after(step, false);
+    }
+    for step in [Step::Committed, Step::Ended] {
+        one_row_dies_after(step, true);
+    }
+}
+
 #[test]
 fn a_commit_that_the_database_lost_is_told_as_not_done() {
     let site = Site::new();
     let table = site.table.clone();
     let builder = site.builder(0).on_step(move |step| {
-        if step == Step::Announced(1) {
+        if step == Step::Confirmed {
             table.end_all_transactions();
         }
     });
@@ -70,15 +106,40 @@ fn a_commit_that_the_database_lost_is_told_as_not_done() {
     assert_eq!(site.table.committed(10), None);
 }
 
-/// A writer that stands still between its announcement and its commit until its lease has ended and
-/// a reader has taken the announcement, and then commits.
+/// A writer that has announced, stands still before it locks its key until its lease has ended and
+/// another process has written the key, and then goes on.
+#[test]
+fn a_writer_that_lost_its_pin_before_its_lock_commits_nothing() {
+    let site = Site::leased();
+    let other = site.cache(0);
+    persist(|| other.insert(10, "old".to_string()));
+    let (builder, relay) = site.apart(1);
+    let halt = Halt::after(Step::Announced(1));
+    let writer = halt.open(builder);
+    let refused = thread::scope(|scope| {
+        let write = scope.spawn(|| halt.reach(|| writer.update(10, |_| Some("late".to_string()))));
+        halt.stops.wait();
+        relay.cut();
+        assert!(persist(|| other.update(10, |_| Some("new".to_string()))));
+        relay.mend();
+        halt.goes_on.wait();
+        write.join().unwrap()
+    });
+    assert!(matches!(refused, Err(CacheError::Krl(_))), "{refused:?}");
+    assert_eq!(site.table.committed(10).unwrap().as_str(), "new");
+    assert_eq!(text(&other, 10).as_deref(), Some("new"));
+    assert_eq!(text(&writer, 10).as_deref(), Some("new"));
+}
+
+/// A writer that stands still between its lock and its commit until its lease has ended and a reader
+/// has taken the announcement, and then commits.
 #[test]
 fn a_late_commit_is_seen() {
     let site = Site::leased();
     let reader = site.cache(0);
     persist(|| reader.insert(10, "old".to_string()));
     let (builder, relay) = site.apart(1);
-    let halt = Halt::after(Step::Announced(1));
+    let halt = Halt::after(Step::Confirmed);
     let writer = halt.open(builder);
     let (before, read) = thread::scope(|scope| {
         let write = scope.spawn(|| halt.reach(|| writer.update(10, |_| Some("new".to_string()))));
@@ -209,7 +270,7 @@ fn a_body_that_was_loaded_during_the_scan_does_not_count() {
     persist(|| other.insert(10, "old".to_string()));
     persist(|| other.insert(11, "old".to_string()));
     let (builder, relay) = site.apart(1);
-    let halt = Halt::after(Step::Announced(1));
+    let halt = Halt::after(Step::Confirmed);
     let writer = halt.open(builder);
     let table = Wrapped::of(&site.table);
     let reader = site.builder_of(table, 2).open().unwrap();

@@ -224,6 +224,32 @@ fn a_write_that_is_not_committed_is_taken_back() {
     assert!(reader.statistics().repaired >= 4, "{:?}", reader.statistics());
 }
 
+/// The commit is sent with the change, and before the database has made it.
+#[test]
+fn a_change_that_a_trigger_keeps_away_is_not_committed() {
+    let Some((database, krl)) = filled() else { return };
+    let open = |number| krl.cache_of(items(&database.address()), number).open().unwrap();
+    let (one, two) = (open(0), open(1));
+    let before = [(10, item("lamp", 30)), (12, item("shade", None))];
+    database.connect().run(
+        "CREATE FUNCTION keep() RETURNS trigger LANGUAGE plpgsql AS 'BEGIN RETURN NULL; END';
+         CREATE TRIGGER keep BEFORE INSERT OR UPDATE ON item FOR EACH ROW EXECUTE FUNCTION keep();",
+    );
+    let changes: [&dyn Fn() -> Result<bool, CacheError>; 2] =
+        [&|| one.update(10, |lamp| Some(Item { price: Some(31), ..lamp.clone() })), &|| {
+            one.insert(11, item("bulb", 5))
+        }];
+    for change in changes {
+        let refused = change().unwrap_err();
+        assert!(matches!(refused, CacheError::Origin(_)), "{refused:?}");
+        assert!(refused.to_string().contains("has kept a change"), "{refused}");
+        assert_eq!((rows(&one), rows(&two)), (before.to_vec(), before.to_vec()));
+    }
+    database.connect().run("DROP TRIGGER keep ON item");
+    assert!(one.insert(11, item("bulb", 5)).unwrap());
+    assert_eq!(rows(&two)[1], (11, item("bulb", 5)));
+}
+
 #[test]
 fn a_key_without_a_row_is_locked_too() {
     let Some(database) = Database::start() else { return };
@@ -251,8 +277,8 @@ fn a_commit_whose_answer_was_lost_is_found() {
     let relay = Arc::new(DeafRelay::start(database.at()));
     let (deaf, is_lost) = (Arc::clone(&relay), AtomicBool::new(false));
     let builder = krl.cache_of(items(&address_at(relay.address())), 0).on_step(move |step| {
-        // The next answer is that of the commit.
-        if step == Step::Applied && !is_lost.swap(true, Ordering::SeqCst) {
+        // The next answer is that of the change and the commit.
+        if step == Step::Confirmed && !is_lost.swap(true, Ordering::SeqCst) {
             deaf.lose_next_answer();
         }
     });

@@ -40,6 +40,7 @@ pub(super) struct Statements {
     pub insert: Statement,
     pub update: Statement,
     pub delete: Statement,
+    pub confirm: Statement,
 }
 
 /// How long a process may stand still within a transaction, and how long it waits for an answer.
@@ -150,6 +151,7 @@ impl CacheSession {
                 insert: client.prepare(&sql::insert(table, columns)).await?,
                 update: client.prepare(&sql::update(table, columns)).await?,
                 delete: client.prepare(&sql::delete(table)).await?,
+                confirm: client.prepare(&sql::confirm(table)).await?,
             })
         })?;
         Ok(CacheSession { session, statements, seed })

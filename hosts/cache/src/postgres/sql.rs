@@ -164,6 +164,16 @@ pub(super) fn delete(table: &Table) -> String {
     format!("DELETE FROM ONLY {} WHERE {} = $1", table.quoted(), table.quoted_key())
 }
 
+/// Fails unless, of the rows of these changed keys, there are just so many, and all have this
+/// version: a trigger or a rule may have kept a change from being made.
+pub(super) fn confirm(table: &Table) -> String {
+    let (name, key, version) = (table.quoted(), table.quoted_key(), table.quoted_version());
+    format!(
+        "SELECT 1 / (count(*) = $3 AND count(*) FILTER (WHERE {version} = $2) = $3)::integer
+         FROM ONLY {name} WHERE {key} = ANY ($1)"
+    )
+}
+
 /// Waits for all who change the table, and keeps others from it. Nobody ends the transaction while
 /// krl is filled, which may take long.
 pub(super) fn begin_filling(table: &Table) -> String {

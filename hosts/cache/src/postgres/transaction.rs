@@ -1,19 +1,21 @@
 //! Transactions of PostgreSQL.
 use super::origin::Pool;
 use super::row::PostgresRow;
-use super::session::{AskError, CacheSession, Session, key_and_version, reported, signed, stored};
+use super::session::{
+    AskError, CacheSession, Session, Statements, key_and_version, reported, signed, stored,
+};
 use super::sql;
 use crate::origin::{Change, CommitError, Filling, Needed, OriginError, Stored, Transaction};
 use crate::table::Table;
 use crate::version::Version;
 use futures_util::Stream;
-use futures_util::future::{join, try_join, try_join_all};
+use futures_util::future::{join, join3, try_join, try_join_all};
 use std::fmt;
 use std::future::poll_fn;
 use std::pin::pin;
 use tokio_postgres::error::SqlState;
 use tokio_postgres::types::ToSql;
-use tokio_postgres::{Client, Error, Row};
+use tokio_postgres::{Client, Error, Row, Statement};
 
 /// A transaction of PostgreSQL that has its keys locked.
 pub struct PostgresTransaction<'o, T> {
@@ -114,22 +116,14 @@ impl<T: PostgresRow> Transaction for PostgresTransaction<'_, T> {
         meanwhile: impl FnOnce(),
     ) -> Result<(), OriginError> {
         let CacheSession { session, statements, .. } = self.session()?;
-        let (name, version) = (version.to_string(), version.as_bytes().as_slice());
-        let listed: Vec<String> = self.keys.iter().map(u64::to_string).collect();
-        let listed = format!("{{{}}}", listed.join(","));
-        let keys: Vec<i64> = changes.iter().map(|(key, _)| key.cast_signed()).collect();
-        let values = keys.iter().zip(changes).map(|(key, (_, change))| match change {
-            Change::Insert(body) => (&statements.insert, values(key, &version, &**body)),
-            Change::Update(body) => (&statements.update, values(key, &version, &**body)),
-            Change::Delete => (&statements.delete, vec![key as _]),
-        });
-        let values: Vec<(_, Values<'_>)> = values.collect();
+        let admitted = Admitted::of(version, &self.keys);
+        let (keys, version) = (changed_keys(changes), version.as_bytes().as_slice());
+        let made = statements.of_changes(&keys, &version, changes);
+        let admit = admitted.values();
         let asked = async |client: &Client| {
-            let admit: [&(dyn ToSql + Sync); 2] = [&name, &listed];
-            let made = values.iter().map(|(statement, values)| client.execute(*statement, values));
+            let made = try_join_all(executed(client, &made));
             // All of them are sent at once, in this order.
-            let (_, counts) =
-                try_join(client.query(&statements.admit, &admit), try_join_all(made)).await?;
+            let (_, counts) = try_join(client.query(&statements.admit, &admit), made).await?;
             Ok(counts)
         };
         let counts = session.ask_while(asked, || {
@@ -139,7 +133,48 @@ impl<T: PostgresRow> Transaction for PostgresTransaction<'_, T> {
         if counts.is_some_and(|counts| counts.iter().all(|count| *count == 1)) {
             Ok(())
         } else {
-            Err(OriginError::new("a trigger or a rule has kept a change from being made"))
+            Err(kept_from_being_made())
+        }
+    }
+
+    /// All statements are sent at once. If one of them fails, the database makes none of those after
+    /// it, so nothing is committed.
+    fn apply_and_commit(
+        mut self,
+        version: Version,
+        changes: &[(u64, Change<T>)],
+    ) -> Result<(), CommitError> {
+        let Some(CacheSession { session, statements, seed }) = self.session.take() else {
+            return Err(CommitError::NotDone(OriginError::new("the transaction has ended")));
+        };
+        let admitted = Admitted::of(version, &self.keys);
+        let (keys, version) = (changed_keys(changes), version.as_bytes().as_slice());
+        let made = statements.of_changes(&keys, &version, changes);
+        let count = changes.iter().filter(|(_, change)| !matches!(change, Change::Delete)).count();
+        let count = i64::try_from(count).unwrap_or(i64::MAX);
+        let admit = admitted.values();
+        let confirm: [&(dyn ToSql + Sync); 3] = [&keys, &version, &count];
+        let asked = async |client: &Client| {
+            let admit = client.query(&statements.admit, &admit);
+            let applied = try_join(admit, try_join_all(executed(client, &made)));
+            let confirmed = client.query(&statements.confirm, &confirm);
+            Ok(join3(applied, confirmed, client.batch_execute(sql::COMMIT)).await)
+        };
+        match session.ask(asked) {
+            Ok((_, _, Ok(()))) => {
+                drop(made);
+                self.pool.give_back(CacheSession { session, statements, seed });
+                Ok(())
+            }
+            Ok((applied, confirmed, Err(error))) if was_rolled_back(&error) => {
+                Err(CommitError::NotDone(match (applied, confirmed) {
+                    (Err(refused), _) => reported(refused),
+                    (Ok(_), Err(_)) => kept_from_being_made(),
+                    (Ok(_), Ok(_)) => reported(error),
+                }))
+            }
+            Ok((_, _, Err(error))) => Err(CommitError::Unknown(reported(error))),
+            Err(error) => Err(CommitError::Unknown(error.into())),
         }
     }
 
@@ -158,6 +193,56 @@ impl<T: PostgresRow> Transaction for PostgresTransaction<'_, T> {
             Err(error) => Err(CommitError::Unknown(error.into())),
         }
     }
+}
+
+/// What lets a transaction change its keys.
+struct Admitted {
+    version: String,
+    keys: String,
+}
+
+impl Admitted {
+    fn of(version: Version, keys: &[u64]) -> Admitted {
+        let keys: Vec<String> = keys.iter().map(u64::to_string).collect();
+        Admitted { version: version.to_string(), keys: format!("{{{}}}", keys.join(",")) }
+    }
+
+    fn values(&self) -> [&(dyn ToSql + Sync); 2] {
+        [&self.version, &self.keys]
+    }
+}
+
+fn changed_keys<T>(changes: &[(u64, Change<T>)]) -> Vec<i64> {
+    changes.iter().map(|(key, _)| key.cast_signed()).collect()
+}
+
+impl Statements {
+    /// The statement of each change, with its values.
+    fn of_changes<'v, T: PostgresRow>(
+        &'v self,
+        keys: &'v [i64],
+        version: &'v &[u8],
+        changes: &'v [(u64, Change<T>)],
+    ) -> Vec<(&'v Statement, Values<'v>)> {
+        let statement = |(key, (_, change)): (&'v i64, &'v (u64, Change<T>))| match change {
+            Change::Insert(body) => (&self.insert, values(key, version, &**body)),
+            Change::Update(body) => (&self.update, values(key, version, &**body)),
+            Change::Delete => (&self.delete, vec![key as _]),
+        };
+        keys.iter().zip(changes).map(statement).collect()
+    }
+}
+
+/// Executes each of the statements. The answers are how many rows each has changed.
+fn executed<'a>(
+    client: &'a Client,
+    statements: &'a [(&'a Statement, Values<'a>)],
+) -> impl Iterator<Item = impl Future<Output = Result<u64, Error>> + 'a> {
+    statements.iter().map(|(statement, values)| client.execute(*statement, values))
+}
+
+fn kept_from_being_made() -> OriginError {
+    OriginError::new("a trigger or a rule has kept a change from being made")
 }
 
 /// The values of an insert or an update.

@@ -114,8 +114,10 @@ impl Filler<'_> {
         }
         let (known, stored) =
             (state.actors[self.actor].known[key], state.actors[self.actor].stored[key]);
-        // A row is put where there is one, and inserted or deleted only where it was found so.
-        if !self.is_bound(&state) || known.is_some() != state.index[key].is_some() {
+        // A row is put or deleted only where there is one. It is inserted also where a writer has
+        // announced one meanwhile, and was lost.
+        let is_as_found = known.is_none() || state.index[key].is_some();
+        if !self.is_bound(&state) || !is_as_found {
             return self.end(state);
         }
         state.index[key] = stored;

@@ -77,6 +77,14 @@ fn fillings() -> World {
     World { is_restored: true, ..world([true, false], vec![update, read, fill]) }
 }
 
+/// The same, and a row is inserted meanwhile that the table has not.
+fn inserted_fillings() -> World {
+    let insert = writer(1, [None, Some(Change::Insert)]);
+    let read = Role::Reader { process: 0, reads: 2, of_both: true };
+    let fill = Role::Filler { process: 2 };
+    World { is_restored: true, ..world([true, false], vec![insert, read, fill]) }
+}
+
 fn assert_holds(world: &World) {
     let Explored { states, broken } = explore(world);
     eprintln!("{states} states");
@@ -121,6 +129,7 @@ fn overwritten_rows_are_seen_as_the_table_was() {
 #[test]
 fn reads_after_a_filling_are_seen_as_the_table_was() {
     assert_holds(&fillings());
+    assert_holds(&inserted_fillings());
 }
 
 #[test]
@@ -133,6 +142,7 @@ fn each_wrong_cache_is_found() {
     assert_breaks(own_writes(), Wrong::KeepsBeforeCommit);
     assert_breaks(updates(), Wrong::CountsLateBodies);
     assert_breaks(overwrites(), Wrong::WritesUnbound);
+    assert_breaks(overwrites(), Wrong::ConfirmsNoPin);
     assert_breaks(own_writes(), Wrong::JudgesUnpinned);
     assert_breaks(deletes(), Wrong::RepeatsVersions);
     assert_breaks(fillings(), Wrong::IgnoresTheMark);

@@ -89,6 +89,8 @@ pub enum Wrong {
     CountsLateBodies,
     /// It writes to krl after its pin has ended.
     WritesUnbound,
+    /// A writer that has announced before it has locked its key does not look for its pin then.
+    ConfirmsNoPin,
     /// It takes a transaction whose version is not there for one that was rolled back, whoever may
     /// have written after it.
     JudgesUnpinned,

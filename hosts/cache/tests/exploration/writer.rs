@@ -1,4 +1,4 @@
-//! A transaction, step by step: `transact.rs` and `outcome.rs` of the crate.
+//! A transaction, step by step: `transact.rs`, `one_row.rs` and `outcome.rs` of the crate.
 use crate::explore::{Broken, Next};
 use crate::world::{
     At, Change, KEYS, Kept, Key, Purpose, Role, Session, State, World, Wrong, owner,
@@ -9,7 +9,15 @@ use crate::world::{
 pub enum WriterAt {
     Start,
     Pin(Key),
+    /// Announces the only key before it is locked.
+    AnnounceEarly(Key),
     Lock(Key),
+    /// The transaction has not begun: takes back what was announced early.
+    TakeBackUnsent(Key),
+    /// The transaction changes nothing: takes back what was announced early.
+    TakeBackLocked(Key),
+    /// Looks whether the pin holds, if the key was announced before it was locked.
+    Confirm(Key),
     /// Announces the key in this place of the order.
     Announce(usize),
     Commit,
@@ -48,7 +56,11 @@ impl Writer<'_> {
         match at {
             WriterAt::Start => self.start(*state),
             WriterAt::Pin(key) => self.pin(*state, key),
+            WriterAt::AnnounceEarly(key) => self.announce_early(*state, key),
             WriterAt::Lock(key) => self.lock(*state, key),
+            WriterAt::TakeBackUnsent(key) => self.take_back_unsent(*state, key),
+            WriterAt::TakeBackLocked(key) => self.take_back_locked(*state, key),
+            WriterAt::Confirm(key) => self.confirm(*state, key),
             WriterAt::Announce(place) => self.announce(*state, place),
             WriterAt::Commit => self.commit(*state),
             WriterAt::Answer => self.answer(*state),
@@ -85,19 +97,88 @@ impl Writer<'_> {
         state.actors[self.actor].known[key] = state.index[key];
         match self.key_from(key + 1) {
             Some(next) => self.go(state, WriterAt::Pin(next)),
+            None if self.is_early(&state) => self.go(state, WriterAt::AnnounceEarly(key)),
             None => self.go(state, WriterAt::Lock(self.key_from(0).unwrap_or_default())),
         }
     }
 
+    /// Whether the transaction is announced before its only key is locked: it updates a row that krl
+    /// has, or inserts one that krl has not.
+    fn is_early(&self, state: &State) -> bool {
+        let key = self.key_from(0).unwrap_or_default();
+        let has_row = state.actors[self.actor].known[key].is_some();
+        let is_expected = match self.wanted[key] {
+            Some(Change::Update) => has_row,
+            Some(Change::Insert) => !has_row,
+            Some(Change::Delete) | None => false,
+        };
+        is_expected && self.key_from(key + 1).is_none() && !self.world.has(Wrong::CommitsFirst)
+    }
+
+    fn announce_early(&self, mut state: State, key: Key) -> Vec<Next> {
+        match self.may_write(&state, key) {
+            None => return Vec::new(),
+            Some(false) => return self.fail(state),
+            Some(true) => {}
+        }
+        self.announce_key(&mut state, key, false);
+        self.go(state, WriterAt::Lock(key))
+    }
+
+    fn announce_key(&self, state: &mut State, key: Key, is_delete: bool) {
+        let takes_away = is_delete && self.world.has(Wrong::DeletesFirst);
+        state.index[key] = (!takes_away).then_some(self.world.version_of(self.actor));
+        if self.world.has(Wrong::KeepsBeforeCommit) && !is_delete {
+            let filling = state.processes[self.process].filling;
+            let kept = Kept { row: self.world.row_of(self.actor), filling };
+            state.keep(self.world, self.process, key, kept);
+        }
+    }
+
+    /// Puts back what krl had when the key was pinned, while the pin holds.
+    fn take_back_unsent(&self, mut state: State, key: Key) -> Vec<Next> {
+        if state.has_pinned(self.actor, key) {
+            state.index[key] = state.actors[self.actor].known[key];
+        }
+        self.fail(state)
+    }
+
+    /// Puts what the database has into krl, while the pin holds. What was done to other tables is
+    /// committed.
+    fn take_back_locked(&self, mut state: State, key: Key) -> Vec<Next> {
+        if state.has_pinned(self.actor, key) {
+            state.index[key] = state.actors[self.actor].stored[key];
+        }
+        self.go(state, WriterAt::Commit)
+    }
+
+    /// The announcement counts if the pin holds now that the key is locked. The change and the
+    /// commit are sent then, and the database may refuse the change.
+    fn confirm(&self, state: State, key: Key) -> Vec<Next> {
+        if !state.has_pinned(self.actor, key) && !self.world.has(Wrong::ConfirmsNoPin) {
+            return self.fail(state);
+        }
+        self.sent(state)
+    }
+
     fn lock(&self, mut state: State, key: Key) -> Vec<Next> {
         let owner = owner(self.actor, Purpose::Change);
+        let is_early = self.is_early(&state);
+        // The database may not answer.
+        let unanswered = state.after_a_fault().filter(|_| is_early);
+        let mut failed = unanswered
+            .map_or_else(Vec::new, |failed| self.go(failed, WriterAt::TakeBackUnsent(key)));
         match *state.session(owner) {
             Session::Closed => *state.session(owner) = Session::Open,
             Session::Open => {}
             _ => return self.fail(state),
         }
         if !state.lock(owner, key) {
-            return Vec::new();
+            return failed;
+        }
+        if is_early {
+            failed.extend(self.locked_early(state, key));
+            return failed;
         }
         if let Some(next) = self.key_from(key + 1) {
             return self.go(state, WriterAt::Lock(next));
@@ -107,6 +188,15 @@ impl Writer<'_> {
             return self.go(state, WriterAt::Commit);
         }
         self.go(state, WriterAt::Announce(0))
+    }
+
+    /// The key of an early announcement is locked.
+    fn locked_early(&self, mut state: State, key: Key) -> Vec<Next> {
+        state.actors[self.actor].stored = state.versions();
+        match self.change(&state, key) {
+            Some(_) => self.go(state, WriterAt::Confirm(key)),
+            None => self.go(state, WriterAt::TakeBackLocked(key)),
+        }
     }
 
     /// What the transaction does to a key whose row it has found, or has not.
@@ -136,13 +226,7 @@ impl Writer<'_> {
             Some(true) => {}
         }
         let is_delete = self.change(&state, key) == Some(Change::Delete);
-        let takes_away = is_delete && self.world.has(Wrong::DeletesFirst);
-        state.index[key] = (!takes_away).then_some(self.world.version_of(self.actor));
-        if self.world.has(Wrong::KeepsBeforeCommit) && !is_delete {
-            let filling = state.processes[self.process].filling;
-            let kept = Kept { row: self.world.row_of(self.actor), filling };
-            state.keep(self.world, self.process, key, kept);
-        }
+        self.announce_key(&mut state, key, is_delete);
         self.go(state, WriterAt::Announce(place + 1))
     }
 
@@ -161,6 +245,11 @@ impl Writer<'_> {
         if self.world.has(Wrong::CommitsFirst) {
             return self.go(state, self.made(&state, 0));
         }
+        self.sent(state)
+    }
+
+    /// The commit is next, unless the database has refused a change.
+    fn sent(&self, state: State) -> Vec<Next> {
         let mut next = self.go(state, WriterAt::Commit);
         if let Some(mut refused) = state.after_a_fault() {
             refused.close(owner(self.actor, Purpose::Change));
