@@ -4,6 +4,8 @@ from collections import namedtuple
 
 from crates import functions_in, names_of
 
+# The head of a function.
+HEAD = re.compile(r"\bfn \w+ *[<(]")
 CONSTANT = re.compile(r"(?m)^ *(?:pub(?:\([a-z]+\))? )?(?:const|static) (\w+):")
 
 # A wrong body: its changes, each a path in the crate, the old text and the new one, and the prover's names of
@@ -65,11 +67,20 @@ def edited(source, edit):
     return texts
 
 
+def changes_a_head(edit):
+    """Whether the edit changes the head of a function: its callers see that."""
+    return any(HEAD.search(old) for _, old, _ in edit.changes)
+
+
 def first_round(crate, edits):
-    """As many of the edits as change different functions."""
+    """As many of the edits as change different functions; or one that changes a head, which would be in the way of the
+    edits of its callers."""
+    if changes_a_head(edits[0]):
+        return edits[:1]
     taken, changed, source = [], set(), crate.source
     for edit in edits:
-        texts = None if changed & edit.functions else edited(source, edit)
+        is_apart = changed & edit.functions or changes_a_head(edit)
+        texts = None if is_apart else edited(source, edit)
         if texts:
             taken, changed, source = [*taken, edit], changed | edit.functions, texts
     return taken

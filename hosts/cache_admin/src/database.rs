@@ -35,7 +35,7 @@ impl Database {
     pub fn open(&self, table: Table) -> Result<Box<dyn CachedTable>, Failure> {
         Ok(match self {
             Database::Postgres(address) => {
-                Box::new(PostgresOrigin::<()>::new(address, user().as_ref(), table)?)
+                Box::new(PostgresOrigin::<()>::new(address, user()?.as_ref(), table)?)
             }
             Database::Sqlite(path) if !path.exists() => {
                 return Err(Failure::NotDone(format!("there is no file {}", path.display())));
@@ -46,9 +46,17 @@ impl Database {
 }
 
 /// The user of PostgreSQL and the password, which stand in no command line and no file.
-fn user() -> Option<(String, String)> {
-    let password = std::env::var("KRL_STORE_PASSWORD").unwrap_or_default();
-    std::env::var("KRL_STORE_USER").ok().map(|user| (user, password))
+fn user() -> Result<Option<(String, String)>, Failure> {
+    let [user, password] =
+        ["KRL_STORE_USER", "KRL_STORE_PASSWORD"].map(|name| std::env::var(name).ok());
+    match (user, password) {
+        (None, Some(_)) => Err(Failure::NotDone(
+            "KRL_STORE_PASSWORD is set, and KRL_STORE_USER is not: set it to the user whose \
+             password that is"
+                .to_string(),
+        )),
+        (user, password) => Ok(user.map(|user| (user, password.unwrap_or_default()))),
+    }
 }
 
 /// A table, of whatever database.

@@ -56,13 +56,25 @@ impl From<io::Error> for Failure {
 
 impl From<OriginError> for Failure {
     fn from(error: OriginError) -> Failure {
-        Failure::NotDone(error.to_string())
+        Failure::NotDone(with_remedy(error.to_string()))
     }
 }
 
 impl From<CacheError> for Failure {
     fn from(error: CacheError) -> Failure {
-        Failure::NotDone(error.to_string())
+        Failure::NotDone(with_remedy(error.to_string()))
+    }
+}
+
+/// What the driver of PostgreSQL reports if the server asks for a password and none was given.
+const NO_PASSWORD: &str = "password missing";
+
+/// A reason, and what to do about it if it is that of a first try.
+fn with_remedy(why: String) -> String {
+    if why.contains(NO_PASSWORD) {
+        why + ": set KRL_STORE_USER and KRL_STORE_PASSWORD"
+    } else {
+        why
     }
 }
 

@@ -7,6 +7,8 @@ use krl_testing::database::Database;
 use std::net::TcpListener;
 use std::path::Path;
 use std::process::{Command, Output};
+use std::thread;
+use std::time::{Duration, Instant};
 use tempfile::TempDir;
 
 const TABLE: &str = "
@@ -32,7 +34,7 @@ impl PostgresRow for Item {
 fn krl_cache(folder: &Path, words: &[&str]) -> Output {
     let mut program = Command::new(env!("CARGO_BIN_EXE_krl-cache"));
     program.current_dir(folder).env("XDG_STATE_HOME", folder).args(words);
-    program.env_remove("KRL_STORE_USER").output().unwrap()
+    program.env_remove("KRL_STORE_USER").env_remove("KRL_STORE_PASSWORD").output().unwrap()
 }
 
 /// The exit status, and what was printed on standard output and standard error.
@@ -159,6 +161,32 @@ fn a_file_of_sqlite_is_checked_and_prepared() {
     assert_eq!(ended(folder, &["set-up", "shop.db", "item"]).0, 0);
     let (status, text) = ended(folder, &["check", "shop.db", "item"]);
     assert_eq!((status, text.as_str()), (0, "item: nothing is missing\n"));
+}
+
+#[test]
+fn a_password_that_is_missing_is_named() {
+    let Some(database) = Database::start() else { return };
+    let folder = TempDir::new().unwrap();
+    let (at, folder, sql) = (database.address::<String>(), folder.path(), database.connect());
+    let hba_file: String = sql.query("SHOW hba_file")[0].get(0);
+    std::fs::write(hba_file, "host all all 127.0.0.1/32 scram-sha-256\n").unwrap();
+    sql.run("SELECT pg_reload_conf()");
+    let end = Instant::now() + Duration::from_secs(60);
+    loop {
+        let (status, text) = ended(folder, &["check", &at, "item"]);
+        if text.contains("password missing: set KRL_STORE_USER and KRL_STORE_PASSWORD") {
+            assert_eq!(status, 2);
+            break;
+        }
+        assert!(Instant::now() < end, "{text}");
+        thread::sleep(Duration::from_millis(10));
+    }
+    let mut program = Command::new(env!("CARGO_BIN_EXE_krl-cache"));
+    program.args(["check", &at, "item"]).env_remove("KRL_STORE_USER");
+    let Output { status, stderr, .. } = program.env("KRL_STORE_PASSWORD", "x").output().unwrap();
+    assert_eq!(status.code(), Some(2));
+    let text = String::from_utf8(stderr).unwrap();
+    assert!(text.contains("KRL_STORE_USER is not: set it to the user"), "{text}");
 }
 
 #[test]

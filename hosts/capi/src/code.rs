@@ -1,5 +1,5 @@
 //! What a call returns.
-use krl::{Code as LibraryCode, Error, Fate, JoinError, LockFileError, Outcome};
+use krl::{Error, Fate, JoinError, LockFileError, Outcome};
 use std::ffi::CStr;
 
 macro_rules! codes {
@@ -124,7 +124,7 @@ impl From<&Error> for Code {
             Error::Pinned => Code::Pinned,
             Error::TooManyPins => Code::TooManyPins,
             Error::OutOfMemory => Code::OutOfMemory,
-            Error::Other(LibraryCode::Gone) => Code::Left,
+            Error::Left => Code::Left,
             _ => Code::Internal,
         }
     }
@@ -151,6 +151,7 @@ impl From<&JoinError> for Code {
 #[cfg(test)]
 mod tests {
     use super::*;
+    use krl::Code as LibraryCode;
 
     #[test]
     fn a_write_is_unknown_exactly_where_the_crate_calls_it_so() {
@@ -168,7 +169,7 @@ mod tests {
             Error::Pinned,
             Error::TooManyPins,
             Error::OutOfMemory,
-            Error::Other(LibraryCode::Gone),
+            Error::Left,
         ];
         for refused in errors {
             let code = Code::from(&refused);

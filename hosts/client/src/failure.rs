@@ -105,6 +105,7 @@ impl From<Error> for Failure {
             Error::BadRange | Error::BadKey => Failure::Usage(refused.to_string()),
             Error::Pinned
             | Error::PinIsVoid
+            | Error::Left
             | Error::TooManyPins
             | Error::OutOfMemory
             | Error::Other(_) => Failure::Refused(refused.to_string()),

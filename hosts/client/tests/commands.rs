@@ -164,7 +164,9 @@ fn a_server_that_does_not_answer_is_status_3() {
     let (_, pin) = client.pin_for_read(10..20).unwrap();
     let told = world.run(&["--timeout", "300ms", "put", "15", "a"]);
     assert_eq!((told.status, told.out.as_str()), (3, ""), "{told:?}");
-    assert!(told.errors.contains("another client holds what this command needs"), "{told:?}");
+    assert!(told.errors.contains("the write was not made"), "{told:?}");
+    assert!(told.errors.contains("another client holds what it needs"), "{told:?}");
+    assert!(!told.errors.contains("may have been applied"), "{told:?}");
     drop(pin);
     assert_eq!(world.prints(&["put", "15", "a"]), "applied\n");
 }

@@ -14,7 +14,7 @@ use check::{Change, Read, check};
 use krl::Client;
 use krl_cache::tokio_postgres::types::ToSql;
 use krl_cache::tokio_postgres::{self, Row};
-use krl_cache::{Builder, Cache, Origin, PostgresOrigin, PostgresRow, Table};
+use krl_cache::{Builder, Cache, CacheError, Origin, PostgresOrigin, PostgresRow, Table};
 use krl_testing::database::Database;
 use krl_testing::ports::free_address;
 use std::error::Error;
@@ -54,7 +54,8 @@ const TABLE: &str = "
     CREATE FUNCTION note() RETURNS trigger LANGUAGE plpgsql AS $$
     BEGIN
         INSERT INTO history (id, name, content, before) VALUES (coalesce(NEW.id, OLD.id),
-            coalesce(nullif(current_setting('drive.name', true), ''), 'start'),
+            coalesce(nullif(current_setting('drive.name', true), ''),
+                CASE WHEN NEW.content < 1000 THEN 'start' ELSE 'content-' || NEW.content END),
             NEW.content, NEW.before);
         RETURN NULL;
     END $$;
@@ -261,12 +262,8 @@ impl Drive {
         wait_for_database(&address)?;
         let builder = open(OPERATOR, &address, &self.server_at.to_string(), &self.folder, ENDING)?;
         let cache: Cache<PostgresOrigin<Item>> = builder.open()?;
-        let from = now();
-        let rows = worker::contents(&cache.range(0..KEYS)?);
-        let cached = Read { from, to: now(), keys: 0..KEYS, rows };
-        let from = now();
-        let rows = worker::stored_contents(&cache, 0..KEYS)?;
-        let stored = Read { from, to: now(), keys: 0..KEYS, rows };
+        let cached = read_at_last(|| Ok(worker::contents(&cache.range(0..KEYS)?)))?;
+        let stored = read_at_last(|| worker::stored_contents(&cache, 0..KEYS))?;
         cache.close()?;
         Ok([cached, stored])
     }
@@ -286,6 +283,22 @@ impl Drive {
             Ok(Change { key, version: row.get(1), content, before })
         };
         rows.iter().map(change).collect()
+    }
+}
+
+/// Reads the whole table, and tries until it succeeds: on a busy machine a lease may end meanwhile,
+/// and the read of a row that has to be repaired fails then.
+fn read_at_last(
+    read: impl Fn() -> Result<Vec<(u64, u64)>, CacheError>,
+) -> Result<Read, CacheError> {
+    let end = Instant::now() + ENDING;
+    loop {
+        let from = now();
+        match read() {
+            Ok(rows) => return Ok(Read { from, to: now(), keys: 0..KEYS, rows }),
+            Err(error) if Instant::now() > end => return Err(error),
+            Err(_) => thread::sleep(Duration::from_millis(20)),
+        }
     }
 }
 

@@ -111,7 +111,7 @@ def library() -> SimpleNamespace:
     """The calls of the library, which is loaded once, or a ``LibraryError``."""
     here, name, faults = Path(__file__).resolve().parent, "libkrl_client.so", []
     # `make install` puts the package into share/krl/python, next to the folder lib.
-    places = [f"{here}/{name}", f"{here}/../../../../lib/{name}.0", f"{name}.0"]
+    places = [f"{here}/{name}", os.path.normpath(f"{here}/../../../../lib/{name}.0"), f"{name}.0"]
     for place in [os.environ[NAMED_BY]] if os.environ.get(NAMED_BY) else places:
         try:
             return _loaded(place)

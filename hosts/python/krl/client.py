@@ -68,7 +68,7 @@ class _Writer:
     _prefix, _code_if_gone = "", Closed.code
     _handle: Handle
     timeout: float
-    """How many seconds a call waits that is given no other time: a millisecond to a year."""
+    """How many seconds a call waits that has no timeout of its own: a millisecond to a year."""
 
     def __enter__(self) -> Self:
         return self
@@ -249,8 +249,8 @@ class Client(_Writer):
         call("reload_tls", self._handle)
 
     def leave(self) -> None:
-        """Gives back all that the client holds, and waits until each server has kept that. From
-        then on its calls raise ``Closed``, and ``cached`` answers ``None``."""
+        """Gives back all that the client holds, and waits until each server has that on its disk.
+        From then on its calls raise ``Closed``, and ``cached`` returns ``None``."""
         try:
             self._call("leave", None)
         finally:
@@ -258,13 +258,13 @@ class Client(_Writer):
             self._handle = Handle("free")
 
     def __exit__(self, *error: object) -> None:
-        """Leaves. If it cannot, while an error is on its way, that error goes on."""
+        """Leaves. If that fails during another error, the other error is raised."""
         with suppress(*() if error[0] is None else (Refused,)):
             if self._handle.value is not None:
                 self.leave()
 
 
-# As a program ends, clients leave after what it registers by `atexit` from this first finalizer on.
+# At exit, finalizers run after the functions that a program registers with `atexit` from here on.
 weakref.finalize(Client, int)
 
 
@@ -272,8 +272,8 @@ def join(servers: str, number: Numbers, lock_file: PathLike, timeout: float = 15
          *, tls: Tls | None = None, wait_if_in_use: Seconds = None) -> Client:
     """Joins the server as the client of this number, from 0 to 63; or as that of the first free
     one of several, such as ``range(0, 8)``: then ``lock_file`` is the folder of their lock files.
-    While the server reports that another process has the number, ``join`` waits for so many
-    seconds as ``wait_if_in_use``, by default for the timeout."""
+    If the server reports that another process has the number, ``join`` waits for at most
+    ``wait_if_in_use`` seconds, by default for the timeout."""
     texts = {"servers": servers, "lock_file": lock_file}
     return Client(servers, _options(number, tls, timeout, wait_if_in_use, **texts))
 

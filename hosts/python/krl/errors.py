@@ -4,7 +4,8 @@ from enum import IntEnum as _IntEnum
 
 
 class Outcome(_IntEnum):
-    """How a write was judged. Only ``APPLIED`` is true. The last two are those of an error."""
+    """How a write was judged. Only ``APPLIED`` is true: the others changed nothing. In an error's
+    ``outcomes`` there may be ``NOT_MADE``, and ``UNKNOWN``, which a read of the key shows."""
 
     APPLIED, EXISTS, ABSENT, FULL, NOT_HELD = range(5)
     UNKNOWN, NOT_MADE = 46, 66
@@ -22,8 +23,6 @@ class Reason(_IntEnum):
 
 class Error(Exception): """All errors of this package, except those that Python itself raises."""
 class LibraryError(Error): """``libkrl_client.so`` was not found, or has another version."""
-
-
 class JoinError(Error): """The client did not join. ``__cause__`` is what ended it, if one did."""
 class LockFileError(JoinError): """The lock file cannot be used, or another process has it."""
 class LockFileTaken(LockFileError): """Another process has it, or those of all numbers."""

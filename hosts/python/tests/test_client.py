@@ -491,7 +491,7 @@ class ShardsTest(Served):
             self.assertEqual([status.shard for status in client.status()], [1])
 
     def test_a_client_of_all_keys_is_refused_by_a_shard(self) -> None:
-        with self.assertRaisesRegex(krl.JoinError, "serves 0..100@1") as raised:
+        with self.assertRaisesRegex(krl.JoinError, "serves only 0..100@1") as raised:
             self.join(0)
         self.assertIsInstance(raised.exception.__cause__, krl.OtherShard)
 

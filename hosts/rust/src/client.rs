@@ -424,7 +424,7 @@ impl Client {
     ///
     /// # Errors
     ///
-    /// `Other` if the client has left; `StoreWentBack` while it joins again.
+    /// `Left`; `StoreWentBack` while it joins again.
     pub fn epoch(&self) -> Result<u64, Error> {
         self.link().with_jobs(Jobs::epoch).map_err(Code::into)
     }
@@ -492,7 +492,7 @@ impl WatchedRange<Error> for RangeOfClient {
     }
 
     fn has_left(&self, error: &Error) -> bool {
-        *error == Error::Other(Code::Gone)
+        *error == Error::Left
     }
 }
 

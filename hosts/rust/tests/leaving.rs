@@ -1,5 +1,5 @@
 //! Clones of a client, pins that outlive it, and the one way to leave.
-use krl::{Client, Code, Error, JoinError, LockFileError, MemoryStore, Outcome, Pin, Row, Server};
+use krl::{Client, Error, JoinError, LockFileError, MemoryStore, Outcome, Pin, Row, Server};
 use krl::{Value, Waited};
 use std::net::TcpListener;
 use std::path::PathBuf;
@@ -98,8 +98,8 @@ fn one_that_has_left_stays_so_for_all_its_clones() {
     for again in [&client, &clone] {
         assert_eq!(again.leave(), Ok(()));
         assert_eq!(again.within(LONG).leave(), Ok(()));
-        assert_eq!(again.read(0..9), Err(Error::Other(Code::Gone)));
-        assert_eq!(again.insert(2, Value::from(5)), Err(Error::Other(Code::Gone)));
+        assert_eq!(again.read(0..9), Err(Error::Left));
+        assert_eq!(again.insert(2, Value::from(5)), Err(Error::Left));
         assert_eq!(again.cached(0..9), Ok(None));
         assert_eq!(again.wait_for_change(0..9, &[], LONG), Ok(Waited::Changed));
     }

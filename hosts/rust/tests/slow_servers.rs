@@ -46,15 +46,22 @@ fn ends_all(says: &'static [u8]) -> (SocketAddr, Receiver<Instant>) {
 
 /// A client asks a server that says this on each connection no more than once a second.
 fn is_asked_once_a_second(name: &str, says: &'static [u8]) {
+    // Its time may be over while the last connection still is open: then nothing has failed.
+    assert!((0..5).any(|_| shows_why_it_ended(name, says)), "no cause in five tries");
+}
+
+/// Whether a client that can't join shows why its last connection ended.
+fn shows_why_it_ended(name: &str, says: &'static [u8]) -> bool {
     let (address, times) = ends_all(says);
     let (error, took) = fails_to_join(address, name, Duration::from_secs(6));
     assert!(took < Duration::from_secs(6) + LATE, "{took:?}");
-    assert!(matches!(error, JoinError::NoAnswer(Some(_))), "{error:?}");
+    let JoinError::NoAnswer(cause) = error else { panic!("{error:?}") };
     let times: Vec<Instant> = times.try_iter().collect();
     assert!((6..=14).contains(&times.len()), "{} connections in six seconds", times.len());
     let pauses: Vec<Duration> = times.windows(2).map(|pair| pair[1] - pair[0]).collect();
     // Each is told a little late on a busy machine.
     assert!(pauses[pauses.len() - 2..].iter().all(|pause| pause.as_millis() >= 800), "{pauses:?}");
+    cause.is_some()
 }
 
 #[test]

@@ -113,18 +113,40 @@ fn a_forgotten_flag_changes_no_room() {
     client.leave().unwrap();
 }
 
+/// What the log of a server of this room has until it serves.
+fn log_of_start(store: &Path, room: &str) -> Vec<String> {
+    let mut serve = program();
+    serve.args(["serve", "--room", room, "--listen", "127.0.0.1:0", "--status", "off", "--store"]);
+    let mut process = serve.arg(store).stderr(Stdio::piped()).spawn().unwrap();
+    let lines = BufReader::new(process.stderr.take().unwrap()).lines().map(Result::unwrap);
+    let told = lines.take_while(|line| !line.contains(" ready ")).collect();
+    process.kill().unwrap();
+    process.wait().unwrap();
+    told
+}
+
+#[test]
+fn a_server_over_a_full_table_tells_so() {
+    let folder = tempfile::tempdir().unwrap();
+    let store = folder.path().join("krl.db");
+    let serving = serve(&store, "3");
+    let client = join(&serving, &folder.path().join("3.lock"));
+    (1..=3).for_each(|key| _ = client.insert(key, Value::from(key)).unwrap());
+    client.leave().unwrap();
+    drop(serving);
+    let full = "the table is full, so every insert fails: give the server more room room=3";
+    let told = log_of_start(&store, "3");
+    assert!(told.iter().any(|line| line.contains(full)), "{told:?}");
+    let told = log_of_start(&store, "4");
+    assert!(!told.iter().any(|line| line.contains("is full")), "{told:?}");
+}
+
 #[test]
 fn a_server_with_less_room_than_before_serves_and_tells_so() {
     let folder = tempfile::tempdir().unwrap();
     let store = folder.path().join("krl.db");
     assert_eq!(shown_to_the_end(Serving::start(&store)).0, 65_536);
-    let mut serve = program();
-    serve.args(["serve", "--room", "3", "--listen", "127.0.0.1:0", "--status", "off", "--store"]);
-    let mut process = serve.arg(&store).stderr(Stdio::piped()).spawn().unwrap();
-    let lines = BufReader::new(process.stderr.take().unwrap()).lines().map(Result::unwrap);
-    let told: Vec<String> = lines.take_while(|line| !line.contains(" ready ")).collect();
-    process.kill().unwrap();
-    process.wait().unwrap();
+    let told = log_of_start(&store, "3");
     let less = "the server has less room than one had before it room=3 greatest=65536";
     assert!(told.iter().any(|line| line.contains(less)), "{told:?}");
     let check = checked(&store);

@@ -109,6 +109,28 @@ impl Worker {
         Ok(())
     }
 
+    /// Updates or inserts one row.
+    fn write_one(
+        &self,
+        notes: &mut Notes,
+        draws: &mut Draws,
+        item: impl Fn(Option<i64>) -> Item,
+    ) -> std::io::Result<()> {
+        let (key, name) = (draws.below(KEYS), name_of(&item(None)));
+        notes.begun(&name, now())?;
+        let done = if draws.below(4) == 0 {
+            self.cache.insert(key, item(None))
+        } else {
+            self.cache.update(key, |found| Some(item(Some(found.content))))
+        };
+        // No history shows one that has changed nothing.
+        let is_unchanged = matches!(done, Ok(false));
+        let end = if is_unchanged { End::Unknown } else { end_of(&done.map(drop)) };
+        notes.ended(&name, now(), end)?;
+        thread::sleep(Duration::from_millis(3 + draws.below(20)));
+        Ok(())
+    }
+
     /// Writes transactions of one key and of several.
     fn write_on(&self, is_over: &AtomicBool) -> Result<(), String> {
         let says = |error: std::io::Error| error.to_string();
@@ -119,6 +141,12 @@ impl Worker {
         for count in 0_u64.. {
             if is_over.load(Ordering::Relaxed) {
                 break;
+            }
+            if draws.below(2) == 0 {
+                content += 1;
+                let item = |before| Item { content, before, padding: vec![7; 100] };
+                self.write_one(&mut notes, &mut draws, item).map_err(says)?;
+                continue;
             }
             let name = format!("{}-{count}", self.name);
             let mut keys: Vec<u64> =
@@ -144,6 +172,11 @@ impl Worker {
         }
         Ok(())
     }
+}
+
+/// The name of a transaction of one row, as the history has it.
+fn name_of(item: &Item) -> String {
+    format!("content-{}", item.content)
 }
 
 /// Changes a key: its row is deleted, or gets this content. It answers whether that is a change.

@@ -8,7 +8,6 @@ use crate::client::set;
 use crate::client::shared::{MAX_WAIT, Shared};
 use crate::model::batch::{self, BatchError, Judged, Mutation};
 use crate::model::change::{Outcome, Write};
-use crate::model::code::Code;
 use crate::model::error::Error;
 use crate::model::range::keys_of;
 use crate::model::row::{END, Row, Value};
@@ -344,7 +343,7 @@ impl AsyncChanges {
                     self.last = Some(rows.clone());
                     return Some(Ok(rows));
                 }
-                Err(Error::Other(Code::Gone)) => return None,
+                Err(Error::Left) => return None,
                 Err(error) => return Some(Err(error)),
             }
         }

@@ -115,7 +115,6 @@ impl<E> fmt::Debug for Changes<E> {
 #[cfg(test)]
 mod tests {
     use super::*;
-    use crate::model::code::Code;
     use crate::model::row::Value;
     use std::collections::VecDeque;
     use std::sync::Mutex;
@@ -137,7 +136,7 @@ mod tests {
         }
 
         fn has_left(&self, error: &Error) -> bool {
-            *error == Error::Other(Code::Gone)
+            *error == Error::Left
         }
     }
 
@@ -167,7 +166,7 @@ mod tests {
 
     #[test]
     fn an_error_loses_no_state_and_a_client_that_has_left_ends_it() {
-        let gone = Err(Error::Other(Code::Gone));
+        let gone = Err(Error::Left);
         let reads = [Ok(rows(1)), Err(Error::TimedOut), Ok(rows(2)), gone];
         let stopped = Err(Error::Stopped);
         let mut states = changes(reads, [CHANGED, CHANGED, stopped]);

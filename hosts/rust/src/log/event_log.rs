@@ -77,10 +77,14 @@ impl EventLog {
         }
     }
 
-    /// A server with this room has started. Less than one had before may be meant, or be a slip.
-    pub fn has_room(room: Room, greatest: Room) {
+    /// A server with this room has started over so many rows. Less room than one had before may be
+    /// meant, or be a slip.
+    pub fn has_room(rows: usize, room: Room, greatest: Room) {
         if room < greatest {
             tell!(warn, %room, %greatest, "the server has less room than one had before it");
+        }
+        if rows >= room.rows() {
+            tell!(warn, %room, "the table is full, so every insert fails: give the server more room");
         }
     }
 

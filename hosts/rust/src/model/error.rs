@@ -45,6 +45,8 @@ pub enum Error {
     /// The write was bound to a pin, and the pin is void: since it was taken, the client's lease
     /// has ended or the server's store went back. The write was not made, and changes nothing.
     PinIsVoid,
+    /// The client has left: its calls do nothing any more.
+    Left,
     /// The client's own thread has ended by a panic: it answers nothing more but from its cache. A
     /// write that was not answered may have changed the table.
     Stopped,
@@ -108,6 +110,7 @@ impl Error {
             Error::TurnedAway
             | Error::OtherShard(_)
             | Error::PinIsVoid
+            | Error::Left
             | Error::Stopped
             | Error::BadRange
             | Error::BadKey
@@ -130,6 +133,7 @@ impl Error {
             Error::NotSent(_)
             | Error::TurnedAway
             | Error::OtherShard(_)
+            | Error::Left
             | Error::BadRange
             | Error::BadKey
             | Error::Pinned
@@ -158,6 +162,7 @@ impl From<Code> for Error {
             Code::Pinned => Error::Pinned,
             Code::TooManyPins => Error::TooManyPins,
             Code::OutOfMemory => Error::OutOfMemory,
+            Code::Gone => Error::Left,
             // The client is about to join again.
             Code::Closed => Error::StoreWentBack,
             code => Error::Other(code),
@@ -193,6 +198,7 @@ impl fmt::Display for Error {
             Error::PinIsVoid => f.write_str(
                 "the pin that the write is bound to is void: the write was not made",
             ),
+            Error::Left => f.write_str("the client has left"),
             Error::Stopped => f.write_str("the client's thread has panicked"),
             Error::BadRange => f.write_str(
                 "a range of keys begins at its end or below, and ends at 2^63 or below; \
@@ -302,7 +308,9 @@ mod tests {
             assert!(!Error::Unserved(refusal).is_retryable(), "{refusal}");
         }
         let other = OtherShard { expected: None, served: None };
-        for error in [Error::TurnedAway, Error::OtherShard(other), Error::PinIsVoid, Error::Stopped]
+        let ended = [Error::Left, Error::Stopped];
+        for error in
+            [Error::TurnedAway, Error::OtherShard(other), Error::PinIsVoid].into_iter().chain(ended)
         {
             assert!(!error.is_retryable(), "{error}");
         }

@@ -66,7 +66,7 @@ impl Decided {
         let connections = Connections::new(max_connections, room, now);
         let (rows, records) = (snapshot.rows.len(), &snapshot.records);
         let log = EventLog::started(epoch, address, rows, records);
-        EventLog::has_room(room, at_start.greatest);
+        EventLog::has_room(rows, room, at_start.greatest);
         let leases = table;
         let started = Started { server, epoch, history, leases, connections, timings, log };
         let events = EventLoop::new(started);

@@ -5,7 +5,6 @@ use crate::client::changes::{Changes, WatchedRange};
 use crate::client::scratch::with_room;
 use crate::model::batch::{BatchError, Mutation};
 use crate::model::change::Outcome;
-use crate::model::code::Code;
 use crate::model::error::Error;
 use crate::model::range::keys_of;
 use crate::model::row::{Row, Value};
@@ -344,6 +343,6 @@ impl WatchedRange<ShardError> for RangeOfShards {
     }
 
     fn has_left(&self, error: &ShardError) -> bool {
-        error.error == Error::Other(Code::Gone)
+        error.error == Error::Left
     }
 }

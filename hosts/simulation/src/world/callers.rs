@@ -409,7 +409,7 @@ impl World {
             Error::TurnedAway => machine.rejections > 0,
             Error::StoreWentBack => self.judge.went_back() || machine.calls.leaving.is_some(),
             // One that has left answers nothing.
-            Error::Other(_) => machine.calls.leaving.is_some(),
+            Error::Left | Error::Other(_) => machine.calls.leaving.is_some(),
             _ => false,
         };
         if !is_so {

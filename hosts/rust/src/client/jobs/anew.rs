@@ -5,7 +5,6 @@ use super::takings::Takings;
 use super::yielding::Narrowed;
 use super::{Asking, Job, Jobs, Stage};
 use crate::client::pins::Pins;
-use crate::model::code::Code;
 use crate::model::error::Error;
 use crate::model::refusal::Refusal;
 use crate::proved::client_handle::ClientHandle;
@@ -53,7 +52,7 @@ impl Job {
     pub(super) fn end_after_bye(self) {
         match self {
             Job::Leave(reply) => reply.end(Ok(())),
-            job => job.refuse(Error::Other(Code::Gone)),
+            job => job.refuse(Error::Left),
         }
     }
 
