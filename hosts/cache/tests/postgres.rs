@@ -277,9 +277,9 @@ fn a_commit_whose_answer_was_lost_is_found() {
     let relay = Arc::new(DeafRelay::start(database.at()));
     let (deaf, is_lost) = (Arc::clone(&relay), AtomicBool::new(false));
     let builder = krl.cache_of(items(&address_at(relay.address())), 0).on_step(move |step| {
-        // The next answer is that of the change and the commit.
+        // The next answers are those of the change and the commit.
         if step == Step::Confirmed && !is_lost.swap(true, Ordering::SeqCst) {
-            deaf.lose_next_answer();
+            deaf.lose_answers_to_the_end();
         }
     });
     let cache = builder.open().unwrap();

@@ -4,10 +4,15 @@ use std::net::{Ipv4Addr, Shutdown, SocketAddr, TcpListener, TcpStream};
 use std::sync::Arc;
 use std::sync::atomic::{AtomicBool, AtomicU8, AtomicUsize, Ordering};
 use std::thread;
+use std::time::Duration;
 
 const KEEPS: u8 = 0;
 const LOSES_NEXT: u8 = 1;
 const LOSES_ALL: u8 = 2;
+const LOSES_TO_THE_END: u8 = 3;
+
+/// A server that has said nothing for so long has answered all that it was asked.
+const QUIET: Duration = Duration::from_millis(500);
 
 /// What connections share.
 #[derive(Debug, Default)]
@@ -53,6 +58,12 @@ impl DeafRelay {
         self.shared.loses.store(LOSES_NEXT, Ordering::SeqCst);
     }
 
+    /// The next answer gets lost, and so does what follows on its connection, which ends when nothing
+    /// more comes. So the server does all that it was asked.
+    pub fn lose_answers_to_the_end(&self) {
+        self.shared.loses.store(LOSES_TO_THE_END, Ordering::SeqCst);
+    }
+
     /// From now on each answer gets lost, and its connection ends.
     pub fn lose_all_answers(&self) {
         self.shared.loses.store(LOSES_ALL, Ordering::SeqCst);
@@ -79,18 +90,19 @@ impl Shared {
     fn fate(&self, number: usize, is_answer: bool) -> Fate {
         if number < self.swallow.load(Ordering::SeqCst) {
             Fate::Swallowed
-        } else if is_answer && self.loses_this() {
+        } else if is_answer && self.loses_this(LOSES_TO_THE_END) {
+            Fate::LostToTheEnd
+        } else if is_answer && self.loses_this(LOSES_NEXT) {
             Fate::Lost
         } else {
             Fate::Passes
         }
     }
 
-    /// Whether an answer that came just now gets lost.
-    fn loses_this(&self) -> bool {
-        let next =
-            self.loses.compare_exchange(LOSES_NEXT, KEEPS, Ordering::SeqCst, Ordering::SeqCst);
-        let loses = next.is_ok() || next == Err(LOSES_ALL);
+    /// Whether an answer that came just now gets lost, since one is to be lost so, or all are.
+    fn loses_this(&self, how: u8) -> bool {
+        let next = self.loses.compare_exchange(how, KEEPS, Ordering::SeqCst, Ordering::SeqCst);
+        let loses = next.is_ok() || how == LOSES_NEXT && next == Err(LOSES_ALL);
         self.has_lost.fetch_or(loses, Ordering::SeqCst);
         loses
     }
@@ -110,6 +122,7 @@ enum Fate {
     Passes,
     Swallowed,
     Lost,
+    LostToTheEnd,
 }
 
 /// Passes bytes on until there are no more, or some get lost. Both connections end then.
@@ -123,6 +136,11 @@ fn pass(mut from: TcpStream, mut to: TcpStream, fate: impl Fn() -> Fate) {
         match fate() {
             Fate::Swallowed => {}
             Fate::Passes if to.write_all(&bytes[..count]).is_ok() => {}
+            Fate::LostToTheEnd => {
+                let _ = from.set_read_timeout(Some(QUIET));
+                while from.read(&mut bytes).is_ok_and(|count| count > 0) {}
+                break;
+            }
             Fate::Passes | Fate::Lost => break,
         }
     }
