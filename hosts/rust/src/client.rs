@@ -56,7 +56,7 @@ use std::time::{Duration, Instant};
 ///
 /// A server with leases lets the client answer from its cache only for so long after its last word.
 /// When its lease ends the client drops its cache and joins again, as above: only a write that is
-/// on its way is told so, by [`Error::LeaseEnded`], and all other calls continue.
+/// on its way ends with [`Error::LeaseEnded`], and all other calls continue.
 ///
 /// When its last clone and its last pin are dropped, the client sends Bye, and waits a second at
 /// most until the server has kept that. A process that ends without a Bye leaves what it held:

@@ -18,7 +18,7 @@ pub(crate) enum Dropped {
 }
 
 impl Dropped {
-    /// What is told to who waits and can't continue.
+    /// The error of those who wait and can't continue.
     pub fn refused(self) -> Error {
         match self {
             Dropped::StoreWentBack => Error::StoreWentBack,
