@@ -170,7 +170,8 @@ typedef enum krlc_code {
     /* Of krl_host.h: the connection has to end. No call of this header returns it. */
     KRLC_DISCONNECT = 65,
     /* The write was not sent within the timeout: the client was not connected, or waited for a lock. The error has the
-     * server's reason if it gave one. Also of one of several writes: it was not made. */
+     * server's reason if it gave one. Or the server's store went back, or the client's thread ended, before the write
+     * was sent: the error's text says which. Also of one of several writes: it was not made. */
     KRLC_NOT_MADE = 66
 } krlc_code;
 
@@ -392,8 +393,8 @@ KRLC_NODISCARD uint32_t krlc_forget(krlc_client *client, uint64_t lo, uint64_t h
 
 /* Writes. Each waits until the server has it on its disk, or has refused it. Answers: KRLC_EXISTS and KRLC_FULL of an
  * insert, KRLC_ABSENT of a put and of a delete. Errors: KRLC_BAD_KEY, KRLC_TOO_LONG, KRLC_TIMED_OUT, KRLC_UNSERVED,
- * KRLC_TURNED_AWAY, KRLC_OTHER_SHARD, KRLC_STORE_WENT_BACK, KRLC_LEASE_ENDED, KRLC_OUT_OF_MEMORY, KRLC_STOPPED,
- * KRLC_LEFT. `bytes` may be null if the length is 0. */
+ * KRLC_NOT_MADE, KRLC_TURNED_AWAY, KRLC_OTHER_SHARD, KRLC_STORE_WENT_BACK, KRLC_LEASE_ENDED, KRLC_OUT_OF_MEMORY,
+ * KRLC_STOPPED, KRLC_LEFT. `bytes` may be null if the length is 0. */
 
 /* Inserts a row. */
 KRLC_NODISCARD uint32_t krlc_insert(krlc_client *client, uint64_t key, const void *bytes, size_t length,

@@ -151,14 +151,16 @@ impl From<&JoinError> for Code {
 #[cfg(test)]
 mod tests {
     use super::*;
-    use krl::Code as LibraryCode;
+    use krl::{Code as LibraryCode, Unsent};
 
     #[test]
     fn a_write_is_unknown_exactly_where_the_crate_calls_it_so() {
         let errors = [
             Error::TimedOut,
             Error::Unserved(krl::Refusal::Denied),
-            Error::NotSent(None),
+            Error::NotSent(Unsent::TimedOut),
+            Error::NotSent(Unsent::StoreWentBack),
+            Error::NotSent(Unsent::Stopped),
             Error::TurnedAway,
             Error::StoreWentBack,
             Error::LeaseEnded,

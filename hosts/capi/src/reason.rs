@@ -1,5 +1,5 @@
 //! Why a server does not serve a client, as a number.
-use krl::{Error, JoinError, Refusal};
+use krl::{Error, JoinError, Refusal, Unsent};
 
 /// A `krlc_reason` of the header: a server's reason has the number that it has on the wire.
 #[derive(Clone, Copy, Debug, PartialEq, Eq)]
@@ -22,7 +22,9 @@ impl Reason {
     /// That of a call that was refused.
     pub fn of_call(refused: &Error) -> Reason {
         match refused {
-            Error::Unserved(refusal) | Error::NotSent(Some(refusal)) => (*refusal).into(),
+            Error::Unserved(refusal) | Error::NotSent(Unsent::Unserved(refusal)) => {
+                (*refusal).into()
+            }
             _ => Reason::None,
         }
     }

@@ -1,6 +1,6 @@
 //! Why a command did not do what it should, and the exit status that reports it.
 use crate::output;
-use krl::{Error, JoinError, LockFileError, Refusal, ShardError};
+use krl::{Error, JoinError, LockFileError, Refusal, ShardError, Unsent};
 use krl_rows::{BadFile, BadValue};
 use std::fmt;
 use std::io;
@@ -89,18 +89,19 @@ impl From<Error> for Failure {
                  this command needs (its status page says who waits for whom)"
                     .into(),
             ),
-            Error::NotSent(None) => Failure::NoAnswer(
+            Error::NotSent(Unsent::TimedOut) => Failure::NoAnswer(
                 "the write was not made: it was not sent in time, since the server is away, or \
                  another client holds what it needs (its status page says who waits for whom)"
                     .into(),
             ),
             Error::Unserved(why) => Failure::NoAnswer(why.to_string()),
-            Error::NotSent(Some(why)) => {
+            Error::NotSent(Unsent::Unserved(why)) => {
                 Failure::NoAnswer(format!("the write was not made: {why}"))
             }
             Error::StoreWentBack | Error::LeaseEnded | Error::Stopped => {
                 Failure::NoAnswer(refused.to_string())
             }
+            Error::NotSent(_) => Failure::NoAnswer(refused.to_string()),
             Error::TurnedAway | Error::OtherShard(_) => Failure::NotJoined(refused.to_string()),
             Error::BadRange | Error::BadKey => Failure::Usage(refused.to_string()),
             Error::Pinned
@@ -243,8 +244,10 @@ mod tests {
         for (refused, status) in [
             (Error::TimedOut, 3),
             (Error::Unserved(full), 3),
-            (Error::NotSent(None), 3),
-            (Error::NotSent(Some(full)), 3),
+            (Error::NotSent(Unsent::TimedOut), 3),
+            (Error::NotSent(Unsent::Unserved(full)), 3),
+            (Error::NotSent(Unsent::StoreWentBack), 3),
+            (Error::NotSent(Unsent::Stopped), 3),
             (Error::StoreWentBack, 3),
             (Error::LeaseEnded, 3),
             (Error::Stopped, 3),

@@ -54,7 +54,7 @@ pub use model::batch::{BatchError, Fate, Mutation};
 pub use model::change::{Change, Outcome, Record, Write};
 pub use model::client_set::ClientSet;
 pub use model::code::Code;
-pub use model::error::{Error, JoinError};
+pub use model::error::{Error, JoinError, Unsent};
 pub use model::history::{History, Mark};
 pub use model::lease_record::LeaseRecord;
 pub use model::lock::{HeldSlot, Mode};

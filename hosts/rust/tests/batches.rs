@@ -1,7 +1,7 @@
 //! Several writes in one wait, at one server and at several.
 mod two_servers;
 
-use krl::{BatchError, Error, Fate, Mutation, ShardError};
+use krl::{BatchError, Error, Fate, Mutation, ShardError, Unsent};
 use std::time::Duration;
 use two_servers::{World, row};
 
@@ -55,7 +55,7 @@ fn an_error_tells_what_became_of_each_write() {
         first.within(SHORT).write_all([Delete(55), Put(row(10, 2)), Delete(56)]).unwrap_err();
     // The second one waited for its lock.
     assert_eq!(failed.fates, [Fate::Judged(Absent), Fate::NotMade, Fate::NotMade]);
-    assert_eq!(failed.error, Error::NotSent(None));
+    assert_eq!(failed.error, Error::NotSent(Unsent::TimedOut));
     assert!(!failed.error.is_unknown_outcome());
     drop(pin);
 }

@@ -1,6 +1,6 @@
 //! Each call of a client, over TCP and over a Unix socket.
 use krl::{Address, Client, JoinError, Leases, Listener, LockFileError, MemoryStore, Outcome};
-use krl::{Error, Row, Server, Value, evict};
+use krl::{Error, Row, Server, Unsent, Value, evict};
 use std::path::{Path, PathBuf};
 use std::thread;
 use std::time::{Duration, Instant};
@@ -140,11 +140,11 @@ fn a_call_waits_for_a_time_of_its_own() {
     let (begun, short) = (Instant::now(), Duration::from_millis(50));
     assert_eq!(other.within(short).timeout(), short);
     assert_eq!(other.within(short).read(10..11), Err(Error::TimedOut));
-    assert_eq!(other.within(short).set(10, value("b")), Err(Error::NotSent(None)));
+    assert_eq!(other.within(short).set(10, value("b")), Err(Error::NotSent(Unsent::TimedOut)));
     assert!(other.within(short).pin_for_read(10..11).is_err());
     let own = other.pin(50..60).unwrap();
-    assert_eq!(own.within(short).put(10, value("b")), Err(Error::NotSent(None)));
-    assert_eq!(own.within(short).set(10, value("b")), Err(Error::NotSent(None)));
+    assert_eq!(own.within(short).put(10, value("b")), Err(Error::NotSent(Unsent::TimedOut)));
+    assert_eq!(own.within(short).set(10, value("b")), Err(Error::NotSent(Unsent::TimedOut)));
     drop(own);
     assert!(begun.elapsed() < other.timeout(), "it waited as its other calls do");
     drop(pin);

@@ -1,5 +1,5 @@
 //! Ranges that are read and pinned at once, and waiting for a change.
-use krl::{Client, Error, Listener, MemoryStore, Outcome, Row, Server, Value, Waited};
+use krl::{Client, Error, Listener, MemoryStore, Outcome, Row, Server, Unsent, Value, Waited};
 use std::path::PathBuf;
 use std::sync::atomic::{AtomicUsize, Ordering};
 use std::thread;
@@ -67,7 +67,7 @@ fn a_range_that_is_pinned_for_read_is_shared_and_does_not_change() {
     assert_eq!(rows.len(), 20);
     let (others, other_pin) = second.pin_for_read(0..200).unwrap();
     assert_eq!(others.len(), 20);
-    assert_eq!(writer.put(290, Value::from(1)), Err(Error::NotSent(None)));
+    assert_eq!(writer.put(290, Value::from(1)), Err(Error::NotSent(Unsent::TimedOut)));
     assert_eq!(first.cached(95..305), Ok(Some(rows)));
     drop((pin, other_pin));
     writer.set_timeout(LONG);
@@ -102,7 +102,7 @@ fn a_range_of_no_rows_is_pinned_for_update_by_one() {
     let (rows, pin) = first.pin_for_update(10..20).unwrap();
     assert_eq!(rows, []);
     assert_eq!(second.pin_for_update(10..20).err(), Some(Error::TimedOut));
-    assert_eq!(second.insert(15, Value::from(1)), Err(Error::NotSent(None)));
+    assert_eq!(second.insert(15, Value::from(1)), Err(Error::NotSent(Unsent::TimedOut)));
     drop(pin);
     second.set_timeout(LONG);
     assert!(second.pin_for_update(10..20).is_ok());
@@ -175,7 +175,7 @@ fn those_who_pin_for_read_and_write_block_one_another_and_lose_nothing() {
     let (_, other_pin) = second.pin_for_read(10..20).unwrap();
     thread::scope(|scope| {
         let put = scope.spawn(|| first.put(15, Value::from(1)));
-        assert_eq!(second.put(15, Value::from(2)), Err(Error::NotSent(None)));
+        assert_eq!(second.put(15, Value::from(2)), Err(Error::NotSent(Unsent::TimedOut)));
         assert!(!put.is_finished(), "it waits for a pin");
         assert_eq!(second.cached(10..20), Ok(Some(rows)), "nothing has changed");
         drop((pin, other_pin));
@@ -218,7 +218,11 @@ fn whoever_waits_for_a_row_has_pinned_those_below_it_alone() {
     thread::scope(|scope| {
         let waiting = scope.spawn(|| second.pin_for_update(0..40).map(|(rows, _)| rows));
         thread::sleep(SHORT);
-        assert_eq!(below.put(10, Value::from(1)), Err(Error::NotSent(None)), "it is pinned");
+        assert_eq!(
+            below.put(10, Value::from(1)),
+            Err(Error::NotSent(Unsent::TimedOut)),
+            "it is pinned"
+        );
         assert_eq!(above.put(30, Value::from(1)), Ok(Outcome::Applied), "it is not pinned yet");
         assert!(!waiting.is_finished());
         drop(pin);

@@ -1,8 +1,8 @@
 //! A server reports why it does not serve a client, to hosts that take host frames.
 mod peer;
 
-use krl::evict;
 use krl::{Change, Client, Error, JoinError, MemoryStore, Refusal, Server, Snapshot, Value};
+use krl::{Unsent, evict};
 use peer::{HELLO, HOST_ANSWER, HOST_HELLO, Peer, frame, incarnation};
 use std::io::{Read, Write};
 use std::net::{SocketAddr, TcpListener};
@@ -211,7 +211,7 @@ fn a_client_that_was_replaced() {
     evict(server.address().clone(), 3, &evicting).unwrap();
     let registered = incarnation(&evicting);
     client.set_timeout(Duration::from_millis(1500));
-    let expected = Error::NotSent(Some(Refusal::Incarnation { client: 3, registered }));
+    let expected = Error::NotSent(Unsent::Unserved(Refusal::Incarnation { client: 3, registered }));
     assert_eq!(client.insert(1, Value::from(1)), Err(expected));
     std::fs::remove_file(evicting).unwrap();
     std::fs::remove_file(lock).unwrap();

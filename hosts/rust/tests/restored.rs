@@ -2,7 +2,7 @@
 mod peer;
 
 use krl::{
-    Address, Client, Error, Listener, MemoryStore, Outcome, Row, Server, SqliteStore, Value,
+    Address, Client, Error, Listener, MemoryStore, Outcome, Row, Server, SqliteStore, Unsent, Value,
 };
 use peer::{HELLO, Peer, frame};
 use std::path::PathBuf;
@@ -116,7 +116,7 @@ fn notices(place: &Place, client: &Client) {
         asked.wait();
         thread::sleep(Duration::from_millis(500));
         let server = place.serve();
-        assert_eq!(writes.join().unwrap(), Err(Error::StoreWentBack));
+        assert_eq!(writes.join().unwrap(), Err(Error::NotSent(Unsent::StoreWentBack)));
         assert_eq!(reads.join().unwrap(), Err(Error::StoreWentBack));
         assert_eq!(client.read(1..2), Ok(vec![row(1, 1)]), "it has joined anew");
         drop(over);

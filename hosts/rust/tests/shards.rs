@@ -1,6 +1,6 @@
 //! A client of two servers, each with a part of the keys.
 use krl::{Client, Error, JoinError, Listener, LockFileError, MemoryStore, Outcome, Row, Server};
-use krl::{Shard, ShardError, ShardMap, ShardedClient, Value};
+use krl::{Shard, ShardError, ShardMap, ShardedClient, Unsent, Value};
 use std::path::PathBuf;
 use std::thread;
 use std::time::{Duration, Instant};
@@ -176,7 +176,10 @@ fn a_range_that_is_pinned_does_not_change_at_any_shard() {
     assert_eq!(rows, [row(10, 10), row(300, 300)]);
     writer.set_timeout(SHORT);
     for key in [10, 300] {
-        assert_eq!(writer.put(key, Value::from(1)).unwrap_err().error, Error::NotSent(None));
+        assert_eq!(
+            writer.put(key, Value::from(1)).unwrap_err().error,
+            Error::NotSent(Unsent::TimedOut)
+        );
     }
     drop(pin);
     writer.set_timeout(LONG);
@@ -220,10 +223,16 @@ fn a_call_waits_for_a_time_of_its_own() {
     let why = |refused: ShardError| (refused.error, refused.shard);
     let within = other.within(short);
     assert_eq!(within.read(100..101).map_err(why), Err((Error::TimedOut, Some(1))));
-    assert_eq!(within.set(99, Value::from(1)).map_err(why), Err((Error::NotSent(None), Some(0))));
+    assert_eq!(
+        within.set(99, Value::from(1)).map_err(why),
+        Err((Error::NotSent(Unsent::TimedOut), Some(0)))
+    );
     assert_eq!(within.pin_for_update(99..101).map_err(why).err(), Some((Error::TimedOut, Some(0))));
     let (own, value) = (pinned.within(short), Value::from(1));
-    assert_eq!(own.insert(100, value).map_err(why), Err((Error::NotSent(None), Some(1))));
+    assert_eq!(
+        own.insert(100, value).map_err(why),
+        Err((Error::NotSent(Unsent::TimedOut), Some(1)))
+    );
     assert_eq!(own.put(99, value).map_err(why), Err((Error::PinIsVoid, Some(0))));
     assert!(begun.elapsed() < other.timeout(), "it waited as its other calls do");
     drop(pin);

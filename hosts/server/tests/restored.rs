@@ -2,7 +2,7 @@
 mod common;
 
 use common::{Serving, errors, run, text, until};
-use krl::{Address, Client, Error, Outcome, Row, Value};
+use krl::{Address, Client, Error, Outcome, Row, Unsent, Value};
 use std::path::Path;
 use std::sync::Barrier;
 use std::sync::atomic::{AtomicBool, Ordering};
@@ -78,7 +78,7 @@ fn a_client_that_lives_through_a_restore_drops_its_cache_and_joins_anew() {
         asked.wait();
         thread::sleep(Duration::from_millis(500));
         let serving = Serving::start_at(Path::new(&new), &address);
-        assert_eq!(writes.join().unwrap(), Err(Error::StoreWentBack));
+        assert_eq!(writes.join().unwrap(), Err(Error::NotSent(Unsent::StoreWentBack)));
         assert_eq!(client.read(1..2), Ok(vec![row(1, 1)]), "it has joined anew");
         drop(over);
         let looked = looks.join().unwrap();

@@ -8,7 +8,7 @@ use crate::client::set;
 use crate::client::shared::{MAX_WAIT, Shared};
 use crate::model::batch::{self, BatchError, Judged, Mutation};
 use crate::model::change::{Outcome, Write};
-use crate::model::error::Error;
+use crate::model::error::{Error, Unsent};
 use crate::model::range::keys_of;
 use crate::model::row::{END, Row, Value};
 use std::fmt;
@@ -406,7 +406,7 @@ async fn set_by(
         let Some(following) = set::after(next, outcome) else { return Ok(outcome) };
         next = following;
         if Instant::now() >= end {
-            return Err(Error::NotSent(None));
+            return Err(Error::NotSent(Unsent::TimedOut));
         }
     }
 }

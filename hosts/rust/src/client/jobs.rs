@@ -264,7 +264,7 @@ impl Jobs {
         let (reply, answer) = place(&self.wakes);
         let job = job(Reply::Own(reply));
         match self.stage {
-            Stage::Ended => {}
+            Stage::Ended => job.refuse(Error::Stopped),
             Stage::Gone => job.end_after_bye(),
             Stage::Here | Stage::Returning | Stage::Leaving => {
                 self.open.push((self.next, job));

@@ -251,13 +251,12 @@ impl Session {
 
     /// Appends what is to be said. Without a connection it is lost: a tick sends it again.
     pub fn take(&mut self, frames: &mut Vec<u8>) {
-        let before = frames.len();
-        if let Some(connection) = &mut self.connection {
-            frames.append(&mut connection.said);
-        }
-        self.jobs.take(frames);
-        if self.connection.is_none() {
-            frames.truncate(before);
+        match &mut self.connection {
+            Some(connection) => {
+                frames.append(&mut connection.said);
+                self.jobs.take(frames);
+            }
+            None => self.jobs.lose(),
         }
     }
 

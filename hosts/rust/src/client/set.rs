@@ -1,6 +1,6 @@
 //! A write of a key of which it does not matter whether it has a row.
 use crate::model::change::{Outcome, Write};
-use crate::model::error::Error;
+use crate::model::error::{Error, Unsent};
 use std::time::Instant;
 
 /// Makes the write; if it is a put and there is no row, an insert in its place, and if it is an
@@ -17,7 +17,7 @@ pub(crate) fn set<E: From<Error>>(
         let Some(following) = after(next, outcome) else { return Ok(outcome) };
         next = following;
         if Instant::now() >= end {
-            return Err(Error::NotSent(None).into());
+            return Err(Error::NotSent(Unsent::TimedOut).into());
         }
     }
 }
@@ -92,7 +92,7 @@ mod tests {
             count += 1;
             Ok(if write == put() { Outcome::Absent } else { Outcome::Exists })
         });
-        assert_eq!(ended, Err(Error::NotSent(None)));
+        assert_eq!(ended, Err(Error::NotSent(Unsent::TimedOut)));
         assert!(count > 1 && Instant::now() >= end);
     }
 }

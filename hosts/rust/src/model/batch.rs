@@ -145,6 +145,7 @@ impl<E: std::error::Error + 'static> std::error::Error for BatchError<E> {
 #[cfg(test)]
 mod tests {
     use super::*;
+    use crate::model::error::Unsent;
     use Fate::{NotMade, Unknown};
     use Outcome::{Applied, Exists};
 
@@ -155,7 +156,12 @@ mod tests {
         for why in [Error::TimedOut, Error::LeaseEnded, Error::StoreWentBack, Error::Stopped] {
             assert_eq!(ended(why).fates(4), [&judged[..], &[Unknown, NotMade]].concat());
         }
-        for why in [Error::NotSent(None), Error::PinIsVoid, Error::TurnedAway, Error::OutOfMemory] {
+        for why in [
+            Error::NotSent(Unsent::TimedOut),
+            Error::PinIsVoid,
+            Error::TurnedAway,
+            Error::OutOfMemory,
+        ] {
             assert_eq!(ended(why).fates(4), [&judged[..], &[NotMade, NotMade]].concat());
         }
         let whole = Judged { outcomes: vec![Applied, Exists], ended: None };

@@ -19,11 +19,9 @@ pub enum Error {
     /// another store than the one that the client has seen, a call that waits ends so at once: the
     /// client has dropped its cache and its pins, and joins again when it finds its own store.
     Unserved(Refusal),
-    /// The write was not sent within the client's timeout: the client was not connected, or waited
-    /// for the lock that the write needs. The write was not made and will not be, and changes
-    /// nothing. If the server has just reported why it does not serve the client, this is the
-    /// reason.
-    NotSent(Option<Refusal>),
+    /// The write was not sent, for this reason. It was not made and will not be, and changes
+    /// nothing.
+    NotSent(Unsent),
     /// This side of the connection has no right to the client: the two sides don't take each
     /// other's certificates, or the certificate or the user is not that of the client's number. If
     /// the client has one server, this comes as soon as two connections in a row have ended for it,
@@ -35,8 +33,8 @@ pub enum Error {
     /// with `Unserved`, and this reason, at the same moment.
     OtherShard(OtherShard),
     /// The server's store lacks what this client has seen of it: it is an older copy, or another
-    /// store. The client has dropped its cache and its pins, and joins again. A write may have
-    /// changed that store or not.
+    /// store. The client has dropped its cache and its pins, and joins again. A write was sent, and
+    /// may have changed that store or not: one that was not sent ends with `NotSent`.
     StoreWentBack,
     /// The client's lease has ended while the write was on its way: the server was not heard in
     /// time. The client has dropped its cache and its pins, and joins again. The table has changed
@@ -48,7 +46,7 @@ pub enum Error {
     /// The client has left: its calls do nothing any more.
     Left,
     /// The client's own thread has ended by a panic: it answers nothing more but from its cache. A
-    /// write that was not answered may have changed the table.
+    /// write was sent, and may have changed the table: one that was not sent ends with `NotSent`.
     Stopped,
     /// The range begins above its end, ends above 2^63, or is empty and may not be.
     BadRange,
@@ -62,6 +60,21 @@ pub enum Error {
     OutOfMemory,
     /// The library refused it, by a code that this call can't bring about.
     Other(Code),
+}
+
+/// Why a write was not sent.
+#[derive(Clone, Copy, Debug, PartialEq, Eq)]
+#[non_exhaustive]
+pub enum Unsent {
+    /// The client's timeout came first: the client was not connected, or waited for the lock that
+    /// the write needs.
+    TimedOut,
+    /// The same, and the server has just reported why it does not serve the client.
+    Unserved(Refusal),
+    /// The server's store went back before the write left: see [`Error::StoreWentBack`].
+    StoreWentBack,
+    /// The client's own thread has ended by a panic: see [`Error::Stopped`].
+    Stopped,
 }
 
 /// Why a client did not join.
@@ -106,7 +119,7 @@ impl Error {
         match self {
             Error::TimedOut | Error::StoreWentBack | Error::LeaseEnded | Error::OutOfMemory => true,
             Error::Unserved(refusal) => refusal.may_pass(),
-            Error::NotSent(refusal) => refusal.is_none_or(Refusal::may_pass),
+            Error::NotSent(why) => why.may_pass(),
             Error::TurnedAway
             | Error::OtherShard(_)
             | Error::PinIsVoid
@@ -147,9 +160,22 @@ impl Error {
     /// The same reason for a write that was not sent: it is known then that it was not made.
     pub(crate) fn of_unsent_write(self) -> Error {
         match self {
-            Error::TimedOut => Error::NotSent(None),
-            Error::Unserved(refusal) => Error::NotSent(Some(refusal)),
+            Error::TimedOut => Error::NotSent(Unsent::TimedOut),
+            Error::Unserved(refusal) => Error::NotSent(Unsent::Unserved(refusal)),
+            Error::StoreWentBack => Error::NotSent(Unsent::StoreWentBack),
+            Error::Stopped => Error::NotSent(Unsent::Stopped),
             other => other,
+        }
+    }
+}
+
+impl Unsent {
+    /// Whether the same write, made again, may be sent then.
+    fn may_pass(self) -> bool {
+        match self {
+            Unsent::TimedOut | Unsent::StoreWentBack => true,
+            Unsent::Unserved(refusal) => refusal.may_pass(),
+            Unsent::Stopped => false,
         }
     }
 }
@@ -175,13 +201,7 @@ impl fmt::Display for Error {
         match self {
             Error::TimedOut => f.write_str("no answer came in time"),
             Error::Unserved(refusal) => write!(f, "no answer came in time: {refusal}"),
-            Error::NotSent(None) => f.write_str(
-                "the write was not made: it was not sent in time, since the client was not \
-                 connected or waited for a lock",
-            ),
-            Error::NotSent(Some(refusal)) => {
-                write!(f, "the write was not made: it was not sent in time: {refusal}")
-            }
+            Error::NotSent(why) => write!(f, "the write was not made: {why}"),
             Error::TurnedAway => f.write_str(
                 "the connection was turned away: the certificate or the user gives no right to the \
                  client",
@@ -209,6 +229,19 @@ impl fmt::Display for Error {
             Error::TooManyPins => f.write_str("the client has eight pins"),
             Error::OutOfMemory => f.write_str("memory was refused"),
             Error::Other(code) => code.fmt(f),
+        }
+    }
+}
+
+impl fmt::Display for Unsent {
+    fn fmt(&self, f: &mut fmt::Formatter<'_>) -> fmt::Result {
+        match self {
+            Unsent::TimedOut => f.write_str(
+                "it was not sent in time, since the client was not connected or waited for a lock",
+            ),
+            Unsent::Unserved(refusal) => write!(f, "it was not sent in time: {refusal}"),
+            Unsent::StoreWentBack => Error::StoreWentBack.fmt(f),
+            Unsent::Stopped => Error::Stopped.fmt(f),
         }
     }
 }
@@ -277,13 +310,15 @@ mod tests {
 
     #[test]
     fn a_write_that_was_not_sent_is_known_to_be_not_made() {
-        for error in [Error::TimedOut, Error::Unserved(Refusal::Denied)] {
-            assert!(error.is_unknown_outcome());
-            assert!(!error.of_unsent_write().is_unknown_outcome());
+        let of_sent = [Error::TimedOut, Error::Unserved(Refusal::Denied)];
+        for error in of_sent.into_iter().chain([Error::StoreWentBack, Error::Stopped]) {
+            let unsent = error.of_unsent_write();
+            assert!(error.is_unknown_outcome() && !unsent.is_unknown_outcome(), "{error}");
+            assert_eq!(unsent.is_retryable(), error.is_retryable(), "{error}");
         }
         assert_eq!(
             Error::Unserved(Refusal::Denied).of_unsent_write(),
-            Error::NotSent(Some(Refusal::Denied))
+            Error::NotSent(Unsent::Unserved(Refusal::Denied))
         );
         assert_eq!(Error::TurnedAway.of_unsent_write(), Error::TurnedAway);
     }
@@ -294,10 +329,10 @@ mod tests {
         let running = Refusal::LeaseRuns { client: 3, registered: 7 };
         for refusal in [missing, running, Refusal::Full { connections: 256 }] {
             assert!(Error::Unserved(refusal).is_retryable(), "{refusal}");
-            assert!(Error::NotSent(Some(refusal)).is_retryable(), "{refusal}");
+            assert!(Error::NotSent(Unsent::Unserved(refusal)).is_retryable(), "{refusal}");
         }
-        assert!(Error::NotSent(None).is_retryable());
-        assert!(!Error::NotSent(Some(Refusal::Denied)).is_retryable());
+        assert!(Error::NotSent(Unsent::TimedOut).is_retryable());
+        assert!(!Error::NotSent(Unsent::Unserved(Refusal::Denied)).is_retryable());
         for error in [Error::TimedOut, Error::StoreWentBack, Error::LeaseEnded, Error::OutOfMemory]
         {
             assert!(error.is_retryable(), "{error}");

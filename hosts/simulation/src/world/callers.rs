@@ -5,7 +5,7 @@ use crate::judge::{Version, Window};
 use crate::record::Node;
 use crate::weather::Ask;
 use krl::simulated::{Cached, Held, Purpose};
-use krl::{ClientSet, Error, Outcome, Refusal, Row, Value, Write};
+use krl::{ClientSet, Error, Outcome, Refusal, Row, Unsent, Value, Write};
 use std::ops::Range;
 use std::time::Duration;
 
@@ -401,13 +401,17 @@ impl World {
         let machine = &self.machines[client];
         let is_so = match why {
             Error::TimedOut
-            | Error::NotSent(None)
+            | Error::NotSent(Unsent::TimedOut)
             | Error::PinIsVoid
             | Error::Pinned
             | Error::LeaseEnded => true,
-            Error::Unserved(refusal) | Error::NotSent(Some(refusal)) => may_be_refused(refusal),
+            Error::Unserved(refusal) | Error::NotSent(Unsent::Unserved(refusal)) => {
+                may_be_refused(refusal)
+            }
             Error::TurnedAway => machine.rejections > 0,
-            Error::StoreWentBack => self.judge.went_back() || machine.calls.leaving.is_some(),
+            Error::StoreWentBack | Error::NotSent(Unsent::StoreWentBack) => {
+                self.judge.went_back() || machine.calls.leaving.is_some()
+            }
             // One that has left answers nothing.
             Error::Left | Error::Other(_) => machine.calls.leaving.is_some(),
             _ => false,

@@ -70,7 +70,7 @@ impl Job {
 impl Jobs {
     /// The client drops all that it holds and knows, as if it had crashed, and is void until it
     /// begins again: it answers nothing, says nothing and takes nothing. A write that is on its way
-    /// ends: whether it is done is not known. One that has left has nothing to drop.
+    /// ends: whether it is done is not known if it may have left. One that has left has nothing to drop.
     pub fn drop_all(&mut self, why: Dropped) {
         if matches!(self.stage, Stage::Gone | Stage::Ended) {
             return;
@@ -91,7 +91,7 @@ impl Jobs {
         self.yielded = None;
         self.narrowed = Narrowed::default();
         if let Some(written) = self.written.take() {
-            written.refuse(why.refused());
+            written.end_with_its_client(why.refused());
         }
         self.end_unbound_writes();
         for (id, job) in std::mem::take(&mut self.open) {

@@ -99,6 +99,21 @@ impl Jobs {
     /// is what there is no memory for: a tick sends it again.
     pub fn take(&mut self, frames: &mut Vec<u8>) {
         let before = frames.len();
+        self.say(frames);
+        if frames.len() > before
+            && let Some(written) = &mut self.written
+        {
+            written.note_left();
+        }
+    }
+
+    /// There is no connection: what the client says is lost.
+    pub fn lose(&mut self) {
+        self.say(&mut Vec::new());
+    }
+
+    fn say(&mut self, frames: &mut Vec<u8>) {
+        let before = frames.len();
         let _ = self.client.take(frames);
         if self.speech != Speech::Free || !self.holds_lease() {
             frames.truncate(before);

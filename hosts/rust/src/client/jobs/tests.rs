@@ -1,6 +1,7 @@
 use super::world::{World, pass, row};
 use super::*;
 use crate::lease::boot_clock::Moment;
+use crate::model::error::Unsent;
 
 #[test]
 fn each_job_has_its_answer() {
@@ -102,7 +103,37 @@ fn whoever_waits_hears_that_the_thread_has_ended() {
     world.clients[0].end();
     assert_eq!(before.answer.try_recv(), Ok(Err(Error::Stopped)));
     let after = world.clients[0].read(0..9);
-    assert_eq!(after.answer.try_recv(), Err(TryRecvError::Disconnected));
+    assert_eq!(after.answer.try_recv(), Ok(Err(Error::Stopped)));
+}
+
+#[test]
+fn a_write_that_waits_for_its_lock_is_not_made_if_the_store_went_back_or_the_client_ends() {
+    let mut world = World::new();
+    assert_eq!(world.write(0, Write::Insert(row(10, 1))), Outcome::Applied);
+    let sent = world.clients[0].write(Write::Put(row(10, 2)));
+    let waits = world.clients[0].write(Write::Put(row(15, 2)));
+    assert_eq!(world.clients[0].was_sent(sent.id), WasSent::Yes);
+    assert!(!world.said(0).is_empty());
+    world.clients[0].drop_all(Dropped::StoreWentBack);
+    assert_eq!(sent.answer.try_recv(), Ok(Err(Error::StoreWentBack)));
+    let not_sent = |why| Ok(Err(Error::NotSent(why)));
+    assert_eq!(waits.answer.try_recv(), not_sent(Unsent::StoreWentBack));
+    let while_void = world.clients[0].write(Write::Put(row(10, 3)));
+    world.clients[0].end();
+    assert_eq!(while_void.answer.try_recv(), not_sent(Unsent::Stopped));
+    let after = world.clients[0].write(Write::Put(row(10, 4)));
+    assert_eq!(after.answer.try_recv(), not_sent(Unsent::Stopped));
+}
+
+#[test]
+fn a_write_that_has_not_left_is_not_made_if_the_store_went_back() {
+    let mut world = World::new();
+    assert_eq!(world.write(0, Write::Insert(row(10, 1))), Outcome::Applied);
+    let lost = world.clients[0].write(Write::Put(row(10, 2)));
+    world.clients[0].lose();
+    world.clients[0].drop_all(Dropped::StoreWentBack);
+    let not_sent = Error::NotSent(Unsent::StoreWentBack);
+    assert_eq!(lost.answer.try_recv(), Ok(Err(not_sent)), "there was no connection");
 }
 
 #[test]
@@ -236,7 +267,8 @@ fn a_client_that_drops_all_answers_says_and_hears_nothing_until_it_begins_anew()
     assert!(!late.is_empty());
     world.clients[0].drop_all(Dropped::StoreWentBack);
     assert_eq!(read.answer.try_recv(), Ok(Err(Error::StoreWentBack)));
-    assert_eq!(write.answer.try_recv(), Ok(Err(Error::StoreWentBack)));
+    let not_sent = Error::NotSent(Unsent::StoreWentBack);
+    assert_eq!(write.answer.try_recv(), Ok(Err(not_sent)));
     let later = world.clients[0].read(0..11);
     for message in &late {
         world.clients[0].hear(message).unwrap();

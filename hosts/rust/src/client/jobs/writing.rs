@@ -19,11 +19,23 @@ pub(super) struct Written {
     wanted: Wanted,
     number: u64,
     report: Report,
+    /// Something has left since the library's client has the write.
+    may_have_left: bool,
 }
 
 impl Written {
     pub fn refuse(self, why: Error) {
         self.report.refuse(why);
+    }
+
+    /// The library's client that had the write is gone: one that has not left never will.
+    pub fn end_with_its_client(self, why: Error) {
+        let why = if self.may_have_left { why } else { why.of_unsent_write() };
+        self.report.refuse(why);
+    }
+
+    pub fn note_left(&mut self) {
+        self.may_have_left = true;
     }
 }
 
@@ -79,11 +91,12 @@ impl Jobs {
             match self.advance_one_write(id, &mut wanted) {
                 Step::Waits => return Some(Job::Write(wanted, report)),
                 Step::Sent(number) => {
-                    self.written = Some(Written { id, wanted, number, report });
+                    let may_have_left = false;
+                    self.written = Some(Written { id, wanted, number, report, may_have_left });
                     return None;
                 }
                 Step::Refused(why) => {
-                    report.refuse(why);
+                    report.refuse(why.of_unsent_write());
                     return None;
                 }
                 Step::Known(outcome) => {

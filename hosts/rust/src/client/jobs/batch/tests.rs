@@ -2,6 +2,7 @@ use super::super::world::{World, row};
 use super::super::{Asking, Dropped, WasSent};
 use super::*;
 use crate::model::batch::Fate;
+use crate::model::error::Unsent;
 use Mutation::{Delete, Insert, Put, Set};
 use Outcome::{Absent, Applied, Exists};
 
@@ -111,7 +112,7 @@ fn a_batch_that_waits_for_a_lock_tells_what_it_has_done() {
     assert_eq!(world.clients[0].was_sent(asked.id), WasSent::No);
     world.clients[0].abandon(asked.id, Error::TimedOut);
     let ended = answer(&asked);
-    assert_eq!(ended, judged(&[Applied], Some(Error::NotSent(None))));
+    assert_eq!(ended, judged(&[Applied], Some(Error::NotSent(Unsent::TimedOut))));
     let fates = [Fate::Judged(Applied), Fate::NotMade, Fate::NotMade];
     assert_eq!(ended.fates(3), fates, "it is unknown of no write whether it was made");
     world.clients[1].unpin(pin);
@@ -160,4 +161,20 @@ fn the_end_of_the_client_loses_no_outcome() {
     world.tell_clients();
     world.clients[0].end();
     assert_eq!(answer(&asked), judged(&[Applied], Some(Error::Stopped)));
+}
+
+#[test]
+fn a_batch_that_has_sent_nothing_is_not_made_if_the_store_went_back_or_the_client_ends() {
+    let mut world = World::new();
+    assert_eq!(world.write(1, Write::Insert(row(10, 1))), Applied);
+    let waits = world.clients[0].write_all(vec![Put(row(10, 2)), Put(row(10, 3))]);
+    world.clients[0].drop_all(Dropped::StoreWentBack);
+    let why = Error::NotSent(Unsent::StoreWentBack);
+    assert_eq!(answer(&waits), judged(&[], Some(why)));
+    let later = world.clients[0].write_all(vec![Put(row(10, 2))]);
+    world.clients[0].end();
+    let why = Error::NotSent(Unsent::Stopped);
+    assert_eq!(answer(&later), judged(&[], Some(why)));
+    let after = world.clients[0].write_all(vec![Put(row(10, 2))]);
+    assert_eq!(answer(&after), judged(&[], Some(why)));
 }
