@@ -144,7 +144,8 @@ impl Link {
         self.with_session(|session| call(session.jobs()))
     }
 
-    /// Why there is no connection just now, if there is none. It is said once.
+    /// How the last connection ended, or why none was made, unless the server has answered on
+    /// another one since. It is reported once.
     pub fn take_fault(&self) -> Option<io::Error> {
         self.session().take_fault()
     }

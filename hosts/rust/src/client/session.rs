@@ -42,7 +42,7 @@ pub(crate) struct Session {
     place: usize,
     backoff: Backoff,
     connection: Option<Connection>,
-    /// Why there is no connection, if there is none.
+    /// How the last connection ended, or why none was made, until the server answers on another.
     fault: Option<io::Error>,
     /// Why the server does not serve the client, as it told last, and when.
     refusal: Option<(Refusal, Instant)>,
@@ -151,7 +151,6 @@ impl Session {
             fence: Fence::new(self.servers.shard()),
             said: Vec::new(),
         });
-        self.fault = None;
         self.jobs.tick_soon();
         Ok([self.hello(), sign.frame()].concat())
     }
@@ -195,8 +194,14 @@ impl Session {
     fn hear_message(&mut self, message: Message<'_>) -> io::Result<()> {
         self.jobs.hear(message.bytes()).map_err(bad_message)?;
         self.connection()?.heard.message = true;
-        self.rejections.accept();
+        self.accepted();
         self.compare_epochs(message)
+    }
+
+    /// The server takes this side: how an older connection ended explains nothing any more.
+    fn accepted(&mut self) {
+        self.rejections.accept();
+        self.fault = None;
     }
 
     /// Leaves a server that is of an older epoch than one that the client has heard, if there are
@@ -332,14 +337,15 @@ impl Session {
         self.rejections.last().cloned()
     }
 
-    /// Why there is no connection just now, if there is none. It is reported once.
+    /// How the last connection ended, or why none was made, unless the server has answered on
+    /// another one since. It is reported once.
     pub fn take_fault(&mut self) -> Option<io::Error> {
         self.fault.take()
     }
 
     /// Whether there is a connection just now.
     pub fn is_connected(&self) -> bool {
-        self.fault.is_none()
+        self.connection.is_some()
     }
 
     fn connection(&mut self) -> io::Result<&mut Connection> {

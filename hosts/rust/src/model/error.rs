@@ -87,9 +87,9 @@ pub enum JoinError {
     BadNumber,
     /// What a builder was given has none of this: a number, or keys of a shard.
     Incomplete(&'static str),
-    /// The server did not answer within the client's timeout. There is none, which the error of the
-    /// connection shows; or it recovers, or knows a greater incarnation of this number, and does
-    /// not report so.
+    /// The server did not answer within the client's timeout. With it comes how the last connection
+    /// ended, or why none was made, unless the server took the client on a later one. Without it
+    /// the server recovers, or is silent.
     NoAnswer(Option<io::Error>),
     /// The server has told why it does not serve the client, and within the client's timeout it did
     /// not answer.

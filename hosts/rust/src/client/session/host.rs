@@ -60,7 +60,7 @@ impl Session {
                 if let Some(answer) = Answer::read(frame) {
                     self.connection()?.fence.passes()?;
                     // Who may not sign for the client is denied in place of that.
-                    self.rejections.accept();
+                    self.accepted();
                     self.jobs.hear_answer(answer)?;
                 }
             }

@@ -208,6 +208,23 @@ fn a_write_that_was_sent_may_be_applied_whatever_rejects_the_client() {
 }
 
 #[test]
+fn how_a_connection_ended_is_known_until_the_server_answers_on_another_one() {
+    let mut session = session("unix:nowhere");
+    assert!(!session.is_connected());
+    connect(&mut session);
+    session.disconnected(ErrorKind::ConnectionReset.into());
+    assert!(!session.is_connected());
+    connect(&mut session);
+    assert!(session.is_connected());
+    let fault = session.take_fault().map(|fault| fault.kind());
+    assert_eq!(fault, Some(ErrorKind::ConnectionReset), "the server has not answered yet");
+    session.disconnected(ErrorKind::ConnectionReset.into());
+    let greeting = connect(&mut session);
+    hear(&mut session, &terms(&greeting)).unwrap();
+    assert!(session.take_fault().is_none(), "the server takes the client");
+}
+
+#[test]
 fn who_joins_gives_up_for_a_reason_as_soon_as_it_may() {
     let runs = Refusal::LeaseRuns { client: 1, registered: 7 };
     let mut session = session("unix:nowhere");
