@@ -48,14 +48,19 @@ first one fails.
 
 Exit status:
   0    it is done
-  1    it was refused (there is such a row, there is none, the table is full)
-  2    a word can't be understood
-  3    the server did not answer in time, or its answer was lost: a write may
-       have been applied
+  1    it was refused: there is such a row, there is none, or the table is
+       full; or the output can't be written
+  2    a word, a file or the map can't be understood
+  3    there was no answer in time: the server is away or does not serve this
+       client, another client holds what the command needs, or the client lost
+       its lease or the server's store went back. A write may have been applied,
+       unless standard error reports that it was not made
   4    the client could not join, or has no right to what it asks
-  125  hold: the range was lost before the command had ended; 126: the command
-       can't be run; 127: there is no such command; else the command's status
-  130  Ctrl-C ended it (watch and bench: 0)
+  125  hold: the range was lost before the command had ended
+  126  hold: the command can't be run
+  127  hold: there is no such command; otherwise hold ends with its status
+  130  Ctrl-C ended it (watch and bench: 0); 128 and its number: another signal
+  141  nobody reads the output any more
 
 Examples:
   krl-client insert 15 one

@@ -142,8 +142,14 @@ fn words_that_cannot_be_understood_are_status_2() {
 fn help_says_the_statuses_and_the_forms() {
     let world = World::new("help");
     let help = world.prints(&["--help"]);
-    for word in ["Exit status:", "126", "hex:cafe", "KEY=VALUE", "56", "KRL_SERVER", "Examples:"] {
+    for word in ["Exit status:", "hex:cafe", "KEY=VALUE", "56", "KRL_SERVER", "Examples:"] {
         assert!(help.contains(word), "{word}: {help}");
+    }
+    let page = include_str!("../README.md");
+    for status in [0, 1, 2, 3, 4, 125, 126, 127, 130, 141] {
+        let begins = format!("  {status:<5}");
+        assert!(help.lines().any(|line| line.starts_with(&begins)), "{status}: {help}");
+        assert!(page.contains(&format!("\n| {status} | ")), "{status} in README.md");
     }
     assert!(help.lines().all(|line| line.len() <= 100), "{help}");
     assert!(world.prints(&["hold", "--help"]).contains("--update"));
