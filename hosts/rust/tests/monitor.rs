@@ -78,6 +78,14 @@ fn a_server_is_alive_for_as_long_as_its_store_may_take() {
 }
 
 #[test]
+fn a_store_may_take_any_time() {
+    let server = server(Hanging { longest_wait: Duration::MAX, ..Hanging::default() });
+    let snapshot = server.monitor().snapshot().unwrap();
+    assert_eq!(snapshot.epoch, 1);
+    assert!(server.monitor().liveness().is_alive());
+}
+
+#[test]
 fn a_commit_that_hangs_shows() {
     const LONG: Duration = Duration::from_millis(400);
     let hangs = Arc::new(AtomicBool::new(false));

@@ -63,7 +63,7 @@ impl Monitor {
     /// twice the longest wait for its store; `Store` if its store can't read what it keeps.
     pub fn snapshot(&self) -> Result<Snapshot, SnapshotError> {
         // The call before it, and its own.
-        let longest = 2 * self.longest_store_wait + LONGEST_TURN;
+        let longest = self.longest_store_wait.saturating_mul(2).saturating_add(LONGEST_TURN);
         let answered = self.requests.answer(Request::Snapshot, longest);
         answered.map_err(SnapshotError::from)?.map_err(SnapshotError::Store)
     }
