@@ -1,13 +1,14 @@
 //! Leases: clients that go silent, servers that start again, and what is asked in between.
 mod network;
 mod peer;
+mod shared_store;
 
-use krl::{Address, Change, Client, Error, Leases, Listener, MemoryStore, Outcome, Row, Server};
-use krl::{JoinError, Refusal, Snapshot, Store, StoreError, Value, evict};
+use krl::{Address, Client, Error, JoinError, Leases, Listener, Outcome, Refusal, Row, Server};
+use krl::{Value, evict};
 use network::Network;
 use peer::{HELLO, Peer, frame};
+use shared_store::SharedStore;
 use std::path::PathBuf;
-use std::sync::{Arc, Mutex};
 use std::thread;
 use std::time::{Duration, Instant};
 
@@ -40,36 +41,18 @@ impl Drop for Folder {
     }
 }
 
-/// A store whose contents outlive a server.
-#[derive(Clone, Default)]
-struct Shared(Arc<Mutex<MemoryStore>>);
-
-impl Store for Shared {
-    fn load(&mut self) -> Result<Snapshot, StoreError> {
-        self.0.lock().unwrap().load()
-    }
-
-    fn commit(&mut self, changes: &[Change]) -> Result<(), StoreError> {
-        self.0.lock().unwrap().commit(changes)
-    }
-
-    fn snapshot(&mut self) -> Result<Snapshot, StoreError> {
-        self.0.lock().unwrap().snapshot()
-    }
-}
-
 fn anywhere() -> Listener {
     Listener::bind(&"127.0.0.1:0".parse().unwrap()).unwrap()
 }
 
-fn serve(listener: Listener, store: &Shared, length: Duration) -> Server {
+fn serve(listener: Listener, store: &SharedStore, length: Duration) -> Server {
     let leases = Leases::of(length).unwrap();
     Server::builder(listener, store.clone()).leases(leases).start().unwrap()
 }
 
 /// A server of a new store with leases of this length.
 fn server(length: Duration) -> Server {
-    serve(anywhere(), &Shared::default(), length)
+    serve(anywhere(), &SharedStore::default(), length)
 }
 
 fn row(key: u64, value: u64) -> Row {
@@ -182,7 +165,7 @@ fn a_pin_ends_with_the_lease() {
 
 #[test]
 fn a_server_that_starts_again_waits_a_lease_for_who_does_not_report() {
-    let (folder, store) = (Folder::new("restart"), Shared::default());
+    let (folder, store) = (Folder::new("restart"), SharedStore::default());
     let server = serve(anywhere(), &store, T);
     let network = Network::to(server.address());
     let (gone, other) = (folder.join(&network.address(), 0), folder.join(server.address(), 1));
@@ -201,7 +184,7 @@ fn a_server_that_starts_again_waits_a_lease_for_who_does_not_report() {
 
 #[test]
 fn a_longer_lease_of_before_is_waited_for() {
-    let (folder, store) = (Folder::new("longer"), Shared::default());
+    let (folder, store) = (Folder::new("longer"), SharedStore::default());
     let server = serve(anywhere(), &store, 3 * T);
     let network = Network::to(server.address());
     let gone = folder.join(&network.address(), 0);
@@ -220,7 +203,7 @@ fn a_longer_lease_of_before_is_waited_for() {
 
 #[test]
 fn who_joined_without_a_lease_is_left_to_an_operator() {
-    let (folder, store) = (Folder::new("without"), Shared::default());
+    let (folder, store) = (Folder::new("without"), SharedStore::default());
     let server = Server::start(anywhere(), store.clone()).unwrap();
     let network = Network::to(server.address());
     let (gone, other) = (folder.join(&network.address(), 0), folder.join(server.address(), 1));
