@@ -22,6 +22,20 @@
 //! client.leave()?;
 //! # Ok::<(), Box<dyn std::error::Error>>(())
 //! ```
+//!
+//! # Features
+//!
+//! | Feature | What it adds |
+//! | --- | --- |
+//! | `sqlite`, by default | the store over `SQLite`: `SqliteStore` and `StoreFile` |
+//! | `tracing`, by default | events for a log |
+//! | `spans` | a span of `tracing` around each call of a client that blocks |
+//! | `tls` | connections by TLS, over OpenSSL: `TlsConfig` |
+//! | `map-file` | maps of shards as files in TOML |
+//! | `serde` | `Row`, `Value`, `Status` and others as `serde` has them |
+//! | `fence` | what a store needs that several servers may open at once |
+//! | `store-tests` | the tests that every store has to pass |
+//! | `unstable`, `sans-io`, `simulated` | for the programs of this repository: may change in any release |
 mod access;
 mod client;
 mod lease;
@@ -49,6 +63,7 @@ pub use client::changes::{Changes, Waited};
 pub use client::evict::evict;
 pub use client::lock_file::LockFileError;
 pub use client::pin::{Pin, PinWithin};
+pub use client::within::Within;
 pub use lease::terms::{BadLeases, LeaseLeft, Leases};
 pub use model::batch::{BatchError, Fate, Mutation};
 pub use model::change::{Change, Outcome, Record, Write};
@@ -62,40 +77,34 @@ pub use model::reach::{BadReach, Reach};
 pub use model::refusal::Refusal;
 pub use model::room::{BadRoom, Room};
 pub use model::row::{END, MAX_VALUE_BYTES, Row, TooLong, Value};
+pub use model::shard_bounds::{BadShardBounds, ShardBounds};
+pub use model::shard_fence::OtherShard;
 pub use model::snapshot::{NotNeighbors, Snapshot};
 pub use net::address::{Address, BadAddress};
+pub use net::servers::Servers;
+pub use net::stream::{Listener, PeerAddress};
+#[cfg(feature = "tls")]
+pub use net::tls::{Certificate, TlsConfig, TlsError};
 pub use proved::partition::Part;
+pub use server::Server;
+pub use server::builder::ServerBuilder;
 pub use server::close_reason::ClosedConnections;
+pub use server::error::ServeError;
 pub use server::lock_search::HeldRun;
 pub use server::shown::client_status::{ClientConnection, ClientStatus};
 pub use server::shown::held_search::{HeldPage, HeldSearch};
 pub use server::shown::liveness::Liveness;
 pub use server::shown::locks::{Locks, LocksError};
 pub use server::shown::monitor::{Monitor, SnapshotError};
-#[cfg(feature = "map-file")]
-pub use shards::map_file::BadMapFile;
-// For the programs of this workspace.
-pub use client::within::Within;
-#[doc(hidden)]
-pub use log::seldom::Seldom;
-pub use model::shard_bounds::{BadShardBounds, ShardBounds};
-pub use model::shard_fence::OtherShard;
-pub use net::servers::Servers;
-pub use net::stream::{Listener, PeerAddress};
-#[cfg(feature = "tls")]
-pub use net::tls::{Certificate, TlsConfig, TlsError, TlsSession};
-pub use server::Server;
-pub use server::builder::ServerBuilder;
-pub use server::error::ServeError;
 pub use server::shown::status::Status;
 pub use server::shown::timings::{Counts, Measured};
 pub use server::shown::watch::{HeldSlots, Wait};
-#[doc(hidden)]
-pub use server::strangers::Strangers;
 pub use shards::builder::ShardedBuilder;
 pub use shards::client::{ShardStatus, ShardedClient};
 pub use shards::error::{ShardError, ShardJoinError};
 pub use shards::map::{BadShardMap, Shard, ShardMap};
+#[cfg(feature = "map-file")]
+pub use shards::map_file::BadMapFile;
 pub use shards::pin::{ShardedPin, ShardedPinWithin};
 pub use shards::within::ShardedWithin;
 #[cfg(feature = "fence")]
@@ -109,3 +118,11 @@ pub use store::sqlite::copy::StoreFile;
 #[cfg(feature = "store-tests")]
 pub use store::store_tests;
 pub use store::{MemoryStore, Store, StoreError};
+
+// What only the programs of this repository need: it may change in any release.
+#[cfg(feature = "unstable")]
+pub use log::seldom::Seldom;
+#[cfg(all(feature = "tls", feature = "unstable"))]
+pub use net::tls::TlsSession;
+#[cfg(feature = "unstable")]
+pub use server::strangers::Strangers;

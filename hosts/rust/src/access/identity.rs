@@ -47,8 +47,7 @@ pub(crate) enum Role {
 
 impl Identity {
     /// It may say all.
-    #[must_use]
-    pub fn everybody() -> Identity {
+    pub(crate) fn everybody() -> Identity {
         Identity { clients: ClientSet::of_bits(u64::MAX), is_operator: true }
     }
 

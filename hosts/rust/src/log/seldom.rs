@@ -4,7 +4,8 @@ use std::time::{Duration, Instant};
 /// How long an event that repeats waits until it is told again.
 const PAUSE: Duration = Duration::from_secs(1);
 
-/// Lets an event through once a second, and counts those between.
+/// Lets an event through once a second, and counts those between. It is for the programs of krl's
+/// repository, and may change in any release.
 #[derive(Debug, Default)]
 pub struct Seldom {
     told: Option<Instant>,

@@ -49,6 +49,8 @@ pub(crate) enum Side {
 
 /// One connection by TLS, in memory: what came from the socket is handed to it, and what is to be
 /// written to the socket is taken from it. It never waits, so it fits every kind of socket.
+///
+/// It is for the programs of krl's repository, and may change in any release.
 pub struct TlsSession {
     stream: SslStream<Pipe>,
     side: Side,
@@ -91,6 +93,7 @@ impl TlsSession {
     /// # Errors
     ///
     /// Those of OpenSSL.
+    #[cfg(feature = "unstable")]
     pub fn connect(config: &TlsConfig) -> io::Result<TlsSession> {
         TlsSession::new(config, Side::Connects)
     }
@@ -100,6 +103,7 @@ impl TlsSession {
     /// # Errors
     ///
     /// Those of OpenSSL.
+    #[cfg(feature = "unstable")]
     pub fn accept(config: &TlsConfig) -> io::Result<TlsSession> {
         TlsSession::new(config, Side::Accepts)
     }

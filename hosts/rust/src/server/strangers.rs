@@ -18,6 +18,8 @@ pub const PATIENCE: Duration = Duration::from_secs(5);
 ///
 /// For one more than there may be **the oldest is closed**, and not the newest refused: a client
 /// says whose it is in a few milliseconds, and gets in next to any number that say nothing.
+///
+/// It is for the programs of krl's repository, and may change in any release.
 #[derive(Debug, Default)]
 pub struct Strangers {
     waiting: VecDeque<Stranger>,
