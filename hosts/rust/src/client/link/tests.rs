@@ -67,7 +67,7 @@ fn a_peer_that_takes_nothing_holds_no_call_beyond_its_deadline() {
 fn callers_hear_that_the_thread_has_panicked() {
     let link = link();
     std::thread::scope(|scope| {
-        let read = scope.spawn(|| link.ask(Instant::now() + 50 * SHORT, |jobs| jobs.read(0..9)));
+        let read = scope.spawn(|| link.ask(Instant::now() + LONG, |jobs| jobs.read(0..9)));
         std::thread::sleep(SHORT);
         let panicked = scope.spawn(|| {
             let _ended = Ended(&link);
@@ -77,7 +77,7 @@ fn callers_hear_that_the_thread_has_panicked() {
         assert_eq!(read.join().unwrap(), Err(Error::Stopped));
     });
     assert!(link.has_ended(Instant::now()));
-    let later = link.ask(Instant::now() + 50 * SHORT, |jobs| jobs.read(0..9));
+    let later = link.ask(Instant::now() + LONG, |jobs| jobs.read(0..9));
     assert_eq!(later, Err(Error::Stopped));
 }
 
