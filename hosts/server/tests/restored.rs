@@ -78,7 +78,10 @@ fn a_client_that_lives_through_a_restore_drops_its_cache_and_joins_anew() {
         asked.wait();
         thread::sleep(Duration::from_millis(500));
         let serving = Serving::start_at(Path::new(&new), &address);
-        assert_eq!(writes.join().unwrap(), Err(Error::NotSent(Unsent::StoreWentBack)));
+        let written = writes.join().unwrap().unwrap_err();
+        // It may have left before the client noticed that the server had ended.
+        let expected = [Error::StoreWentBack, Error::NotSent(Unsent::StoreWentBack)];
+        assert!(expected.contains(&written), "{written:?}");
         assert_eq!(client.read(1..2), Ok(vec![row(1, 1)]), "it has joined anew");
         drop(over);
         let looked = looks.join().unwrap();
