@@ -27,7 +27,7 @@
 //!
 //! | Feature | What it adds |
 //! | --- | --- |
-//! | `sqlite`, by default | the store over `SQLite`: `SqliteStore` and `StoreFile` |
+//! | `sqlite`, by default | the store over SQLite: `SqliteStore` and `StoreFile` |
 //! | `tracing`, by default | events for a log |
 //! | `spans` | a span of `tracing` around each call of a client that blocks |
 //! | `tls` | connections by TLS, over OpenSSL: `TlsConfig` |
@@ -35,7 +35,7 @@
 //! | `serde` | `Row`, `Value`, `Status` and others as `serde` has them |
 //! | `fence` | what a store needs that several servers may open at once |
 //! | `store-tests` | the tests that every store has to pass |
-//! | `unstable`, `sans-io`, `simulated` | for the programs of this repository: may change in any release |
+//! | `unstable`, `sans-io`, `simulated` | for this repository's programs: any release may change it |
 mod access;
 mod client;
 mod lease;

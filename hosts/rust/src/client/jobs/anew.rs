@@ -70,7 +70,8 @@ impl Job {
 impl Jobs {
     /// The client drops all that it holds and knows, as if it had crashed, and is void until it
     /// begins again: it answers nothing, says nothing and takes nothing. A write that is on its way
-    /// ends: whether it is done is not known if it may have left. One that has left has nothing to drop.
+    /// ends: if it may have left, it is not known whether it is done. A client that has left
+    /// has nothing to drop.
     pub fn drop_all(&mut self, why: Dropped) {
         if matches!(self.stage, Stage::Gone | Stage::Ended) {
             return;
