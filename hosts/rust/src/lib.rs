@@ -5,8 +5,8 @@
 //! the host around it: it has the sockets, the threads and the disk. Nothing of it is proved.
 //! `docs/EMBEDDING.md` says what a host has to do.
 //!
-//! In the source, start at `client` or `server`. Both stand on `proved`, the library of the rules, and
-//! send what `wire` spells over `net`.
+//! In the source, start at `client` or `server`. Both stand on `proved`, the library of the rules,
+//! and send what `wire` spells over `net`.
 //!
 //! ```no_run
 //! use krl::{Client, Outcome, Server, SqliteStore, Value};
@@ -35,7 +35,7 @@
 //! | `serde` | `Row`, `Value`, `Status` and others as `serde` has them |
 //! | `fence` | what a store needs that several servers may open at once |
 //! | `store-tests` | the tests that every store has to pass |
-//! | `unstable`, `sans-io`, `simulated` | for this repository's programs: any release may change it |
+//! | `unstable`, `sans-io`, `simulated` | for the programs of this repository: not stable |
 mod access;
 mod client;
 mod lease;
