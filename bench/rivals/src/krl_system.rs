@@ -77,7 +77,7 @@ impl Connection for Joined {
     }
 
     fn cached(&mut self, keys: Range<u64>, rows: &mut Vec<Row>) -> bool {
-        self.client.cached_into(keys, rows)
+        matches!(self.client.cached_into(keys, rows), Ok(true))
     }
 
     fn read(&mut self, keys: Range<u64>, rows: &mut Vec<Row>) -> Done {
