@@ -141,6 +141,21 @@ static void take_as_it_is_kept(void) {
     krl_close(&server);
 }
 
+/* Client 3, which holds nothing, puts a value to the entry 20 and takes the lock for that. */
+static void put_with_its_lock(krl_handle *client, krl_handle *server) {
+    static const uint8_t bytes[KRL_MAX_VALUE_BYTES + 1];
+    krl_reply reply;
+    want(krl_client_take_put(client, 20, bytes, sizeof bytes).code == KRL_BAD_VALUE, "a value that is too long");
+    want(krl_client_take_insert(client, KRL_END, bytes, 1).code == KRL_BAD_POINT, "a key that is none");
+    want(krl_client_put(client, 20, bytes, 1).code == KRL_NOT_HELD, "a put without its lock");
+    AGAIN(reply, krl_client_take_put(client, 20, bytes, 1));
+    want(krl_client_take_insert(client, 25, bytes, 1).code == KRL_WRITING, "a second write");
+    talk(client, server);
+    krl_client_state state = krl_client_status(client);
+    want(state.write == KRL_WRITE_JUDGED && state.outcome == KRL_APPLIED && state.number == 1, "the put");
+    want(krl_client_held(client, 20).key == KRL_KEY_PART_X, "the lock that it took");
+}
+
 /* Client 3 holds the entries 10, 15, 20 and 30 and END, with the gaps below them. This one asks for a part of that, and
  * waits. */
 static void keep_waiting(krl_handle *other, krl_handle *server) {
@@ -302,12 +317,13 @@ int main(int count, char **words) {
     want(krl_take(&client, NULL, 0).code == KRL_UNKEPT, "a Hello before its incarnation");
     want(krl_confirm(&client, 2).code == KRL_NOT_TOLD && krl_confirm(&client, 1).code == KRL_DONE, "the incarnation");
     talk(&client, &server);
+    put_with_its_lock(&client, &server);
     AGAIN(reply, krl_client_lock(&client, 0, 100, KRL_RANGE_X_X));
     talk(&client, &server);
     AGAIN(reply, krl_client_insert(&client, 15, (const uint8_t *)"abc", 3));
     talk(&client, &server);
     krl_client_state state = krl_client_status(&client);
-    want(state.write == KRL_WRITE_JUDGED && state.outcome == KRL_APPLIED && state.number == 1, "the write");
+    want(state.write == KRL_WRITE_JUDGED && state.outcome == KRL_APPLIED && state.number == 2, "the write");
     AGAIN(reply, krl_client_scan(&client, 0, 21, rows, 4));
     want(reply.detail == 3 && rows[1].key == 15 && rows[1].length == 3 && !memcmp(rows[1].bytes, "abc", 4), "the scan");
     want(krl_client_scan(&client, 0, 21, rows, 2).code == KRL_TOO_SHORT, "a room that is too short");
@@ -317,7 +333,7 @@ int main(int count, char **words) {
     want(krl_client_tick(&client).code == KRL_GONE, "a client that has left");
     AGAIN(reply, krl_client_leave(&client));
     hand_over(&client, &server, true);
-    want(krl_server_record(&server, 3).record.left == 1 && changes == 4, "what was kept");
+    want(krl_server_record(&server, 3).record.left == 1 && changes == 5, "what was kept");
     want(krl_server_waiter(&server, 4).waits == 0 && krl_server_held(&server, 4).detail == 1, "what was waited for");
     krl_close(&other);
     krl_close(&client);

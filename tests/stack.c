@@ -24,6 +24,8 @@ static void client_step(void) { krl_client_step(&client, message, length); }
 static void client_lock(void) { krl_client_lock(&client, 0, KRL_TOP, KRL_RANGE_X_X); }
 static void client_put(void) { krl_client_put(&client, 3, rows[3].bytes, 8); }
 static void client_delete(void) { krl_client_delete(&client, 3); }
+static void client_take_put(void) { krl_client_take_put(&client, 4, rows[4].bytes, 8); }
+static void client_take_insert(void) { krl_client_take_insert(&client, ROWS, rows[4].bytes, 8); }
 static void client_scan(void) { krl_client_scan(&client, 0, 8, rows, ROWS); }
 static void reader_scan(void) {
     krl_reader reader = krl_reader_of(&client);
@@ -118,9 +120,9 @@ int main(void) {
         bounds[i] = i + 1;
     }
     void (*const calls[])(void) = {server_open, client_open, client_lock, client_scan, client_put, client_delete,
-                                   client_tick, server_nudge, server_held, server_next_held, client_status,
-                                    reader_scan, reader_status, leases, shard_of, all_parts,
-                                    client_lower, client_forget, client_leave, client_close, server_close};
+                                   client_take_put, client_take_insert, client_tick, server_nudge, server_held,
+                                   server_next_held, client_status, reader_scan, reader_status, leases, shard_of,
+                                   all_parts, client_lower, client_forget, client_leave, client_close, server_close};
     for (size_t i = 0; i < sizeof calls / sizeof calls[0]; i++) {
         measure(calls[i]);
         settle();

@@ -61,6 +61,15 @@ krl_reply krl_client_insert(krl_handle *handle, uint64_t key, const uint8_t *byt
 krl_reply krl_client_put(krl_handle *handle, uint64_t key, const uint8_t *bytes, size_t length);
 krl_reply krl_client_delete(krl_handle *handle, uint64_t key);
 
+/* Ask for a change of the index and, in the same message, for the lock that it needs. If nobody waits for the slot of
+ * the key and nobody's lock there forbids that lock, the server grants it and makes the change in one step. Otherwise
+ * it judges the change by the locks that the client holds: the outcome may be KRL_OUTCOME_NOT_HELD, and the client has
+ * to ask for the lock then. The answer tells the client what it holds on the key's slot. A client that holds the lock
+ * already may make these calls too. Refused as the calls above, but never by KRL_NOT_HELD. A delete needs the locks of
+ * two slots and takes none, so there is no such call for it. */
+krl_reply krl_client_take_insert(krl_handle *handle, uint64_t key, const uint8_t *bytes, size_t length);
+krl_reply krl_client_take_put(krl_handle *handle, uint64_t key, const uint8_t *bytes, size_t length);
+
 /* Answers from the client's own cache, with no message, the entries with keys from `lo` on below `hi`, in key order:
  * that range of the server's index at this moment. They go into `rows`, and the detail is their count. Otherwise
  * KRL_MISS, KRL_PENDING, or KRL_TOO_SHORT if there are more than `room`. Refused by KRL_BAD_SPAN. It takes no

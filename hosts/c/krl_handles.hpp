@@ -292,6 +292,15 @@ class client : public handle {
         return detail::ordinary("krl_client_put", reply);
     }
     code erase(std::uint64_t key) { return detail::ordinary("krl_client_delete", krl_client_delete(get(), key)); }
+    /* As `insert` and `put`, and asks for the lock that the change needs. */
+    code take_insert(std::uint64_t key, std::string_view value) {
+        krl_reply reply = krl_client_take_insert(get(), key, bytes_of(value), value.size());
+        return detail::ordinary("krl_client_take_insert", reply);
+    }
+    code take_put(std::uint64_t key, std::string_view value) {
+        krl_reply reply = krl_client_take_put(get(), key, bytes_of(value), value.size());
+        return detail::ordinary("krl_client_take_put", reply);
+    }
 
     /* Scans the cache. The rows lie in the room, which grows as it has to. */
     scanned scan(std::uint64_t lo, std::uint64_t hi, std::vector<row> &room) const {

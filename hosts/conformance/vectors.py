@@ -57,7 +57,10 @@ def messages() -> Iterator[dict[str, Any]]:
     for value in ("", "cafe", "0000000000000005", "ab" * 32):
         yield message("Insert", **ASKED, number=6, key=10, value=value)
         yield message("Put", **ASKED, number=7, key=10, value=value)
+        yield message("TakeInsert", **ASKED, number=6, key=10, value=value)
+        yield message("TakePut", **ASKED, number=7, key=10, value=value)
     yield message("Delete", **ASKED, number=8, key=72623859790382856)
+    yield message("TakeDelete", **ASKED, number=8, key=72623859790382856)
     for span in ([0, 11], [END, TOP], [0, TOP]):
         yield message("Release", **ASKED, span=span, mode="RangeI-S")
         yield message("Callback", epoch=1, span=span, mode="RangeI-U")
@@ -103,7 +106,7 @@ def faulty() -> Iterator[tuple[str, bytes]]:
         yield to, b"\0" + bytes_[1:]
         yield to, b"\2" + bytes_[1:]
         yield ("client" if to == "server" else "server"), bytes_
-    yield "server", lock[:1] + b"\x09" + lock[2:]
+    yield "server", lock[:1] + b"\x0c" + lock[2:]
     yield "server", lock[:-1] + b"\x0d"
     for span in ([11, 11], [11, 10], [0, TOP + 1]):
         spelled = b"".join(number.to_bytes(8, "little") for number in span)

@@ -1,7 +1,7 @@
 -- A client may go to another thread.
 use denote.RattleType.{RattleType}
 use denote.Struct.Declared.{shape}
-use denote.Builtin.{u64}
+use denote.Builtin.{bool, u64}
 use denote.Param.Send.{IsSend, struct_send, recorded_send, view_send, sendable}
 use Rattle.std.specs.contracts.alloc.Global as global
 use Rattle.arrayvec.specs.contracts.cells.Cells as cells
@@ -39,10 +39,10 @@ pub global_sent : IsSend (global.the_field).row
 global_sent = search sendable depth 20
 
 client_inside : IsSend client.TheInside.the_row
-client_inside = let n : IsSend u64 = search sendable in
+client_inside = let n : IsSend u64 = search sendable in let b : IsSend bool = search sendable in
     recorded_send _ _ (client.TheInside.the_type).to (client.TheInside.the_type).to_one
     (struct_send (shape client.TheInside.the_type)
-    (global_sent, (n, (n, (n, (n, (n, (asked_sent, (n, (written_sent, (cache_sent, (pins_sent, tt))))))))))))
+    (global_sent, (n, (n, (n, (n, (n, (asked_sent, (n, (written_sent, (b, (cache_sent, (pins_sent, tt)))))))))))))
 
 pub client_sent : IsSend (client.the_field).row
 client_sent = view_send _ _ _ _ _ client_inside

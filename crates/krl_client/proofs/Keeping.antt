@@ -12,14 +12,14 @@ use Rattle.krl_messages.specs.declared.to_client.ToClientBody.{ToClientBody}
 use Rattle.krl_messages.specs.declared.to_client.ToClientBody.TheVariants as told
 use Rattle.krl_messages.specs.declared.to_client.PushBody.{PushBody}
 use Rattle.krl_messages.specs.declared.to_client.PushBody.TheVariants as push
-use Rattle.krl_messages.specs.Writes.{op_key}
+use Rattle.krl_messages.specs.Writes.{op_key, takes_lock}
 use Rattle.krl_cache.specs.Laws.{IsBelief}
 use Rattle.krl_cache.specs.Beliefs.{is_span}
 use Rattle.krl_cache.proofs.Calls.{calls_keep_belief, adopted_all}
 use Rattle.krl_client.specs.declared.refused.CommandRefused.TheVariants as refused
 use Rattle.krl_client.specs.declared.refused.StartRefused.TheVariants as start
 use Rattle.krl_client.specs.Clients.{Client, LockRequest, NotAsked, Granted, Absent, Dropped, Waiting, LastWrite, Unwritten, Outstanding, Judged, outstanding, has_joined, is_waiting, is_writing_in, meets_pin, if_taken, free_from, free_pin, with_pin, begun}
-use Rattle.krl_client.specs.Commands.{start_refusal, lock_refusal, locked, write_refusal, wrote, holds_for, lowered, pin_refusal, pinned, unpinned}
+use Rattle.krl_client.specs.Commands.{start_refusal, lock_refusal, locked, write_refusal, wrote, take_refusal, took, holds_for, lowered, pin_refusal, pinned, unpinned}
 use Rattle.krl_client.specs.Messages.{Case, Ignores, AcksAgain, Adopts, Accepts, Lowers, case_of, case_of_body, after, fits, dropped, joined, judged_as, accepted}
 use Rattle.krl_client.specs.Keeps.{IsPin, IsClient, LiesOnSpan, BringsSpan, ClientKeeps}
 use Rattle.krl_client.proofs.Tests.{passed}
@@ -85,6 +85,27 @@ write_keeps k change e i =
     let two = passed (not (has_joined k)) refused.NotJoined _ one.1 in
     let three = passed (is_some (outstanding k.written)) refused.Writing _ two.1 in
     let four = passed (not (holds_for k.belief change)) refused.NotHeld _ three.1 in
+    let five = passed (nat_le END k.writes) refused.Spent None four.1 in
+    let below = leb-false END k.writes five.0 in
+    let key : op_key change < END = leb-false END (op_key change) one.0 in
+    record {
+      number = i.number;
+      incarnation = i.incarnation;
+      seen = i.seen;
+      req = i.req;
+      writes = omega (arith, below);
+      asked = i.asked;
+      written = λ c w. record { counted = omega arith; key = subst (λ (x : WriteOp). op_key x < END) (same_change change c w) key };
+      pins = i.pins;
+      belief = i.belief;
+    }
+
+pub take_keeps : (k : Client) (change : WriteOp) → take_refusal k change ≡ None → IsClient k → IsClient (took k change)
+take_keeps k change e i =
+    let one = passed (nat_le END (op_key change)) refused.BadPoint _ e in
+    let two = passed (not (has_joined k)) refused.NotJoined _ one.1 in
+    let three = passed (is_some (outstanding k.written)) refused.Writing _ two.1 in
+    let four = passed (not (takes_lock change || holds_for k.belief change)) refused.NotHeld _ three.1 in
     let five = passed (nat_le END k.writes) refused.Spent None four.1 in
     let below = leb-false END k.writes five.0 in
     let key : op_key change < END = leb-false END (op_key change) one.0 in
@@ -267,6 +288,7 @@ client_keeps = record {
   start = start_keeps;
   lock = lock_keeps;
   write = write_keeps;
+  take = take_keeps;
   lower = lower_keeps;
   pin = λ k s id e. pin_keeps k s id (spanned k s e);
   unpin = unpin_keeps;

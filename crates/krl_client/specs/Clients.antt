@@ -33,6 +33,7 @@ pub record Client : Type 0 where
   pub asked : LockRequest
   pub writes : ℕ  -- the number of its last write
   pub written : LastWrite
+  pub takes : Bool  -- its last write takes the lock that it needs, if that is free
   pub belief : Belief
   pub pins : ℕ → Option Bounds  -- 0 to 7
 
@@ -51,6 +52,7 @@ begun number incarnation = record {
   asked = NotAsked;
   writes = 0;
   written = Unwritten;
+  takes = false;
   belief = no_belief;
   pins = no_pins;
 }

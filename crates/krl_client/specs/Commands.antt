@@ -12,7 +12,7 @@ use Rattle.krl_messages.specs.declared.to_server.ToServer.{ToServer}
 use Rattle.krl_messages.specs.declared.to_server.RequestBody.TheVariants as asked
 use Rattle.krl_messages.specs.declared.to_server.ToServerBody.TheVariants as said
 use Rattle.krl_messages.specs.Values.{Value}
-use Rattle.krl_messages.specs.Writes.{op_key}
+use Rattle.krl_messages.specs.Writes.{op_key, takes_lock}
 use Rattle.krl_cache.specs.declared.scanned.Scanned.TheVariants as scanned
 use Rattle.krl_cache.specs.Beliefs.{Belief, is_span, lower, Scans}
 use Rattle.krl_client.specs.declared.refused.CommandRefused.{CommandRefused}
@@ -70,6 +70,18 @@ write_refusal k change =
     ∷ []
     )
 
+-- of a write that takes the lock that it needs. What the client holds matters only to a write that takes none
+abbrev pub take_refusal : Client → WriteOp → Option CommandRefused
+take_refusal k change =
+    first_reason (
+    due command_refused.BadPoint (nat_le END (op_key change))
+    ∷ due command_refused.NotJoined (not (has_joined k))
+    ∷ due command_refused.Writing (is_some (outstanding k.written))
+    ∷ due command_refused.NotHeld (not (takes_lock change || holds_for k.belief change))
+    ∷ due command_refused.Spent (nat_le END k.writes)
+    ∷ []
+    )
+
 abbrev pub scan_refusal : Bounds → Option CommandRefused
 scan_refusal s = first_reason (due command_refused.BadSpan (not (is_span s)) ∷ [])
 
@@ -114,12 +126,18 @@ locked k point hi mode = record k { req = suc k.req; asked = Waiting point hi mo
 abbrev pub says_lock : Client → ℕ → ℕ → Mode → ToServer
 says_lock k point hi mode = requests k (asked.Lock k.req point hi mode)
 
--- a write is asked for
+-- a write is asked for, and whether it takes the lock that it needs
+abbrev pub issued : Client → WriteOp → Bool → Client
+issued k change takes = record k { writes = suc k.writes; written = Outstanding change; takes = takes }
+
 abbrev pub wrote : Client → WriteOp → Client
-wrote k change = record k { writes = suc k.writes; written = Outstanding change }
+wrote k change = issued k change false
+
+abbrev pub took : Client → WriteOp → Client
+took k change = issued k change true
 
 abbrev pub says_write : Client → WriteOp → ToServer
-says_write k change = requests k (asked.Write k.writes change)
+says_write k change = requests k (asked.Write k.writes change k.takes)
 
 -- of each point of the span it keeps the meet of what it holds and this mode
 abbrev pub lowered : Client → Bounds → Mode → Client

@@ -1,5 +1,5 @@
 -- What the fields of a client stand for.
-use Rattle.std.specs.Prelude.{ℕ, Option, None, List, slice_index_or}
+use Rattle.std.specs.Prelude.{ℕ, Bool, Option, None, List, slice_index_or}
 use Rattle.krl_modes.specs.Spans.{Bounds}
 use Rattle.krl_cache.specs.Maps.{Maps, maps_believe}
 use Rattle.krl_client.specs.declared.lock_request.LockRequest as kept_asked
@@ -36,6 +36,7 @@ pub record Fields : Type 0 where
   pub asked : kept_asked.LockRequest
   pub writes : ℕ
   pub written : kept_written.LastWrite
+  pub takes : Bool
   pub cache : Maps
   pub pins : List (Option Bounds)
 
@@ -50,6 +51,7 @@ meaning k = record {
   asked = asked_of k.asked;
   writes = k.writes;
   written = written_of k.written;
+  takes = k.takes;
   belief = maps_believe k.cache;
   pins = pins_of k.pins;
 }

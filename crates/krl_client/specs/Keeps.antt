@@ -17,7 +17,7 @@ use Rattle.krl_messages.specs.Writes.{op_key}
 use Rattle.krl_cache.specs.Laws.{IsBelief}
 use Rattle.krl_cache.specs.Beliefs.{is_span}
 use Rattle.krl_client.specs.Clients.{Client, Waiting, outstanding, free_pin, begun}
-use Rattle.krl_client.specs.Commands.{start_refusal, lock_refusal, locked, write_refusal, wrote, lowered, pin_refusal, pinned, unpinned}
+use Rattle.krl_client.specs.Commands.{start_refusal, lock_refusal, locked, write_refusal, wrote, take_refusal, took, lowered, pin_refusal, pinned, unpinned}
 use Rattle.krl_client.specs.Messages.{case_of, after}
 
 -- a write of this number, and the key is one
@@ -68,6 +68,9 @@ pub record ClientKeeps : Type 0 where
   pub write :
       (k : Client) (change : WriteOp) → write_refusal k change ≡ None
       → IsClient k → IsClient (wrote k change)
+  pub take :
+      (k : Client) (change : WriteOp) → take_refusal k change ≡ None
+      → IsClient k → IsClient (took k change)
   pub lower :
       (k : Client) (s : Bounds) (keep : Mode) → IsClient k → IsClient (lowered k s keep)
   pub pin :

@@ -32,6 +32,8 @@ pub struct Client {
     /// The number of its last write.
     pub(crate) writes: u64,
     pub(crate) written: LastWrite,
+    /// Whether its last write takes the lock that it needs, if that is free.
+    pub(crate) takes: bool,
     pub(crate) cache: Cache,
     pub(crate) pins: Pins,
 }
@@ -51,6 +53,7 @@ impl Model for Client {
       asked = c.asked;
       writes = c.writes;
       written = c.written;
+      takes = c.takes;
       cache = c.cache;
       pins = c.pins;
     } };
@@ -64,6 +67,7 @@ impl Model for Client {
       asked = c.asked;
       writes = c.writes;
       written = c.written;
+      takes = c.takes;
       cache = c.cache;
       pins = c.pins;
     })) };
@@ -103,6 +107,7 @@ impl Client {
             asked: LockRequest::NotAsked,
             writes: 0,
             written: LastWrite::Unwritten,
+            takes: false,
             cache: Cache::new(alloc),
             pins: Pins::new(),
         };

@@ -147,9 +147,77 @@ impl Client {
         }
         let number = self.writes + 1;
         let op = change;
-        let list = one(self.alloc, self.requests(RequestBody::Write { number, op }))?;
+        let takes = false;
+        let list = one(
+            self.alloc,
+            self.requests(RequestBody::Write { number, op, takes }),
+        )?;
         self.writes = number;
         self.written = LastWrite::Outstanding(change);
+        self.takes = takes;
+        Ok(list)
+    }
+
+    /// Why it refuses to write with the lock that it takes, memory aside: the first of `BadPoint`,
+    /// `NotJoined`, `Writing`, `NotHeld`, `Spent`. `take` judges by it.
+    pub fn take_refusal(&self, change: WriteOp) -> Option<CommandRefused>
+        ensures { result ≡ commands.take_refusal (meaning self.now) change }
+    {
+        let (asked, taken) = (change, change);
+        if asked.key() >= END {
+            return Some(CommandRefused::BadPoint);
+        }
+        if !self.has_joined() {
+            return Some(CommandRefused::NotJoined);
+        }
+        if self.written.outstanding().is_some() {
+            return Some(CommandRefused::Writing);
+        }
+        if !taken.takes_lock() && !self.holds_for(change) {
+            return Some(CommandRefused::NotHeld);
+        }
+        if self.writes >= END {
+            return Some(CommandRefused::Spent);
+        }
+        None
+    }
+
+    /// Asks for a change of the index, as `write` does, and for the lock that it needs: if nobody
+    /// waits for the slot of the key and nobody's lock forbids it, the server gives the client that
+    /// lock and makes the change in one step. Otherwise the change is judged by what the client
+    /// holds, and may be `NotHeld`. The answer says what the client holds on the key's slot then.
+    ///
+    /// A delete needs the locks of two slots, and takes neither: it is asked for as by `write`.
+    ///
+    /// # Errors
+    ///
+    /// In this order: `BadPoint` if the key is END or more; `NotJoined` before the client was
+    /// told an epoch; `Writing` while a write is outstanding; `NotHeld` if a delete lacks what it
+    /// needs; `Spent` if no number is left for it; `OutOfMemory`. The client is as it was.
+    pub fn take(&mut self, change: WriteOp) -> Result<Vec<ToServer>, CommandRefused>
+        ensures due { IfErr result
+            (λ r. IsDue (commands.take_refusal (meaning self.old) change) r) }
+        ensures unchanged { OnErr result (self.new ≡ self.old) }
+        ensures none_due { OnOk result (commands.take_refusal (meaning self.old) change ≡ None) }
+        ensures client { OnOk result (meaning self.new ≡ commands.took (meaning self.old) change) }
+        ensures says { IfOk result
+            (λ list. list.items ≡ commands.says_write
+            (commands.took (meaning self.old) change) change ∷ []) }
+    {
+        let (asked, kept) = (change, change);
+        if let Some(refusal) = self.take_refusal(asked) {
+            return Err(refusal);
+        }
+        let number = self.writes + 1;
+        let op = change;
+        let takes = true;
+        let list = one(
+            self.alloc,
+            self.requests(RequestBody::Write { number, op, takes }),
+        )?;
+        self.writes = number;
+        self.written = LastWrite::Outstanding(kept);
+        self.takes = takes;
         Ok(list)
     }
 

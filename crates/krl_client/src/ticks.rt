@@ -62,7 +62,8 @@ impl Client {
     {
         let op = self.written.outstanding()?;
         let number = self.writes;
-        Some(self.requests(RequestBody::Write { number, op }))
+        let takes = self.takes;
+        Some(self.requests(RequestBody::Write { number, op, takes }))
     }
 
     // What it says first in an epoch that it has joined: its Report if it has accepted no push

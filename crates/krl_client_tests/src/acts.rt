@@ -33,6 +33,8 @@ pub enum Act {
     Lock(u64, Mode),
     LockTo(u64, u64, Mode),
     Write(Change),
+    // A write that takes the lock that it needs.
+    Take(Change),
     Lower(u64, u64, Mode),
     Forget(u64, u64),
     Pin(u64, u64),
@@ -53,6 +55,7 @@ pub enum Says {
     Ack(u64, u64),
     Lock(u64, u64, u64, u64, Mode),
     Write(u64, u64, u64, Change),
+    Take(u64, u64, u64, Change),
     Release(u64, u64, u64, u64, Mode),
     Report(u64, &'static [(u64, u64, RangePart)], &'static [(u64, KeyPart)]),
 }
@@ -106,6 +109,12 @@ fn is_release(body: &RequestBody, lo: u64, hi: u64, keep: Mode) -> bool {
     }
 }
 
+// Whether it asks for the change by this number, and takes the lock that it needs or not.
+fn is_write(body: &RequestBody, number: u64, change: Change, takes: bool) -> bool {
+    let op = op_of(change);
+    *body == RequestBody::Write { number, op, takes }
+}
+
 // Whether the request is the expected one, in this epoch and after this push.
 fn is_request(request: &Request, expected: &Says) -> bool {
     let Request { epoch, seen, body } = request;
@@ -123,8 +132,10 @@ fn is_request(request: &Request, expected: &Says) -> bool {
                     }
         }
         Says::Write(e, s, number, change) => {
-            let op = op_of(change);
-            (*epoch, *seen) == (e, s) && *body == RequestBody::Write { number, op }
+            (*epoch, *seen) == (e, s) && is_write(body, number, change, false)
+        }
+        Says::Take(e, s, number, change) => {
+            (*epoch, *seen) == (e, s) && is_write(body, number, change, true)
         }
         Says::Release(e, s, lo, hi, keep) => {
             (*epoch, *seen) == (e, s) && is_release(body, lo, hi, keep)
@@ -251,6 +262,7 @@ fn command(client: &mut Client, act: Act) -> Result<Vec<ToServer>, CommandRefuse
         Act::Lock(point, mode) => client.lock(point, point.saturating_add(1), mode),
         Act::LockTo(point, hi, mode) => client.lock(point, hi, mode),
         Act::Write(change) => client.write(op_of(change)),
+        Act::Take(change) => client.take(op_of(change)),
         Act::Lower(lo, hi, keep) => client.lower(lo, hi, keep),
         Act::Forget(lo, hi) => client.forget(lo, hi),
         _ => match client.tick() {

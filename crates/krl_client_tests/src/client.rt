@@ -4,6 +4,7 @@ use crate::acts::{Act, Gives, Says, fails, is_said};
 use crate::again::CALLS;
 use crate::joining::{BEFORE_IT_JOINS, EPOCHS};
 use crate::locking::{LOCKS, PINS};
+use crate::taking::TAKES;
 use crate::writing::WRITES;
 use krl_client::{Client, CommandRefused, StartRefused};
 use krl_messages::{ToServer, ToServerBody};
@@ -35,6 +36,7 @@ fn clients_give_each_row(rt: HostRuntime) {
         BEFORE_IT_JOINS.as_slice(),
         LOCKS.as_slice(),
         WRITES.as_slice(),
+        TAKES.as_slice(),
         PINS.as_slice(),
         EPOCHS.as_slice(),
     ] {

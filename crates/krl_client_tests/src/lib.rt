@@ -21,4 +21,6 @@ mod replies;
 #[cfg(test)]
 mod shown;
 #[cfg(test)]
+mod taking;
+#[cfg(test)]
 mod writing;

@@ -69,6 +69,8 @@ is passed over.
   lock C P MODE HI  the same, and for the slots after it that begin below HI, up to 8 if free
   insert C K V      client C asks for an entry with key K and value V; put changes one
   delete C K        client C asks for the end of the entry with key K
+  take insert C K V the same as insert, and takes the lock that it needs if that is free; so for
+                    take put and take delete
   scan C LO HI      client C reads its cache from LO on below HI: rows, or the first point it
                     misses, or the key of its write that is pending there
   forget C LO HI    client C gives back what it holds from LO on below HI; lower C LO HI MODE

@@ -7,6 +7,7 @@ use Rattle.krl_modes.specs.Names.{all_modes}
 use Rattle.krl_modes.specs.declared.mode.Mode.{Mode}
 use Rattle.krl_modes.specs.declared.mode.Mode.TheVariants as mode
 use Rattle.krl_messages.specs.Values.{Value}
+use Rattle.krl_messages.specs.declared.write_op.WriteOp.{WriteOp}
 use Rattle.krl_messages.specs.declared.write_op.WriteOp.TheVariants as write
 use Rattle.krl_steps.specs.declared.step.Step.{Step}
 use Rattle.krl_steps.specs.declared.step.Step.TheVariants as step
@@ -66,14 +67,18 @@ of_client d = client >>= λ c. d >>= λ what. always (step.Command c what)
 abbrev pub lock : Draw Step
 lock = of_client (point >>= λ p. a_mode >>= λ m. below 8 >>= λ more. always (command.Lock p (p + 1 + more) m))
 
+-- a client asks for the change, and every other time for the lock that it needs
+abbrev pub written : WriteOp → Draw Command
+written op = below 2 >>= λ n. always (if nat_eq n 0 then command.Take op else command.Write op)
+
 abbrev pub insert : Draw Step
-insert = of_client (point >>= λ k. value >>= λ v. always (command.Write (write.Insert k v)))
+insert = of_client (point >>= λ k. value >>= λ v. written (write.Insert k v))
 
 abbrev pub put : Draw Step
-put = of_client (point >>= λ k. value >>= λ v. always (command.Write (write.Put k v)))
+put = of_client (point >>= λ k. value >>= λ v. written (write.Put k v))
 
 abbrev pub delete : Draw Step
-delete = of_client (point >>= λ k. always (command.Write (write.Delete k)))
+delete = of_client (point >>= λ k. written (write.Delete k))
 
 abbrev pub scan : Draw Step
 scan = of_client (span >>= λ s. always (command.Scan s.0 s.1))

@@ -128,13 +128,25 @@ impl Generator {
         Step::Command(client, Command::Lock { point, hi, mode })
     }
 
+    // A client asks for the change, and every other time for the lock that it needs.
+    fn write(&mut self, op: WriteOp) -> Command
+        ensures { (result, self.new) ≡ draw.written op self.old }
+    {
+        if self.below(2) == 0 {
+            Command::Take(op)
+        } else {
+            Command::Write(op)
+        }
+    }
+
     fn insert(&mut self) -> Step
         ensures { (result, self.new) ≡ draw.insert self.old }
     {
         let client = self.client();
         let key = self.point();
         let value = self.value();
-        Step::Command(client, Command::Write(WriteOp::Insert { key, value }))
+        let what = self.write(WriteOp::Insert { key, value });
+        Step::Command(client, what)
     }
 
     fn put(&mut self) -> Step
@@ -143,7 +155,8 @@ impl Generator {
         let client = self.client();
         let key = self.point();
         let value = self.value();
-        Step::Command(client, Command::Write(WriteOp::Put { key, value }))
+        let what = self.write(WriteOp::Put { key, value });
+        Step::Command(client, what)
     }
 
     fn delete(&mut self) -> Step
@@ -151,7 +164,8 @@ impl Generator {
     {
         let client = self.client();
         let key = self.point();
-        Step::Command(client, Command::Write(WriteOp::Delete { key }))
+        let what = self.write(WriteOp::Delete { key });
+        Step::Command(client, what)
     }
 
     fn scan(&mut self) -> Step

@@ -124,6 +124,14 @@ Writes (Some op) k old l new r =
     (r.detail ≡ 0)
     × Commanded (commands.write_refusal (meaning k) op) next (commands.says_write next op) k old l new (code_of r)
 
+-- a write that takes the lock that it needs, if that is free
+abbrev pub WritesTaking : Option WriteOp → Fields → List ℕ → Fields → List ℕ → Reply → Type 0
+WritesTaking None k old l new r = (r.detail ≡ 0) × Refused code.BadValue k old l new (code_of r)
+WritesTaking (Some op) k old l new r =
+    let next = commands.took (meaning k) op in
+    (r.detail ≡ 0)
+    × Commanded (commands.take_refusal (meaning k) op) next (commands.says_write next op) k old l new (code_of r)
+
 -- a value has at most 32 bytes
 abbrev pub insert_of : ℕ → List ℕ → Option WriteOp
 insert_of key bytes = if nat_le (length bytes) max_value_bytes then Some (write.Insert key bytes) else None

@@ -173,6 +173,33 @@ pub(crate) fn write(alloc: Global, endpoint: &mut Endpoint, op: Option<WriteOp>)
     }
 }
 
+fn change_taking(
+    alloc: Global,
+    client: &mut Client,
+    outgoing: &mut Frames,
+    change: Option<WriteOp>,
+) -> Reply
+    ensures { calls.WritesTaking change client.old outgoing.old client.new outgoing.new result }
+{
+    let Some(op) = change else {
+        return Reply::of(Code::BadValue);
+    };
+    let messages = client.take(op);
+    said(alloc, outgoing, messages)
+}
+
+/// Asks for a change, and for the lock that it needs. There is none if its value is too long.
+pub(crate) fn write_taking(alloc: Global, endpoint: &mut Endpoint, op: Option<WriteOp>) -> Reply
+    ensures does { OnClient (calls.WritesTaking op) endpoint.old endpoint.new result }
+    ensures notes { endpoint.new.notes ≡ endpoint.old.notes }
+{
+    match &mut endpoint.role {
+        Role::Client(client) => change_taking(alloc, client, &mut endpoint.outgoing, op),
+        Role::Left(_) => Reply::of(Code::Gone),
+        Role::Server(_) => Reply::of(Code::NoClient),
+    }
+}
+
 fn give_back(
     alloc: Global,
     client: &mut Client,

@@ -150,6 +150,19 @@ fn write(alloc: Global, handle: &mut Handle, change: Option<WriteOp>) -> Reply
     reply
 }
 
+fn write_taking(alloc: Global, handle: &mut Handle, change: Option<WriteOp>) -> Reply
+    ensures does { OnHandle IsCode (OnClient (calls.WritesTaking change))
+        handle.old.owned.value handle.new.owned.value result }
+    ensures notes { notes_of handle.new.owned.value ≡ notes_of handle.old.owned.value }
+{
+    let Some(mut endpoint) = take(alloc, handle) else {
+        return Reply::of(Code::Closed);
+    };
+    let reply = client_calls::write_taking(alloc, &mut endpoint, change);
+    put(handle, endpoint);
+    reply
+}
+
 // An insert, if the value has at most 32 bytes.
 fn insert_of(key: u64, bytes: &[u8]) -> Option<WriteOp>
     ensures { result ≡ calls.insert_of key bytes.now }
@@ -204,6 +217,36 @@ pub extern "C" fn krl_client_delete(alloc: Global, handle: &mut Handle, key: u64
     ensures notes { notes_of handle.new.owned.value ≡ notes_of handle.old.owned.value }
 {
     write(alloc, handle, Some(WriteOp::Delete { key }))
+}
+
+/// Asks for an insert, and for the lock that it needs.
+#[unsafe(no_mangle)]
+pub extern "C" fn krl_client_take_insert(
+    alloc: Global,
+    handle: &mut Handle,
+    key: u64,
+    bytes: &[u8],
+) -> Reply
+    ensures does { OnHandle IsCode (OnClient (calls.WritesTaking (calls.insert_of key bytes.now)))
+        handle.old.owned.value handle.new.owned.value result }
+    ensures notes { notes_of handle.new.owned.value ≡ notes_of handle.old.owned.value }
+{
+    write_taking(alloc, handle, insert_of(key, bytes))
+}
+
+/// Asks for a put, and for the lock that it needs.
+#[unsafe(no_mangle)]
+pub extern "C" fn krl_client_take_put(
+    alloc: Global,
+    handle: &mut Handle,
+    key: u64,
+    bytes: &[u8],
+) -> Reply
+    ensures does { OnHandle IsCode (OnClient (calls.WritesTaking (calls.put_of key bytes.now)))
+        handle.old.owned.value handle.new.owned.value result }
+    ensures notes { notes_of handle.new.owned.value ≡ notes_of handle.old.owned.value }
+{
+    write_taking(alloc, handle, put_of(key, bytes))
 }
 
 /// Scans the client's cache.

@@ -1,6 +1,6 @@
 //! Writes.
 ghost use Rattle.std.specs.Prelude.{◌≡◌};
-ghost use Rattle.krl_messages.specs.Writes.{op_key};
+ghost use Rattle.krl_messages.specs.Writes.{op_key, takes_lock};
 
 use crate::value::Value;
 
@@ -35,6 +35,17 @@ impl WriteOp {
     {
         match self {
             WriteOp::Insert { key, .. } | WriteOp::Put { key, .. } | WriteOp::Delete { key } => key,
+        }
+    }
+
+    /// Whether the write can take the lock that it needs, if that is free: an insert and a put need
+    /// one slot, a delete needs two and takes neither.
+    pub fn takes_lock(self) -> bool
+        ensures { result ≡ takes_lock self }
+    {
+        match self {
+            WriteOp::Insert { .. } | WriteOp::Put { .. } => true,
+            WriteOp::Delete { .. } => false,
         }
     }
 }

@@ -28,12 +28,18 @@ fn outcome_name(outcome: Outcome) -> &'static str {
     }
 }
 
-// A write in a few words.
-fn write_label(alloc: Global, number: u64, op: &WriteOp) -> Result<String, AllocError> {
+// A write in a few words. `Take` is one that takes the lock that it needs.
+fn write_label(
+    alloc: Global,
+    number: u64,
+    op: &WriteOp,
+    takes: bool,
+) -> Result<String, AllocError> {
+    let how = if takes { "Take" } else { "Write" };
     match op {
-        WriteOp::Insert { key, .. } => format!(in alloc; "Write {number}: insert {key}"),
-        WriteOp::Put { key, .. } => format!(in alloc; "Write {number}: put {key}"),
-        WriteOp::Delete { key } => format!(in alloc; "Write {number}: delete {key}"),
+        WriteOp::Insert { key, .. } => format!(in alloc; "{how} {number}: insert {key}"),
+        WriteOp::Put { key, .. } => format!(in alloc; "{how} {number}: put {key}"),
+        WriteOp::Delete { key } => format!(in alloc; "{how} {number}: delete {key}"),
     }
 }
 
@@ -45,7 +51,7 @@ fn request_label(alloc: Global, request: &Request) -> Result<String, AllocError>
             mode,
             ..
         } => format!(in alloc; "Lock {req}: {point} {}", mode.name()),
-        RequestBody::Write { number, op } => write_label(alloc, *number, op),
+        RequestBody::Write { number, op, takes } => write_label(alloc, *number, op, *takes),
         RequestBody::Release { span, mode } => {
             format!(in alloc; "Release {}: {}", span.lo(), mode.name())
         }

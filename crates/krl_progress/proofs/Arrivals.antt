@@ -234,7 +234,7 @@ module _ (c inc epoch seen0 : ℕ) (some : 1 ≤ epoch) (room : seen0 < END) (n 
 
   writes_again : (k : Client) (o : Option WriteOp) → is_some o ≡ true → (b : RequestBody) × In (requests k b) (write_again k o)
   writes_again k None w = absurd (cc)
-  writes_again k (Some op) w = (asked.Write k.writes op, inl refl)
+  writes_again k (Some op) w = (asked.Write k.writes op k.takes, inl refl)
 
   asks_again : (k : Client) (p : PushBody) → IsAwaited k p → (b : RequestBody) × In (requests k b) (lock_again k k.asked ++ write_again k (outstanding k.written))
   asks_again k (push.Grant req hs) a = let x = locks_again k k.asked a.0 in (x.0, in_left (lock_again k k.asked) (write_again k (outstanding k.written)) (requests k x.0) x.1)

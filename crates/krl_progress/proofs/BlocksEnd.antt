@@ -21,6 +21,7 @@ use Rattle.krl_progress.proofs.Arrivals.{request_from}
 use Rattle.krl_progress.proofs.Seen.{Sent, sent_now, sent_still, still, st, same_inc, same_server, same_epoch, own_inc, own_request, heard_now}
 use Rattle.krl_progress.proofs.Whiles as whiles
 use Rattle.krl_progress.proofs.Whiles.{hit}
+use Rattle.krl_table.specs.Grants.{nobody_waits}
 use Rattle.krl_progress.proofs.Sinking.{low_self, world_sinks, wanted_sinks}
 use Rattle.krl_progress.proofs.Blocking.{blocker_called, acts_calls, lock_acts, ends_off}
 use Rattle.krl_progress.proofs.Repeating.{LockSaid, lock_said, lock_still, tick_says}
@@ -162,7 +163,7 @@ module _ (b : Block) (waiter_inc blocker_inc epoch : ℕ) (some : 1 ≤ epoch) (
       let c = b.waiter.client in
       let inc = own_inc epoch some n v new.server c waiter_inc b.waiter_seen after.waiter_at new.up new.waiting ∙ sym (own_inc epoch some n u old.server c waiter_inc b.waiter_seen before.waiter_at old.up old.waiting) in
       let sinks = world_sinks u v s answer old.server new.server c before.waiter_at.reachable old.up new.up old.serves inc (new.waiting.last ∙ sym old.waiting.last) t in
-      let low = wanted_sinks old.server new.server b.slot b.waiter sinks old.slot in
+      let low = wanted_sinks old.server new.server b.slot b.waiter sinks old.slot (ap nobody_waits old.first) in
       let now = mode_order.transitive (wanted (new.server.rows b.slot) b.waiter) (wanted (old.server.rows b.slot) b.waiter) want low (h old.server old.up) in
       subst (λ (z : Server). at_most (wanted (z.rows b.slot) b.waiter) want ≡ true) (same_up new.server y (sym new.up ∙ e)) now
 

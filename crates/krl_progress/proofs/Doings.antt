@@ -1,9 +1,9 @@
 -- What each step does to lock requests: at a client's place, or at the server.
-use Rattle.krl_progress.proofs.Names.{◌≡◌, ℕ, suc, ◌≤◌, ◌<◌, ◌⊎◌, inl, inr, ⊎_elim, ◌∙◌, true, false, not, ◌&&◌, Option, Some, None, List, [], ◌∷◌, ◌++◌, is_some, refl, sym, ap, subst, arith, same_Some, nat_eq, nat_lt, nat_le, if◌then◌else◌, and_parts, eqb-true, ltb-true, END, In, in_both}
+use Rattle.krl_progress.proofs.Names.{◌≡◌, ℕ, Bool, suc, ◌≤◌, ◌<◌, ◌⊎◌, inl, inr, ⊎_elim, ◌∙◌, true, false, not, ◌&&◌, Option, Some, None, List, [], ◌∷◌, ◌++◌, is_some, refl, sym, ap, subst, arith, same_Some, nat_eq, nat_lt, nat_le, if◌then◌else◌, and_parts, eqb-true, ltb-true, END, In, in_both}
 use Rattle.krl_progress.proofs.Names.{ToServer, ToClient, Client, Message, AppliedWrite, Step, Command, Answer, ServerPlace, Up, Down, State, Server, Durable, client_of, with_client, seated, served, message_at, ServerReads, ClientReads, ServerStep, Delivers, Obeys, nudged, started, crashed, Takes, refused_by_client, Pieces, start, nudge, span, applies, case_of, command_refusal}
 use Rattle.krl_client.specs.Clients.{begun, is_waiting, outstanding, LockRequest, NotAsked, Granted, Absent, Dropped, Waiting, has_joined, LastWrite, Unwritten, Outstanding, Judged}
 use Rattle.krl_messages.specs.declared.outcome.Outcome.{Outcome}
-use Rattle.krl_client.specs.Commands.{says_lock, locked, says_write, wrote, says_release, says_bye, lowered, pinned, unpinned, lock_refusal}
+use Rattle.krl_client.specs.Commands.{says_lock, locked, says_write, issued, wrote, took, says_release, says_bye, lowered, pinned, unpinned, lock_refusal}
 use Rattle.krl_client.specs.declared.refused.CommandRefused.TheVariants as refused
 use Rattle.krl_client.specs.Ticks.{tick, says_hello, lock_again, write_again}
 use Rattle.krl_client.specs.Messages as receiver
@@ -26,12 +26,12 @@ use Rattle.krl_server.proofs.Tests.{if_case, if_both}
 use Rattle.krl_server.specs.Cases.{is_reach}
 use Rattle.krl_modes.specs.declared.point.TheConstants.{TOP}
 use Rattle.std.proofs.lemmas.Bool.{not-false}
-use Rattle.krl_progress.proofs.Moves.{passed, was_down, Follows, reads_follow, write_free}
+use Rattle.krl_progress.proofs.Moves.{passed, was_down, Follows, reads_follow, write_free, take_free}
 
 -- the number of the lock request that is said, or 0
 abbrev pub request_of : RequestBody → ℕ
 request_of (asked.Lock req point hi g) = req
-request_of (asked.Write number op) = 0
+request_of (asked.Write number op takes) = 0
 request_of (asked.Release s keep) = 0
 request_of asked.Ack = 0
 
@@ -67,7 +67,7 @@ pub data Goes (u : State) (d : ℕ) (k : Client) : Client → List ToServer → 
 -- the number of the write that is said
 abbrev pub write_of : RequestBody → Option ℕ
 write_of (asked.Lock req point hi g) = None
-write_of (asked.Write number op) = Some number
+write_of (asked.Write number op takes) = Some number
 write_of (asked.Release s keep) = None
 write_of asked.Ack = None
 
@@ -261,17 +261,18 @@ unwritten k l ms seen written writes silent = record {
   says = silent_says l ms silent;
 }
 
-writes_now : (k : Client) (op : WriteOp) → outstanding k.written ≡ None → WriteGoes k (wrote k op) (says_write (wrote k op) op ∷ [])
-writes_now k op none = record {
+writes_now : (k : Client) (op : WriteOp) (takes : Bool) → outstanding k.written ≡ None → WriteGoes k (issued k op takes) (says_write (issued k op takes) op ∷ [])
+writes_now k op takes none = record {
   follows = λ e. inr (refl, inl none);
   number = inr refl;
   ends = λ e. absurd (omega (arith, e));
-  says = its_write (wrote k op) op refl;
+  says = its_write (issued k op takes) op refl;
 }
 
 obeys_does : (u v : State) (c : ℕ) (k : Client) (what : Command) (answer : Answer) → command_refusal k what ≡ None → client_of u c ≡ Some k → Obeys u c k what answer v → Does u v
 obeys_does u v c k (command.Lock point hi g) answer r i d = place_does u v c k _ _ i (locks point hi g (not_waiting k point hi r) (reaches k point hi r)) (unwritten k (locked k point hi g) _ refl refl refl (one_silent (says_lock (locked k point hi g) point hi g) refl)) d.1
-obeys_does u v c k (command.Write op) answer r i d = place_does u v c k _ _ i (same (wrote k op) (says_write (wrote k op) op ∷ []) refl refl refl refl refl (one_asks k.number k.req (says_write (wrote k op) op) refl (omega arith))) (writes_now k op (write_free k op r).0) d.1
+obeys_does u v c k (command.Write op) answer r i d = place_does u v c k _ _ i (same (wrote k op) (says_write (wrote k op) op ∷ []) refl refl refl refl refl (one_asks k.number k.req (says_write (wrote k op) op) refl (omega arith))) (writes_now k op false (write_free k op r).0) d.1
+obeys_does u v c k (command.Take op) answer r i d = place_does u v c k _ _ i (same (took k op) (says_write (took k op) op ∷ []) refl refl refl refl refl (one_asks k.number k.req (says_write (took k op) op) refl (omega arith))) (writes_now k op true (take_free k op r).0) d.1
 obeys_does u v c k (command.Scan lo hi) answer r i d = rests_at u v d.1
 obeys_does u v c k (command.Lower lo hi keep) answer r i d = place_does u v c k _ _ i (same (lowered k (span lo hi) keep) (says_release k (span lo hi) keep ∷ []) refl refl refl refl refl (one_asks k.number k.req (says_release k (span lo hi) keep) refl (omega arith))) (unwritten k (lowered k (span lo hi) keep) _ refl refl refl (one_silent (says_release k (span lo hi) keep) refl)) d.1
 obeys_does u v c k (command.Pin lo hi) answer r i d = place_does u v c k _ _ i (same (pinned k (span lo hi) d.0) [] refl refl refl refl refl (none_asks k.number k.req)) (unwritten k (pinned k (span lo hi) d.0) [] refl refl refl none_silent) d.3

@@ -2,6 +2,7 @@
 use Rattle.krl_progress.proofs.Names.{◌≡◌, ℕ, zero, suc, ◌≤◌, ◌∙◌, inl, Bool, true, false, List, [], ◌∷◌, length, refl, sym, ap, subst, arith}
 use Rattle.krl_progress.proofs.Names.{ToServer, ToClient, In, Server, is_recovering, is_slot, Step, Up, Down, State, Runs, IsReachable, ServerStep, is_compatible}
 use Rattle.krl_modes.proofs.Basics.{not_both}
+use Rattle.krl_table.specs.Grants.{nobody_waits}
 use Rattle.krl_table.specs.Replies.{asks_absent}
 use Rattle.krl_table.specs.FirstReplies.{lacks_entry}
 use Rattle.krl_table.proofs.Calls.Answering.{lacks_is}
@@ -102,9 +103,10 @@ module _ (f : FirstWait) (present : lacks_entry f.slot f.waiter ≡ false) (d : 
           let sound = (in_order u old ru up).0 in
           let serves = subst (λ (y : Server). is_recovering y.missing ≡ false) before h.serves in
           let slot = subst (λ (y : Server). is_slot y.durable.index f.slot ≡ true) before h.slot in
+          let waited = subst (λ (y : Server). nobody_waits (y.rows f.slot).queue ≡ false) before (ap nobody_waits h.first) in
           let own = step_sinks old new m outs f.waiter.client sound serves step waiter_unmoved.incarnation waiter_unmoved.last in
           let other = step_sinks old new m outs d sound serves step blocker_unmoved.incarnation blocker_unmoved.last in
-          absurd (not_both (is_compatible new f.slot f.waiter d) (stays_compatible old new f.slot f.waiter d own other slot e) b)
+          absurd (not_both (is_compatible new f.slot f.waiter d) (stays_compatible old new f.slot f.waiter d own other slot waited e) b)
 
   still_blocks : (u v : State) → IsReachable u → IsReachable v → StandsFirst f u → StandsFirst f v → Does u v → Blocks v → Blocks u
   still_blocks u _ ru rv h g rests b = b

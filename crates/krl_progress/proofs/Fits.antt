@@ -2,7 +2,7 @@
 use Rattle.std.specs.Prelude.{◌-◌}
 use Rattle.krl_world.proofs.Reaching.{by_reaching}
 use Rattle.krl_progress.proofs.Names.{◌≡◌, ℕ, suc, ◌≤◌, ◌∙◌, Bool, true, false, not, ◌&&◌, ◌||◌, Option, Some, None, is_some, List, [], ◌∷◌, refl, sym, ap, subst, arith, nat_eq, nat_lt, END, TOP, eqb-true, eqb-false, same_Some}
-use Rattle.krl_progress.proofs.Names.{ToServer, ToClient, Server, Durable, Index, slot_of, is_slot, Case, Ignored, Registers, Leaves, Tells, Alarms, Rebuilds, Repeats, Acknowledges, Lowers, Waits, Judges, AnswersAgain, case_of, Done, effect, acknowledged, writes, Kind, kind_of, Ends, at_once, recovers, serves, ServerStep, Answered, stops, goes_on, Turn, next_turn, answer_first, Rows}
+use Rattle.krl_progress.proofs.Names.{ToServer, ToClient, Server, Durable, Index, slot_of, is_slot, Case, Ignored, Registers, Leaves, Tells, Alarms, Rebuilds, Repeats, Acknowledges, Lowers, Waits, Judges, TakesLock, AnswersAgain, case_of, Done, effect, acknowledged, writes, Kind, kind_of, Ends, at_once, recovers, serves, ServerStep, Answered, stops, goes_on, Turn, next_turn, answer_first, Rows}
 use Rattle.std.specs.FinMap as map
 use Rattle.krl_modes.specs.declared.part.KeyPart.{KeyPart}
 use Rattle.krl_modes.specs.declared.part.KeyPart.TheVariants as key
@@ -12,6 +12,7 @@ use Rattle.krl_messages.specs.Values.{Value}
 use Rattle.krl_messages.specs.Holdings.{same, has_its_value}
 use Rattle.krl_messages.specs.Several.{have_values}
 use Rattle.krl_messages.specs.Writes.{op_key}
+use Rattle.krl_messages.specs.declared.outcome.Outcome.TheVariants as outcome
 use Rattle.krl_messages.specs.declared.to_client.PushBody.{PushBody}
 use Rattle.krl_messages.specs.declared.to_client.PushBody.TheVariants as push
 use Rattle.krl_client.specs.Messages.{fits}
@@ -22,6 +23,7 @@ use Rattle.krl_table.specs.Grants.{taken_by, taken_after, granted}
 use Rattle.krl_table.specs.Replies.{asks_absent}
 use Rattle.krl_server.specs.declared.session.Session.{Session}
 use Rattle.krl_server.specs.Servers.{blank_session, set_session}
+use Rattle.krl_server.specs.Effects as effects
 use Rattle.krl_server.specs.Effects.{holding, holdings, shown, pushes, with_rows, answers}
 use Rattle.krl_server.specs.Answering.{tells_absent, grants as grants_first}
 use Rattle.krl_server.specs.Soundness.{IsSound}
@@ -112,6 +114,12 @@ effect_fits s m (Judges number op o) e i h =
     let near : Near (effect s m (Judges number op o)).server = subst (λ k. Near (effect s m k).server) e (server_keeps.sound_effect s m i).near in
     answers_fit (writes (acknowledged s m.client) m.client op o) m.client number op o
     (subst (λ (d : Durable). (q : ℕ) → END ≤ q → map.get d.index q ≡ None) (pushes_durable (writes (acknowledged s m.client) m.client op o) m.client _) near)
+    (acked_fits s m.client h)
+effect_fits s m (TakesLock number op) e i h =
+    let near : Near (effect s m (TakesLock number op)).server = subst (λ k. Near (effect s m k).server) e (server_keeps.sound_effect s m i).near in
+    let t = writes (acknowledged (effects.takes s m.client op) m.client) m.client op outcome.Applied in
+    answers_fit t m.client number op outcome.Applied
+    (subst (λ (d : Durable). (q : ℕ) → END ≤ q → map.get d.index q ≡ None) (pushes_durable t m.client _) near)
     (acked_fits s m.client h)
 effect_fits s m (AnswersAgain number op o) e i h = answers_fit (acknowledged s m.client) m.client number op o i.near (acked_fits s m.client h)
 

@@ -1,12 +1,13 @@
 -- What a message makes of the first waiter of a slot.
-use Rattle.krl_progress.proofs.Names.{◌≡◌, ◌≢◌, ℕ, suc, ◌<◌, ◌∙◌, inl, true, false, not, ◌&&◌, Option, Some, None, List, [], ◌∷◌, ◌++◌, refl, sym, ap, subst, arith, nat_lt, if◌then◌else◌, eq_cases, ne_eqb, and_parts, ltb-false, END}
-use Rattle.krl_progress.proofs.Names.{ToServer, In, Server, Durable, Record, is_recovering, lists, case_of, Done, effect, acknowledged, writes, pushes, Registers, Leaves, Judges, Waits, Index, Rows, slot_of, span_of, is_slot, op_key, holding, WriteOp}
+use Rattle.krl_progress.proofs.Names.{◌≡◌, ◌≢◌, ℕ, suc, ◌<◌, ◌∙◌, inl, true, false, not, ◌&&◌, Option, Some, None, List, [], ◌∷◌, ◌++◌, refl, sym, ap, subst, arith, nat_lt, if◌then◌else◌, eq_cases, ne_eqb, is_some, and_parts, ltb-false, END}
+use Rattle.krl_progress.proofs.Names.{ToServer, In, Server, Durable, Record, is_recovering, lists, case_of, Done, effect, acknowledged, writes, pushes, Registers, Leaves, Judges, TakesLock, Waits, Index, Rows, slot_of, span_of, is_slot, op_key, holding, WriteOp}
 use Rattle.krl_modes.specs.declared.mode.Mode.{Mode}
 use Rattle.krl_modes.specs.declared.mode.Mode.TheVariants as mode
 use Rattle.krl_modes.specs.Modes.{at_most, meet, range_of, key_of}
 use Rattle.krl_modes.specs.Parts.{lets_insert, is_key_X, is_range_X}
 use Rattle.krl_modes.specs.Spans.{Bounds, within}
-use Rattle.krl_modes.proofs.Basics.{not_both}
+use Rattle.std.specs.FinMap as map
+use Rattle.krl_modes.proofs.Basics.{not_both, None-if_not_some}
 use Rattle.krl_messages.specs.declared.outcome.Outcome.{Outcome}
 use Rattle.krl_messages.specs.declared.outcome.Outcome.TheVariants as outcome
 use Rattle.krl_messages.specs.declared.write_op.WriteOp.TheVariants as write
@@ -14,19 +15,28 @@ use Rattle.krl_messages.specs.declared.to_client.PushBody.{PushBody}
 use Rattle.krl_messages.specs.declared.to_client.PushBody.TheVariants as push
 use Rattle.krl_queue.specs.declared.waiter.Waiter.{Waiter}
 use Rattle.krl_durable.specs.Registers.{record_of, left_by}
-use Rattle.krl_durable.specs.Writes.{applied_by, index_after}
+use Rattle.krl_durable.specs.Writes.{applied_by, index_after, written}
 use Rattle.krl_table.specs.Rows.{Row, mode_at, set_row}
 use Rattle.krl_table.specs.Calls.{with_mode, with_queue, queue_with, unqueue, cleared}
+use Rattle.krl_table.specs.Grants.{nobody_waits}
+use Rattle.krl_table.proofs.Rows.Slots.{no_slot}
 use Rattle.krl_server.specs.declared.session.Session.{Session}
 use Rattle.krl_server.specs.Cases.{judged}
+use Rattle.krl_server.specs.Effects as effects
+use Rattle.krl_server.specs.Effects.{rows_written}
+use Rattle.krl_server.specs.Takes.{lock_for, may_take}
 use Rattle.krl_server.specs.Soundness.{IsSound}
 use Rattle.krl_server.proofs.Tests.{if_both, if_case}
 use Rattle.krl_server.proofs.Cased.{by_case}
 use Rattle.krl_server.proofs.Updates.{row_here, row_other, session_here}
+use Rattle.krl_server.proofs.Grants.{raised_queue}
+use Rattle.krl_server.proofs.Invariant.Placed.{two_rows}
+use Rattle.krl_server.proofs.Invariant.TakesSound.{MayTake, take_is}
 use Rattle.krl_server.proofs.Invariant.WritesSound.{insert_may, change_may}
 use Rattle.krl_progress.specs.Standstills.{HasPart, holds}
 use Rattle.krl_progress.proofs.WritesMove.{nobody_listed}
 use Rattle.krl_progress.proofs.Queues.{Stands, cleared_away}
+use Rattle.krl_progress.proofs.Spans.{slot_kept, span_kept}
 
 -- Whoever holds or waits for something has no push and no lock request taken, and waits on if it waited.
 pub record IsStill (old new : Server) : Type 0 where
@@ -124,6 +134,35 @@ module _ (n : ℕ) (there : Bounds) (u : Waiter) where
     judged_first number op outcome.NotHeld is still = pushed_first (writes (acknowledged s m.client) m.client op outcome.NotHeld) m.client _ (same_index s.durable.index _ s.rows (applied_index s.durable m.client op outcome.NotHeld (record_of s.durable.register m.client) refl) h)
     judged_first number op outcome.Full is still = pushed_first (writes (acknowledged s m.client) m.client op outcome.Full) m.client _ (same_index s.durable.index _ s.rows (applied_index s.durable m.client op outcome.Full (record_of s.durable.register m.client) refl) h)
 
+    -- a lock is taken where nobody waits, so that u stands on another slot than that of the key
+    taken_on : (op : WriteOp) → op_key op < END → MayTake s m.client op → IsFirstOn (written s.durable.index op) (rows_written s.durable.index (effects.takes s m.client op).rows m.client op)
+    taken_on op under can = by_op op under can (raised_queue s.rows (slot_of s.durable.index (op_key op)) (lock_for m.client op) n ∙ h.first) (λ e. let none = ap (λ j. nobody_waits (s.rows j).queue) e ∙ can.alone in not_both (nobody_waits (s.rows n).queue) none (ap nobody_waits h.first))
+      where
+        by_op : (op : WriteOp) → op_key op < END → MayTake s m.client op → ((effects.takes s m.client op).rows n).queue ≡ u ∷ h.behind → n ≢ slot_of s.durable.index (op_key op) → IsFirstOn (written s.durable.index op) (rows_written s.durable.index (effects.takes s m.client op).rows m.client op)
+        by_op (write.Insert k v) lt can queue other = record {
+          slot = slot_kept s.durable.index sound.near k v lt n h.slot other;
+          span = span_kept s.durable.index sound.near k v lt n h.slot other ∙ h.span;
+          behind = h.behind;
+          first = two_rows (effects.takes s m.client (write.Insert k v)).rows (slot_of s.durable.index k) k n _ _ (λ (r : Row). r.queue ≡ u ∷ h.behind)
+              (λ e. absurd (not_both (is_slot s.durable.index n) h.slot (ap (is_slot s.durable.index) e ∙ free)))
+              (λ ne e. absurd (other e))
+              (λ ne no. queue);
+        }
+          where
+            free : is_slot s.durable.index k ≡ false
+            free = no_slot s.durable.index k (λ e. omega (arith, e, lt)) (None-if_not_some (map.get s.durable.index k) (insert_may (is_some (map.get s.durable.index k)) true _ can.applied).0)
+        by_op (write.Put k v) lt can queue other = record {
+          slot = slot_kept s.durable.index sound.near k v lt n h.slot other;
+          span = span_kept s.durable.index sound.near k v lt n h.slot other ∙ h.span;
+          behind = h.behind;
+          first = queue;
+        }
+        by_op (write.Delete k) lt can queue other = absurd (let e = can.lock in cc)
+
+    taken_first : (number : ℕ) (op : WriteOp) (r : Record) → record_of s.durable.register m.client ≡ Some r → op_key op < END → may_take s m.client op ≡ true → IsFirstIn (effect s m (TakesLock number op)).server
+    taken_first number op r known under may = let y = writes (acknowledged (effects.takes s m.client op) m.client) m.client op outcome.Applied in
+        pushed_first y m.client _ (same_index (written s.durable.index op) y.durable.index y.rows (ap (λ o. (applied_by s.durable m.client op outcome.Applied o).index) known) (taken_on op under (take_is s m.client op may)))
+
     pub effect_first : IsStill s (effect s m (case_of s m)).server → IsFirstIn (effect s m (case_of s m)).server
     effect_first = by_case s m (λ k. IsStill s (effect s m k).server → IsFirstIn (effect s m k).server)
         (record {
@@ -143,6 +182,7 @@ module _ (n : ℕ) (there : Bounds) (u : Waiter) where
           };
           waits = λ r req point hi g served new free near y. queued_first req point hi g new y;
           judges = λ r number op o served under near new is y. judged_first number op o is y;
+          takes = λ r number op served under near new may y. taken_first number op r served.from.known under may;
           answers_again = λ r number op o served under some last is y. pushed_first (acknowledged s m.client) m.client _ (record { slot = h.slot; span = h.span; behind = h.behind; first = h.first });
         })
       where

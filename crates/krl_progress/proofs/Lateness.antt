@@ -1,13 +1,15 @@
 -- Calm rounds leave no lock request untaken: a request that is untaken after two of them was so all the time.
 use Rattle.krl_progress.proofs.Names.{◌≡◌, ◌≢◌, ℕ, zero, suc, ◌≤◌, ◌<◌, inl, inr, ◌∙◌, true, false, Some, None, List, [], ◌∷◌, length, refl, sym, ap, subst, arith, eq_cases, eq-eqb, ne_eqb, cond, nat_lt, END}
-use Rattle.krl_progress.proofs.Names.{ToServer, ToClient, Client, Server, Step, Answer, Up, Down, State, ClientPlace, client_of, with_client, served, Runs, Takes, IsReachable, ServerStep, Done, effect, case_of, kind_of, acknowledged, writes, pushes, Lowers, Judges, AnswersAgain}
+use Rattle.krl_progress.proofs.Names.{ToServer, ToClient, Client, Server, Step, Answer, Up, Down, State, ClientPlace, client_of, with_client, served, Runs, Takes, IsReachable, ServerStep, Done, effect, case_of, kind_of, acknowledged, writes, pushes, Lowers, Judges, TakesLock, AnswersAgain}
 use Rattle.krl_modes.proofs.Basics.{not_both}
 use Rattle.krl_client.specs.Clients.{is_waiting, begun}
 use Rattle.krl_client.specs.Messages.{accepted}
+use Rattle.krl_messages.specs.declared.outcome.Outcome.TheVariants as outcome
 use Rattle.krl_messages.specs.declared.to_client.PushBody.{PushBody}
 use Rattle.krl_steps.specs.declared.applied_write.AppliedWrite.{AppliedWrite}
 use Rattle.krl_server.specs.declared.session.Session.{Session}
 use Rattle.krl_server.specs.Servers.{incarnation_of, incarnation_or_0}
+use Rattle.krl_server.specs.Effects as effects
 use Rattle.krl_server.proofs.Tests.{if_both}
 use Rattle.krl_server.proofs.Cased.{by_said}
 use Rattle.krl_server.proofs.Updates.{session_here, record_here}
@@ -58,8 +60,9 @@ own_request s m = let c = m.client in let t = acknowledged s m.client in by_said
   lowers = λ r request span keep a. same_request s (effect s m (Lowers span keep)).server m.client (acked_request s m.client);
   waits = λ r request req point hi g a new free near inc.
       let y = ap (λ (z : Session). z.last_request) (session_here t.sessions m.client (record (t.sessions m.client) { last_request = req })) in omega (arith, y, new);
-  judges = λ r request number op o a under near new is. same_request s (effect s m (Judges number op o)).server m.client (pushes_request (writes t m.client op o) m.client _ ∙ acked_request s m.client);
-  answers_again = λ r request number op o a under some last is. same_request s (effect s m (AnswersAgain number op o)).server m.client (pushes_request t m.client _ ∙ acked_request s m.client);
+  judges = λ r request number op takes o a under near new is. same_request s (effect s m (Judges number op o)).server m.client (pushes_request (writes t m.client op o) m.client _ ∙ acked_request s m.client);
+  takes = λ r request number op takes a under near new may. same_request s (effect s m (TakesLock number op)).server m.client (pushes_request (writes (acknowledged (effects.takes s m.client op) m.client) m.client op outcome.Applied) m.client _ ∙ acked_request s m.client);
+  answers_again = λ r request number op takes o a under some last is. same_request s (effect s m (AnswersAgain number op o)).server m.client (pushes_request t m.client _ ∙ acked_request s m.client);
 })
 
 effect_rises : (s : Server) (m : ToServer) (c : ℕ) → Rises s (effect s m (case_of s m)).server c

@@ -1,16 +1,18 @@
 -- What a message makes of a client's session: its pushes have rising numbers.
 use Rattle.krl_progress.proofs.Names.{◌≡◌, ℕ, suc, ◌<◌, ◌∙◌, Some, None, List, refl, sym, ap, subst, arith, nat_lt, eq_cases, END}
-use Rattle.krl_progress.proofs.Names.{ToServer, ToClient, Server, Durable, record_of, case_of, Done, effect, acknowledged, writes, pushes, Judges, AnswersAgain, Turn, next_turn, answer_first, Answered, stops, goes_on, Kind, kind_of, Ends, at_once, recovers, serves, ServerStep}
+use Rattle.krl_progress.proofs.Names.{ToServer, ToClient, Server, Durable, record_of, case_of, Done, effect, acknowledged, writes, pushes, Judges, TakesLock, AnswersAgain, Turn, next_turn, answer_first, Answered, stops, goes_on, Kind, kind_of, Ends, at_once, recovers, serves, ServerStep}
+use Rattle.krl_messages.specs.declared.outcome.Outcome.TheVariants as outcome
 use Rattle.krl_messages.specs.declared.to_client.PushBody.{PushBody}
 use Rattle.krl_server.specs.declared.session.Session.{Session}
 use Rattle.krl_server.specs.Servers.{incarnation_of, incarnation_or_0}
+use Rattle.krl_server.specs.Effects as effects
 use Rattle.krl_server.proofs.Tests.{if_both}
 use Rattle.krl_server.proofs.Cased.{by_said}
 use Rattle.krl_server.proofs.Updates.{session_here, record_here}
 use Rattle.krl_server.proofs.Outputs.Ends.{pushes_durable}
 use Rattle.krl_server.proofs.Invariant.Kept.{server_keeps}
 use Rattle.krl_progress.proofs.AtOnce.{turn_sessions}
-use Rattle.krl_progress.proofs.Knowing.{other_inc, other_session, turn_pushes, judged_inc, left_same}
+use Rattle.krl_progress.proofs.Knowing.{other_inc, other_session, turn_pushes, judged_inc, taken_inc, left_same}
 
 -- from s to t the client is registered again; or no push is made to it; or its pushes continue
 pub data Later (s t : Server) (c : ℕ) : Type 0 where
@@ -58,12 +60,17 @@ own_later s m = let c = m.client in let t = acknowledged s m.client in by_said s
       let x = session_here s.sessions m.client (record (s.sessions m.client) { unacked = None }) in
       let y = session_here t.sessions m.client (record (t.sessions m.client) { last_request = req }) in
       kept refl (ap (λ (z : Session). z.last_push) y ∙ ap (λ (z : Session). z.last_push) x) (λ b e. absurd (let bad : None ≡ Some b = sym (ap (λ (z : Session). z.unacked) y ∙ ap (λ (z : Session). z.unacked) x) ∙ e in cc));
-  judges = λ r request number op o a under near new is. let w = writes t m.client op o in
+  judges = λ r request number op takes o a under near new is. let w = writes t m.client op o in
       let x = session_here s.sessions m.client (record (s.sessions m.client) { unacked = None }) in
       then s w (effect s m (Judges number op o)).server m.client
       (acked s w m.client (sym (ap (λ (d : Durable). incarnation_or_0 (record_of d.register m.client)) (pushes_durable w m.client _)) ∙ judged_inc s m number op o m.client) (ap (λ (y : Session). y.last_push) x) (ap (λ (y : Session). y.unacked) x))
       (pushes_later w m.client _);
-  answers_again = λ r request number op o a under some last is. then s t (effect s m (AnswersAgain number op o)).server m.client (acked_here s m.client) (pushes_later t m.client _);
+  takes = λ r request number op takes a under near new may. let w = writes (acknowledged (effects.takes s m.client op) m.client) m.client op outcome.Applied in
+      let x = session_here s.sessions m.client (record (s.sessions m.client) { unacked = None }) in
+      then s w (effect s m (TakesLock number op)).server m.client
+      (acked s w m.client (sym (ap (λ (d : Durable). incarnation_or_0 (record_of d.register m.client)) (pushes_durable w m.client _)) ∙ taken_inc s m number op m.client) (ap (λ (y : Session). y.last_push) x) (ap (λ (y : Session). y.unacked) x))
+      (pushes_later w m.client _);
+  answers_again = λ r request number op takes o a under some last is. then s t (effect s m (AnswersAgain number op o)).server m.client (acked_here s m.client) (pushes_later t m.client _);
 })
 
 pub effect_later : (s : Server) (m : ToServer) (c : ℕ) → Later s (effect s m (case_of s m)).server c

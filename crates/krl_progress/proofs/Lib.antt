@@ -32,6 +32,7 @@ pub mod Blocking
 pub mod BlocksEnd
 pub mod FirstBlocks
 pub mod FirstWaits
+pub mod Spans
 pub mod KeepsFirst
 pub mod Standstill
 pub mod Calming

@@ -1,4 +1,4 @@
--- Who comes to hold or wait for something: whoever did so before, or who asks for a lock.
+-- Who comes to hold or wait for something: whoever did so before, or whose request the server reads.
 use Rattle.krl_progress.proofs.Names.{◌≡◌, ◌≢◌, ℕ, suc, ◌<◌, ◌⊎◌, inl, inr, ⊎_elim, ◌∙◌, Bool, true, false, ◌&&◌, Option, Some, None, List, refl, sym, ap, subst, nat_eq, eqb-true, ne_eqb, same_Some, eq_cases, if◌then◌else◌, END, In}
 use Rattle.krl_progress.proofs.Names.{ToServer, ToClient, WriteOp, Outcome, Record, Server, Durable, record_of, left_by, is_recovering, lists, case_of, Registers, Done, effect, acknowledged, writes, holding, slot_of, span_of, is_slot, op_key, Turn, next_turn, answer_first, Answered, stops, goes_on, Kind, kind_of, Ends, at_once, recovers, serves, ServerStep}
 use Rattle.krl_modes.specs.declared.mode.Mode.{Mode}
@@ -18,15 +18,19 @@ use Rattle.krl_durable.specs.Writes.{applied_by, noted}
 use Rattle.krl_table.specs.Rows.{Row, Rows, mode_at, set_row}
 use Rattle.krl_table.specs.Calls.{with_mode, with_queue, queue_with, mode_beside}
 use Rattle.krl_server.specs.Cases.{judged}
+use Rattle.krl_server.specs.Effects as effects
 use Rattle.krl_server.specs.Effects.{rows_after}
+use Rattle.krl_server.specs.Takes.{lock_for}
 use Rattle.krl_server.specs.Servers.{incarnation_of, incarnation_or_0}
 use Rattle.krl_server.specs.Soundness.{IsSound}
 use Rattle.krl_server.proofs.Tests.{if_both, if_case}
-use Rattle.krl_server.proofs.Cased.{by_case, by_said, IsFrom}
+use Rattle.krl_server.proofs.Cased.{by_said, IsFrom}
 use Rattle.krl_server.proofs.Updates.{row_modes, record_here, record_other}
 use Rattle.krl_server.proofs.Outputs.Ends.{pushes_rows, pushes_durable}
+use Rattle.krl_server.proofs.Grants.{raised_queue, raised_others}
 use Rattle.krl_server.proofs.Invariant.Kept.{server_keeps}
 use Rattle.krl_server.proofs.Invariant.Placed.{two_rows}
+use Rattle.krl_server.proofs.Invariant.TakesSound.{take_is, take_judged}
 use Rattle.krl_server.proofs.Invariant.WaitersAfter as after
 use Rattle.krl_progress.specs.Standstills.{HasPart, holds, waits}
 use Rattle.krl_progress.proofs.WritesMove.{nobody_listed}
@@ -57,8 +61,9 @@ asker s m = by_said s m (λ k. after.asks k ≡ true → IsAsker s m) (record {
   acknowledges = λ r request b a e. absurd (cc);
   lowers = λ r request span keep a e. absurd (cc);
   waits = λ r request req point hi g a new free near e. record { known = r; from = a.served.from; request = request; said = a.said; now = a.now };
-  judges = λ r request number op o a under near new is e. absurd (cc);
-  answers_again = λ r request number op o a under some last is e. absurd (cc);
+  judges = λ r request number op takes o a under near new is e. absurd (cc);
+  takes = λ r request number op takes a under near new may e. absurd (cc);
+  answers_again = λ r request number op takes o a under some last is e. absurd (cc);
 })
 
 -- What a message makes of what a client holds
@@ -106,41 +111,57 @@ written_part s d c op outcome.Absent e n = λ held. holds n held
 written_part s d c op outcome.NotHeld e n = λ held. holds n held
 written_part s d c op outcome.Full e n = λ held. holds n held
 
-effect_held : (s : Server) (m : ToServer) (c : ℕ) → is_recovering s.missing ≡ false → (n : ℕ) → Held s c (mode_at (effect s m (case_of s m)).server.rows n c)
-effect_held s m c up = let t = acknowledged s m.client in by_case s m (λ k. (n : ℕ) → Held s c (mode_at (effect s m k).server.rows n c))
+-- a client that takes a lock makes no other client hold anything
+taken_part : (s : Server) (d c : ℕ) (op : WriteOp) → c ≢ d → HasPart (effects.takes s d op) c → HasPart s c
+taken_part s d c op ne (holds n held) = holds n (λ none. held (sym (raised_others s.rows (slot_of s.durable.index (op_key op)) (lock_for d op) c ne n) ∙ none))
+taken_part s d c op ne (waits n u at own) = waits n u (subst (In u) (raised_queue s.rows (slot_of s.durable.index (op_key op)) (lock_for d op) n) at) own
+
+-- whoever holds this held something before, or has sent this request
+abbrev Gets : Server → ToServer → ℕ → Mode → Type 0
+Gets s m c g = g ≢ mode.N → HasPart s c ⊎ ((c ≡ m.client) × IsAsker s m)
+
+effect_gets : (s : Server) (m : ToServer) (c : ℕ) → IsSound s → is_recovering s.missing ≡ false → (n : ℕ) → Gets s m c (mode_at (effect s m (case_of s m)).server.rows n c)
+effect_gets s m c i up = let t = acknowledged s m.client in by_said s m (λ k. (n : ℕ) → Gets s m c (mode_at (effect s m k).server.rows n c))
     (record {
       ignored = same;
       registers = λ near newer body. cleared;
-      leaves = λ r from. cleared;
+      leaves = λ r from body. cleared;
       tells = same;
-      alarms = same;
-      rebuilds = λ r epoch pieces from now missing fine n held. absurd (not_both (lists s.missing m.client) missing (nobody_listed s.missing m.client up));
+      alarms = λ r epoch pieces from body now missing bad. same;
+      rebuilds = λ r epoch pieces from body now missing fine n held. absurd (not_both (lists s.missing m.client) missing (nobody_listed s.missing m.client up));
       repeats = λ r body served unacked. same;
-      acknowledges = λ r served. same;
-      lowers = λ r span keep served n. if_both (λ (x : Row). Held s c (x.modes c)) (is_slot s.durable.index n && within (span_of s.durable.index n) span) (with_mode (s.rows n) m.client (meet (mode_at s.rows n m.client) keep)) (s.rows n)
+      acknowledges = λ r request b a. same;
+      lowers = λ r request span keep a n held. inl (if_both (λ (x : Row). Held s c (x.modes c)) (is_slot s.durable.index n && within (span_of s.durable.index n) span) (with_mode (s.rows n) m.client (meet (mode_at s.rows n m.client) keep)) (s.rows n)
           (if_case (Held s c) (nat_eq c m.client) (meet (mode_at s.rows n m.client) keep) (mode_at s.rows n c)
           (λ yes held. subst (HasPart s) (sym (eqb-true c m.client yes)) (holds n (λ none. held (ap (λ g. meet g keep) none ∙ meet_nothing keep))))
           (λ not held. holds n held))
-          (λ held. holds n held);
-      waits = λ r req point hi g served new free near n held. let w : Waiter = record { client = m.client; req = req; point = point; hi = hi; mode = g } in
+          (λ held. holds n held) held);
+      waits = λ r request req point hi g a new free near n held. let w : Waiter = record { client = m.client; req = req; point = point; hi = hi; mode = g } in
           let k = slot_of s.durable.index point in
-          holds n (λ none. held (sym (row_modes s.rows k (with_queue (s.rows k) (queue_with (s.rows k) w)) c refl n) ∙ none));
-      judges = λ r number op o served under near new is n. let y = writes t m.client op o in
-          subst (λ (rows : Rows). Held s c (mode_at rows n c)) (sym (pushes_rows y m.client (push.Answer number o (holding y (slot_of y.durable.index (op_key op)) m.client)))) (written_part s m.client c op o is n);
-      answers_again = λ r number op o served under some last is n.
-          subst (λ (rows : Rows). Held s c (mode_at rows n c)) (sym (pushes_rows t m.client (push.Answer number o (holding t (slot_of t.durable.index (op_key op)) m.client)))) (λ held. holds n held);
+          inl (holds n (λ none. held (sym (row_modes s.rows k (with_queue (s.rows k) (queue_with (s.rows k) w)) c refl n) ∙ none)));
+      judges = λ r request number op takes o a under near new is n held. let y = writes t m.client op o in
+          inl (subst (λ (rows : Rows). Held s c (mode_at rows n c)) (sym (pushes_rows y m.client (push.Answer number o (holding y (slot_of y.durable.index (op_key op)) m.client)))) (written_part s m.client c op o is n) held);
+      takes = λ r request number op takes a under near new may n held. let x = effects.takes s m.client op in
+          let y = writes (acknowledged x m.client) m.client op outcome.Applied in
+          eq_cases c m.client
+          (λ own. inr (own, record { known = r; from = a.served.from; request = request; said = a.said; now = a.now }))
+          (λ ne. inl (taken_part s m.client c op ne
+          (subst (λ (rows : Rows). Held x c (mode_at rows n c)) (sym (pushes_rows y m.client (push.Answer number outcome.Applied (holding y (slot_of y.durable.index (op_key op)) m.client))))
+          (written_part x m.client c op outcome.Applied (take_judged s m.client op i under (take_is s m.client op may)) n) held)));
+      answers_again = λ r request number op takes o a under some last is n held.
+          inl (subst (λ (rows : Rows). Held s c (mode_at rows n c)) (sym (pushes_rows t m.client (push.Answer number o (holding t (slot_of t.durable.index (op_key op)) m.client)))) (λ held. holds n held) held);
     })
   where
-    same : (n : ℕ) → Held s c (mode_at s.rows n c)
-    same n held = holds n held
+    same : (n : ℕ) → Gets s m c (mode_at s.rows n c)
+    same n held = inl (holds n held)
 
-    cleared : (n : ℕ) → Held s c (if nat_eq c m.client then mode.N else mode_at s.rows n c)
-    cleared n = if_both (Held s c) (nat_eq c m.client) mode.N (mode_at s.rows n c) (λ held. absurd (held refl)) (λ held. holds n held)
+    cleared : (n : ℕ) → Gets s m c (if nat_eq c m.client then mode.N else mode_at s.rows n c)
+    cleared n = if_both (Gets s m c) (nat_eq c m.client) mode.N (mode_at s.rows n c) (λ held. absurd (held refl)) (λ held. inl (holds n held))
 
 -- After a message
 
 effect_part : (s : Server) (m : ToServer) (c : ℕ) → IsSound s → is_recovering s.missing ≡ false → HasPart (effect s m (case_of s m)).server c → HasPart s c ⊎ ((c ≡ m.client) × IsAsker s m)
-effect_part s m c i up (holds n held) = inl (effect_held s m c up n held)
+effect_part s m c i up (holds n held) = effect_gets s m c i up n held
 effect_part s m c i up (waits n u at own) = ⊎_elim
     (λ (z : (j : ℕ) × In u (s.rows j).queue). inl (waits z.0 u z.1 own))
     (λ (z : (after.asks (case_of s m) ≡ true) × (u.client ≡ m.client) × after.IsAsked m u (case_of s m)). inr (sym own ∙ z.1, asker s m z.0))
@@ -206,9 +227,11 @@ effect_was s m e = let t = acknowledged s m.client in by_said s m (λ k. WasIn s
   acknowledges = λ r request b a. same;
   lowers = λ r request span keep a. same;
   waits = λ r request req point hi g a new free near. same;
-  judges = λ r request number op o a under near new is. let y = writes t m.client op o in
+  judges = λ r request number op takes o a under near new is. let y = writes t m.client op o in
       subst (λ d. WasIn s.durable d e) (sym (pushes_durable y m.client (push.Answer number o (holding y (slot_of y.durable.index (op_key op)) m.client)))) (applied_was s.durable m.client e op o (record_of s.durable.register m.client) refl);
-  answers_again = λ r request number op o a under some last is.
+  takes = λ r request number op takes a under near new may. let y = writes (acknowledged (effects.takes s m.client op) m.client) m.client op outcome.Applied in
+      subst (λ d. WasIn s.durable d e) (sym (pushes_durable y m.client (push.Answer number outcome.Applied (holding y (slot_of y.durable.index (op_key op)) m.client)))) (applied_was s.durable m.client e op outcome.Applied (record_of s.durable.register m.client) refl);
+  answers_again = λ r request number op takes o a under some last is.
       subst (λ d. WasIn s.durable d e) (sym (pushes_durable t m.client (push.Answer number o (holding t (slot_of t.durable.index (op_key op)) m.client)))) same;
 })
   where

@@ -1,14 +1,16 @@
 -- A push that is on its way is one that its client waits for, and what a server does keeps that.
-use Rattle.krl_progress.proofs.Names.{◌≡◌, ℕ, suc, ◌≤◌, ◌∙◌, true, Some, None, is_some, List, sym, ap, subst, arith, nat_lt, eq_cases, eqb-true, same_Some, END}
-use Rattle.krl_progress.proofs.Names.{ToServer, ToClient, Client, Record, Server, Durable, Case, Registers, Leaves, Acknowledges, Lowers, Waits, Judges, AnswersAgain, case_of, Done, effect, acknowledged, writes, pushes, Turn, next_turn, answer_first, Answered, stops, goes_on, Kind, kind_of, Ends, at_once, recovers, serves, ServerStep}
+use Rattle.krl_progress.proofs.Names.{◌≡◌, ℕ, suc, ◌≤◌, ◌∙◌, true, Some, None, is_some, Bool, List, sym, ap, subst, arith, nat_lt, eq_cases, eqb-true, same_Some, END}
+use Rattle.krl_progress.proofs.Names.{ToServer, ToClient, Client, Record, Server, Durable, Case, Registers, Leaves, Acknowledges, Lowers, Waits, Judges, TakesLock, AnswersAgain, case_of, Done, effect, acknowledged, writes, pushes, Turn, next_turn, answer_first, Answered, stops, goes_on, Kind, kind_of, Ends, at_once, recovers, serves, ServerStep}
 use Rattle.krl_messages.specs.declared.to_server.ToServerBody.TheVariants as said
 use Rattle.krl_messages.specs.declared.to_server.Request.{Request}
+use Rattle.krl_messages.specs.declared.outcome.Outcome.TheVariants as outcome
 use Rattle.krl_messages.specs.declared.to_client.PushBody.{PushBody}
 use Rattle.krl_messages.specs.declared.to_client.PushBody.TheVariants as push
 use Rattle.krl_messages.specs.declared.write_op.WriteOp.{WriteOp}
 use Rattle.krl_client.specs.Clients.{is_waiting, outstanding}
 use Rattle.krl_server.specs.declared.session.Session.{Session}
 use Rattle.krl_server.specs.Servers.{incarnation_or_0, blank_session}
+use Rattle.krl_server.specs.Effects as effects
 use Rattle.krl_server.specs.Soundness.{IsSound}
 use Rattle.krl_server.specs.Invariant.{IsOrdered}
 use Rattle.krl_server.proofs.Tests.{if_both}
@@ -51,8 +53,8 @@ module _ (s : Server) (m : ToServer) (k : Client) (i : IsSound s) (f : Heard s m
   acked : ((acknowledged s m.client).sessions m.client).unacked ≡ None
   acked = ap (λ (x : Session). x.unacked) (session_here s.sessions m.client (record (s.sessions m.client) { unacked = None }))
 
-  awaits : (r : Record) (request : Request) (number : ℕ) (op : WriteOp) → IsAsked s m r request (asked.Write number op) → k.epoch ≡ s.durable.epoch → (is_some (outstanding k.written) ≡ true) × (number ≡ k.writes)
-  awaits r request number op a e =
+  awaits : (r : Record) (request : Request) (number : ℕ) (op : WriteOp) (takes : Bool) → IsAsked s m r request (asked.Write number op takes) → k.epoch ≡ s.durable.epoch → (is_some (outstanding k.written) ≡ true) × (number ≡ k.writes)
+  awaits r request number op takes a e =
       let from = a.served.from in
       let inc = from.same ∙ sym (ap incarnation_or_0 from.known) ∙ f.own e in
       let at_most = (f.requests inc request a.said).1 (a.now ∙ sym e) in
@@ -73,8 +75,9 @@ module _ (s : Server) (m : ToServer) (k : Client) (i : IsSound s) (f : Heard s m
     acknowledges = λ r request b a e. none_comes ((effect s m Acknowledges).server.sessions m.client) k acked;
     lowers = λ r request span keep a e. none_comes ((effect s m (Lowers span keep)).server.sessions m.client) k acked;
     waits = λ r request req point hi g a new free near e. none_comes ((effect s m (Waits req point hi g)).server.sessions m.client) k (ap (λ (x : Session). x.unacked) (session_here (acknowledged s m.client).sessions m.client (record ((acknowledged s m.client).sessions m.client) { last_request = req })) ∙ acked);
-    judges = λ r request number op o a under near new is e. pushes_comes (writes (acknowledged s m.client) m.client op o) m.client k _ acked (awaits r request number op a (e ∙ effect_epoch s m (Judges number op o)));
-    answers_again = λ r request number op o a under some last is e. pushes_comes (acknowledged s m.client) m.client k _ acked (awaits r request number op a (e ∙ effect_epoch s m (AnswersAgain number op o)));
+    judges = λ r request number op takes o a under near new is e. pushes_comes (writes (acknowledged s m.client) m.client op o) m.client k _ acked (awaits r request number op takes a (e ∙ effect_epoch s m (Judges number op o)));
+    takes = λ r request number op takes a under near new may e. pushes_comes (writes (acknowledged (effects.takes s m.client op) m.client) m.client op outcome.Applied) m.client k _ acked (awaits r request number op takes a (e ∙ effect_epoch s m (TakesLock number op)));
+    answers_again = λ r request number op takes o a under some last is e. pushes_comes (acknowledged s m.client) m.client k _ acked (awaits r request number op takes a (e ∙ effect_epoch s m (AnswersAgain number op o)));
   })
 
 effect_pending : (s : Server) (m : ToServer) (c : ℕ) (k : Client) → IsSound s → (m.client ≡ c → Heard s m k) → (m.client ≡ c → Writes m k) → Knows s c k → Pending s c k → Pending (effect s m (case_of s m)).server c k

@@ -21,17 +21,20 @@ use Rattle.krl_table.proofs.Invariant.Stands.{filter_in, unqueue_in, queue_with_
 use Rattle.krl_table.proofs.Invariant.Alone.{times_more, times_none}
 use Rattle.krl_table.proofs.Rows.Waiters.{some_first}
 use Rattle.krl_server.specs.Cases.{judged}
+use Rattle.krl_server.specs.Effects as effects
 use Rattle.krl_server.specs.Effects.{rows_after, with_rows}
+use Rattle.krl_server.specs.Takes.{lock_for}
 use Rattle.krl_server.specs.Answering.{tells_absent, grants}
 use Rattle.krl_server.specs.Soundness.{IsSound}
 use Rattle.krl_server.proofs.Tests.{if_both}
 use Rattle.krl_server.proofs.Cased.{by_case}
-use Rattle.krl_server.proofs.Grants.{granted_queue}
+use Rattle.krl_server.proofs.Grants.{granted_queue, raised_queue}
 use Rattle.krl_server.proofs.Turns.{turn_is, in_row}
 use Rattle.krl_server.proofs.Updates.{row_here, row_other}
 use Rattle.krl_server.proofs.Outputs.Ends.{pushes_rows}
 use Rattle.krl_server.proofs.Invariant.Placed.{two_rows}
 use Rattle.krl_server.proofs.Invariant.WritesSound.{insert_may}
+use Rattle.krl_server.proofs.Invariant.TakesSound.{take_is, take_judged, takes_sound}
 
 -- a waiter of the client stands in a queue
 pub record Stands (rows : Rows) (c : ℕ) (u : Waiter) : Type 0 where
@@ -126,6 +129,11 @@ effect_stays s m c i = let t = acknowledged s m.client in by_case s m (λ k. (m.
       waits = λ r req point hi g served new free near f. queued s.rows (slot_of s.durable.index point) (record { client = m.client; req = req; point = point; hi = hi; mode = g });
       judges = λ r number op o served under near new is f u x. let y = writes t m.client op o in
           subst (λ rows. Stands rows c u) (sym (pushes_rows y m.client (push.Answer number o (holding y (slot_of y.durable.index (op_key op)) m.client)))) (written_stays s m.client c op o i under is u x);
+      takes = λ r number op served under near new may f u x. let t = effects.takes s m.client op in
+          let y = writes (acknowledged t m.client) m.client op outcome.Applied in
+          let there = same_queues s.rows t.rows c (raised_queue s.rows (slot_of s.durable.index (op_key op)) (lock_for m.client op)) u x in
+          subst (λ rows. Stands rows c u) (sym (pushes_rows y m.client (push.Answer number outcome.Applied (holding y (slot_of y.durable.index (op_key op)) m.client))))
+          (written_stays t m.client c op outcome.Applied (takes_sound s m.client op i served.from.client) under (take_judged s m.client op i under (take_is s m.client op may)) u there);
       answers_again = λ r number op o served under some last is f u x.
           subst (λ rows. Stands rows c u) (sym (pushes_rows t m.client (push.Answer number o (holding t (slot_of t.durable.index (op_key op)) m.client)))) x;
     })

@@ -1,4 +1,4 @@
--- What a client holds on a slot rises only by a push.
+-- What a client holds on a slot where somebody waits rises only by a push.
 use Rattle.std.specs.Prelude.{◌-◌}
 use Rattle.krl_progress.proofs.Names.{◌≡◌, ◌≢◌, ℕ, suc, ◌≤◌, ◌<◌, ◌∙◌, Bool, true, false, ◌&&◌, ◌||◌, Some, List, [], ◌∷◌, is_some, refl, sym, ap, subst, arith, nat_eq, eqb-true, END}
 use Rattle.krl_progress.proofs.Names.{ToServer, ToClient, Server, is_recovering, lists, case_of, Done, effect, acknowledged, writes, Turn, next_turn, answer_first, Answered, stops, goes_on, Kind, kind_of, Ends, at_once, recovers, serves, ServerStep, Index, Rows, slot_of, span_of, is_slot, is_compatible, op_key, holding, WriteOp, Durable, record_of}
@@ -18,24 +18,27 @@ use Rattle.krl_messages.specs.declared.to_client.PushBody.TheVariants as push
 use Rattle.krl_queue.specs.declared.waiter.Waiter.{Waiter}
 use Rattle.krl_table.specs.Rows.{Row, mode_at, set_row, set_mode}
 use Rattle.krl_table.specs.Calls.{wanted, with_mode, with_queue, queue_with, raised, raised_on, granted_first, grant_first, dropped, behind_first}
-use Rattle.krl_table.specs.Grants.{granted, granted_by, taken_after}
+use Rattle.krl_table.specs.Grants.{nobody_waits, granted, granted_by, taken_after}
 use Rattle.krl_table.specs.Replies.{asks_absent}
 use Rattle.krl_table.proofs.Rows.Slots.{no_slot}
 use Rattle.krl_table.proofs.Invariant.Compatible.{mode_other}
 use Rattle.krl_server.specs.declared.session.Session.{Session}
 use Rattle.krl_server.specs.Servers.{incarnation_of, incarnation_or_0}
 use Rattle.krl_server.specs.Cases.{judged}
+use Rattle.krl_server.specs.Effects as effects
 use Rattle.krl_server.specs.Effects.{rows_after, with_rows}
+use Rattle.krl_server.specs.Takes.{lock_for}
 use Rattle.krl_server.specs.Answering.{tells_absent, grants}
 use Rattle.krl_server.specs.Soundness.{IsSound}
 use Rattle.krl_server.proofs.Tests.{if_both, if_case}
 use Rattle.krl_server.proofs.Cased.{by_case}
 use Rattle.krl_server.proofs.Grants.{raised_others}
 use Rattle.krl_server.proofs.Turns.{turn_is}
-use Rattle.krl_server.proofs.Updates.{row_modes}
+use Rattle.krl_server.proofs.Updates.{row_modes, row_other}
 use Rattle.krl_server.proofs.Outputs.Ends.{pushes_rows}
 use Rattle.krl_server.proofs.Invariant.Kept.{server_keeps}
 use Rattle.krl_server.proofs.Invariant.Placed.{two_rows}
+use Rattle.krl_server.proofs.Invariant.TakesSound.{take_is, take_judged, takes_sound}
 use Rattle.krl_server.proofs.Invariant.WritesSound.{insert_may}
 use Rattle.krl_world.proofs.Refinement.ServerMoves.{Way, stays, reads, stops as ends, begins, way}
 use Rattle.krl_progress.proofs.Recovers.{same_up}
@@ -66,15 +69,19 @@ low_compatible a b x y low below e =
     mode_compatibility.symmetric a x ∙ two
 
 -- on each slot of the index the client holds no more in the later rows
+abbrev SinksOnAll : Index → Rows → Rows → ℕ → Type 0
+SinksOnAll m rows later c = (n : ℕ) → is_slot m n ≡ true → at_most (mode_at later n c) (mode_at rows n c) ≡ true
+
+-- on each slot where somebody waits it does so: a write takes its lock only where nobody waits
 abbrev pub Sinks : Index → Rows → Rows → ℕ → Type 0
-Sinks m rows later c = (n : ℕ) → is_slot m n ≡ true → at_most (mode_at later n c) (mode_at rows n c) ≡ true
+Sinks m rows later c = (n : ℕ) → is_slot m n ≡ true → nobody_waits (rows n).queue ≡ false → at_most (mode_at later n c) (mode_at rows n c) ≡ true
 
 pub low_same : (a b : Mode) → a ≡ b → at_most a b ≡ true
 low_same a b e = subst (λ x. at_most a x ≡ true) e (low_self a)
 
 -- The effect of a message
 
-written_sinks : (s : Server) (d c : ℕ) (op : WriteOp) (o : Outcome) → IsSound s → op_key op < END → judged s d op ≡ o → Sinks s.durable.index s.rows (rows_after s.durable.index s.rows d op o) c
+written_sinks : (s : Server) (d c : ℕ) (op : WriteOp) (o : Outcome) → IsSound s → op_key op < END → judged s d op ≡ o → SinksOnAll s.durable.index s.rows (rows_after s.durable.index s.rows d op o) c
 written_sinks s d c (write.Insert k v) outcome.Applied i lt e n slot = two_rows s.rows (slot_of s.durable.index k) k n _ _ (λ (r : Row). at_most (r.modes c) (mode_at s.rows n c) ≡ true)
     (λ f. absurd (not_both (is_slot s.durable.index n) slot (ap (is_slot s.durable.index) f ∙ free)))
     (λ no f. low_same ((s.rows (slot_of s.durable.index k)).modes c) (mode_at s.rows n c) (ap (λ x. mode_at s.rows x c) (sym f)))
@@ -105,26 +112,34 @@ pub effect_sinks : (s : Server) (m : ToServer) (c : ℕ) → IsSound s → is_re
 effect_sinks s m c i up = let t = acknowledged s m.client in by_case s m (λ k. Sinks s.durable.index s.rows (effect s m k).server.rows c)
     (record {
       ignored = same;
-      registers = λ near newer body n slot. cleared_low s.rows m.client c n;
-      leaves = λ r from n slot. cleared_low s.rows m.client c n;
+      registers = λ near newer body n slot waited. cleared_low s.rows m.client c n;
+      leaves = λ r from n slot waited. cleared_low s.rows m.client c n;
       tells = same;
       alarms = same;
-      rebuilds = λ r epoch pieces from now missing fine n slot. absurd (not_both (lists s.missing m.client) missing (nobody_listed s.missing m.client up));
+      rebuilds = λ r epoch pieces from now missing fine n slot waited. absurd (not_both (lists s.missing m.client) missing (nobody_listed s.missing m.client up));
       repeats = λ r body served unacked. same;
       acknowledges = λ r served. same;
-      lowers = λ r span keep served n slot. if_both (λ (x : Row). at_most (x.modes c) (mode_at s.rows n c) ≡ true) (is_slot s.durable.index n && within (span_of s.durable.index n) span) (with_mode (s.rows n) m.client (meet (mode_at s.rows n m.client) keep)) (s.rows n)
+      lowers = λ r span keep served n slot waited. if_both (λ (x : Row). at_most (x.modes c) (mode_at s.rows n c) ≡ true) (is_slot s.durable.index n && within (span_of s.durable.index n) span) (with_mode (s.rows n) m.client (meet (mode_at s.rows n m.client) keep)) (s.rows n)
           (lowered_low s.rows m.client c n keep) (low_self (mode_at s.rows n c));
-      waits = λ r req point hi g served new free near n slot. let w : Waiter = record { client = m.client; req = req; point = point; hi = hi; mode = g } in
+      waits = λ r req point hi g served new free near n slot waited. let w : Waiter = record { client = m.client; req = req; point = point; hi = hi; mode = g } in
           let k = slot_of s.durable.index point in
           low_same (mode_at (set_row s.rows k (with_queue (s.rows k) (queue_with (s.rows k) w))) n c) (mode_at s.rows n c) (sym (row_modes s.rows k (with_queue (s.rows k) (queue_with (s.rows k) w)) c refl n));
-      judges = λ r number op o served under near new is n slot. let y = writes t m.client op o in
+      judges = λ r number op o served under near new is n slot waited. let y = writes t m.client op o in
           subst (λ (rows : Rows). at_most (mode_at rows n c) (mode_at s.rows n c) ≡ true) (sym (pushes_rows y m.client (push.Answer number o (holding y (slot_of y.durable.index (op_key op)) m.client)))) (written_sinks s m.client c op o i under is n slot);
-      answers_again = λ r number op o served under some last is n slot.
+      takes = λ r number op served under near new may n slot waited. let x = effects.takes s m.client op in
+          let y = writes (acknowledged x m.client) m.client op outcome.Applied in
+          let can = take_is s m.client op may in
+          let k = slot_of s.durable.index (op_key op) in
+          let apart = row_other s.rows k (with_mode (s.rows k) m.client (wanted (s.rows k) (lock_for m.client op))) n (λ e. not_both (nobody_waits (s.rows n).queue) (ap (λ j. nobody_waits (s.rows j).queue) e ∙ can.alone) waited) in
+          subst (λ (rows : Rows). at_most (mode_at rows n c) (mode_at s.rows n c) ≡ true) (sym (pushes_rows y m.client (push.Answer number outcome.Applied (holding y (slot_of y.durable.index (op_key op)) m.client))))
+          (subst (λ (r : Row). at_most (mode_at y.rows n c) (r.modes c) ≡ true) apart
+          (written_sinks x m.client c op outcome.Applied (takes_sound s m.client op i served.from.client) under (take_judged s m.client op i under can) n slot));
+      answers_again = λ r number op o served under some last is n slot waited.
           subst (λ (rows : Rows). at_most (mode_at rows n c) (mode_at s.rows n c) ≡ true) (sym (pushes_rows t m.client (push.Answer number o (holding t (slot_of t.durable.index (op_key op)) m.client)))) (low_self (mode_at s.rows n c));
     })
   where
     same : Sinks s.durable.index s.rows s.rows c
-    same n slot = low_self (mode_at s.rows n c)
+    same n slot waited = low_self (mode_at s.rows n c)
 
 -- Answers
 
@@ -181,25 +196,25 @@ answered_others s t outs c (goes_on x y turn later e rest) same n =
 ends_sink : (s : Server) (m : Index) (done : Done) (kind : Kind) (t : Server) (outs : List ToClient) (c : ℕ) → Ends done kind t outs → Later s done.server c → incarnation_of t c ≡ incarnation_of s c → (t.sessions c).last_push ≡ (s.sessions c).last_push → Sinks m s.rows done.server.rows c → Sinks m s.rows t.rows c
 ends_sink s m done kind t outs c (at_once i) later inc same h = h
 ends_sink s m done kind t outs c (recovers g) later inc same h = h
-ends_sink s m done kind t outs c (serves u answers ne up a) later inc same h = λ n slot.
+ends_sink s m done kind t outs c (serves u answers ne up a) later inc same h = λ n slot waited.
     let one = unpushed s done.server c later (sym (same_incarnation done.server u c (answered_durable done.server u answers a)) ∙ inc) in
     let two = unpushed done.server u c (answered_later done.server u answers c a) (same_incarnation done.server u c (answered_durable done.server u answers a)) in
-    subst (λ g. at_most g (mode_at s.rows n c) ≡ true) (sym (answered_others done.server u answers c a (omega (arith, one, two, same)) n)) (h n slot)
+    subst (λ g. at_most g (mode_at s.rows n c) ≡ true) (sym (answered_others done.server u answers c a (omega (arith, one, two, same)) n)) (h n slot waited)
 
 -- a client to which a message brings no push holds no more than before
 pub step_sinks : (s t : Server) (m : ToServer) (outs : List ToClient) (c : ℕ) → IsSound s → is_recovering s.missing ≡ false → ServerStep s m t outs → incarnation_of t c ≡ incarnation_of s c → (t.sessions c).last_push ≡ (s.sessions c).last_push → Sinks s.durable.index s.rows t.rows c
 step_sinks s t m outs c i up step inc same = ends_sink s s.durable.index (effect s m (case_of s m)) (kind_of (case_of s m)) t outs c step (effect_later s m c) inc same (effect_sinks s m c i up)
 
--- what a waiter wants sinks with what its client holds, and who is compatible with it stays so
-pub wanted_sinks : (s t : Server) (n : ℕ) (u : Waiter) → Sinks s.durable.index s.rows t.rows u.client → is_slot s.durable.index n ≡ true → at_most (wanted (t.rows n) u) (wanted (s.rows n) u) ≡ true
-wanted_sinks s t n u h slot = low_join (mode_at t.rows n u.client) (mode_at s.rows n u.client) u.mode (h n slot)
+-- what a waiter wants there sinks with what its client holds, and who is compatible with it stays so
+pub wanted_sinks : (s t : Server) (n : ℕ) (u : Waiter) → Sinks s.durable.index s.rows t.rows u.client → is_slot s.durable.index n ≡ true → nobody_waits (s.rows n).queue ≡ false → at_most (wanted (t.rows n) u) (wanted (s.rows n) u) ≡ true
+wanted_sinks s t n u h slot waited = low_join (mode_at t.rows n u.client) (mode_at s.rows n u.client) u.mode (h n slot waited)
 
-pub stays_compatible : (s t : Server) (n : ℕ) (u : Waiter) (d : ℕ) → Sinks s.durable.index s.rows t.rows u.client → Sinks s.durable.index s.rows t.rows d → is_slot s.durable.index n ≡ true → is_compatible s n u d ≡ true → is_compatible t n u d ≡ true
-stays_compatible s t n u d own other slot e = by_test (nat_eq d u.client) e
+pub stays_compatible : (s t : Server) (n : ℕ) (u : Waiter) (d : ℕ) → Sinks s.durable.index s.rows t.rows u.client → Sinks s.durable.index s.rows t.rows d → is_slot s.durable.index n ≡ true → nobody_waits (s.rows n).queue ≡ false → is_compatible s n u d ≡ true → is_compatible t n u d ≡ true
+stays_compatible s t n u d own other slot waited e = by_test (nat_eq d u.client) e
   where
     by_test : (b : Bool) → (b || compatible (wanted (s.rows n) u) (mode_at s.rows n d)) ≡ true → (b || compatible (wanted (t.rows n) u) (mode_at t.rows n d)) ≡ true
     by_test true f = refl
-    by_test false f = low_compatible (wanted (t.rows n) u) (wanted (s.rows n) u) (mode_at t.rows n d) (mode_at s.rows n d) (wanted_sinks s t n u own slot) (other n slot) f
+    by_test false f = low_compatible (wanted (t.rows n) u) (wanted (s.rows n) u) (mode_at t.rows n d) (mode_at s.rows n d) (wanted_sinks s t n u own slot waited) (other n slot waited) f
 
 -- A step of the world
 
@@ -207,7 +222,7 @@ pub world_sinks : (u v : State) (took : Step) (answer : Answer) (s t : Server) (
 world_sinks u v took answer s t c ru up on running inc same x = by_way (way u v took answer x.1)
   where
     by_way : Way u v took → Sinks s.durable.index s.rows t.rows c
-    by_way (stays e) = let is = same_up s t (sym up ∙ sym e ∙ on) in subst (λ (y : Server). Sinks s.durable.index s.rows y.rows c) is (λ n slot. low_self (mode_at s.rows n c))
+    by_way (stays e) = let is = same_up s t (sym up ∙ sym e ∙ on) in subst (λ (y : Server). Sinks s.durable.index s.rows y.rows c) is (λ n slot waited. low_self (mode_at s.rows n c))
     by_way (reads old new m outs e f at step) =
         let first = subst (λ (y : Server). ServerStep y m new outs) (same_up old s (sym e ∙ up)) step in
         let both = subst (λ (y : Server). ServerStep s m y outs) (same_up new t (sym f ∙ on)) first in

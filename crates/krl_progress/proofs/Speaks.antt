@@ -5,7 +5,7 @@ use Rattle.krl_messages.specs.declared.to_server.ToServerBody.TheVariants as sai
 use Rattle.krl_messages.specs.declared.to_server.Request.{Request}
 use Rattle.krl_messages.specs.declared.write_op.WriteOp.{WriteOp}
 use Rattle.krl_client.specs.Clients.{LockRequest, NotAsked, Granted, Absent, Dropped, Waiting, outstanding, has_joined}
-use Rattle.krl_client.specs.Commands.{says_lock, locked, says_write, wrote, says_release, says_bye}
+use Rattle.krl_client.specs.Commands.{says_lock, locked, says_write, wrote, took, says_release, says_bye}
 use Rattle.krl_client.specs.Messages as receiver
 use Rattle.krl_client.specs.Messages.{Case, Ignores, AcksAgain, Adopts, Accepts, Lowers, accepted, joined, says_ack, says_report}
 use Rattle.krl_client.specs.Ticks.{tick, says_hello, lock_again, write_again}
@@ -104,6 +104,7 @@ server_speaks u v n outs writes e m r is at = ⊎_elim
 obeys_speaks : (u v : State) (c : ℕ) (k : Client) (what : Command) (answer : Answer) → client_of u c ≡ Some k → Obeys u c k what answer v → Speaks u v
 obeys_speaks u v c k (command.Lock point hi g) answer i d = says_own u v c k _ (says_lock (locked k point hi g) point hi g ∷ []) i (one_of k (says_lock (locked k point hi g) point hi g) refl refl) d.1
 obeys_speaks u v c k (command.Write op) answer i d = says_own u v c k _ (says_write (wrote k op) op ∷ []) i (one_of k (says_write (wrote k op) op) refl refl) d.1
+obeys_speaks u v c k (command.Take op) answer i d = says_own u v c k _ (says_write (took k op) op ∷ []) i (one_of k (says_write (took k op) op) refl refl) d.1
 obeys_speaks u v c k (command.Scan lo hi) answer i d = same_speaks u v d.1
 obeys_speaks u v c k (command.Lower lo hi keep) answer i d = says_own u v c k _ (says_release k (span lo hi) keep ∷ []) i (one_of k (says_release k (span lo hi) keep) refl refl) d.1
 obeys_speaks u v c k (command.Pin lo hi) answer i d = says_own u v c k _ [] i (none_of k) d.3

@@ -9,7 +9,7 @@ use Rattle.krl_progress.specs.Writes.{WritesMoveOnIn}
 use Rattle.krl_progress.proofs.Moves.{moves, still_sent, some_is}
 use Rattle.krl_progress.proofs.Standings.{standing}
 use Rattle.krl_progress.proofs.Recovers.{same_up, At, run_stays, within, again as at_again}
-use Rattle.krl_progress.proofs.WriteSteps.{Live, Risen, Waits, Or, Lasts, or_kept, one, write_said, Sent, sent_lasts, hit_tick, Pushed, pushed, pushed_lasts, hit_write, hit_push, nothing}
+use Rattle.krl_progress.proofs.WriteSteps.{Live, Risen, Waits, Or, Lasts, or_kept, one, write_said, WriteSent, write_lasts, hit_tick, Pushed, pushed, pushed_lasts, hit_write, hit_push, nothing}
 
 module _ (c inc epoch seen0 number : ℕ) (op : WriteOp) (some : 1 ≤ epoch) (room : seen0 < END) where
   abbrev LiveAt : ℕ → State → Type 0
@@ -28,7 +28,7 @@ module _ (c inc epoch seen0 number : ℕ) (op : WriteOp) (some : 1 ≤ epoch) (r
   RisenAt u = Risen c inc epoch seen0 number op some room 0 u
 
   abbrev SentAt : ℕ → State → Type 0
-  SentAt n u = Sent c inc epoch seen0 number op some room n (write_said c inc epoch seen0 number op some room n) u
+  SentAt n u = WriteSent c inc epoch seen0 number op some room n u
 
   abbrev PushedAt : ℕ → State → Type 0
   PushedAt n u = Pushed c inc epoch seen0 number op some room n u
@@ -46,18 +46,18 @@ module _ (c inc epoch seen0 number : ℕ) (op : WriteOp) (some : 1 ≤ epoch) (r
 
   first_round : (w v : State) (from n : ℕ) (steps : List Step) → IsRound w from steps → Runs w steps v → LiveAt n w → WaitsAt w → OrAt n (SentAt n) v
   first_round w v from n steps round runs h waits =
-      one c inc epoch seen0 number op some room n (λ u. Unit {0}) (Sent c inc epoch seen0 number op some room n (write_said c inc epoch seen0 number op some room n)) (step.Tick c)
-      (nothing c inc epoch seen0 number op some room n) (sent_lasts c inc epoch seen0 number op some room n _) refl
+      one c inc epoch seen0 number op some room n (λ u. Unit {0}) (WriteSent c inc epoch seen0 number op some room n) (step.Tick c)
+      (nothing c inc epoch seen0 number op some room n) (write_lasts c inc epoch seen0 number op some room n) refl
       (λ u x a l z tt t. hit_tick c inc epoch seen0 number op some room n u x a l z t)
       w v steps round.stays (round.ticked c (ap is_some h.at.runs)) (h, inr (waits, tt)) runs
 
   second_round : (w v : State) (m n : ℕ) (steps : List Step) → IsRound w m steps → Runs w steps v → LiveAt n w → RisenAt w ⊎ (WaitsAt w × SentAt m w) → OrAt n (PushedAt n) v
   second_round w v m n steps round runs h (inl r) = risen_round n (Pushed c inc epoch seen0 number op some room n) (pushed_lasts c inc epoch seen0 number op some room n) w v m steps round runs h r
   second_round w v m n steps round runs h (inr x) =
-      one c inc epoch seen0 number op some room n (λ u. message_at u.sent x.1.index ≡ Some (write_said c inc epoch seen0 number op some room n)) (Pushed c inc epoch seen0 number op some room n) (step.Deliver x.1.index)
-      (λ u y s a calm e t. still_sent (loses_a_node s) u y x.1.index _ (moves u y s a t) e) (pushed_lasts c inc epoch seen0 number op some room n) refl
-      (λ u y a l z e t. hit_write c inc epoch seen0 number op some room n x.1.index u y a l z e t)
-      w v steps round.stays (round.handed x.1.index x.1.above (within w.sent x.1.index _ x.1.sent)) (h, inr (x.0, x.1.sent)) runs
+      one c inc epoch seen0 number op some room n (λ u. message_at u.sent x.1.sent.index ≡ Some (write_said c inc epoch seen0 number op some room n x.1.takes)) (Pushed c inc epoch seen0 number op some room n) (step.Deliver x.1.sent.index)
+      (λ u y s a calm e t. still_sent (loses_a_node s) u y x.1.sent.index _ (moves u y s a t) e) (pushed_lasts c inc epoch seen0 number op some room n) refl
+      (λ u y a l z e t. hit_write c inc epoch seen0 number op some room n x.1.takes x.1.sent.index u y a l z e t)
+      w v steps round.stays (round.handed x.1.sent.index x.1.sent.above (within w.sent x.1.sent.index _ x.1.sent.sent)) (h, inr (x.0, x.1.sent.sent)) runs
 
   third_round : (w v : State) (m n : ℕ) (steps : List Step) → IsRound w m steps → Runs w steps v → LiveAt n w → RisenAt w ⊎ (WaitsAt w × PushedAt m w) → OrAt n (λ u. ⊥) v
   third_round w v m n steps round runs h (inl r) = risen_round n (λ u. ⊥) (λ u y s a calm e t. e) w v m steps round runs h r

@@ -103,7 +103,7 @@ sent_tells l inc (told.Callback epoch s keep) h = h
 
 request_stays : (l m : Link) → Grows l m → (a : Head) (b : RequestBody) → RequestStands l a b → RequestStands m a b
 request_stays l m g a (asked.Lock req point hi mode) h = h
-request_stays l m g a (asked.Write number x) h = g.writes _ h
+request_stays l m g a (asked.Write number x takes) h = g.writes _ h
 request_stays l m g a (asked.Release s keep) h = (h.0, g.releases _ h.1)
 request_stays l m g a asked.Ack h = h
 

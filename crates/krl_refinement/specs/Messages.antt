@@ -56,7 +56,7 @@ report_of inc epoch pieces =
 -- next to its head, which stands in the link, the request of this head stands there
 abbrev pub RequestStands : Link → Head → RequestBody → Type 0
 RequestStands l a (asked.Lock req point hi g) = Unit {0}
-RequestStands l a (asked.Write number op) = In (record { head = a; number = number; op = op_of op }) l.writes
+RequestStands l a (asked.Write number op takes) = In (record { head = a; number = number; op = op_of op }) l.writes
 RequestStands l a (asked.Release span keep) =
     IsWhole span
     × In (record { head = a; lo = span.lo; last = last_of span; range = range_of keep; key = key_of keep }) l.releases

@@ -76,6 +76,7 @@ scan_stays w v c lo hi (Err e) t = t.0
 command_same : (w v : State) (c : ℕ) (what : Command) (r : Result Answer Refused) → Steps w (step.Command c what) r v → RowsAreRange (index_of w) (step.Command c what) r → RowsAreRange (index_of v) (step.Command c what) r
 command_same w v c (command.Lock p hi m) (Ok answer) t h = tt
 command_same w v c (command.Write op) (Ok answer) t h = tt
+command_same w v c (command.Take op) (Ok answer) t h = tt
 command_same w v c (command.Scan lo hi) (Ok answer) t h =
     subst (λ (u : State). CommandIsRange (index_of u) (command.Scan lo hi) answer) (sym (scan_stays w v c lo hi (Ok answer) t)) h
 command_same w v c (command.Lower lo hi keep) (Ok answer) t h = tt

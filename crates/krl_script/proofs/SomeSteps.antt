@@ -135,6 +135,7 @@ free false None e = absurd (let bad : ◌≡◌ {A = Option CommandRefused} (Som
 some_command : (w : State) (c : ℕ) (what : Command) (k : Client) → client_of w c ≡ Some k → command_refusal k what ≡ None → refusal_of w (step.Command c what) ≡ None → Outcome w (step.Command c what)
 some_command w c (command.Lock p hi m) k is may e = starved w (step.Command c (command.Lock p hi m)) e (k, is, tt)
 some_command w c (command.Write op) k is may e = starved w (step.Command c (command.Write op)) e (k, is, tt)
+some_command w c (command.Take op) k is may e = starved w (step.Command c (command.Take op)) e (k, is, tt)
 some_command w c (command.Scan lo hi) k is may e = some_scan w c lo hi k is e
 some_command w c (command.Lower lo hi keep) k is may e = starved w (step.Command c (command.Lower lo hi keep)) e (k, is, tt)
 some_command w c (command.Pin lo hi) k is may e =

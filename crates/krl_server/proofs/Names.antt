@@ -42,7 +42,10 @@ pub use Rattle.krl_queue.specs.declared.waiter.Waiter.{Waiter}
 pub use Rattle.krl_server.specs.Answering.{next_turn, grants, is_answerable, can_push, turn_among, stops, tells_absent, Answered, turn_at, goes_on, Turn, answer_first}
 pub use Rattle.krl_server.specs.Callbacks.{is_compatible, callbacks_at, callbacks, callbacks_of_among, callbacks_from, callbacks_of, callbacks_for, callbacks_among}
 pub use Rattle.krl_server.specs.Cases.{Acknowledges, Lowers, AnswersAgain, judged, case_of_seen, case_of_write, Case, case_of_newer, Alarms, is_malformed, Leaves, Rebuilds, case_of, is_bad_write}
-pub use Rattle.krl_server.specs.Cases.{is_reach, case_of_record, Registers, case_of_repeated_write, case_of_request, Ignored, case_of_late, Waits, Repeats, case_of_body, Tells, case_of_report, Judges}
+pub use Rattle.krl_messages.specs.Writes.{takes_lock}
+pub use Rattle.krl_server.specs.Effects.{takes}
+pub use Rattle.krl_server.specs.Takes.{least_mode, lock_for, may_take}
+pub use Rattle.krl_server.specs.Cases.{TakesLock, case_of_new_write, is_reach, case_of_record, Registers, case_of_repeated_write, case_of_request, Ignored, case_of_late, Waits, Repeats, case_of_body, Tells, case_of_report, Judges}
 pub use Rattle.krl_server.specs.Cases.{is_alarm}
 pub use Rattle.krl_server.specs.CodeSteps.{IsPerformed, IsServer, calls_after, still_recovering, Finished, HasRoom, HasTurned, HasAnsweredFirst, IsStarted, calls_at_first, own_of, alarm_of, call_if, callback_if, rests}
 pub use Rattle.krl_server.specs.CodeSteps.{HasFinished, HaveWaiters, count_below, is_registered, turn_here, waiting_clients, HasStepped, HasAnswered, served, room_for}

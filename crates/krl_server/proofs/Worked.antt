@@ -3,7 +3,7 @@ use Rattle.krl_modes.specs.declared.limits.TheConstants.{STANDARD_REACH}
 use Rattle.krl_server.proofs.Names.{◌≡◌, ℕ, suc, List, [], ◌∷◌, ◌++◌, map, Option, Some, None, refl, Mode, Holding, ToServer, ToClient, PushBody, Waiter, Index, is_slot, new_record, standard_room}
 use Rattle.krl_server.proofs.Names.{END, Bounds, Value, Pieces, range_at, key_at, lowered, adopted, Row, Rows, blank_row, max_clients, mode_at, Session, Server, case_of, Judges, Ignored, Registers}
 use Rattle.krl_server.proofs.Names.{Waits, Lowers, Rebuilds, AnswersAgain, callbacks_from, Done, effect, Turn, next_turn, answer_first, crash, start}
-use Rattle.std.specs.Prelude.{nat_eq, if◌then◌else◌}
+use Rattle.std.specs.Prelude.{false, nat_eq, if◌then◌else◌}
 use Rattle.std.specs.FinMap as map
 use Rattle.krl_modes.specs.declared.part.RangePart.TheVariants as range
 use Rattle.krl_modes.specs.declared.part.KeyPart.TheVariants as key
@@ -94,7 +94,7 @@ row_1_ends m e = simp (e, map.get-entries)
 -- Two clients that hold RangeI-N on one gap: the first inserts
 
 abbrev insert_15 : ToServer
-insert_15 = asks 0 1 (asked.Write 1 (write.Insert 15 (byte 5)))
+insert_15 = asks 0 1 (asked.Write 1 (write.Insert 15 (byte 5)) false)
 
 abbrev shared_gap : Index → Server
 shared_gap m = server m (λ n. if nat_eq n 20 then row mode.RangeIN mode.RangeIN [] else blank_row) (session 1 1)
@@ -171,7 +171,7 @@ row_8_granted m e = simp (e, map.get-entries)
 -- A put
 
 abbrev put_10 : ToServer
-put_10 = asks 0 2 (asked.Write 1 (write.Put 10 (byte 9)))
+put_10 = asks 0 2 (asked.Write 1 (write.Put 10 (byte 9)) false)
 
 abbrev all_read : Index → Server
 all_read m = server m (λ n. if nat_eq n 10 then row mode.RangeXX mode.N [] else (if nat_eq n 20 then row mode.RangeSS mode.N [] else blank_row)) (session 2 2)
@@ -186,7 +186,7 @@ row_10_answer m f = simp (f, map.get-entries)
 -- A delete, then a restart and a report; and the answer once more
 
 abbrev delete_10 : ToServer
-delete_10 = asks 0 2 (asked.Write 1 (write.Delete 10))
+delete_10 = asks 0 2 (asked.Write 1 (write.Delete 10) false)
 
 abbrev all_held : Index → Server
 all_held m = server m (λ n. if nat_eq n 10 then row mode.RangeXX mode.N [] else (if nat_eq n 20 then row mode.RangeXX mode.N [] else blank_row)) (session 2 2)
@@ -235,7 +235,7 @@ row_12_range m f = simp (f, map.get-entries, adopted, is_slot)
 row_12_key : (m : Index) → map.entries (map.remove m 10) ≡ (20, byte 2) ∷ [] → key_at (map.remove m 10) (reported m) 0 10 ≡ key.X
 row_12_key m f = simp (f, map.get-entries, adopted, is_slot)
 
-row_12_again : (m : Index) → case_of (record (restarted m) { missing = [] }) (record { client = 0; incarnation = 1; body = said.Request (record { epoch = 2; seen = 0; body = asked.Write 1 (write.Delete 10) }) }) ≡ AnswersAgain 1 (write.Delete 10) outcome.Applied
+row_12_again : (m : Index) → case_of (record (restarted m) { missing = [] }) (record { client = 0; incarnation = 1; body = said.Request (record { epoch = 2; seen = 0; body = asked.Write 1 (write.Delete 10) false }) }) ≡ AnswersAgain 1 (write.Delete 10) outcome.Applied
 unfolding max_clients
 row_12_again m = refl
 

@@ -21,6 +21,7 @@ use Rattle.krl_durable.specs.Writes.{held, judge}
 use Rattle.krl_table.specs.Rows.{column, waits}
 use Rattle.krl_table.specs.Reports.{conflicts}
 use Rattle.krl_server.specs.Servers.{Server, is_recovering, lists}
+use Rattle.krl_server.specs.Takes.{may_take}
 
 -- what a message comes to
 pub data Case : Type 0 where
@@ -35,6 +36,7 @@ pub data Case : Type 0 where
   Lowers : Bounds → Mode → Case
   Waits : ℕ → ℕ → ℕ → Mode → Case  -- request number, point, end, mode
   Judges : ℕ → WriteOp → Outcome → Case  -- a new write, and its number
+  TakesLock : ℕ → WriteOp → Case  -- a new write that is applied with the lock that it takes, and its number
   AnswersAgain : ℕ → WriteOp → Outcome → Case  -- the last write, and its number
 
 -- a test, and the case that is met if it holds, or unless it holds
@@ -61,12 +63,18 @@ case_of_repeated_write number op (Some o) = AnswersAgain number op o
 abbrev pub is_bad_write : ℕ → WriteOp → Bool
 is_bad_write number op = not (nat_lt (op_key op) END) || (nat_eq number 0 || nat_lt END number)
 
+-- a new write: it takes the lock that it needs, if it asks for that and the lock is free; or it is judged by what its
+-- client holds
+abbrev pub case_of_new_write : Server → ℕ → ℕ → WriteOp → Bool → Case
+case_of_new_write s c number op takes =
+    if takes && may_take s c op then TakesLock number op else Judges number op (judged s c op)
+
 -- 9: a write of the next number, or of the last one's, or one that is passed over
-abbrev pub case_of_write : Server → ℕ → Record → ℕ → WriteOp → Case
-case_of_write s c r number op =
+abbrev pub case_of_write : Server → ℕ → Record → ℕ → WriteOp → Bool → Case
+case_of_write s c r number op takes =
     first_rule (
     If (is_bad_write number op) Acknowledges
-    ∷ If (nat_eq number (suc r.last)) (Judges number op (judged s c op))
+    ∷ If (nat_eq number (suc r.last)) (case_of_new_write s c number op takes)
     ∷ If (nat_eq number r.last) (case_of_repeated_write number op r.outcome)
     ∷ []
     ) Acknowledges
@@ -84,7 +92,7 @@ case_of_lock s c req point hi g =
 -- 9: what is asked by a client that has seen the last push
 abbrev pub case_of_request : Server → ℕ → Record → RequestBody → Case
 case_of_request s c r (asked.Lock req point hi g) = case_of_lock s c req point hi g
-case_of_request s c r (asked.Write number op) = case_of_write s c r number op
+case_of_request s c r (asked.Write number op takes) = case_of_write s c r number op takes
 case_of_request s c r (asked.Release span keep) = Lowers span keep
 case_of_request s c r asked.Ack = Acknowledges
 

@@ -165,6 +165,7 @@ own_of found.Acknowledges = 0
 own_of (found.Lowers span keep) = 0
 own_of (found.Waits req point hi g) = 0
 own_of (found.Judges number op) = 1
+own_of (found.TakesLock number op) = 1
 own_of (found.AnswersAgain number op o) = 1
 
 -- how many messages a step can send, if so many clients wait
@@ -179,6 +180,7 @@ room_for n found.Acknowledges = MAX_CLIENTS * n
 room_for n (found.Lowers span keep) = n
 room_for n (found.Waits req point hi g) = MAX_CLIENTS * (n + 1)
 room_for n (found.Judges number op) = 1 + MAX_CLIENTS * n
+room_for n (found.TakesLock number op) = 1 + MAX_CLIENTS * n
 room_for n (found.AnswersAgain number op o) = 1 + MAX_CLIENTS * n
 
 -- What holds of the state of every server between two steps

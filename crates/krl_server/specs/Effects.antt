@@ -13,6 +13,7 @@ use Rattle.krl_messages.specs.declared.pieces.Pieces.{Pieces}
 use Rattle.krl_messages.specs.declared.write_op.WriteOp.{WriteOp}
 use Rattle.krl_messages.specs.declared.write_op.WriteOp.TheVariants as write
 use Rattle.krl_messages.specs.declared.outcome.Outcome.{Outcome}
+use Rattle.krl_messages.specs.declared.outcome.Outcome.TheVariants as outcome
 use Rattle.krl_messages.specs.Outcomes.{is_applied}
 use Rattle.krl_messages.specs.declared.to_server.ToServer.{ToServer}
 use Rattle.krl_messages.specs.declared.to_client.ToClient.{ToClient}
@@ -26,11 +27,12 @@ use Rattle.krl_durable.specs.Registers.{registered, departed}
 use Rattle.krl_messages.specs.Writes.{op_key}
 use Rattle.krl_durable.specs.Writes.{applied}
 use Rattle.krl_table.specs.Rows.{Rows, mode_at}
-use Rattle.krl_table.specs.Calls.{lowered, cleared, enqueued, split, merged}
+use Rattle.krl_table.specs.Calls.{lowered, cleared, enqueued, split, merged, raised}
 use Rattle.krl_table.specs.Reports.{adopted}
 use Rattle.krl_server.specs.declared.session.Session.{Session}
 use Rattle.krl_server.specs.Servers.{Server, blank_session, unlist, set_session, incarnation_of}
-use Rattle.krl_server.specs.Cases.{Case, Ignored, Registers, Leaves, Tells, Alarms, Rebuilds, Repeats, Acknowledges, Lowers, Waits, Judges, AnswersAgain}
+use Rattle.krl_server.specs.Takes.{lock_for}
+use Rattle.krl_server.specs.Cases.{Case, Ignored, Registers, Leaves, Tells, Alarms, Rebuilds, Repeats, Acknowledges, Lowers, Waits, Judges, TakesLock, AnswersAgain}
 
 -- the server after a call, and what it sends
 pub record Done : Type 0 where
@@ -128,6 +130,10 @@ rows_written m rows c (write.Delete k) = merged m rows k
 abbrev pub rows_after : Index → Rows → ℕ → WriteOp → Outcome → Rows
 rows_after m rows c op o = if is_applied o then rows_written m rows c op else rows
 
+-- the client takes the lock that a write needs: on the slot of the key its mode rises to what it wants there
+abbrev pub takes : Server → ℕ → WriteOp → Server
+takes s c op = with_rows s (raised s.rows (slot_of s.durable.index (op_key op)) (lock_for c op))
+
 -- a new write is done and noted
 abbrev pub writes : Server → ℕ → WriteOp → Outcome → Server
 writes s c op o = record s { durable = applied s.durable c op o; rows = rows_after s.durable.index s.rows c op o }
@@ -170,4 +176,7 @@ effect s m (Waits req point hi g) =
       mode = g;
     }))
 effect s m (Judges number op o) = answers (writes (acknowledged s m.client) m.client op o) m.client number op o
+effect s m (TakesLock number op) =
+    answers (writes (acknowledged (takes s m.client op) m.client) m.client op outcome.Applied) m.client number op
+    outcome.Applied
 effect s m (AnswersAgain number op o) = answers (acknowledged s m.client) m.client number op o

@@ -2,6 +2,7 @@ pub mod Servers
 pub mod StateMeaning
 pub mod Afters
 pub mod Outboxes
+pub mod Takes
 pub mod Cases
 pub mod FoundCases
 pub mod Effects

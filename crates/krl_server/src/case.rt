@@ -40,6 +40,11 @@ pub(crate) enum Case {
         number: u64,
         op: WriteOp,
     },
+    /// A new write that takes the lock that it needs, if that is free.
+    TakesLock {
+        number: u64,
+        op: WriteOp,
+    },
     /// The last write once more.
     AnswersAgain {
         number: u64,

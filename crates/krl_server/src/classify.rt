@@ -8,7 +8,7 @@ ghost use Rattle.krl_server.specs.Servers.{Server};
 ghost use Rattle.krl_server.specs.Cases.{is_malformed, case_of, case_of_record, case_of_newer};
 ghost use Rattle.krl_server.specs.Cases.{case_of_body, case_of_request, case_of_seen, case_of_late};
 ghost use Rattle.krl_server.specs.Cases.{case_of_lock, case_of_write, case_of_repeated_write};
-ghost use Rattle.krl_server.specs.Cases.{is_bad_write};
+ghost use Rattle.krl_server.specs.Cases.{is_bad_write, case_of_new_write};
 ghost use Rattle.krl_modes.specs.declared.limits.TheConstants.{MAX_CLIENTS};
 
 use crate::case::Case;
@@ -78,16 +78,28 @@ fn is_bad_write(number: u64, op: WriteOp) -> bool
     op.key() >= END || number == 0 || number > END
 }
 
-/// The case of a write, by its number.
-fn case_of_write(known: &Record, number: u64, op: WriteOp) -> Case
+/// The case of a new write, which may take the lock that it needs.
+fn case_of_new_write(number: u64, op: WriteOp, takes: bool) -> Case
     ensures { (s : Server) (c : ℕ) (b : ToServerBody)
-        → meant s c b result ≡ case_of_write s c known.now number op }
+        → meant s c b result ≡ case_of_new_write s c number op takes }
+{
+    if takes {
+        Case::TakesLock { number, op }
+    } else {
+        Case::Judges { number, op }
+    }
+}
+
+/// The case of a write, by its number.
+fn case_of_write(known: &Record, number: u64, op: WriteOp, takes: bool) -> Case
+    ensures { (s : Server) (c : ℕ) (b : ToServerBody)
+        → meant s c b result ≡ case_of_write s c known.now number op takes }
 {
     let asked = op;
     if is_bad_write(number, asked) {
         Case::Acknowledges
     } else if number - 1 == known.last {
-        Case::Judges { number, op }
+        case_of_new_write(number, op, takes)
     } else if number == known.last {
         case_of_repeated_write(number, op, known.outcome)
     } else {
@@ -196,7 +208,7 @@ impl State {
                 hi,
                 mode,
             } => self.case_of_lock(client, session, req, point, hi, mode),
-            RequestBody::Write { number, op } => case_of_write(known, number, op),
+            RequestBody::Write { number, op, takes } => case_of_write(known, number, op, takes),
             RequestBody::Release { span, mode } => Case::Lowers { span, keep: mode },
             RequestBody::Ack => Case::Acknowledges,
         }

@@ -21,6 +21,7 @@ mod shown;
 mod start_refused;
 mod state;
 mod step;
+mod takes;
 
 pub use missing::Missing;
 pub use out::ServerOut;

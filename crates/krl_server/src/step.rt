@@ -53,8 +53,10 @@ impl State {
             Case::Tells | Case::Repeats => 1,
             Case::Lowers { .. } => self.count_waiting(),
             Case::Leaves | Case::Reports | Case::Acknowledges => MAX_CLIENTS * self.count_waiting(),
-            Case::Registers | Case::Judges { .. } | Case::AnswersAgain { .. } => 1
-                + MAX_CLIENTS * self.count_waiting(),
+            Case::Registers
+            | Case::Judges { .. }
+            | Case::TakesLock { .. }
+            | Case::AnswersAgain { .. } => 1 + MAX_CLIENTS * self.count_waiting(),
             Case::Waits { .. } => MAX_CLIENTS * (self.count_waiting() + 1),
         }
     }
@@ -168,6 +170,20 @@ impl State {
                 // Copies: the prover takes a value that is handed on as moved.
                 let (written, answered) = (*&op, *&op);
                 let outcome = self.write(client, written);
+                self.acknowledge(client);
+                self.answer_write(client, number, answered, outcome, outbox);
+                let judged = Change::Judged {
+                    client,
+                    number,
+                    op,
+                    outcome,
+                };
+                Ok(After::Calls.changing(judged))
+            }
+            Case::TakesLock { number, op } => {
+                // Copies: the prover takes a value that is handed on as moved.
+                let (written, answered) = (*&op, *&op);
+                let outcome = self.write_with_lock(client, written);
                 self.acknowledge(client);
                 self.answer_write(client, number, answered, outcome, outbox);
                 let judged = Change::Judged {

@@ -29,6 +29,8 @@ pub enum Asked {
     LockTo(u64, u64, u64, Mode),
     // The write's number.
     Write(u64, Change),
+    // The same, of a write that takes the lock that it needs.
+    Take(u64, Change),
     Release(u64, u64, Mode),
     Ack,
 }

@@ -28,6 +28,8 @@ mod starts;
 #[cfg(test)]
 mod strangers;
 #[cfg(test)]
+mod takes;
+#[cfg(test)]
 mod tests;
 #[cfg(test)]
 mod told;

@@ -19,6 +19,7 @@ use crate::recovering::{CONTRADICTS, RECOVERS, REGISTERS};
 use crate::runs::all_give;
 use crate::starts::{is_spent, started};
 use crate::strangers::STRANGERS;
+use crate::takes::{TAKES, TAKES_WITHOUT_ROOM};
 use crate::writes::{ANSWERS_AGAIN, LAST_NUMBER, LOSES_AN_ANSWER, WRITES};
 use krl_durable::{Durable, EntriesRefused, Limits, Reach, Record, Room};
 use krl_messages::{Outcome, Value};
@@ -173,6 +174,19 @@ fn gives_each_row(rt: HostRuntime) {
         assert!(rt; gives_on_one(rt.alloc(), rows));
     }
     assert!(rt; gives_on_two(rt.alloc(), &WRITES));
+}
+
+// Whether writes take free locks, with room for a further entry and without.
+fn takes_free_locks(alloc: Global) -> bool {
+    let Some(full) = limits(2, 1) else {
+        return false;
+    };
+    gives_on_two(alloc, &TAKES) && gives(alloc, limited(alloc, &full), &TAKES_WITHOUT_ROOM)
+}
+
+#[test]
+fn a_write_takes_a_free_lock(rt: HostRuntime) {
+    assert!(rt; takes_free_locks(rt.alloc()));
 }
 
 // Whether each step of a server on both entries says what it changed.

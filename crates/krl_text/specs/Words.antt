@@ -161,6 +161,7 @@ abbrev pub word_text : Word → List ℕ
 word_text word.Seed = codes "seed"
 word_text word.Lock = codes "lock"
 word_text word.Lower = codes "lower"
+word_text word.Take = codes "take"
 word_text word.Crash = codes "crash"
 word_text word.Start = codes "start"
 word_text (word.Alone w) = alone_text w
@@ -172,7 +173,7 @@ word_text (word.ClientAndTwo w) = client_and_two_text w
 -- every word
 abbrev pub all_words : List Word
 all_words =
-    word.Seed ∷ word.Lock ∷ word.Lower ∷ word.Crash ∷ word.Start
+    word.Seed ∷ word.Lock ∷ word.Lower ∷ word.Take ∷ word.Crash ∷ word.Start
     ∷ word.Alone alone.Settle ∷ word.Alone alone.Drop ∷ word.Alone alone.Missing
     ∷ word.Alone alone.Index ∷ word.Alone alone.Writes ∷ word.Alone alone.Check
     ∷ word.Alone alone.Modes
@@ -222,6 +223,10 @@ valued_change valued.Put k v = write.Put k v
 
 abbrev pub valued_request : Valued → ℕ → ℕ → Value → Request
 valued_request w c k v = request.Step (step.Command c (command.Write (valued_change w k v)))
+
+-- the same after 'take': the client takes the lock that the write needs
+abbrev pub taking_request : Valued → ℕ → ℕ → Value → Request
+taking_request w c k v = request.Step (step.Command c (command.Take (valued_change w k v)))
 
 -- what a word tells a client to do, with two numbers
 abbrev pub client_and_two_command : ClientAndTwo → ℕ → ℕ → Command
@@ -300,6 +305,20 @@ lower_of arguments =
     number_at arguments 1 >>= λ lo. number_at arguments 2 >>= λ hi. mode_of (argument arguments 3) >>= λ keep.
     Ok (request.Step (step.Command c (command.Lower lo hi keep)))
 
+-- what a line asks for that writes, after 'take'; no other line may stand there
+abbrev pub taken_of : Word → List (List ℕ) → Result Request SyntaxFault
+taken_of (word.Valued w) arguments =
+    valued_of arguments >>= λ x. Ok (taking_request w x.0 x.1 x.2)
+taken_of (word.ClientAndNumber client_and_number.Delete) arguments =
+    client_and_number_of arguments >>= λ x.
+    Ok (request.Step (step.Command x.0 (command.Take (write.Delete x.1))))
+taken_of other arguments = Err UnknownWord
+
+abbrev pub take_of : List (List ℕ) → Result Request SyntaxFault
+take_of [] = Err MissingArgument
+take_of (text ∷ arguments) =
+    or_fault UnknownWord (word_named text) >>= λ word. taken_of word arguments
+
 -- the argument is the word 'server'
 abbrev pub is_server : List (List ℕ) → Bool
 is_server arguments = bytes_eq (argument arguments 0) (codes "server")
@@ -323,6 +342,7 @@ unfoldable pub request_of : Word → List (List ℕ) → Result Request SyntaxFa
 request_of word.Seed arguments = seed_of arguments
 request_of word.Lock arguments = lock_of arguments
 request_of word.Lower arguments = lower_of arguments
+request_of word.Take arguments = take_of arguments
 request_of word.Crash arguments = crash_of arguments
 request_of word.Start arguments = start_of arguments
 request_of (word.Alone w) arguments = argument_count 0 arguments >>= λ _. Ok (alone_request w)

@@ -8,12 +8,13 @@ ghost use Rattle.krl_text.specs.Words.{pair_of, pairs_of, mode_of, argument_coun
 ghost use Rattle.krl_text.specs.Words.{or_fault, one_number_of, client_and_number_of};
 ghost use Rattle.krl_text.specs.Words.{client_and_two_of, valued_of, seed_of, lock_of, lower_of};
 ghost use Rattle.krl_text.specs.Words.{argument_count_within, reach_of, crash_of, start_of};
+ghost use Rattle.krl_text.specs.Words.{take_of, taken_of};
 ghost use Rattle.krl_text.specs.Words.{request_of, meaning_of_words, meaning_of};
 
 use crate::fault::{LineFault, SyntaxFault};
 use crate::request::{Entries, Request};
-use crate::word::Word;
-use krl_messages::Value;
+use crate::word::{ClientAndNumber, Word};
+use krl_messages::{Value, WriteOp};
 use krl_modes::{END, Mode, TOP};
 use krl_steps::{Command, Step};
 use std::alloc::{AllocError, Global};
@@ -247,6 +248,34 @@ fn lower(arguments: &[&[u8]]) -> Result<Request, LineFault>
     Ok(Request::Step(Step::Command(client, Command::Lower { lo, hi, keep })))
 }
 
+// What a line asks for that writes, after `take`.
+fn taken(word: Word, arguments: &[&[u8]]) -> Result<Request, LineFault>
+    ensures { Gives result (taken_of word (map (λ word. word.now) arguments.now)) }
+{
+    match word {
+        Word::Valued(word) => {
+            let (client, key, value) = valued(arguments)?;
+            Ok(word.taking(client, key, value))
+        }
+        Word::ClientAndNumber(ClientAndNumber::Delete) => {
+            let (client, key) = client_and_number(arguments)?;
+            let op = WriteOp::Delete { key };
+            Ok(Request::Step(Step::Command(client, Command::Take(op))))
+        }
+        _ => Err(LineFault::Syntax(SyntaxFault::UnknownWord)),
+    }
+}
+
+fn take(arguments: &[&[u8]]) -> Result<Request, LineFault>
+    ensures { Gives result (take_of (map (λ word. word.now) arguments.now)) }
+{
+    let Some((text, arguments)) = arguments.split_first() else {
+        return Err(LineFault::Syntax(SyntaxFault::MissingArgument));
+    };
+    let word = Word::from_text(text).ok_or(LineFault::Syntax(SyntaxFault::UnknownWord))?;
+    taken(word, arguments)
+}
+
 fn crash(arguments: &[&[u8]]) -> Result<Request, LineFault>
     ensures { Gives result (crash_of (map (λ word. word.now) arguments.now)) }
 {
@@ -277,6 +306,7 @@ fn request(alloc: Global, word: Word, arguments: &[&[u8]]) -> Result<Request, Li
         Word::Seed => seed(alloc, arguments),
         Word::Lock => lock(arguments),
         Word::Lower => lower(arguments),
+        Word::Take => take(arguments),
         Word::Crash => crash(arguments),
         Word::Start => start(arguments),
         Word::Alone(word) => {

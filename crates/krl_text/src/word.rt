@@ -4,6 +4,7 @@ ghost use Rattle.krl_text.specs.Words.{alone_text, one_number_text, client_and_n
 ghost use Rattle.krl_text.specs.Words.{client_and_two_text, valued_text, word_text, word_named};
 ghost use Rattle.krl_text.specs.Words.{alone_request, one_number_request};
 ghost use Rattle.krl_text.specs.Words.{client_and_number_request, valued_change, valued_request};
+ghost use Rattle.krl_text.specs.Words.{taking_request};
 ghost use Rattle.krl_text.specs.Words.{client_and_two_command, client_and_two_request};
 
 use crate::request::{Query, Request};
@@ -174,6 +175,13 @@ impl Valued {
     {
         Request::Step(Step::Command(client, Command::Write(self.change(key, value))))
     }
+
+    /// What the word asks for after `take`, with this client, key and value.
+    pub fn taking(self, client: u64, key: u64, value: Value) -> Request
+        ensures { result ≡ taking_request self client key value }
+    {
+        Request::Step(Step::Command(client, Command::Take(self.change(key, value))))
+    }
 }
 
 /// The words that take a client and two more numbers.
@@ -229,6 +237,8 @@ pub enum Word {
     Lock,
     /// `lower`, a client, two numbers and a mode.
     Lower,
+    /// `take`, and a line that writes.
+    Take,
     /// `crash`, and a client or the word `server`.
     Crash,
     /// `start`, and the word `server`.
@@ -246,10 +256,11 @@ pub enum Word {
 }
 
 // Every word.
-static WORDS: [Word; 28] = [
+static WORDS: [Word; 29] = [
     Word::Seed,
     Word::Lock,
     Word::Lower,
+    Word::Take,
     Word::Crash,
     Word::Start,
     Word::Alone(Alone::Settle),
@@ -286,6 +297,7 @@ impl Word {
             Word::Seed => "seed",
             Word::Lock => "lock",
             Word::Lower => "lower",
+            Word::Take => "take",
             Word::Crash => "crash",
             Word::Start => "start",
             Word::Alone(word) => word.text(),

@@ -1,5 +1,5 @@
 -- Messages to the server, as they are spelled.
-use Rattle.std.proofs.Common.{◌≡◌, ℕ, ◌≤◌, cond, eqb, List, [], ◌++◌, Result, Ok, Err, refl, sym, subst, ◌∙◌, arith, inl, inr}
+use Rattle.std.proofs.Common.{◌≡◌, ℕ, ◌≤◌, Bool, true, false, cond, eqb, List, [], ◌++◌, Result, Ok, Err, refl, sym, subst, ◌∙◌, arith, inl, inr}
 use Rattle.std.specs.Prelude.{IfOk}
 use Rattle.std.proofs.lemmas.Bool.{eqb-true, eqb-false}
 use Rattle.krl_messages.specs.Values.{Value}
@@ -11,7 +11,7 @@ use Rattle.krl_messages.specs.declared.to_server.RequestBody.{RequestBody}
 use Rattle.krl_messages.specs.declared.to_server.RequestBody.TheVariants as request
 use Rattle.krl_wire.specs.declared.fault.Fault.{Fault}
 use Rattle.krl_wire.specs.declared.fault.ReadError.{ReadError}
-use Rattle.krl_wire.specs.Spelling.{request_kind, request_body, to_server_kind, to_server_body, to_server}
+use Rattle.krl_wire.specs.Spelling.{write_kind, request_kind, request_body, to_server_kind, to_server_body, to_server}
 use Rattle.krl_wire.specs.Fitting.{FitsRequest, FitsServerBody, FitsToServer}
 use Rattle.krl_wire.specs.Reading.{GivesIfRoom, lock_at, insert_at, put_at, delete_at, release_at, request_body_at, request_at, report_at, to_server_body_at, to_server_of}
 use Rattle.krl_wire.proofs.Fields.{IsBytes, chosen, ok_is, Takes, IsCodec, number_codec, span_codec, value_codec}
@@ -22,14 +22,14 @@ use Rattle.krl_wire.proofs.Heads.{whole_takes, whole_again}
 
 -- ---- requests
 
-abbrev insert_of : ℕ → ℕ → Value → RequestBody
-insert_of n k v = request.Write n (write.Insert k v)
+abbrev insert_of : Bool → ℕ → ℕ → Value → RequestBody
+insert_of takes n k v = request.Write n (write.Insert k v) takes
 
-abbrev put_of : ℕ → ℕ → Value → RequestBody
-put_of n k v = request.Write n (write.Put k v)
+abbrev put_of : Bool → ℕ → ℕ → Value → RequestBody
+put_of takes n k v = request.Write n (write.Put k v) takes
 
-abbrev delete_of : ℕ → ℕ → RequestBody
-delete_of n k = request.Write n (write.Delete k)
+abbrev delete_of : Bool → ℕ → ℕ → RequestBody
+delete_of takes n k = request.Write n (write.Delete k) takes
 
 abbrev IsRequest : ℕ → RequestBody → Type 0
 IsRequest kind b = (kind ≡ request_kind b) × FitsRequest b
@@ -44,23 +44,29 @@ lock_takes bytes x fits e =
     let t = four_take number_codec number_codec number_codec mode_codec request.Lock bytes x fits e in
     subst (λ (y : RequestBody). Reads 3 bytes (y, x.1)) t.4 (t.5, (refl, (t.6, t.7, t.8)))
 
-insert_takes : (bytes : List ℕ) (x : RequestBody × List ℕ) → IsBytes bytes → insert_at bytes ≡ Ok x → Reads 4 bytes x
+insert_takes : (kind : ℕ) (takes : Bool) (bytes : List ℕ) (x : RequestBody × List ℕ)
+    → ((k : ℕ) (v : Value) → kind ≡ write_kind (write.Insert k v) takes) → IsBytes bytes
+    → insert_at takes bytes ≡ Ok x → Reads kind bytes x
 unfolding insert_at
-insert_takes bytes x fits e =
-    let t = three_take number_codec number_codec value_codec insert_of bytes x fits e in
-    subst (λ (y : RequestBody). Reads 4 bytes (y, x.1)) t.3 (t.4, (refl, (t.5, t.6, t.7)))
+insert_takes kind takes bytes x is fits e =
+    let t = three_take number_codec number_codec value_codec (insert_of takes) bytes x fits e in
+    subst (λ (y : RequestBody). Reads kind bytes (y, x.1)) t.3 (t.4, (is t.1 t.2, (t.5, t.6, t.7)))
 
-put_takes : (bytes : List ℕ) (x : RequestBody × List ℕ) → IsBytes bytes → put_at bytes ≡ Ok x → Reads 5 bytes x
+put_takes : (kind : ℕ) (takes : Bool) (bytes : List ℕ) (x : RequestBody × List ℕ)
+    → ((k : ℕ) (v : Value) → kind ≡ write_kind (write.Put k v) takes) → IsBytes bytes
+    → put_at takes bytes ≡ Ok x → Reads kind bytes x
 unfolding put_at
-put_takes bytes x fits e =
-    let t = three_take number_codec number_codec value_codec put_of bytes x fits e in
-    subst (λ (y : RequestBody). Reads 5 bytes (y, x.1)) t.3 (t.4, (refl, (t.5, t.6, t.7)))
+put_takes kind takes bytes x is fits e =
+    let t = three_take number_codec number_codec value_codec (put_of takes) bytes x fits e in
+    subst (λ (y : RequestBody). Reads kind bytes (y, x.1)) t.3 (t.4, (is t.1 t.2, (t.5, t.6, t.7)))
 
-delete_takes : (bytes : List ℕ) (x : RequestBody × List ℕ) → IsBytes bytes → delete_at bytes ≡ Ok x → Reads 6 bytes x
+delete_takes : (kind : ℕ) (takes : Bool) (bytes : List ℕ) (x : RequestBody × List ℕ)
+    → ((k : ℕ) → kind ≡ write_kind (write.Delete k) takes) → IsBytes bytes
+    → delete_at takes bytes ≡ Ok x → Reads kind bytes x
 unfolding delete_at
-delete_takes bytes x fits e =
-    let t = two_take number_codec number_codec delete_of bytes x fits e in
-    subst (λ (y : RequestBody). Reads 6 bytes (y, x.1)) t.2 (t.3, (refl, (t.4, t.5)))
+delete_takes kind takes bytes x is fits e =
+    let t = two_take number_codec number_codec (delete_of takes) bytes x fits e in
+    subst (λ (y : RequestBody). Reads kind bytes (y, x.1)) t.2 (t.3, (is t.1, (t.4, t.5)))
 
 release_takes : (bytes : List ℕ) (x : RequestBody × List ℕ) → IsBytes bytes → release_at bytes ≡ Ok x
     → Reads 7 bytes x
@@ -73,39 +79,61 @@ release_takes bytes x fits e =
 at_kind : (k n : ℕ) (bytes : List ℕ) (x : RequestBody × List ℕ) → k ≡ n → Reads n bytes x → Reads k bytes x
 at_kind k n bytes x e t = subst (λ (i : ℕ). Reads i bytes x) (sym e) t
 
-request_takes : (kind : ℕ) (bytes : List ℕ) (x : RequestBody × List ℕ) → 3 ≤ kind → kind ≤ 8 → IsBytes bytes
+-- a write that takes the lock that it needs
+abbrev take_at : ℕ → List ℕ → Result (RequestBody × List ℕ) Fault
+take_at kind bytes =
+    cond (eqb kind 9) (insert_at true bytes) (cond (eqb kind 10) (put_at true bytes) (delete_at true bytes))
+
+take_takes : (kind : ℕ) (bytes : List ℕ) (x : RequestBody × List ℕ) → 9 ≤ kind → kind ≤ 11 → IsBytes bytes
+    → take_at kind bytes ≡ Ok x → Reads kind bytes x
+take_takes kind bytes x low high fits e =
+    let e10 : Result (RequestBody × List ℕ) Fault = cond (eqb kind 10) (put_at true bytes) (delete_at true bytes) in
+    elim (chosen (eqb kind 9) (insert_at true bytes) e10 (Ok x) e) [
+      | inl p ↦ insert_takes kind true bytes x (λ k v. eqb-true _ _ p.0) fits p.1
+      | inr p ↦ elim (chosen (eqb kind 10) (put_at true bytes) (delete_at true bytes) (Ok x) p.1) [
+        | inl q ↦ put_takes kind true bytes x (λ k v. eqb-true _ _ q.0) fits q.1
+        | inr q ↦
+            let is : kind ≡ 11 = omega (arith, low, high, eqb-false kind 9 p.0, eqb-false kind 10 q.0) in
+            delete_takes kind true bytes x (λ k. is) fits q.1
+      ]
+    ]
+
+request_takes : (kind : ℕ) (bytes : List ℕ) (x : RequestBody × List ℕ) → 3 ≤ kind → kind ≤ 11 → IsBytes bytes
     → request_body_at kind bytes ≡ Ok x → Reads kind bytes x
 unfolding request_body_at
 request_takes kind bytes x low high fits e =
-    let e8 : Result (RequestBody × List ℕ) Fault = Ok (request.Ack, bytes) in
+    let ack : Result (RequestBody × List ℕ) Fault = Ok (request.Ack, bytes) in
+    let e8 : Result (RequestBody × List ℕ) Fault = cond (eqb kind 8) ack (take_at kind bytes) in
     let e7 : Result (RequestBody × List ℕ) Fault = cond (eqb kind 7) (release_at bytes) e8 in
-    let e6 : Result (RequestBody × List ℕ) Fault = cond (eqb kind 6) (delete_at bytes) e7 in
-    let e5 : Result (RequestBody × List ℕ) Fault = cond (eqb kind 5) (put_at bytes) e6 in
-    let e4 : Result (RequestBody × List ℕ) Fault = cond (eqb kind 4) (insert_at bytes) e5 in
+    let e6 : Result (RequestBody × List ℕ) Fault = cond (eqb kind 6) (delete_at false bytes) e7 in
+    let e5 : Result (RequestBody × List ℕ) Fault = cond (eqb kind 5) (put_at false bytes) e6 in
+    let e4 : Result (RequestBody × List ℕ) Fault = cond (eqb kind 4) (insert_at false bytes) e5 in
     elim (chosen (eqb kind 3) (lock_at bytes) e4 (Ok x) e) [
       | inl p ↦ at_kind kind 3 bytes x (eqb-true _ _ p.0) (lock_takes bytes x fits p.1)
-      | inr p ↦ elim (chosen (eqb kind 4) (insert_at bytes) e5 (Ok x) p.1) [
-        | inl q ↦ at_kind kind 4 bytes x (eqb-true _ _ q.0) (insert_takes bytes x fits q.1)
-        | inr q ↦ elim (chosen (eqb kind 5) (put_at bytes) e6 (Ok x) q.1) [
-          | inl r ↦ at_kind kind 5 bytes x (eqb-true _ _ r.0) (put_takes bytes x fits r.1)
-          | inr r ↦ elim (chosen (eqb kind 6) (delete_at bytes) e7 (Ok x) r.1) [
-            | inl s ↦ at_kind kind 6 bytes x (eqb-true _ _ s.0) (delete_takes bytes x fits s.1)
+      | inr p ↦ elim (chosen (eqb kind 4) (insert_at false bytes) e5 (Ok x) p.1) [
+        | inl q ↦ insert_takes kind false bytes x (λ k v. eqb-true _ _ q.0) fits q.1
+        | inr q ↦ elim (chosen (eqb kind 5) (put_at false bytes) e6 (Ok x) q.1) [
+          | inl r ↦ put_takes kind false bytes x (λ k v. eqb-true _ _ r.0) fits r.1
+          | inr r ↦ elim (chosen (eqb kind 6) (delete_at false bytes) e7 (Ok x) r.1) [
+            | inl s ↦ delete_takes kind false bytes x (λ k. eqb-true _ _ s.0) fits s.1
             | inr s ↦ elim (chosen (eqb kind 7) (release_at bytes) e8 (Ok x) s.1) [
               | inl u ↦ at_kind kind 7 bytes x (eqb-true _ _ u.0) (release_takes bytes x fits u.1)
-              | inr u ↦
-                  let is : kind ≡ 8 = omega (
-                    arith,
-                    low,
-                    high,
-                    eqb-false kind 3 p.0,
-                    eqb-false kind 4 q.0,
-                    eqb-false
-                        kind 5 r.0,
-                    eqb-false kind 6 s.0,
-                    eqb-false kind 7 u.0,
-                  ) in
-                  subst (λ (y : RequestBody × List ℕ). Reads kind bytes y) (ok_is (request.Ack, bytes) x u.1)
-                  (record { parts = refl; rest_fits = fits }, (is, tt))
+              | inr u ↦ elim (chosen (eqb kind 8) ack (take_at kind bytes) (Ok x) u.1) [
+                | inl w ↦ subst (λ (y : RequestBody × List ℕ). Reads kind bytes y) (ok_is (request.Ack, bytes) x w.1)
+                    (record { parts = refl; rest_fits = fits }, (eqb-true _ _ w.0, tt))
+                | inr w ↦
+                    let least : 9 ≤ kind = omega (
+                      arith,
+                      low,
+                      eqb-false kind 3 p.0,
+                      eqb-false kind 4 q.0,
+                      eqb-false kind 5 r.0,
+                      eqb-false kind 6 s.0,
+                      eqb-false kind 7 u.0,
+                      eqb-false kind 8 w.0,
+                    ) in
+                    take_takes kind bytes x least high fits w.1
+              ]
             ]
           ]
         ]
@@ -117,16 +145,22 @@ request_again : (b : RequestBody) (rest : List ℕ) → FitsRequest b
 unfolding request_body_at lock_at insert_at put_at delete_at release_at
 request_again (request.Lock req point hi m) rest fits = four_again number_codec number_codec number_codec mode_codec
     request.Lock req point hi m rest fits.0 fits.1 fits.2 tt
-request_again (request.Write n (write.Insert k v)) rest fits = three_again number_codec number_codec value_codec
-    insert_of n k v rest fits.0 fits.1 fits.2
-request_again (request.Write n (write.Put k v)) rest fits = three_again number_codec number_codec value_codec put_of
-    n k v rest fits.0 fits.1 fits.2
-request_again (request.Write n (write.Delete k)) rest fits = two_again number_codec number_codec delete_of n k rest
-    fits.0 fits.1
+request_again (request.Write n (write.Insert k v) false) rest fits = three_again number_codec number_codec value_codec
+    (insert_of false) n k v rest fits.0 fits.1 fits.2
+request_again (request.Write n (write.Insert k v) true) rest fits = three_again number_codec number_codec value_codec
+    (insert_of true) n k v rest fits.0 fits.1 fits.2
+request_again (request.Write n (write.Put k v) false) rest fits = three_again number_codec number_codec value_codec
+    (put_of false) n k v rest fits.0 fits.1 fits.2
+request_again (request.Write n (write.Put k v) true) rest fits = three_again number_codec number_codec value_codec
+    (put_of true) n k v rest fits.0 fits.1 fits.2
+request_again (request.Write n (write.Delete k) false) rest fits = two_again number_codec number_codec
+    (delete_of false) n k rest fits.0 fits.1
+request_again (request.Write n (write.Delete k) true) rest fits = two_again number_codec number_codec
+    (delete_of true) n k rest fits.0 fits.1
 request_again (request.Release s m) rest fits = two_again span_codec mode_codec request.Release s m rest fits tt
 request_again request.Ack rest fits = refl
 
-request_codec : (kind : ℕ) → 3 ≤ kind → kind ≤ 8 → IsCodec request_body (request_body_at kind) (IsRequest kind)
+request_codec : (kind : ℕ) → 3 ≤ kind → kind ≤ 11 → IsCodec request_body (request_body_at kind) (IsRequest kind)
 request_codec kind low high = record {
   takes = λ bytes x fits e. request_takes kind bytes x low high fits e;
   again = λ b rest fits. subst (λ (k : ℕ). request_body_at k (request_body b ++ rest) ≡ Ok (b, rest)) (sym fits.0)
@@ -135,17 +169,23 @@ request_codec kind low high = record {
 
 request_low : (b : RequestBody) → 3 ≤ request_kind b
 request_low (request.Lock req point hi m) = omega arith
-request_low (request.Write n (write.Insert k v)) = omega arith
-request_low (request.Write n (write.Put k v)) = omega arith
-request_low (request.Write n (write.Delete k)) = omega arith
+request_low (request.Write n (write.Insert k v) false) = omega arith
+request_low (request.Write n (write.Insert k v) true) = omega arith
+request_low (request.Write n (write.Put k v) false) = omega arith
+request_low (request.Write n (write.Put k v) true) = omega arith
+request_low (request.Write n (write.Delete k) false) = omega arith
+request_low (request.Write n (write.Delete k) true) = omega arith
 request_low (request.Release s m) = omega arith
 request_low request.Ack = omega arith
 
-request_high : (b : RequestBody) → request_kind b ≤ 8
+request_high : (b : RequestBody) → request_kind b ≤ 11
 request_high (request.Lock req point hi m) = omega arith
-request_high (request.Write n (write.Insert k v)) = omega arith
-request_high (request.Write n (write.Put k v)) = omega arith
-request_high (request.Write n (write.Delete k)) = omega arith
+request_high (request.Write n (write.Insert k v) false) = omega arith
+request_high (request.Write n (write.Insert k v) true) = omega arith
+request_high (request.Write n (write.Put k v) false) = omega arith
+request_high (request.Write n (write.Put k v) true) = omega arith
+request_high (request.Write n (write.Delete k) false) = omega arith
+request_high (request.Write n (write.Delete k) true) = omega arith
 request_high (request.Release s m) = omega arith
 request_high request.Ack = omega arith
 
@@ -157,7 +197,7 @@ request_of e s b = server.Request (record { epoch = e; seen = s; body = b })
 abbrev IsBody : ℕ → ToServerBody → Type 0
 IsBody kind b = (kind ≡ to_server_kind b) × FitsServerBody b
 
-body_takes : (kind : ℕ) (bytes : List ℕ) (x : ToServerBody × List ℕ) → 0 ≤ kind → kind ≤ 8 → IsBytes bytes
+body_takes : (kind : ℕ) (bytes : List ℕ) (x : ToServerBody × List ℕ) → 0 ≤ kind → kind ≤ 11 → IsBytes bytes
     → to_server_body_at kind bytes ≡ Ok x → Takes bytes (to_server_body x.0) x.1 × IsBody kind x.0
 unfolding to_server_body_at report_at request_at
 body_takes kind bytes x low high fits e =
@@ -190,9 +230,12 @@ is_request : (b : RequestBody) (bytes : List ℕ) → to_server_body_at (request
     (request_kind b) bytes
 unfolding to_server_body_at
 is_request (request.Lock req point hi m) bytes = refl
-is_request (request.Write n (write.Insert k v)) bytes = refl
-is_request (request.Write n (write.Put k v)) bytes = refl
-is_request (request.Write n (write.Delete k)) bytes = refl
+is_request (request.Write n (write.Insert k v) false) bytes = refl
+is_request (request.Write n (write.Insert k v) true) bytes = refl
+is_request (request.Write n (write.Put k v) false) bytes = refl
+is_request (request.Write n (write.Put k v) true) bytes = refl
+is_request (request.Write n (write.Delete k) false) bytes = refl
+is_request (request.Write n (write.Delete k) true) bytes = refl
 is_request (request.Release s m) bytes = refl
 is_request request.Ack bytes = refl
 
@@ -208,7 +251,7 @@ body_again (server.Request r) rest fits =
     (request_codec (request_kind r.body) (request_low r.body) (request_high r.body)) request_of r.epoch r.seen
     r.body rest fits.0 fits.1 (refl, fits.2)
 
-kind_high : (b : ToServerBody) → to_server_kind b ≤ 8
+kind_high : (b : ToServerBody) → to_server_kind b ≤ 11
 kind_high server.Hello = omega arith
 kind_high server.Bye = omega arith
 kind_high (server.Report n p) = omega arith
@@ -223,14 +266,14 @@ server_takes : (bytes : List ℕ) (m : ToServer) → IsBytes bytes → to_server
     → FitsToServer m × (bytes ≡ to_server m)
 unfolding to_server_of
 server_takes bytes m fits e =
-    let t = whole_takes 0 8 to_server_body_at to_server_kind to_server_body FitsServerBody message_of body_takes
+    let t = whole_takes 0 11 to_server_body_at to_server_kind to_server_body FitsServerBody message_of body_takes
     bytes m fits e in
     subst (λ (y : ToServer). FitsToServer y × (bytes ≡ to_server y)) t.3 ((t.4, t.5, t.6), t.7)
 
 pub server_again : (m : ToServer) → FitsToServer m → to_server_of (to_server m) ≡ Ok m
 unfolding to_server_of
 server_again m fits =
-    whole_again 0 8 to_server_body_at to_server_kind to_server_body FitsServerBody message_of m.client m.incarnation
+    whole_again 0 11 to_server_body_at to_server_kind to_server_body FitsServerBody message_of m.client m.incarnation
     m.body (omega arith) (kind_high m.body) fits.0 fits.1 (body_again m.body [] fits.2)
 
 pub server_found : (bytes : List ℕ) (r : Result ToServer ReadError) → IsBytes bytes

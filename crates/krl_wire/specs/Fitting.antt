@@ -51,9 +51,9 @@ FitsPieces p = FitsList FitsRange p.ranges × FitsList FitsKey p.keys
 
 abbrev pub FitsRequest : RequestBody → Type 0
 FitsRequest (asked.Lock req point hi m) = FitsNumber req × FitsNumber point × FitsNumber hi
-FitsRequest (asked.Write n (write.Insert k v)) = FitsNumber n × FitsNumber k × FitsValue v
-FitsRequest (asked.Write n (write.Put k v)) = FitsNumber n × FitsNumber k × FitsValue v
-FitsRequest (asked.Write n (write.Delete k)) = FitsNumber n × FitsNumber k
+FitsRequest (asked.Write n (write.Insert k v) takes) = FitsNumber n × FitsNumber k × FitsValue v
+FitsRequest (asked.Write n (write.Put k v) takes) = FitsNumber n × FitsNumber k × FitsValue v
+FitsRequest (asked.Write n (write.Delete k) takes) = FitsNumber n × FitsNumber k
 FitsRequest (asked.Release s m) = FitsSpan s
 FitsRequest asked.Ack = Unit {0}
 

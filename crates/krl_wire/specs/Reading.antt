@@ -1,5 +1,5 @@
 -- Reading from the left, field by field, up to the first fault.
-use Rattle.std.specs.Prelude.{◌≡◌, ℕ, zero, suc, List, [], ◌∷◌, length, take, drop, ◌/◌, slice_get, Option, Some, None, Result, Ok, Err, nat_lt, nat_le, ◌==◌, ◌&&◌, if◌then◌else◌}
+use Rattle.std.specs.Prelude.{◌≡◌, ℕ, Bool, true, false, zero, suc, List, [], ◌∷◌, length, take, drop, ◌/◌, slice_get, Option, Some, None, Result, Ok, Err, nat_lt, nat_le, ◌==◌, ◌&&◌, if◌then◌else◌}
 use Rattle.std.specs.Int.{Width, w32, w64, byte_len, from_le_bytes}
 use Rattle.krl_modes.specs.Names.{all_modes}
 use Rattle.krl_modes.specs.Spans.{Bounds}
@@ -180,25 +180,26 @@ lock_at bytes = do
   m ← tag_at all_modes fault.Mode hi.1
   Ok (asked.Lock req.0 point.0 hi.0 m.0, m.1)
 
-unfoldable pub insert_at : List ℕ → Result (RequestBody × List ℕ) Fault
-insert_at bytes = do
+-- a write, which takes the lock that it needs or not
+unfoldable pub insert_at : Bool → List ℕ → Result (RequestBody × List ℕ) Fault
+insert_at takes bytes = do
   n ← number_at w64 bytes
   k ← number_at w64 n.1
   v ← value_at k.1
-  Ok (asked.Write n.0 (write.Insert k.0 v.0), v.1)
+  Ok (asked.Write n.0 (write.Insert k.0 v.0) takes, v.1)
 
-unfoldable pub put_at : List ℕ → Result (RequestBody × List ℕ) Fault
-put_at bytes = do
+unfoldable pub put_at : Bool → List ℕ → Result (RequestBody × List ℕ) Fault
+put_at takes bytes = do
   n ← number_at w64 bytes
   k ← number_at w64 n.1
   v ← value_at k.1
-  Ok (asked.Write n.0 (write.Put k.0 v.0), v.1)
+  Ok (asked.Write n.0 (write.Put k.0 v.0) takes, v.1)
 
-unfoldable pub delete_at : List ℕ → Result (RequestBody × List ℕ) Fault
-delete_at bytes = do
+unfoldable pub delete_at : Bool → List ℕ → Result (RequestBody × List ℕ) Fault
+delete_at takes bytes = do
   n ← number_at w64 bytes
   k ← number_at w64 n.1
-  Ok (asked.Write n.0 (write.Delete k.0), k.1)
+  Ok (asked.Write n.0 (write.Delete k.0) takes, k.1)
 
 unfoldable pub release_at : List ℕ → Result (RequestBody × List ℕ) Fault
 release_at bytes = do
@@ -206,15 +207,18 @@ release_at bytes = do
   m ← tag_at all_modes fault.Mode s.1
   Ok (asked.Release s.0 m.0, m.1)
 
--- of the kinds 3 to 8
+-- of the kinds 3 to 11
 unfoldable pub request_body_at : ℕ → List ℕ → Result (RequestBody × List ℕ) Fault
 request_body_at kind bytes =
     if kind == 3 then lock_at bytes
-    else (if kind == 4 then insert_at bytes
-    else (if kind == 5 then put_at bytes
-    else (if kind == 6 then delete_at bytes
+    else (if kind == 4 then insert_at false bytes
+    else (if kind == 5 then put_at false bytes
+    else (if kind == 6 then delete_at false bytes
     else (if kind == 7 then release_at bytes
-    else Ok (asked.Ack, bytes)))))
+    else (if kind == 8 then Ok (asked.Ack, bytes)
+    else (if kind == 9 then insert_at true bytes
+    else (if kind == 10 then put_at true bytes
+    else delete_at true bytes)))))))
 
 unfoldable pub request_at : ℕ → List ℕ → Result (ToServerBody × List ℕ) Fault
 request_at kind bytes = do
@@ -229,7 +233,7 @@ report_at bytes = do
   p ← pieces_at epoch.1
   Ok (said.Report epoch.0 p.0, p.1)
 
--- of the kinds 0 to 8
+-- of the kinds 0 to 11
 unfoldable pub to_server_body_at : ℕ → List ℕ → Result (ToServerBody × List ℕ) Fault
 to_server_body_at kind bytes =
     if kind == 0 then Ok (said.Hello, bytes)
@@ -255,7 +259,7 @@ ended x rest = if length rest == 0 then Ok x else Err fault.Trailing
 
 unfoldable pub to_server_of : List ℕ → Result ToServer Fault
 to_server_of bytes = do
-  kind ← head_at 0 8 bytes
+  kind ← head_at 0 11 bytes
   sender ← number_at w64 kind.1
   incarnation ← number_at w64 sender.1
   body ← to_server_body_at kind.0 incarnation.1

@@ -1,5 +1,5 @@
 -- The one spelling of each message in version 1, as a list of bytes.
-use Rattle.std.specs.Prelude.{ℕ, List, [], ◌∷◌, ◌++◌, length, Option, Some, None}
+use Rattle.std.specs.Prelude.{ℕ, Bool, true, false, List, [], ◌∷◌, ◌++◌, length, Option, Some, None}
 use Rattle.std.specs.List.{flat_map}
 use Rattle.std.specs.Int.{w32, w64, to_le_bytes}
 use Rattle.krl_modes.specs.Spans.{Bounds}
@@ -16,6 +16,7 @@ use Rattle.krl_messages.specs.declared.holding.Holding.{Holding}
 use Rattle.krl_messages.specs.declared.range_pieces.RangePiece.{RangePiece}
 use Rattle.krl_messages.specs.declared.key_pieces.KeyPiece.{KeyPiece}
 use Rattle.krl_messages.specs.declared.pieces.Pieces.{Pieces}
+use Rattle.krl_messages.specs.declared.write_op.WriteOp.{WriteOp}
 use Rattle.krl_messages.specs.declared.write_op.WriteOp.TheVariants as write
 use Rattle.krl_messages.specs.declared.to_server.ToServer.{ToServer}
 use Rattle.krl_messages.specs.declared.to_server.ToServerBody.{ToServerBody}
@@ -102,20 +103,27 @@ key_piece p = number p.point ++ key_tag p.part ∷ []
 abbrev pub pieces : Pieces → List ℕ
 pieces p = list range_piece p.ranges ++ list key_piece p.keys
 
+-- the kind of a write, and of one that takes the lock that it needs
+abbrev pub write_kind : WriteOp → Bool → ℕ
+write_kind (write.Insert k v) false = 4
+write_kind (write.Put k v) false = 5
+write_kind (write.Delete k) false = 6
+write_kind (write.Insert k v) true = 9
+write_kind (write.Put k v) true = 10
+write_kind (write.Delete k) true = 11
+
 -- the kind of each message to the server, and what it says after its head
 abbrev pub request_kind : RequestBody → ℕ
 request_kind (asked.Lock req point hi m) = 3
-request_kind (asked.Write n (write.Insert k v)) = 4
-request_kind (asked.Write n (write.Put k v)) = 5
-request_kind (asked.Write n (write.Delete k)) = 6
+request_kind (asked.Write n change takes) = write_kind change takes
 request_kind (asked.Release s m) = 7
 request_kind asked.Ack = 8
 
 abbrev pub request_body : RequestBody → List ℕ
 request_body (asked.Lock req point hi m) = number req ++ number point ++ number hi ++ mode_tag m ∷ []
-request_body (asked.Write n (write.Insert k v)) = number n ++ number k ++ value v
-request_body (asked.Write n (write.Put k v)) = number n ++ number k ++ value v
-request_body (asked.Write n (write.Delete k)) = number n ++ number k
+request_body (asked.Write n (write.Insert k v) takes) = number n ++ number k ++ value v
+request_body (asked.Write n (write.Put k v) takes) = number n ++ number k ++ value v
+request_body (asked.Write n (write.Delete k) takes) = number n ++ number k
 request_body (asked.Release s m) = span s ++ mode_tag m ∷ []
 request_body asked.Ack = []
 

@@ -23,6 +23,12 @@ pub const RELEASE: u8 = 7;
 
 pub const ACK: u8 = 8;
 
+pub const TAKE_INSERT: u8 = 9;
+
+pub const TAKE_PUT: u8 = 10;
+
+pub const TAKE_DELETE: u8 = 11;
+
 // To a client.
 
 pub const EPOCH: u8 = 16;

@@ -4,7 +4,9 @@ ghost use Rattle.std.specs.List.{flat_map};
 ghost use Rattle.krl_wire.specs.Fitting.{HasCounts};
 ghost use Rattle.krl_wire.specs.Spelling as spelling;
 
-use crate::kinds::{ACK, BYE, DELETE, HELLO, INSERT, LOCK, PUT, RELEASE, REPORT};
+use crate::kinds::{
+    ACK, BYE, DELETE, HELLO, INSERT, LOCK, PUT, RELEASE, REPORT, TAKE_DELETE, TAKE_INSERT, TAKE_PUT,
+};
 use crate::put_fields::{put_head, put_mode, put_number, put_span, put_span_and_mode, put_value};
 use krl_messages::{
     KeyPiece, Pieces, RangePiece, Request, RequestBody, ToServer, ToServerBody, Value, WriteOp,
@@ -113,7 +115,7 @@ fn put_request_body(out: &mut Vec<u8>, body: &RequestBody) -> Result<(), AllocEr
             hi,
             mode,
         } => put_lock(out, req, point, hi, mode),
-        RequestBody::Write { number, op } => match op {
+        RequestBody::Write { number, op, .. } => match op {
             WriteOp::Insert { key, value } => put_change(out, number, key, &value),
             WriteOp::Put { key, value } => put_change(out, number, key, &value),
             WriteOp::Delete { key } => put_delete(out, number, key),
@@ -123,16 +125,26 @@ fn put_request_body(out: &mut Vec<u8>, body: &RequestBody) -> Result<(), AllocEr
     }
 }
 
+// The kind names the change, and whether the write takes the lock that it needs.
+fn write_kind(op: &WriteOp, takes: bool) -> u8
+    ensures { result ≡ spelling.write_kind op.now takes }
+{
+    match (op, takes) {
+        (WriteOp::Insert { .. }, false) => INSERT,
+        (WriteOp::Put { .. }, false) => PUT,
+        (WriteOp::Delete { .. }, false) => DELETE,
+        (WriteOp::Insert { .. }, true) => TAKE_INSERT,
+        (WriteOp::Put { .. }, true) => TAKE_PUT,
+        (WriteOp::Delete { .. }, true) => TAKE_DELETE,
+    }
+}
+
 fn request_kind(body: &RequestBody) -> u8
     ensures { result ≡ spelling.request_kind body.now }
 {
     match body {
         RequestBody::Lock { .. } => LOCK,
-        RequestBody::Write { op, .. } => match op {
-            WriteOp::Insert { .. } => INSERT,
-            WriteOp::Put { .. } => PUT,
-            WriteOp::Delete { .. } => DELETE,
-        },
+        RequestBody::Write { op, takes, .. } => write_kind(op, *takes),
         RequestBody::Release { .. } => RELEASE,
         RequestBody::Ack => ACK,
     }

@@ -10,7 +10,9 @@ ghost use Rattle.krl_wire.specs.Reading.{request_at, report_at, to_server_body_a
 ghost use Rattle.krl_wire.specs.Reading as reading;
 
 use crate::fault::{Fault, ReadError};
-use crate::kinds::{ACK, BYE, DELETE, HELLO, INSERT, LOCK, PUT, RELEASE, REPORT};
+use crate::kinds::{
+    ACK, BYE, DELETE, HELLO, INSERT, LOCK, PUT, RELEASE, REPORT, TAKE_DELETE, TAKE_INSERT, TAKE_PUT,
+};
 use crate::read_pieces::pieces;
 use crate::reader::Reader;
 use krl_messages::{Request, RequestBody, ToServer, ToServerBody, WriteOp};
@@ -33,35 +35,35 @@ fn lock(reader: &mut Reader<'_>) -> Result<RequestBody, Fault>
 }
 
 #[tactic(auto, unfolding(crate::specs::Reading::insert_at))]
-fn insert(reader: &mut Reader<'_>) -> Result<RequestBody, Fault>
-    ensures { Reads result reader.new (insert_at reader.old) }
+fn insert(reader: &mut Reader<'_>, takes: bool) -> Result<RequestBody, Fault>
+    ensures { Reads result reader.new (insert_at takes reader.old) }
 {
     let number = reader.number()?;
     let key = reader.number()?;
     let value = reader.value()?;
     let op = WriteOp::Insert { key, value };
-    Ok(RequestBody::Write { number, op })
+    Ok(RequestBody::Write { number, op, takes })
 }
 
 #[tactic(auto, unfolding(crate::specs::Reading::put_at))]
-fn put(reader: &mut Reader<'_>) -> Result<RequestBody, Fault>
-    ensures { Reads result reader.new (put_at reader.old) }
+fn put(reader: &mut Reader<'_>, takes: bool) -> Result<RequestBody, Fault>
+    ensures { Reads result reader.new (put_at takes reader.old) }
 {
     let number = reader.number()?;
     let key = reader.number()?;
     let value = reader.value()?;
     let op = WriteOp::Put { key, value };
-    Ok(RequestBody::Write { number, op })
+    Ok(RequestBody::Write { number, op, takes })
 }
 
 #[tactic(auto, unfolding(crate::specs::Reading::delete_at))]
-fn delete(reader: &mut Reader<'_>) -> Result<RequestBody, Fault>
-    ensures { Reads result reader.new (delete_at reader.old) }
+fn delete(reader: &mut Reader<'_>, takes: bool) -> Result<RequestBody, Fault>
+    ensures { Reads result reader.new (delete_at takes reader.old) }
 {
     let number = reader.number()?;
     let key = reader.number()?;
     let op = WriteOp::Delete { key };
-    Ok(RequestBody::Write { number, op })
+    Ok(RequestBody::Write { number, op, takes })
 }
 
 #[tactic(auto, unfolding(crate::specs::Reading::release_at))]
@@ -73,18 +75,21 @@ fn release(reader: &mut Reader<'_>) -> Result<RequestBody, Fault>
     Ok(RequestBody::Release { span, mode })
 }
 
-// What a request of this kind asks. The kind is 3 to 8.
+// What a request of this kind asks. The kind is 3 to 11.
 #[tactic(auto, unfolding(crate::specs::Reading::request_body_at))]
 fn request_body(reader: &mut Reader<'_>, kind: u8) -> Result<RequestBody, Fault>
     ensures { Reads result reader.new (request_body_at kind reader.old) }
 {
     match kind {
         LOCK => lock(reader),
-        INSERT => insert(reader),
-        PUT => put(reader),
-        DELETE => delete(reader),
+        INSERT => insert(reader, false),
+        PUT => put(reader, false),
+        DELETE => delete(reader, false),
         RELEASE => release(reader),
-        _ => Ok(RequestBody::Ack),
+        ACK => Ok(RequestBody::Ack),
+        TAKE_INSERT => insert(reader, true),
+        TAKE_PUT => put(reader, true),
+        _ => delete(reader, true),
     }
 }
 
@@ -107,7 +112,7 @@ fn report(reader: &mut Reader<'_>, alloc: Global) -> Result<ToServerBody, ReadEr
     Ok(ToServerBody::Report { epoch, pieces })
 }
 
-// What a message of this kind says after its head. The kind is 0 to 8.
+// What a message of this kind says after its head. The kind is 0 to 11.
 #[tactic(auto, unfolding(crate::specs::Reading::to_server_body_at))]
 fn to_server_body(
     reader: &mut Reader<'_>,
@@ -132,7 +137,7 @@ fn read(alloc: Global, bytes: &[u8]) -> Result<ToServer, ReadError>
     ensures memory { result ≡ Err errors.OutOfMemory → BeginsReport bytes.now }
 {
     let mut reader = Reader::new(bytes);
-    let kind = reader.head(HELLO, ACK)?;
+    let kind = reader.head(HELLO, TAKE_DELETE)?;
     let client = reader.number()?;
     let incarnation = reader.number()?;
     let body = to_server_body(&mut reader, alloc, kind)?;

@@ -7,7 +7,7 @@ use Rattle.krl_durable.specs.declared.change.Change.{Change}
 use Rattle.krl_durable.specs.declared.change.Change.TheVariants as change
 use Rattle.krl_client.specs.Clients.{Client, begun, free_pin}
 use Rattle.krl_client.specs.Commands
-use Rattle.krl_client.specs.Commands.{wrote, says_lock, says_write, says_release, lowered, pinned, unpinned, says_bye, start_refusal}
+use Rattle.krl_client.specs.Commands.{wrote, took, says_lock, says_write, says_release, lowered, pinned, unpinned, says_bye, start_refusal}
 use Rattle.krl_client.specs.FieldSteps.{Follows, IsTick}
 use Rattle.krl_client.specs.Messages as receiver
 use Rattle.krl_client.specs.Ticks.{says_hello}
@@ -42,6 +42,9 @@ Does k (command.Lock point hi m) answer next old new =
 Does k (command.Write op) answer next old new =
     (answer ≡ answered.Done) × (next ≡ Some (wrote k op))
     × (new ≡ old ++ from_clients (says_write (wrote k op) op ∷ []))
+Does k (command.Take op) answer next old new =
+    (answer ≡ answered.Done) × (next ≡ Some (took k op))
+    × (new ≡ old ++ from_clients (says_write (took k op) op ∷ []))
 Does k (command.Scan lo hi) answer next old new = ScanAnswers k (span lo hi) answer × (next ≡ Some k) × (new ≡ old)
 Does k (command.Lower lo hi keep) answer next old new =
     (answer ≡ answered.Done) × (next ≡ Some (lowered k (span lo hi) keep))

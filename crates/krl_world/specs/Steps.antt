@@ -16,7 +16,7 @@ use Rattle.krl_durable.specs.Migrations as migrations
 use Rattle.krl_durable.specs.Migrations.{DurableV1, migrated}
 use Rattle.krl_durable.specs.Registers.{Durable, not_left}
 use Rattle.krl_server.specs.Servers.{Server}
-use Rattle.krl_server.specs.Cases.{Case, Ignored, Registers, Leaves, Tells, Alarms, Rebuilds, Repeats, Acknowledges, Lowers, Waits, Judges, AnswersAgain, case_of}
+use Rattle.krl_server.specs.Cases.{Case, Ignored, Registers, Leaves, Tells, Alarms, Rebuilds, Repeats, Acknowledges, Lowers, Waits, Judges, TakesLock, AnswersAgain, case_of}
 use Rattle.krl_server.specs.Steps as server
 use Rattle.krl_server.specs.Steps.{ServerStep}
 use Rattle.krl_cache.specs.Beliefs.{CoversAll}
@@ -25,7 +25,7 @@ use Rattle.krl_client.specs.declared.refused.CommandRefused.{CommandRefused}
 use Rattle.krl_client.specs.declared.scan_answer.ScanAnswer.TheVariants as scan_answer
 use Rattle.krl_client.specs.Clients.{Client, begun, is_writing_in, free_pin}
 use Rattle.krl_client.specs.Commands
-use Rattle.krl_client.specs.Commands.{lock_refusal, write_refusal, scan_refusal, lower_refusal, pin_refusal, unpin_refusal, start_refusal, says_lock, wrote, says_write, says_release, lowered, pinned, unpinned, says_bye}
+use Rattle.krl_client.specs.Commands.{lock_refusal, write_refusal, take_refusal, scan_refusal, lower_refusal, pin_refusal, unpin_refusal, start_refusal, says_lock, wrote, took, says_write, says_release, lowered, pinned, unpinned, says_bye}
 use Rattle.krl_client.specs.Messages as receiver
 use Rattle.krl_client.specs.Ticks.{tick, says_hello}
 use Rattle.krl_modes.specs.declared.limits.TheConstants.{MAX_CLIENTS}
@@ -87,6 +87,7 @@ span lo hi = record { lo = lo; hi = hi }
 abbrev pub command_refusal : Client → Command → Option CommandRefused
 command_refusal k (command.Lock point hi m) = lock_refusal k point hi
 command_refusal k (command.Write op) = write_refusal k op
+command_refusal k (command.Take op) = take_refusal k op
 command_refusal k (command.Scan lo hi) = scan_refusal (span lo hi)
 command_refusal k (command.Lower lo hi keep) = lower_refusal k (span lo hi)
 command_refusal k (command.Pin lo hi) = pin_refusal k (span lo hi)
@@ -141,6 +142,8 @@ if_applied o x = if is_applied o then x ∷ [] else []
 abbrev pub applies : ToServer → Case → List AppliedWrite
 applies m (Judges number op o) =
     if_applied o (record { client = m.client; incarnation = m.incarnation; number = number; op = op })
+applies m (TakesLock number op) =
+    record { client = m.client; incarnation = m.incarnation; number = number; op = op } ∷ []
 applies m other = []
 
 -- the server reads the message; one that is down loses it
@@ -181,6 +184,8 @@ Obeys w c k (command.Lock point hi m) answer w' =
     (says_lock (Commands.locked k point hi m) point hi m ∷ []))
 Obeys w c k (command.Write op) answer w' =
     (answer ≡ answered.Done) × (w' ≡ with_client w c (Some (wrote k op)) (says_write (wrote k op) op ∷ []))
+Obeys w c k (command.Take op) answer w' =
+    (answer ≡ answered.Done) × (w' ≡ with_client w c (Some (took k op)) (says_write (took k op) op ∷ []))
 Obeys w c k (command.Scan lo hi) answer w' = ScanAnswers k (span lo hi) answer × (w' ≡ w)
 Obeys w c k (command.Lower lo hi keep) answer w' =
     (answer ≡ answered.Done)

@@ -19,7 +19,7 @@ const RANGE_I_N: u32 = 6;
 const MAX_MEMORY: u64 = 16 << 20;
 
 /// The kinds of messages.
-const KINDS: [u8; 14] = [0, 1, 2, 3, 4, 5, 6, 7, 8, 16, 17, 18, 19, 20];
+const KINDS: [u8; 17] = [0, 1, 2, 3, 4, 5, 6, 7, 8, 9, 10, 11, 16, 17, 18, 19, 20];
 
 /// The longest random string.
 const LONGEST: u64 = 120;

@@ -283,7 +283,7 @@ fn a_client_that_leaves_a_store_that_went_back() {
 
 /// The Hello of a host that has seen so much, and the word that the store lacks it.
 fn host_hello(start: u128, commits: u64) -> Vec<u8> {
-    let body = [&[0, 0][..], &start.to_le_bytes(), &commits.to_le_bytes(), &[2]].concat();
+    let body = [&[0, 0][..], &start.to_le_bytes(), &commits.to_le_bytes(), &[3]].concat();
     [&(body.len() as u64).to_le_bytes()[..], &body].concat()
 }
 
@@ -312,7 +312,7 @@ fn nothing_is_taken_of_a_connection_whose_host_has_seen_another_store() {
     let listener = std::net::TcpListener::bind("127.0.0.1:0").unwrap();
     let store = SqliteStore::open(place.folder.join("table.db")).unwrap();
     let server = Server::start(listener, store).unwrap();
-    let body = [&[0, 0][..], &[5; 16], &1u64.to_le_bytes(), &[7; 16], &[2]].concat();
+    let body = [&[0, 0][..], &[5; 16], &1u64.to_le_bytes(), &[7; 16], &[3]].concat();
     let seen = [&(body.len() as u64).to_le_bytes()[..], &body].concat();
     let mut peer = Peer::new(&server);
     peer.say(&[seen, frame(HELLO, 3, 1, &[])].concat());

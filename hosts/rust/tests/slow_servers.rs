@@ -95,7 +95,7 @@ fn a_server_that_takes_nothing_holds_no_call_beyond_its_timeout() {
     let (mut stream, _) = listener.accept().unwrap();
     let mut said = Vec::new();
     stream.read_to_end(&mut said).unwrap();
-    let (hello, sign) = ([3, 0, 0, 0, 0, 0, 0, 0, 0, 0, 2], [42, 0, 0, 0, 0, 0, 0, 0, 0, 1, 5]);
+    let (hello, sign) = ([3, 0, 0, 0, 0, 0, 0, 0, 0, 0, 3], [42, 0, 0, 0, 0, 0, 0, 0, 0, 1, 5]);
     assert!(said.len() >= 61 && said.len() % 61 == 0, "{said:?}");
     for greeting in said.chunks(61) {
         assert_eq!((&greeting[..11], &greeting[11..22]), (&hello[..], &sign[..]));

@@ -19,6 +19,8 @@ use Rattle.krl_table.specs.Grants.{taken, granted}
 use Rattle.krl_table.specs.Replies.{asks_absent}
 use Rattle.krl_table.specs.Reports.{adopted}
 use Rattle.krl_table.proofs.Invariant.Compatible.{mode_here, mode_other}
+use Rattle.krl_messages.specs.Writes.{op_key as op_key_of}
+use Rattle.krl_server.specs.Takes.{lock_for}
 use Rattle.krl_server.specs.Cases.{case_of}
 use Rattle.krl_server.specs.Effects as effects
 use Rattle.krl_server.specs.Effects.{effect, rows_after}
@@ -103,6 +105,11 @@ effect_empty s m h =
       judges = λ r number op o served under near new is. pushes_empty (effects.writes t c op o) c _
           (subst (λ x. EmptyIn (applied_by s.durable c op o x).register (rows_after index s.rows c op o)) (sym served.from.known)
           (with_empty es s.rows (rows_after index s.rows c op o) c (noted r o) (λ left. absurd (not_both r.left left served.from.here)) (written_empty index s.rows c op o) h));
+      takes = λ r number op served under near new may. let x = effects.takes s c op in
+          pushes_empty (effects.writes (acknowledged x c) c op outcome.Applied) c _
+          (subst (λ y. EmptyIn (applied_by s.durable c op outcome.Applied y).register (rows_after index x.rows c op outcome.Applied)) (sym served.from.known)
+          (with_empty es s.rows (rows_after index x.rows c op outcome.Applied) c (noted r outcome.Applied) (λ left. absurd (not_both r.left left served.from.here))
+          (λ d ne none. written_empty index x.rows c op outcome.Applied d ne (λ n. sym (raised_others s.rows (slot_of index (op_key_of op)) (lock_for c op) d ne n) ∙ none n)) h));
       answers_again = λ r number op o served under some last is. pushes_empty t c _ h;
     })
 

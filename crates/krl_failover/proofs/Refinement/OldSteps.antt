@@ -2,6 +2,7 @@
 use Rattle.krl_failover.proofs.Refinement.Names.{◌≡◌, ℕ, ◌<◌, ◌≤◌, inr, ⊎_elim, Option, Value, Some, None, List, [], ◌∷◌, ◌++◌, refl, sym, ap, subst, ◌∙◌, arith, none-some, END, Bounds, Mode, op_key}
 use Rattle.krl_failover.proofs.Refinement.Names.{In, in_both, Outcome, WriteOp, PushBody, ToClient, ToServer, Waiter, Record, record_of, Row, set_row, Session, Server, silent, acknowledged}
 use Rattle.krl_failover.proofs.Refinement.Names.{push_to, IsSound, session_here, session_other, set_session, eq_cases, WasSent, Stands, Fenced, FencedReachable, IsRecordKept, IsHeardBy, ShowsOld}
+use Rattle.std.specs.Prelude.{Bool}
 use Rattle.krl_messages.specs.declared.to_client.ToClientBody.TheVariants as told
 use Rattle.krl_messages.specs.declared.to_client.PushBody.TheVariants as push
 use Rattle.krl_messages.specs.declared.to_server.ToServerBody.{ToServerBody}
@@ -135,9 +136,9 @@ module _ (first : ℕ → Option Value) (s : Server) (f : Fenced) (m : ToServer)
       moves.goes_on s (acknowledged s c) f _ refl x
       (goes_not (acknowledged s c) (queues (acknowledged s c) u) x.fenced (queues_shows (acknowledged s c) x.fenced u (own_heard r request b a) x.shows))
 
-  on_again : (r : Record) (request : Request) (number : ℕ) (op : WriteOp) (o : Outcome) (a : IsAsked s m r request (asked.Write number op)) → op_key op < END → 1 ≤ number → number ≡ r.last → r.outcome ≡ Some o → Goes s f (answers (acknowledged s c) c number op o)
-  on_again r request number op o a under some last is =
-      let b = asked.Write number op in
+  on_again : (r : Record) (request : Request) (number : ℕ) (op : WriteOp) (takes : Bool) (o : Outcome) (a : IsAsked s m r request (asked.Write number op takes)) → op_key op < END → 1 ≤ number → number ≡ r.last → r.outcome ≡ Some o → Goes s f (answers (acknowledged s c) c number op o)
+  on_again r request number op takes o a under some last is =
+      let b = asked.Write number op takes in
       let t = acknowledged s c in
       let x = hears r request b a in
       let can_t = can r request b a in
@@ -167,8 +168,9 @@ module _ (first : ℕ → Option Value) (s : Server) (f : Fenced) (m : ToServer)
         acknowledges = λ r request b a n. hears r request b a;
         lowers = λ r request span keep a n. on_lowers r request span keep a;
         waits = λ r request req point hi g a new free near n. on_waits r request req point hi g a;
-        judges = λ r request number op o a under near new is n. absurd (none-some _ (sym n));
-        answers_again = λ r request number op o a under some last is n. on_again r request number op o a under some last is;
+        judges = λ r request number op takes o a under near new is n. absurd (none-some _ (sym n));
+        takes = λ r request number op takes a under near new may n. absurd (none-some _ (sym n));
+        answers_again = λ r request number op takes o a under some last is n. on_again r request number op takes o a under some last is;
       })
 
   -- the whole step

@@ -126,30 +126,33 @@ fn lock(alloc: Global) -> Result<Example<ToServer>, Fail> {
     requested(alloc, "03", text, body)
 }
 
-fn insert(alloc: Global) -> Result<Example<ToServer>, Fail> {
+fn insert(alloc: Global, kind: &str, takes: bool) -> Result<Example<ToServer>, Fail> {
     let op = WriteOp::Insert {
         key: 10,
         value: value(),
     };
     let text = "0600000000000000 0a00000000000000 02 cafe";
-    requested(alloc, "04", text, RequestBody::Write { number: 6, op })
+    let number = 6;
+    requested(alloc, kind, text, RequestBody::Write { number, op, takes })
 }
 
-fn put(alloc: Global) -> Result<Example<ToServer>, Fail> {
+fn put(alloc: Global, kind: &str, takes: bool) -> Result<Example<ToServer>, Fail> {
     let op = WriteOp::Put {
         key: 10,
         value: Value::from_u64(5),
     };
     let text = "0700000000000000 0a00000000000000 08 0000000000000005";
-    requested(alloc, "05", text, RequestBody::Write { number: 7, op })
+    let number = 7;
+    requested(alloc, kind, text, RequestBody::Write { number, op, takes })
 }
 
-fn delete(alloc: Global) -> Result<Example<ToServer>, Fail> {
+fn delete(alloc: Global, kind: &str, takes: bool) -> Result<Example<ToServer>, Fail> {
     let op = WriteOp::Delete {
         key: 72623859790382856,
     };
     let text = "0800000000000000 0807060504030201";
-    requested(alloc, "06", text, RequestBody::Write { number: 8, op })
+    let number = 8;
+    requested(alloc, kind, text, RequestBody::Write { number, op, takes })
 }
 
 fn release(alloc: Global) -> Result<Example<ToServer>, Fail> {
@@ -168,7 +171,7 @@ fn alone(alloc: Global, kind: &str, body: ToServerBody) -> Result<Example<ToServ
 }
 
 /// How many kinds of messages to the server there are.
-pub const TO_SERVER: u8 = 9;
+pub const TO_SERVER: u8 = 12;
 
 /// The message to the server of this kind.
 pub fn to_server_example(alloc: Global, kind: u8) -> Result<Example<ToServer>, Fail> {
@@ -177,11 +180,14 @@ pub fn to_server_example(alloc: Global, kind: u8) -> Result<Example<ToServer>, F
         1 => alone(alloc, "01", ToServerBody::Bye),
         2 => report(alloc),
         3 => lock(alloc),
-        4 => insert(alloc),
-        5 => put(alloc),
-        6 => delete(alloc),
+        4 => insert(alloc, "04", false),
+        5 => put(alloc, "05", false),
+        6 => delete(alloc, "06", false),
         7 => release(alloc),
-        _ => requested(alloc, "08", "", RequestBody::Ack),
+        8 => requested(alloc, "08", "", RequestBody::Ack),
+        9 => insert(alloc, "09", true),
+        10 => put(alloc, "0a", true),
+        _ => delete(alloc, "0b", true),
     }
 }
 

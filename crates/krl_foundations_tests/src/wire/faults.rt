@@ -8,7 +8,7 @@ use std::test::Fail;
 static TO_SERVER: [(&str, &str, Fault); 14] = [
     ("00 00", "", Fault::Version),
     ("02 63", "", Fault::Version),
-    ("01 09", "", Fault::Kind),
+    ("01 0c", "", Fault::Kind),
     ("01 10", "0100000000000000", Fault::Kind),
     ("01 07", "01 04 07", Fault::Short),
     (

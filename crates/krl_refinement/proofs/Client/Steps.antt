@@ -1,5 +1,5 @@
 -- Starts, crashes and commands are steps of the client's link.
-use Rattle.std.proofs.Common.{◌≡◌, ℕ, suc, ◌≤◌, ◌<◌, ◌-◌, Bool, true, false, ◌&&◌, Option, Some, None, [], ◌∷◌, ◌⊎◌, inl, inr, refl, sym, subst, ◌∙◌, ⊎_elim, arith, nat_lt, nat_le, not, if◌then◌else◌, ltb-true}
+use Rattle.std.proofs.Common.{◌≡◌, ℕ, suc, ◌≤◌, ◌<◌, ◌-◌, Bool, true, false, ◌&&◌, ◌||◌, Option, Some, None, [], ◌∷◌, ◌⊎◌, inl, inr, refl, sym, subst, ◌∙◌, ⊎_elim, arith, nat_lt, nat_le, not, if◌then◌else◌, ltb-true}
 use Rattle.krl_refinement.proofs.Names.{and_parts, not-false, END, TOP, KeyPart, Mode, key_meet, reads_key, is_key_X, is_range_X, range_of, key_of, Bounds, contains, WriteOp, ToServer, Value, row_of}
 use Rattle.krl_refinement.proofs.Names.{mode_parts, lower, is_span, Client, begun, LockRequest, Waiting, outstanding, has_joined, is_in, is_writing_in, op_of, op_shown, Grows, server_part, IsFrom}
 use Rattle.krl_refinement.proofs.Names.{ShowsClient, ShowsPlace, Leads}
@@ -11,9 +11,10 @@ use Rattle.krl_client.specs.declared.refused.CommandRefused.TheVariants as refus
 use Rattle.krl_modes.proofs.Basics.{None-if_not_some}
 use Rattle.krl_cache.proofs.Truths.{outside_span}
 use Rattle.krl_cache.proofs.Calls.{either_none}
-use Rattle.krl_messages.specs.Writes.{op_key as key_of_op}
+use Rattle.krl_messages.specs.Writes.{op_key as key_of_op, takes_lock}
 use Rattle.krl_modes.proofs.PartLaws.{range_is_X}
-use Rattle.krl_client.specs.Commands.{holds_for, lock_refusal, write_refusal, lower_refusal, locked, wrote, lowered, says_lock, says_write, says_release, says_bye}
+use Rattle.krl_client.specs.Commands.{holds_for, lock_refusal, write_refusal, take_refusal, lower_refusal, locked, issued, wrote, lowered, says_lock, says_write, says_release, says_bye}
+use Rattle.krl_client.specs.Commands as commands
 use Rattle.krl_client.specs.Ticks.{says_hello}
 use Rattle.krl_refinement.proofs.Client.Basics.{grows_not, passed, lowered_at, before_last}
 
@@ -88,24 +89,37 @@ may_issue c k l (op.Delete n) h e = let x = and_parts (is_key_X (k.belief.key_at
 record MayWrite (k : Client) (change : WriteOp) : Type 0 where
   joined : has_joined k ≡ true
   free : outstanding k.written ≡ None
-  holds : holds_for k.belief change ≡ true
+  may : (c : ℕ) (l : Link) → ShowsClient c k l.client → MayIssue l (op_of change)
 
 may_write : (k : Client) (change : WriteOp) → write_refusal k change ≡ None → MayWrite k change
 may_write k change e = let p1 = passed _ _ _ e in let p2 = passed _ _ _ p1.1 in let p3 = passed _ _ _ p2.1 in let p4 = passed _ _ _ p3.1 in
-    record { joined = not-false _ p2.0; free = None-if_not_some (outstanding k.written) p3.0; holds = not-false _ p4.0 }
+    record { joined = not-false _ p2.0; free = None-if_not_some (outstanding k.written) p3.0; may = λ c l h. may_issue c k l change h (not-false _ p4.0) }
+
+-- a write that takes its lock needs nothing, but for a delete, which takes none
+may_issue_taking : (c : ℕ) (k : Client) (l : Link) (change : WriteOp) → ShowsClient c k l.client → (takes_lock change || holds_for k.belief change) ≡ true → MayIssue l (op_of change)
+may_issue_taking c k l (op.Insert n v) h e = tt
+may_issue_taking c k l (op.Put n v) h e = tt
+may_issue_taking c k l (op.Delete n) h e = may_issue c k l (op.Delete n) h e
+
+may_take : (k : Client) (change : WriteOp) → take_refusal k change ≡ None → MayWrite k change
+may_take k change e = let p1 = passed _ _ _ e in let p2 = passed _ _ _ p1.1 in let p3 = passed _ _ _ p2.1 in let p4 = passed _ _ _ p3.1 in
+    record { joined = not-false _ p2.0; free = None-if_not_some (outstanding k.written) p3.0; may = λ c l h. may_issue_taking c k l change h (not-false _ p4.0) }
 
 -- no write is outstanding in the machine's client either
 nothing_out : (k : Client) (out : Option Op) → out ≡ op_shown (outstanding k.written) → outstanding k.written ≡ None → out ≡ None
 nothing_out k out o e = subst (λ x. out ≡ op_shown x) e o
 
-issue_shows : (s : Shared) (l : Link) (c g : ℕ) (k : Client) (change : WriteOp) → ShowsPlace c g (Some k) l → MayWrite k change → Leads s l c g (Some (wrote k change)) (says_write (wrote k change) change ∷ [])
-issue_shows s l c g k change h may = took s l _ c g _ _ h.1.number refl (issues (op_of change) h.1.up (joined_epoch c k l h.1 may.joined) (nothing_out k l.out h.1.out may.free) (may_issue c k l change h.1 may.holds))
+issue_shows : (s : Shared) (l : Link) (c g : ℕ) (k : Client) (change : WriteOp) (takes : Bool) → ShowsPlace c g (Some k) l → MayWrite k change → Leads s l c g (Some (issued k change takes)) (says_write (issued k change takes) change ∷ [])
+issue_shows s l c g k change takes h may = took s l _ c g _ _ h.1.number refl (issues (op_of change) h.1.up (joined_epoch c k l h.1 may.joined) (nothing_out k l.out h.1.out may.free) (may.may c l h.1))
     (record { hellos = λ x i. i; byes = λ x i. i; heads = λ x i. inr i; releases = λ x i. i; writes = λ x i. inr i; reports = λ x i. i; notices = λ x i. i; pushes = λ x i. i })
     (h.0, record { number = h.1.number; up = h.1.up; inc = h.1.inc; epoch = h.1.epoch; seen = h.1.seen; issued = cc (h.1.issued); out = refl; numbered = inl (omega arith); range = h.1.range; key = h.1.key; value = h.1.value; at_end = h.1.at_end })
     (inl (cc (h.1.inc, h.1.epoch, h.1.seen)), inl (cc (h.1.inc, h.1.epoch, h.1.seen, h.1.issued)))
 
 pub writes_show : (s : Shared) (l : Link) (c g : ℕ) (k : Client) (change : WriteOp) → ShowsPlace c g (Some k) l → write_refusal k change ≡ None → Leads s l c g (Some (wrote k change)) (says_write (wrote k change) change ∷ [])
-writes_show s l c g k change h e = issue_shows s l c g k change h (may_write k change e)
+writes_show s l c g k change h e = issue_shows s l c g k change false h (may_write k change e)
+
+pub takes_show : (s : Shared) (l : Link) (c g : ℕ) (k : Client) (change : WriteOp) → ShowsPlace c g (Some k) l → take_refusal k change ≡ None → Leads s l c g (Some (commands.took k change)) (says_write (commands.took k change) change ∷ [])
+takes_show s l c g k change h e = issue_shows s l c g k change true h (may_take k change e)
 
 -- Lowering
 

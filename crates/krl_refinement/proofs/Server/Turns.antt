@@ -1,7 +1,7 @@
 -- Each answer to a first waiter.
 use Rattle.std.specs.Prelude.{◌-◌}
 use Rattle.krl_refinement.proofs.Names.{◌≡◌, ◌≢◌, ℕ, ◌≤◌, ◌<◌, Bool, true, false, not, ◌||◌, Some, List, [], ◌∷◌, inl, refl, sym, ap, subst, ◌∙◌, arith, and_parts, none-some, AllByRecursion, END}
-use Rattle.krl_refinement.proofs.Names.{range_of, key_of, In, Waiter, Index, is_slot, record_of, Row, Rows, max_clients, mode_at, column, set_row, set_mode, range_at, key_at, with_mode, with_queue}
+use Rattle.krl_refinement.proofs.Names.{RangePart, KeyPart, range_of, key_of, In, Waiter, Index, is_slot, record_of, Row, Rows, max_clients, mode_at, column, set_row, set_mode, range_at, key_at, with_mode, with_queue}
 use Rattle.krl_refinement.proofs.Names.{wanted, behind_first, dropped, raised, raised_on, RangeAtMost, KeyAtMost, RangesAgree, KeysAgree, Link, IsSlot, Logged, Steps, none, more, WorldInv}
 use Rattle.krl_refinement.proofs.Names.{grant_raises, put, put_changed, heard_kept, steps_on, world_steps, Server, lists, with_rows, holdings, pushes, IsSound, slot_here, slot_high, is_slot_true}
 use Rattle.krl_refinement.proofs.Names.{is_slot_false, same_range, same_key, row_here, row_other, mode_here, mode_other, row_modes, pushes_serve, one_sound, at_first, stayed_on, dropped_is}
@@ -32,6 +32,10 @@ pub record Raises (s : Server) (of : ℕ → Link) (log : List Logged) (c : ℕ)
   pub sound : IsSound (with_rows s rows)
   pub heard : IsHeardOf (view s) (after c)
   pub clients : (d : ℕ) → (after d).client ≡ (of d).client
+  -- in its link nothing but its row is another
+  pub range : ℕ → RangePart
+  pub key : ℕ → KeyPart
+  pub here : after c ≡ record (of c) { top_range = range; top_key = key }
 
 -- one row of the client c is another, in which its mode is not below the old one and agrees with those of all others
 module _ (s : Server) (i : IsSound s) (c n : ℕ) (row : Row) (slot : IsSlot (view s) n) (rest : (d : ℕ) → d ≢ c → row.modes d ≡ mode_at s.rows n d) (stayed : (m : ℕ) (v : Waiter) → In v (set_row s.rows n row m).queue → In v (s.rows m).queue) where
@@ -76,6 +80,9 @@ module _ (s : Server) (i : IsSound s) (c n : ℕ) (row : Row) (slot : IsSlot (vi
         sound = one_sound s i c n row rest stayed lt;
         heard = heard_kept (view s) of (put of c l) c l ch (λ z. z) c heard;
         clients = put_client of c l refl;
+        range = machine.range_at (view s) (column to c);
+        key = machine.key_at (view s) (column to c);
+        here = ch.here;
       }
 
 -- a grant that continues raises one row more
@@ -96,6 +103,9 @@ raises_more s of log u lt inv serving rows n there may r =
       sound = x.sound;
       heard = x.heard;
       clients = λ d. x.clients d ∙ r.clients d;
+      range = x.range;
+      key = x.key;
+      here = x.here ∙ ap (λ (l : Link). let m : Link = record l { top_range = x.range; top_key = x.key } in m) r.here;
     }
 
 -- the first waiter of a slot is told Absent, or has its grant

@@ -9,7 +9,7 @@ use Rattle.krl_messages.specs.declared.to_server.ToServer.{ToServer}
 use Rattle.krl_machine.specs.Links.{Link, Shared}
 use Rattle.krl_cache.specs.Kept.{Describes}
 use Rattle.krl_client.specs.Clients.{Client, begun}
-use Rattle.krl_client.specs.Commands.{lock_refusal, locked, says_lock, write_refusal, wrote, says_write, lower_refusal, lowered, says_release, pinned, unpinned, says_bye}
+use Rattle.krl_client.specs.Commands.{lock_refusal, locked, says_lock, write_refusal, wrote, take_refusal, took, says_write, lower_refusal, lowered, says_release, pinned, unpinned, says_bye}
 use Rattle.krl_client.specs.Messages.{case_of, after, sends}
 use Rattle.krl_client.specs.Ticks.{tick, says_hello}
 use Rattle.krl_refinement.specs.Client.Shows.{IsTo, ShowsPlace, Leads}
@@ -34,6 +34,8 @@ pub record CommandsShow : Type 0 where
       Shown k (Some (locked k point hi mode)) (says_lock (locked k point hi mode) point hi mode ∷ [])
   pub write : (k : Client) (change : WriteOp) → write_refusal k change ≡ None →
       Shown k (Some (wrote k change)) (says_write (wrote k change) change ∷ [])
+  pub take : (k : Client) (change : WriteOp) → take_refusal k change ≡ None →
+      Shown k (Some (took k change)) (says_write (took k change) change ∷ [])
   pub scan : (k : Client) → Shown k (Some k) []
   pub lower : (k : Client) (span : Bounds) (keep : Mode) → lower_refusal k span ≡ None →
       Shown k (Some (lowered k span keep)) (says_release k span keep ∷ [])

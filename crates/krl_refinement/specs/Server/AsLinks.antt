@@ -19,7 +19,7 @@ use Rattle.krl_durable.specs.Registers.{Durable, record_of}
 use Rattle.krl_table.specs.Points.{range_at, key_at}
 use Rattle.krl_server.specs.declared.session.Session.{Session}
 use Rattle.krl_server.specs.Servers.{Server, lists}
-use Rattle.krl_server.specs.Cases.{Case, Ignored, Registers, Leaves, Tells, Alarms, Rebuilds, Repeats, Acknowledges, Lowers, Waits, Judges, AnswersAgain}
+use Rattle.krl_server.specs.Cases.{Case, Ignored, Registers, Leaves, Tells, Alarms, Rebuilds, Repeats, Acknowledges, Lowers, Waits, Judges, TakesLock, AnswersAgain}
 use Rattle.krl_refinement.specs.Messages.{op_of, WasSent}
 
 abbrev pub machine_phase : List ℕ → links.Phase
@@ -102,4 +102,6 @@ logged m (Judges number op o) log =
     if is_applied o
     then record { client = m.client; wrote = record { inc = m.incarnation; number = number; op = op_of op } } ∷ log
     else log
+logged m (TakesLock number op) log =
+    record { client = m.client; wrote = record { inc = m.incarnation; number = number; op = op_of op } } ∷ log
 logged m (AnswersAgain number op o) log = log

@@ -3,14 +3,15 @@ use Rattle.krl_server.proofs.Names.{◌≡◌, ℕ, Option, Some, None, refl, ap
 use Rattle.krl_messages.specs.declared.to_server.ToServer.{ToServer}
 use Rattle.krl_messages.specs.declared.write_op.WriteOp.{WriteOp}
 use Rattle.krl_messages.specs.declared.outcome.Outcome.{Outcome}
+use Rattle.krl_messages.specs.declared.outcome.Outcome.TheVariants as outcome
 use Rattle.krl_messages.specs.declared.to_client.PushBody.TheVariants as push
 use Rattle.krl_messages.specs.Writes.{op_key}
 use Rattle.krl_durable.specs.declared.record.Record.{Record}
 use Rattle.krl_durable.specs.Index.{slot_of}
 use Rattle.krl_durable.specs.Registers.{left_by, record_of}
 use Rattle.krl_durable.specs.Writes.{applied_by}
-use Rattle.krl_server.specs.Cases.{Case, Ignored, Registers, Leaves, Tells, Alarms, Rebuilds, Repeats, Acknowledges, Lowers, Waits, Judges, AnswersAgain}
-use Rattle.krl_server.specs.Effects.{effect, answers, acknowledged, writes, holding}
+use Rattle.krl_server.specs.Cases.{Case, Ignored, Registers, Leaves, Tells, Alarms, Rebuilds, Repeats, Acknowledges, Lowers, Waits, Judges, TakesLock, AnswersAgain}
+use Rattle.krl_server.specs.Effects.{effect, answers, acknowledged, takes, writes, holding}
 use Rattle.krl_server.proofs.Outputs.Ends.{pushes_durable}
 
 left_reach : (d : Durable) (c : ℕ) (o : Option Record) → (left_by d c o).reach ≡ d.reach
@@ -37,4 +38,6 @@ effect_reach s m (Lowers span keep) = refl
 effect_reach s m (Waits req point hi g) = refl
 effect_reach s m (Judges number op o) =
     answers_reach (writes (acknowledged s m.client) m.client op o) m.client number op o ∙ applied_reach s.durable m.client op o (record_of s.durable.register m.client)
+effect_reach s m (TakesLock number op) =
+    answers_reach (writes (acknowledged (takes s m.client op) m.client) m.client op outcome.Applied) m.client number op outcome.Applied ∙ applied_reach s.durable m.client op outcome.Applied (record_of s.durable.register m.client)
 effect_reach s m (AnswersAgain number op o) = answers_reach (acknowledged s m.client) m.client number op o

@@ -5,6 +5,7 @@ use Rattle.krl_server.proofs.Names.{holding, acknowledged, pushes, effect, callb
 use Rattle.krl_server.proofs.Names.{kind_of, calls_of, Ends, at_once, recovers, serves, ServerStep, PushesStand}
 use Rattle.krl_messages.specs.declared.to_client.ToClientBody.TheVariants as told
 use Rattle.krl_messages.specs.declared.to_client.PushBody.TheVariants as push
+use Rattle.krl_messages.specs.declared.outcome.Outcome.TheVariants as outcome
 use Rattle.krl_server.specs.Effects as effects
 use Rattle.krl_server.proofs.Tests.{if_both, none_of}
 use Rattle.krl_server.proofs.Updates.{session_here, session_other}
@@ -112,9 +113,11 @@ own_stands s m = let t = acknowledged s m.client in
       acknowledges = λ r request b a. none_stand t;
       lowers = λ r request span keep a. none_stand (effects.lowers t m.client span keep);
       waits = λ r request req point hi g a new free near. none_stand (effects.queues t (record { client = m.client; req = req; point = point; hi = hi; mode = g }));
-      judges = λ r request number op o a under near new is. let x = effects.writes t m.client op o in
+      judges = λ r request number op takes o a under near new is. let x = effects.writes t m.client op o in
           pushed_stands x m.client (push.Answer number o (holding x (slot_of x.durable.index (op_key op)) m.client));
-      answers_again = λ r request number op o a under some last is. pushed_stands t m.client (push.Answer number o (holding t (slot_of t.durable.index (op_key op)) m.client));
+      takes = λ r request number op takes a under near new may. let x = effects.writes (acknowledged (effects.takes s m.client op) m.client) m.client op outcome.Applied in
+          pushed_stands x m.client (push.Answer number outcome.Applied (holding x (slot_of x.durable.index (op_key op)) m.client));
+      answers_again = λ r request number op takes o a under some last is. pushed_stands t m.client (push.Answer number o (holding t (slot_of t.durable.index (op_key op)) m.client));
     })
 
 ends_stand : (done : Done) (kind : Kind) (t : Server) (outs : List ToClient) → Ends done kind t outs → PushesStand done.server done.outs → PushesStand t outs

@@ -1,14 +1,15 @@
 -- What a step says of its message: what survives it, whom it calls back, which write it answers.
 use Rattle.krl_server.proofs.Names.{◌≡◌, ◌≢◌, ℕ, suc, ◌≤◌, ◌<◌, Bool, true, false, ◌↔◌, Some, None, List, [], ◌∷◌, ◌++◌, ◌⊎◌, inl, inr, refl, sym, ap, subst, ◌∙◌, ⊎_elim, eq-eqb, lt-ltb, le-ltb}
-use Rattle.krl_server.proofs.Names.{append-nil, nat_lt, IfSome, Result, Ok, Err, IfOk, OnErr, END, Holding, Outcome, ToServer, ToClient, PushBody, op_key, In, in_both, in_right, slot_of, Durable}
+use Rattle.krl_server.proofs.Names.{append-nil, nat_lt, IfSome, Result, Ok, Err, IfOk, OnErr, END, Holding, Outcome, WriteOp, Record, ToServer, ToClient, PushBody, op_key, In, in_both, in_right, slot_of, Durable}
 use Rattle.krl_server.proofs.Names.{record_of, dropped, taken, granted, asks_absent, State, ServerOut, Server, is_recovering, incarnation_or_0, meaning, Case, Ignored, Registers, Leaves, Tells}
-use Rattle.krl_server.proofs.Names.{Alarms, Rebuilds, Repeats, Acknowledges, Lowers, Waits, Judges, AnswersAgain, case_of, Done, holding, holdings, acknowledged, push_to, pushes, effect, Turn}
+use Rattle.krl_server.proofs.Names.{Alarms, Rebuilds, Repeats, Acknowledges, Lowers, Waits, Judges, TakesLock, AnswersAgain, case_of, Done, holding, holdings, acknowledged, push_to, pushes, effect, Turn}
 use Rattle.krl_server.proofs.Names.{answer_first, tells_absent, grants, Answered, stops, goes_on, Kind, Idle, Quiet, Acts, kind_of, calls_of, Ends, at_once, recovers, serves, ServerStep}
 use Rattle.krl_server.proofs.Names.{changes_durable, is_new_write, may_change, may_change_durable, is_callback, IsCallback, HasCallbacks, is_answer, answered_write, IsAnswered, AnswersWrite}
 use Rattle.krl_server.proofs.Names.{HasStepped}
 use Rattle.krl_messages.specs.declared.to_client.ToClientBody.{ToClientBody}
 use Rattle.krl_messages.specs.declared.to_client.ToClientBody.TheVariants as told
 use Rattle.krl_messages.specs.declared.to_client.PushBody.TheVariants as push
+use Rattle.krl_messages.specs.declared.outcome.Outcome.TheVariants as outcome
 use Rattle.krl_server.specs.Effects as effects
 use Rattle.krl_modes.proofs.Basics.{not_both}
 use Rattle.krl_server.proofs.Tests.{if_both}
@@ -16,7 +17,9 @@ use Rattle.krl_server.proofs.Updates.{session_here}
 use Rattle.krl_server.proofs.Invariant.AnswersSound.{answered_up}
 use Rattle.krl_server.proofs.Outputs.Ends.{pushes_durable}
 use Rattle.krl_server.proofs.Invariant.Kept.{ends_durable}
-use Rattle.krl_server.proofs.Cased.{by_said}
+use Rattle.krl_messages.specs.declared.to_server.Request.{Request}
+use Rattle.krl_messages.specs.declared.to_server.RequestBody.TheVariants as asked
+use Rattle.krl_server.proofs.Cased.{IsAsked, by_said}
 use Rattle.krl_server.proofs.Outputs.Says.{all_said}
 
 -- What survives
@@ -34,13 +37,17 @@ changes_said s m = by_said s m (λ k. may_change_durable s m ≡ false → chang
       acknowledges = λ r request b a no. refl;
       lowers = λ r request span keep a no. refl;
       waits = λ r request req point hi g a new free near no. refl;
-      judges = λ r request number op o a under near new is no. absurd (not_both (may_change_durable s m)
-          (ap (λ x. may_change x m.body) a.served.from.known
-          ∙ ap (may_change (Some r)) a.said
-          ∙ ap (is_new_write (Some r)) a.asked
-          ∙ eq-eqb number (suc r.last) new) no);
-      answers_again = λ r request number op o a under some last is no. refl;
+      judges = λ r request number op takes o a under near new is no. absurd (not_both (may_change_durable s m) (new_write r request number op takes a new) no);
+      takes = λ r request number op takes a under near new may no. absurd (not_both (may_change_durable s m) (new_write r request number op takes a new) no);
+      answers_again = λ r request number op takes o a under some last is no. refl;
     })
+  where
+    new_write : (r : Record) (request : Request) (number : ℕ) (op : WriteOp) (takes : Bool) → IsAsked s m r request (asked.Write number op takes) → number ≡ suc r.last → may_change_durable s m ≡ true
+    new_write r request number op takes a new =
+        ap (λ x. may_change x m.body) a.served.from.known
+        ∙ ap (may_change (Some r)) a.said
+        ∙ ap (is_new_write (Some r)) a.asked
+        ∙ eq-eqb number (suc r.last) new
 
 -- Whatever became of it, a message that is no Hello, no Bye and no new write leaves what survives
 pub durable_said : {E : Type 0} (old new : State) (m : ToServer) (r : Result ServerOut E) → IfOk r (λ out. HasStepped (meaning old) m (meaning new) out) → OnErr r (new ≡ old) → may_change_durable (meaning old) m ≡ false → (meaning new).durable ≡ (meaning old).durable
@@ -95,6 +102,7 @@ no_own_calls s m Acknowledges = λ o at. absurd at
 no_own_calls s m (Lowers span keep) = λ o at. absurd at
 no_own_calls s m (Waits req point hi g) = λ o at. absurd at
 no_own_calls s m (Judges number op o) = let t = effects.writes (acknowledged s m.client) m.client op o in none_pushed is_callback t m.client (push.Answer number o (holding t (slot_of t.durable.index (op_key op)) m.client)) (λ epoch number. refl)
+no_own_calls s m (TakesLock number op) = let t = effects.writes (acknowledged (effects.takes s m.client op) m.client) m.client op outcome.Applied in none_pushed is_callback t m.client (push.Answer number outcome.Applied (holding t (slot_of t.durable.index (op_key op)) m.client)) (λ epoch number. refl)
 no_own_calls s m (AnswersAgain number op o) = let t = acknowledged s m.client in none_pushed is_callback t m.client (push.Answer number o (holding t (slot_of t.durable.index (op_key op)) m.client)) (λ epoch number. refl)
 
 called : (t : Server) (o : ToClient) → IsCallback t o → is_callback o.body ≡ true
@@ -201,6 +209,9 @@ answers_of s t m outs (Waits req point hi g) ends = tt
 answers_of s t m outs (Judges number op o) ends =
     let x = effects.writes (acknowledged s m.client) m.client op o in
     answered_so s x m.client number o (holding x (slot_of x.durable.index (op_key op)) m.client) (acknowledged_pushed s m.client) Acts t outs ends
+answers_of s t m outs (TakesLock number op) ends =
+    let x = effects.writes (acknowledged (effects.takes s m.client op) m.client) m.client op outcome.Applied in
+    answered_so s x m.client number outcome.Applied (holding x (slot_of x.durable.index (op_key op)) m.client) (acknowledged_pushed s m.client) Acts t outs ends
 answers_of s t m outs (AnswersAgain number op o) ends =
     let x = acknowledged s m.client in
     answered_so s x m.client number o (holding x (slot_of x.durable.index (op_key op)) m.client) (acknowledged_pushed s m.client) Acts t outs ends

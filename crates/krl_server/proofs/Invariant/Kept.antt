@@ -2,9 +2,9 @@
 use Rattle.krl_server.proofs.Names.{◌≡◌, ℕ, suc, ◌<◌, true, not, Some, None, List, [], ◌∷◌, refl, sym, ap, subst, ◌∙◌, arith, ne_eqb, and_parts, same_Some, nat_lt, END, WriteOp, Outcome, ToServer}
 use Rattle.krl_server.proofs.Names.{ToClient, PushBody, eq_cases, Record, slot_of, slots, Durable, Register, record_of, with_record, new_record, left_by, HasOutcomes, op_key, noted, applied_by}
 use Rattle.krl_server.proofs.Names.{HasOutcome, blank_rows, max_clients, cleared, dropped, behind_first, taken, granted, asks_absent, is_wanted_compatible, IsTable, or_true, Server, is_recovering}
-use Rattle.krl_server.proofs.Names.{Case, Ignored, Registers, Leaves, Tells, Alarms, Rebuilds, Repeats, Acknowledges, Lowers, Waits, Judges, AnswersAgain, judged, case_of, Done, acknowledged}
+use Rattle.krl_server.proofs.Names.{Case, Ignored, Registers, Leaves, Tells, Alarms, Rebuilds, Repeats, Acknowledges, Lowers, Waits, Judges, TakesLock, AnswersAgain, judged, case_of, Done, acknowledged}
 use Rattle.krl_server.proofs.Names.{rows_after, pushes, effect, Turn, turn_among, next_turn, answer_first, tells_absent, grants, can_push, Answered, stops, goes_on, Kind, Idle, kind_of, Ends}
-use Rattle.krl_server.proofs.Names.{at_once, recovers, serves, IsSettled, start, IsSound}
+use Rattle.krl_server.proofs.Names.{at_once, recovers, serves, IsSettled, start, IsSound, lock_for}
 use Rattle.krl_messages.specs.declared.outcome.Outcome.TheVariants as outcome
 use Rattle.krl_messages.specs.declared.to_client.PushBody.TheVariants as push
 use Rattle.krl_server.specs.Effects as effects
@@ -15,11 +15,13 @@ use Rattle.krl_server.proofs.Tests.{if_case}
 use Rattle.krl_server.proofs.Turns.{turn_is}
 use Rattle.krl_server.proofs.Invariant.AnswersSound.{turn_sound, answering_sound}
 use Rattle.krl_server.proofs.Invariant.Sounds.{effect_sound}
+use Rattle.krl_server.proofs.Invariant.TakesSound.{take_is, take_judged, takes_sound}
+use Rattle.krl_server.proofs.Grants.{slot_always}
 use Rattle.krl_server.proofs.Invariant.RowsSound.{start_sound}
 use Rattle.krl_server.proofs.Outputs.Ends.{pushes_durable, turn_durable}
 use Rattle.krl_server.proofs.Cased.{by_case}
 use Rattle.krl_server.proofs.Invariant.Tabled.{IsKept, kept_of, table_of, blank_kept}
-use Rattle.krl_server.proofs.Invariant.TableKept.{lowered_kept, adopted_kept, cleared_kept, enqueued_kept, dropped_kept, granted_kept}
+use Rattle.krl_server.proofs.Invariant.TableKept.{lowered_kept, adopted_kept, cleared_kept, enqueued_kept, dropped_kept, granted_kept, raised_kept}
 use Rattle.krl_server.proofs.Invariant.TableWritten.{written_kept}
 
 -- Registers
@@ -55,6 +57,9 @@ effect_outcomes s m h = let t = acknowledged s m.client in
       judges = λ r number op o served under near new is. let u = effects.writes t m.client op o in
           subst (λ d. HasOutcomes d.register) (sym (pushes_durable u m.client (push.Answer number o (effects.holding u (slot_of u.durable.index (op_key op)) m.client))))
           (subst (λ x. HasOutcomes (applied_by s.durable m.client op o x).register) (sym served.from.known) (effect_of_write s.durable.register m.client o r h));
+      takes = λ r number op served under near new may. let u = effects.writes (acknowledged (effects.takes s m.client op) m.client) m.client op outcome.Applied in
+          subst (λ d. HasOutcomes d.register) (sym (pushes_durable u m.client (push.Answer number outcome.Applied (effects.holding u (slot_of u.durable.index (op_key op)) m.client))))
+          (subst (λ x. HasOutcomes (applied_by s.durable m.client op outcome.Applied x).register) (sym served.from.known) (effect_of_write s.durable.register m.client outcome.Applied r h));
       answers_again = λ r number op o served under some last is.
           subst (λ d. HasOutcomes d.register) (sym (pushes_durable t m.client (push.Answer number o (effects.holding t (slot_of t.durable.index (op_key op)) m.client)))) h;
     })
@@ -102,6 +107,13 @@ effect_kept s m i k = let t = acknowledged s m.client in
       waits = λ r req point hi g served new free near. enqueued_kept s.durable.index s.rows (record { client = m.client; req = req; point = point; hi = hi; mode = g }) i.near served.from.client near free k;
       judges = λ r number op o served under near new is. let u = effects.writes t m.client op o in
           pushes_kept u m.client (push.Answer number o (effects.holding u (slot_of u.durable.index (op_key op)) m.client)) (write_kept s m.client op o r i served.from.client under served.from.known is k);
+      takes = λ r number op served under near new may.
+          let can = take_is s m.client op may in
+          let x = effects.takes s m.client op in
+          let u = effects.writes (acknowledged x m.client) m.client op outcome.Applied in
+          pushes_kept u m.client (push.Answer number outcome.Applied (effects.holding u (slot_of u.durable.index (op_key op)) m.client))
+          (write_kept x m.client op outcome.Applied r (takes_sound s m.client op i served.from.client) served.from.client under served.from.known (take_judged s m.client op i under can)
+          (raised_kept s.durable.index s.rows (lock_for m.client op) served.from.client (slot_of s.durable.index (op_key op)) (slot_always s.durable.index (op_key op)) can.compatible k));
       answers_again = λ r number op o served under some last is. pushes_kept t m.client (push.Answer number o (effects.holding t (slot_of t.durable.index (op_key op)) m.client)) k;
     })
 
@@ -153,6 +165,7 @@ idle_same s m Acknowledges e = absurd (cc)
 idle_same s m (Lowers span keep) e = absurd (cc)
 idle_same s m (Waits req point hi g) e = absurd (cc)
 idle_same s m (Judges number op o) e = absurd (cc)
+idle_same s m (TakesLock number op) e = absurd (cc)
 idle_same s m (AnswersAgain number op o) e = absurd (cc)
 
 ends_settled : (done : Done) (kind : Kind) (t : Server) (outs : List ToClient) → Ends done kind t outs → (kind ≡ Idle → IsSettled done.server) → IsSettled t

@@ -1,9 +1,10 @@
 -- Whoever waits is registered and has not left.
 use Rattle.krl_server.proofs.Names.{◌≡◌, ◌≢◌, ℕ, true, false, List, [], ◌∷◌, ◌⊎◌, inl, inr, refl, sym, subst, ◌∙◌, ⊎_elim, ToServer, ToClient, op_key, In, Waiter, eq_cases, Record, slot_of, Register}
 use Rattle.krl_server.proofs.Names.{Durable, with_record, new_record, left_by, noted, applied_by, Row, Rows, set_row, with_queue, grant_first, behind_first, dropped, cleared, granted, asks_absent}
-use Rattle.krl_server.proofs.Names.{in_unqueue, Server, Case, Rebuilds, Lowers, Waits, Judges, AnswersAgain, case_of, Done, acknowledged, effect, Turn, answer_first, tells_absent, grants, Answered}
+use Rattle.krl_server.proofs.Names.{in_unqueue, Server, Case, Rebuilds, Lowers, Waits, Judges, TakesLock, AnswersAgain, case_of, Done, acknowledged, effect, Turn, answer_first, tells_absent, grants, Answered}
 use Rattle.krl_server.proofs.Names.{stops, goes_on, Kind, kind_of, Ends, at_once, recovers, serves, ServerStep, IsSound, IsRegistered, AreRegistered}
 use Rattle.krl_messages.specs.declared.to_client.PushBody.TheVariants as push
+use Rattle.krl_messages.specs.declared.outcome.Outcome.TheVariants as outcome
 use Rattle.krl_server.specs.Effects as effects
 use Rattle.krl_server.proofs.Updates.{record_here, record_other}
 use Rattle.krl_server.proofs.Tests.{if_both}
@@ -92,6 +93,13 @@ module _ (s : Server) (m : ToServer) (h : AreRegistered s) where
             (with_here s.durable.register m.client u.client (noted r o) served.from.here (⊎_elim
             (λ (old : (j : ℕ) × In u (s.rows j).queue). h old.0 u old.1)
             (λ (new : (asks (Judges number op o) ≡ true) × (u.client ≡ m.client) × IsAsked m u (Judges number op o)). subst (IsRegistered s.durable.register) (sym new.1) (r, served.from.known, served.from.here))
+            (came n u at))));
+        takes = λ r number op served under near new may came n u at. let x = effects.writes (acknowledged (effects.takes s m.client op) m.client) m.client op outcome.Applied in
+            subst (λ (d : Durable). IsRegistered d.register u.client) (sym (pushes_durable x m.client (push.Answer number outcome.Applied (effects.holding x (slot_of x.durable.index (op_key op)) m.client))))
+            (subst (λ y. IsRegistered (applied_by s.durable m.client op outcome.Applied y).register u.client) (sym served.from.known)
+            (with_here s.durable.register m.client u.client (noted r outcome.Applied) served.from.here (⊎_elim
+            (λ (old : (j : ℕ) × In u (s.rows j).queue). h old.0 u old.1)
+            (λ (new : (asks (TakesLock number op) ≡ true) × (u.client ≡ m.client) × IsAsked m u (TakesLock number op)). subst (IsRegistered s.durable.register) (sym new.1) (r, served.from.known, served.from.here))
             (came n u at))));
         answers_again = λ r number op o served under some last is. same_here (AnswersAgain number op o) r served.from (pushes_durable t m.client (push.Answer number o (effects.holding t (slot_of t.durable.index (op_key op)) m.client)));
       })

@@ -10,6 +10,7 @@ use Rattle.krl_server.specs.Effects as effects
 use Rattle.krl_server.proofs.Updates.{row_modes}
 use Rattle.krl_server.proofs.Invariant.AnswersSound.{acknowledged_sound, pushes_sound}
 use Rattle.krl_server.proofs.Invariant.WritesSound.{with_noted, refusal_is, writes_sound}
+use Rattle.krl_server.proofs.Invariant.TakesSound.{take_is, take_judged, takes_sound}
 use Rattle.krl_server.proofs.Turns.{in_row}
 use Rattle.krl_server.proofs.Invariant.RowsSound.{lowered_sound, adopts_sound}
 use Rattle.krl_server.proofs.Cased.{IsFrom, by_case}
@@ -97,5 +98,8 @@ effect_sound s m i = let t = acknowledged s m.client in let j = acknowledged_sou
       lowers = λ r span keep served. lowered_sound t m.client span keep served.from.client j;
       waits = λ r req point hi g served new free near. queues_sound t (record { client = m.client; req = req; point = point; hi = hi; mode = g }) served.from.client near j;
       judges = λ r number op o served under near new is. judges_sound s m r number op o served.from i under is;
+      takes = λ r number op served under near new may.
+          let can = take_is s m.client op may in
+          writes_sound (effects.takes s m.client op) m number op r served.from.known (takes_sound s m.client op i served.from.client) served.from.client under (take_judged s m.client op i under can);
       answers_again = λ r number op o served under some last is. pushes_sound t m.client (push.Answer number o (effects.holding t (slot_of t.durable.index (op_key op)) m.client)) j;
     })

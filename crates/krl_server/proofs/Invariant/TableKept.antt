@@ -151,9 +151,21 @@ pub dropped_kept : (m : Index) (rows : Rows) (n : ℕ) (u : Waiter) (us : List W
 dropped_kept m rows n u us k queue = subst (IsKept m) (ap (λ q. set_row rows n (with_queue (rows n) (behind_first q))) (sym queue))
     (front_kept m rows n u us (with_queue (rows n) us) k queue refl (λ d ne. refl) (λ d ne. k.beside n u.client d (λ e. ne (sym e))))
 
+-- the row of a client rises on a slot to what it wants there
+pub raised_kept : (m : Index) (rows : Rows) (u : Waiter) → u.client < max_clients → (n : ℕ) → is_slot m n ≡ true → is_wanted_compatible rows n u ≡ true → IsKept m rows → IsKept m (raised rows n u)
+raised_kept m rows u lt n there fit k = changed_kept m rows (raised rows n u) u.client lt k
+    (λ i e. row_other rows n (with_mode (rows n) u.client (wanted (rows n) u)) i (λ f. not_both (is_slot m i) (ap (is_slot m) f ∙ there) e))
+    (raised_queue rows n u)
+    (λ i d ne. sym (raised_others rows n u d ne i))
+    (λ i d ne. eq_cases i n
+    (λ e. subst (λ y. compatible (mode_at (raised rows n u) y u.client) (mode_at rows y d) ≡ true) (sym e)
+    (subst (λ x. compatible x (mode_at rows n d) ≡ true) (sym (ap (λ y. y.modes u.client) (row_here rows n (with_mode (rows n) u.client (wanted (rows n) u))) ∙ mode_here (rows n).modes u.client (wanted (rows n) u)))
+    (compatible_row rows n u.client (wanted (rows n) u) (k.strangers n) fit d ne)))
+    (λ ni. subst (λ y. compatible (y.modes u.client) (mode_at rows i d) ≡ true) (sym (row_other rows n (with_mode (rows n) u.client (wanted (rows n) u)) i ni)) (k.beside i u.client d (λ f. ne (sym f)))))
+
 pub granted_kept : (r : ℕ) (m : Index) (rows : Rows) (n : ℕ) (u : Waiter) (us : List Waiter) → IsKept m rows → (rows n).queue ≡ u ∷ us → is_wanted_compatible rows n u ≡ true → IsKept m (granted r m rows n)
 granted_kept r m rows n u us k queue can = subst (IsKept m) (sym (granted_is r m rows n u us queue))
-    (along m u (IsKept m) n raised_kept (r - 1) n (set_row rows n first) (omega arith)
+    (along m u (IsKept m) n (λ rows j far there fit x. raised_kept m rows u lt j there fit x) (r - 1) n (set_row rows n first) (omega arith)
     (front_kept m rows n u us first k queue refl
     (λ d ne. mode_other (rows n).modes u.client d (wanted (rows n) u) ne)
     (λ d ne. subst (λ x. compatible x (mode_at rows n d) ≡ true) (sym (mode_here (rows n).modes u.client (wanted (rows n) u))) (compatible_row rows n u.client (wanted (rows n) u) (k.strangers n) can d ne))))
@@ -163,14 +175,3 @@ granted_kept r m rows n u us k queue can = subst (IsKept m) (sym (granted_is r m
 
     lt : u.client < max_clients
     lt = (k.placed n u (subst (In u) (sym queue) (inl refl))).0
-
-    raised_kept : (r : Rows) (j : ℕ) → n < j → is_slot m j ≡ true → is_wanted_compatible r j u ≡ true → IsKept m r → IsKept m (raised r j u)
-    raised_kept r j far there is_compatible_there x = changed_kept m r (raised r j u) u.client lt x
-        (λ i e. row_other r j (with_mode (r j) u.client (wanted (r j) u)) i (λ f. not_both (is_slot m i) (ap (is_slot m) f ∙ there) e))
-        (raised_queue r j u)
-        (λ i d ne. sym (raised_others r j u d ne i))
-        (λ i d ne. eq_cases i j
-        (λ e. subst (λ y. compatible (mode_at (raised r j u) y u.client) (mode_at r y d) ≡ true) (sym e)
-        (subst (λ x. compatible x (mode_at r j d) ≡ true) (sym (ap (λ y. y.modes u.client) (row_here r j (with_mode (r j) u.client (wanted (r j) u))) ∙ mode_here (r j).modes u.client (wanted (r j) u)))
-        (compatible_row r j u.client (wanted (r j) u) (x.strangers j) is_compatible_there d ne)))
-        (λ ni. subst (λ y. compatible (y.modes u.client) (mode_at r i d) ≡ true) (sym (row_other r j (with_mode (r j) u.client (wanted (r j) u)) i ni)) (x.beside i u.client d (λ f. ne (sym f)))))

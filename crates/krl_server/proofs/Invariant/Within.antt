@@ -2,8 +2,8 @@
 use Rattle.krl_server.proofs.Names.{◌≡◌, ◌≢◌, ℕ, suc, ◌+◌, ◌-◌, ◌≤◌, ◌<◌, Bool, true, false, not, cond, ◌||◌, Some, None, List, [], ◌∷◌, length, ◌⊎◌, inl, inr, refl, sym, ap, subst, ◌∙◌, ⊎_elim}
 use Rattle.krl_server.proofs.Names.{arith, nat_eq, eq-eqb, eqb-true, ltb-true, ltb-false, eqb-false, or_parts, not-false, none-some, same_Some, nat_lt, is_some, if◌then◌else◌, END, WriteOp, Outcome}
 use Rattle.krl_server.proofs.Names.{ToServer, ToClient, PushBody, eq_cases, Record, Index, slot_of, Register, Durable, record_of, with_record, new_record, left_by, not_left, op_key, In}
-use Rattle.krl_server.proofs.Names.{judge, judged_insert, noted, index_after, applied_by, Rows, max_clients, dropped, granted, asks_absent, Session, Server, is_recovering, lists}
-use Rattle.krl_server.proofs.Names.{unlist, set_session, blank_session, Ignored, judged, case_of, case_of_record, is_malformed, Done, acknowledged, pushes, effect, Turn, answer_first, tells_absent}
+use Rattle.krl_server.proofs.Names.{held, column, judge, judged_insert, noted, index_after, applied_by, Rows, max_clients, dropped, granted, asks_absent, Session, Server, is_recovering, lists}
+use Rattle.krl_server.proofs.Names.{unlist, set_session, blank_session, Ignored, case_of, case_of_record, is_malformed, Done, acknowledged, pushes, effect, Turn, answer_first, tells_absent}
 use Rattle.krl_server.proofs.Names.{grants, Answered, stops, goes_on, Ends, Kind, at_once, recovers, serves, start, can_start, kind_of, AreApart, clients_of, IsEntry, IsDurableWithin, IsWithin}
 use Rattle.krl_server.proofs.Names.{ServerWithin}
 use Rattle.std.specs.Cmp.{nat_cmp_total}
@@ -17,6 +17,7 @@ use Rattle.krl_server.proofs.Updates.{session_here, session_other, record_here, 
 use Rattle.krl_modes.proofs.Basics.{not_both}
 use Rattle.krl_server.proofs.Tests.{if_both, if_case}
 use Rattle.krl_server.proofs.Invariant.WritesSound.{change_may}
+use Rattle.krl_server.proofs.Invariant.TakesSound.{take_is}
 use Rattle.krl_server.proofs.Cased.{by_case}
 use Rattle.krl_server.proofs.Outputs.Counted.{few_apart}
 
@@ -211,13 +212,13 @@ module _ (s : Server) (m : ToServer) (w : IsWithin s) where
     missing_once = unlisted_apart s.missing m.client w.missing_once;
   })
 
-  writes_within : (r : Record) (number : ℕ) (op : WriteOp) (o : Outcome) → record_of s.durable.register m.client ≡ Some r → is_recovering s.missing ≡ false → number ≤ END → number ≡ suc r.last → judged s m.client op ≡ o → IsWithin (effects.writes (acknowledged s m.client) m.client op o)
-  writes_within r number op o e up high new is =
+  writes_within : (r : Record) (number : ℕ) (op : WriteOp) (may : Bool) (o : Outcome) → record_of s.durable.register m.client ≡ Some r → is_recovering s.missing ≡ false → number ≤ END → number ≡ suc r.last → judge s.durable.room s.durable.index op may ≡ o → IsWithin (effects.writes (acknowledged s m.client) m.client op o)
+  writes_within r number op may o e up high new is =
       let x = w.durable.known m.client r e in
       subst (λ y. IsWithin (record (effects.writes (acknowledged s m.client) m.client op o) { durable = applied_by s.durable m.client op o y })) (sym e) (record {
         durable = record {
           epoch = w.durable.epoch;
-          entries = after_few s.durable.room s.durable.index op _ o is w.durable.entries;
+          entries = after_few s.durable.room s.durable.index op may o is w.durable.entries;
           room = w.durable.room;
           once = with_apart s.durable.register m.client (noted r o) w.durable.once;
           known = with_each IsEntry s.durable.register m.client (noted r o) (x.0, x.1, x.2, omega (arith, high, new)) w.durable.known;
@@ -246,7 +247,9 @@ module _ (s : Server) (m : ToServer) (w : IsWithin s) where
         lowers = λ r span keep served. rows_within t _ u;
         waits = λ r req point hi g served new free near. record { durable = w.durable; last_push = sessions_within t.sessions m.client (record (t.sessions m.client) { last_request = req }) (u.last_push m.client) u.last_push; missing = w.missing; missing_once = w.missing_once };
         judges = λ r number op o served under near new is. let x = effects.writes t m.client op o in
-            pushes_within x m.client (push.Answer number o (effects.holding x (slot_of x.durable.index (op_key op)) m.client)) (writes_within r number op o served.from.known served.serves near new is);
+            pushes_within x m.client (push.Answer number o (effects.holding x (slot_of x.durable.index (op_key op)) m.client)) (writes_within r number op (held s.durable.index (column s.rows m.client) op) o served.from.known served.serves near new is);
+        takes = λ r number op served under near new may. let x = effects.writes (acknowledged (effects.takes s m.client op) m.client) m.client op outcome.Applied in
+            pushes_within x m.client (push.Answer number outcome.Applied (effects.holding x (slot_of x.durable.index (op_key op)) m.client)) (rows_within (effects.writes t m.client op outcome.Applied) x.rows (writes_within r number op true outcome.Applied served.from.known served.serves near new (take_is s m.client op may).applied));
         answers_again = λ r number op o served under some last is. pushes_within t m.client (push.Answer number o (effects.holding t (slot_of t.durable.index (op_key op)) m.client)) u;
       })
 

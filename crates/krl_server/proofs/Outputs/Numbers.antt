@@ -2,10 +2,11 @@
 use Rattle.std.proofs.Common.{◌≡◌, ℕ, zero, suc, ◌+◌, ◌*◌, ◌≤◌, ◌<◌, Bool, true, false, ◌||◌, Option, Some, None, List, [], ◌∷◌, ◌++◌, length, inl, refl, sym, ap, subst, arith, length-append, nat_eq, eq-eqb}
 use Rattle.krl_server.proofs.Names.{if◌then◌else◌, compatible, cap, ToClient, PushBody, ToServer, WriteOp, Outcome, Waiter, eq_cases, Record, slot_of, slots, span_of, op_key, In, record_of}
 use Rattle.krl_server.proofs.Names.{max_clients, mode_at, wanted, asks_absent, IsTable, Server, is_recovering, lists, Case, Ignored, Registers, Leaves, Tells, Alarms, Rebuilds, Repeats}
-use Rattle.krl_server.proofs.Names.{Acknowledges, Lowers, Waits, Judges, AnswersAgain, case_of, callback_to, epoch_to, holding, acknowledged, writes, answers, effect, stops, is_compatible}
+use Rattle.krl_server.proofs.Names.{Acknowledges, Lowers, Waits, Judges, TakesLock, takes, AnswersAgain, case_of, callback_to, epoch_to, holding, acknowledged, writes, answers, effect, stops, is_compatible}
 use Rattle.krl_server.proofs.Names.{callbacks_from, callbacks_for, callbacks_at, callbacks_among, callbacks_of, callbacks_of_among, Kind, Idle, Quiet, Acts, kind_of, calls_of, at_once, recovers}
 use Rattle.krl_server.proofs.Names.{serves, ServerStep, nudge_served, nudge_missing, nudge_known, nudge, IsSound, waiting_on, waiting, max_messages, StepsEnd}
 use Rattle.krl_messages.specs.declared.to_client.PushBody.TheVariants as push
+use Rattle.krl_messages.specs.declared.outcome.Outcome.TheVariants as outcome
 use Rattle.krl_server.proofs.Invariant.AnswersSound.{answering_sound}
 use Rattle.krl_server.proofs.Outputs.Ends.{pushes_few, answered_less, step_ends, one_end}
 use Rattle.krl_server.proofs.Invariant.Sounds.{effect_sound}
@@ -94,6 +95,7 @@ effect_few s m Acknowledges = omega arith
 effect_few s m (Lowers span keep) = omega arith
 effect_few s m (Waits req point hi g) = omega arith
 effect_few s m (Judges number op o) = answers_few (writes (acknowledged s m.client) m.client op o) m.client number op o
+effect_few s m (TakesLock number op) = answers_few (writes (acknowledged (takes s m.client op) m.client) m.client op outcome.Applied) m.client number op outcome.Applied
 effect_few s m (AnswersAgain number op o) = answers_few (acknowledged s m.client) m.client number op o
 
 pub no_more_wait : (s : Server) → IsSound s → IsTable s.durable.index s.rows → waiting s ≤ 64

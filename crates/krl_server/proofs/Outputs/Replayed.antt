@@ -3,6 +3,7 @@ use Rattle.krl_server.proofs.Names.{◌≡◌, ℕ, suc, ◌<◌, Bool, true, fa
 use Rattle.krl_server.proofs.Names.{slot_of, Durable, record_of, with_record, new_record, registered, left_by, departed, index_after, applied, ServerOut, Server, incarnation_or_0, Case, case_of}
 use Rattle.krl_server.proofs.Names.{holding, acknowledged, effect, kind_of, ServerStep, HasStepped, last_of}
 use Rattle.krl_messages.specs.declared.to_client.PushBody.TheVariants as push
+use Rattle.krl_messages.specs.declared.outcome.Outcome.TheVariants as outcome
 use Rattle.krl_durable.specs.Changes.{judged_in, judged_of, judged, changed_by, IsChange}
 use Rattle.krl_server.specs.Effects as effects
 use Rattle.krl_server.specs.Changes.{change_of}
@@ -51,6 +52,9 @@ module _ (s : Server) (m : ToServer) where
     judges = λ r number op o served under near new is.
         answered_durable s m number op o (effects.writes (acknowledged s m.client) m.client op o)
         ∙ judged_is s.durable m.client number op o r served.from.known new;
+    takes = λ r number op served under near new may.
+        answered_durable s m number op outcome.Applied (effects.writes (acknowledged (effects.takes s m.client op) m.client) m.client op outcome.Applied)
+        ∙ judged_is s.durable m.client number op outcome.Applied r served.from.known new;
     answers_again = λ r number op o served under some last is. answered_durable s m number op o (acknowledged s m.client);
   })
 
@@ -97,6 +101,9 @@ module _ (s : Server) (m : ToServer) where
     judges = λ r number op o served under near new is same.
         absurd (no_same_write number op o r served.from.known new
         (sym (answered_durable s m number op o (effects.writes (acknowledged s m.client) m.client op o) ∙ judged_is s.durable m.client number op o r served.from.known new) ∙ same));
+    takes = λ r number op served under near new may same.
+        absurd (no_same_write number op outcome.Applied r served.from.known new
+        (sym (answered_durable s m number op outcome.Applied (effects.writes (acknowledged (effects.takes s m.client op) m.client) m.client op outcome.Applied) ∙ judged_is s.durable m.client number op outcome.Applied r served.from.known new) ∙ same));
     answers_again = λ r number op o served under some last is same. refl;
   })
 

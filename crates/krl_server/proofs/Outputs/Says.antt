@@ -2,7 +2,7 @@
 use Rattle.krl_server.proofs.Names.{◌≡◌, ◌≢◌, ℕ, zero, suc, ◌+◌, ◌≤◌, ◌<◌, Bool, true, false, not, ◌||◌, ◌↔◌, Some, List, [], ◌∷◌, inl, inr, refl, sym, ap, subst, ◌∙◌, ⊎_elim, arith, nat_eq, ne_eqb}
 use Rattle.krl_server.proofs.Names.{eqb-false, and_parts, or_parts, none-some, same_Some, nat_lt, is_some, if◌then◌else◌, END, compatible, cap, ToServer, ToClient, PushBody, Waiter, eq_cases}
 use Rattle.krl_server.proofs.Names.{slot_of, span_of, slots, op_key, In, in_both, in_left, in_right, max_clients, mode_at, front_of, wanted, dropped, taken, granted, asks_absent}
-use Rattle.krl_server.proofs.Names.{is_wanted_compatible, Session, Server, Case, Ignored, Registers, Leaves, Tells, Alarms, Rebuilds, Repeats, Acknowledges, Lowers, Waits, Judges, AnswersAgain}
+use Rattle.krl_server.proofs.Names.{is_wanted_compatible, Session, Server, Case, Ignored, Registers, Leaves, Tells, Alarms, Rebuilds, Repeats, Acknowledges, Lowers, Waits, Judges, TakesLock, AnswersAgain}
 use Rattle.krl_server.proofs.Names.{case_of, Done, silent, with_session, with_rows, holding, holdings, acknowledged, push_to, callback_to, pushes, effect, can_push, Turn, next_turn, tells_absent}
 use Rattle.krl_server.proofs.Names.{grants, is_compatible, callbacks_from, callbacks_for, callbacks_at, callbacks_among, callbacks, changes_durable, IsCallback, IsNextPush, ServerSays, kind_of}
 use Rattle.krl_messages.specs.declared.to_client.PushBody.TheVariants as push
@@ -24,6 +24,7 @@ effect_durable s m Acknowledges e = refl
 effect_durable s m (Lowers span keep) e = refl
 effect_durable s m (Waits req point hi g) e = refl
 effect_durable s m (Judges number op o) e = absurd (cc)
+effect_durable s m (TakesLock number op) e = absurd (cc)
 effect_durable s m (AnswersAgain number op o) e = let t = acknowledged s m.client in pushes_durable t m.client (push.Answer number o (holding t (slot_of t.durable.index (op_key op)) m.client))
 
 -- Callbacks

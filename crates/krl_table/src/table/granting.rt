@@ -146,8 +146,10 @@ impl Table {
         }
     }
 
-    /// Whether the waiter may take the slot next to its own.
-    fn can_take(&self, slot: u64, waiter: &Waiter) -> bool
+    /// Whether the waiter may take the slot without a place in its queue: nobody waits there, what it
+    /// wants there is compatible with what all others hold, and it does not ask only for an entry
+    /// if the slot is END. The clause `is_compatible_there` is what `raise` asks.
+    pub fn can_take(&self, slot: u64, waiter: &Waiter) -> bool
         requires { waiter.now.client < MAX_CLIENTS }
         ensures result { result ≡ can_take (rows_of self.now.map) slot waiter.now }
         ensures is_compatible_there { result ≡ true
@@ -160,8 +162,8 @@ impl Table {
     }
 
     /// The waiter's client gets on the slot what it wants, which is compatible with what all others
-    /// hold there.
-    pub(super) fn raise(&mut self, durable: &Durable, slot: u64, waiter: &Waiter)
+    /// hold there. It takes no memory.
+    pub fn raise(&mut self, durable: &Durable, slot: u64, waiter: &Waiter)
         requires over { IsOver durable.now.index self.old.map }
         requires slot { is_slot durable.now.index slot ≡ true }
         requires client { waiter.now.client < MAX_CLIENTS }

@@ -1,5 +1,5 @@
 -- What the server does in another short run: a client may insert into the gap below 20, and inserts 15.
-use Rattle.krl_world.proofs.Names.{◌≡◌, ℕ, Some, None, List, [], ◌∷◌, ◌++◌, refl, sym, subst, Value, Holding, ToServer, ToClient, PushBody, Index, standard_room, max_clients, Server, Waits, Judges}
+use Rattle.krl_world.proofs.Names.{◌≡◌, ℕ, false, Some, None, List, [], ◌∷◌, ◌++◌, refl, sym, subst, Value, Holding, ToServer, ToClient, PushBody, Index, standard_room, max_clients, Server, Waits, Judges}
 use Rattle.krl_world.proofs.Names.{case_of, effect, Turn, next_turn, answer_first, Answered, stops, goes_on, callbacks, Acts, kind_of, Ends, serves, ServerStep}
 use Rattle.std.specs.FinMap as map
 use Rattle.krl_modes.specs.declared.mode.Mode.TheVariants as mode
@@ -31,7 +31,7 @@ abbrev pub grant : ToClient
 grant = hears 1 (push.Grant 1 (gap ∷ []))
 
 abbrev pub insert : ToServer
-insert = says 1 (asked.Write 1 (write.Insert 15 (5 ∷ [])))
+insert = says 1 (asked.Write 1 (write.Insert 15 (5 ∷ [])) false)
 
 abbrev pub entry : Holding
 entry = record { span = record { lo = 11; hi = 16 }; mode = mode.RangeIX; value = Some (5 ∷ []) }

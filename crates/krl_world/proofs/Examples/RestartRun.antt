@@ -57,7 +57,7 @@ abbrev grant : ToClient
 grant = hears 1 (push.Grant 1 (above ∷ []))
 
 abbrev delete : ToServer
-delete = says 1 (asked.Write 1 (write.Delete 10))
+delete = says 1 (asked.Write 1 (write.Delete 10) false)
 
 abbrev pub whole : Holding
 whole = record { span = span 0 21; mode = mode.RangeXX; value = Some (2 ∷ []) }

@@ -26,6 +26,7 @@ quietly w v c next k sent e f g = gone_by w v c next k sent (w.sent ++ []) e f (
 obeys : (w v : State) (c : ℕ) (k : Client) (what : Command) (a : Answer) (next : Option Client) (sent : List Message) → client_of w c ≡ Some k → v ≡ gone w c next sent → Does k what a next w.sent sent → Obeys w c k what a v
 obeys w v c k (command.Lock point hi m) a next sent i e d = (d.0, gone_by w v c next _ sent _ e d.1 d.2)
 obeys w v c k (command.Write op) a next sent i e d = (d.0, gone_by w v c next _ sent _ e d.1 d.2)
+obeys w v c k (command.Take op) a next sent i e d = (d.0, gone_by w v c next _ sent _ e d.1 d.2)
 obeys w v c k (command.Scan lo hi) a next sent i e d = (d.0, gone_nowhere w v c next sent e (d.1 ∙ sym i) d.2)
 obeys w v c k (command.Lower lo hi keep) a next sent i e d = (d.0, gone_by w v c next _ sent _ e d.1 d.2)
 obeys w v c k (command.Pin lo hi) a next sent i e d = (d.0, d.1, d.2, quietly w v c next _ sent e d.3 d.4)

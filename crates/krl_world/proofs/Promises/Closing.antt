@@ -47,8 +47,9 @@ still_nobody s m g h = by_said s m (λ k. NobodyWaits (effect s m k).server) (re
   acknowledges = λ r request b a. served_not s g a.served.serves;
   lowers = λ r request span keep a. served_not s g a.served.serves;
   waits = λ r request req point hi mode a new free near. served_not s g a.served.serves;
-  judges = λ r request number op o a under near new is. served_not s g a.served.serves;
-  answers_again = λ r request number op o a under some last is. served_not s g a.served.serves;
+  judges = λ r request number op takes o a under near new is. served_not s g a.served.serves;
+  takes = λ r request number op takes a under near new may. served_not s g a.served.serves;
+  answers_again = λ r request number op takes o a under some last is. served_not s g a.served.serves;
 })
 
 -- whoever recovers after a message recovered before
@@ -153,8 +154,9 @@ effect_within w b s m at g h = by_said s m (λ k. is_recovering (effect s m k).s
   acknowledges = λ r request b a. served_not s g a.served.serves;
   lowers = λ r request span keep a. served_not s g a.served.serves;
   waits = λ r request req point hi mode a new free near. served_not s g a.served.serves;
-  judges = λ r request number op o a under near new is. served_not s g a.served.serves;
-  answers_again = λ r request number op o a under some last is. served_not s g a.served.serves;
+  judges = λ r request number op takes o a under near new is. served_not s g a.served.serves;
+  takes = λ r request number op takes a under near new may. served_not s g a.served.serves;
+  answers_again = λ r request number op takes o a under some last is. served_not s g a.served.serves;
 })
 
 -- Each step with which a recovery ends

@@ -1,7 +1,8 @@
 -- A server that serves serves on, as long as it does not crash.
 use Rattle.krl_world.proofs.Names.{◌≡◌, ◌≢◌, ℕ, ◌∙◌, Bool, true, false, List, [], ◌∷◌, inl, inr, refl, sym, ap, subst, if◌then◌else◌, Durable, ToServer, ToClient, In, Server, is_recovering, unlist}
-use Rattle.krl_world.proofs.Names.{Case, Ignored, Registers, Leaves, Tells, Alarms, Rebuilds, Repeats, Acknowledges, Lowers, Waits, Judges, AnswersAgain, case_of, Done, acknowledged, writes, effect}
+use Rattle.krl_world.proofs.Names.{Case, Ignored, Registers, Leaves, Tells, Alarms, Rebuilds, Repeats, Acknowledges, Lowers, Waits, Judges, TakesLock, takes, AnswersAgain, case_of, Done, acknowledged, writes, effect}
 use Rattle.krl_world.proofs.Names.{Kind, kind_of, Ends, at_once, recovers, serves, ServerStep, pushes_missing, answered_up, Step, Up, Down, State, is_serving, opened, CanOpen, Runs, ServesOn}
+use Rattle.krl_messages.specs.declared.outcome.Outcome.TheVariants as outcome
 use Rattle.krl_steps.specs.declared.step.Step.TheVariants as step
 use Rattle.krl_world.proofs.Refinement.ServerMoves.{Way, stays, reads, stops, begins, way}
 
@@ -24,6 +25,8 @@ effect_serves s m (Lowers span keep) e = e
 effect_serves s m (Waits req point hi g) e = e
 effect_serves s m (Judges number op o) e =
     pushes_missing (writes (acknowledged s m.client) m.client op o) m.client _ ∙ e
+effect_serves s m (TakesLock number op) e =
+    pushes_missing (writes (acknowledged (takes s m.client op) m.client) m.client op outcome.Applied) m.client _ ∙ e
 effect_serves s m (AnswersAgain number op o) e = pushes_missing (acknowledged s m.client) m.client _ ∙ e
 
 ends_serve : (done : Done) (kind : Kind) (t : Server) (outs : List ToClient) → is_recovering done.server.missing ≡ false → Ends done kind t outs → is_recovering t.missing ≡ false

@@ -1,7 +1,7 @@
 -- A callback has the epoch of the server that sends it.
 use Rattle.krl_world.proofs.Names.{ℕ, zero, suc, ◌≤◌, Bool, true, false, Option, Some, None, List, [], ◌∷◌, ◌++◌, inl, inr, sym, subst, ⊎_elim, arith, nat_eq, if◌then◌else◌, END, cap, ToServer}
 use Rattle.krl_world.proofs.Names.{ToClient, PushBody, WriteOp, Outcome, Record, slot_of, span_of, slots, record_of, op_key, In, in_both, max_clients, Server, is_recovering, lists, Case, Ignored}
-use Rattle.krl_world.proofs.Names.{Registers, Leaves, Tells, Alarms, Rebuilds, Repeats, Acknowledges, Lowers, Waits, Judges, AnswersAgain, case_of, Done, callback_to, with_rows, holding, holdings}
+use Rattle.krl_world.proofs.Names.{Registers, Leaves, Tells, Alarms, Rebuilds, Repeats, Acknowledges, Lowers, Waits, Judges, TakesLock, takes, AnswersAgain, case_of, Done, callback_to, with_rows, holding, holdings}
 use Rattle.krl_world.proofs.Names.{acknowledged, writes, answers, pushes, effect, Turn, tells_absent, grants, answer_first, Answered, stops, goes_on, is_compatible, callbacks_from, callbacks_for}
 use Rattle.krl_world.proofs.Names.{callbacks_at, callbacks_among, callbacks_of, callbacks_of_among, Kind, Idle, Quiet, Acts, kind_of, calls_of, Ends, at_once, recovers, serves, ServerStep}
 use Rattle.krl_world.proofs.Names.{nudge_served, nudge_known, nudge}
@@ -9,6 +9,7 @@ use Rattle.std.specs.Prelude.{nat_lt}
 use Rattle.krl_messages.specs.declared.to_client.ToClientBody.{ToClientBody}
 use Rattle.krl_messages.specs.declared.to_client.ToClientBody.TheVariants as told
 use Rattle.krl_messages.specs.declared.to_client.PushBody.TheVariants as push
+use Rattle.krl_messages.specs.declared.outcome.Outcome.TheVariants as outcome
 use Rattle.krl_queue.specs.declared.waiter.Waiter.{Waiter}
 use Rattle.krl_machine.specs.Worlds as machine
 use Rattle.krl_machine.specs.Worlds.{Step, at_link, raises, applies, crash, start, finish, Steps, none, more}
@@ -61,6 +62,8 @@ effect_called n s m (Lowers span keep) = no_calls n
 effect_called n s m (Waits req point hi g) = no_calls n
 effect_called n s m (Judges number op o) =
     write_called n (writes (acknowledged s m.client) m.client op o) m.client number op o
+effect_called n s m (TakesLock number op) =
+    write_called n (writes (acknowledged (takes s m.client op) m.client) m.client op outcome.Applied) m.client number op outcome.Applied
 effect_called n s m (AnswersAgain number op o) = write_called n (acknowledged s m.client) m.client number op o
 
 turn_called : (n : ℕ) (s : Server) (t : Turn) → AreCalled n (answer_first s t).outs

@@ -1,10 +1,11 @@
 -- While nobody serves, the index stands still.
 use Rattle.krl_world.proofs.Names.{◌≡◌, ℕ, ◌∙◌, Bool, true, false, Option, Some, None, List, ◌⊎◌, inl, inr, refl, sym, ap, subst, ⊎_elim, if◌then◌else◌, END, ToServer, ToClient, PushBody, Record}
-use Rattle.krl_world.proofs.Names.{slot_of, Durable, record_of, left_by, op_key, Server, is_recovering, Case, case_of, Done, holding, acknowledged, writes, pushes, effect, Kind, Idle, kind_of, Ends}
+use Rattle.krl_world.proofs.Names.{slot_of, Durable, record_of, left_by, op_key, Server, is_recovering, Case, case_of, Done, holding, acknowledged, takes, writes, pushes, effect, Kind, Idle, kind_of, Ends}
 use Rattle.krl_world.proofs.Names.{at_once, recovers, serves, ServerStep, pushes_missing, answered_up, Step, ServerPlace, Up, Down, State, durable_of, index_of, is_serving}
 use Rattle.std.specs.Prelude.{nat_lt}
 use Rattle.krl_modes.proofs.Basics.{not_both}
 use Rattle.krl_messages.specs.declared.to_client.PushBody.TheVariants as push
+use Rattle.krl_messages.specs.declared.outcome.Outcome.TheVariants as outcome
 use Rattle.krl_server.proofs.Cased.{by_case}
 use Rattle.krl_world.proofs.Refinement.Serves.{not_serving}
 use Rattle.krl_world.proofs.Refinement.ServerMoves.{Way, stays, reads, stops, begins}
@@ -38,6 +39,9 @@ case_stays s m = by_case s m (Stays s m) (record {
   waits = λ r req point hi g a b c d e. refl;
   judges = λ r number op o a b c d f e. ⊎_elim
       (λ (g : _). let t = writes (acknowledged s m.client) m.client op o in absurd (not_both (is_recovering s.missing) (ap is_recovering (sym (pushes_missing t m.client (push.Answer number o (holding t (slot_of t.durable.index (op_key op)) m.client)))) ∙ g) a.serves))
+      (λ (i : _). absurd (cc)) e;
+  takes = λ r number op a b c d f e. ⊎_elim
+      (λ (g : _). let t = writes (acknowledged (takes s m.client op) m.client) m.client op outcome.Applied in absurd (not_both (is_recovering s.missing) (ap is_recovering (sym (pushes_missing t m.client (push.Answer number outcome.Applied (holding t (slot_of t.durable.index (op_key op)) m.client)))) ∙ g) a.serves))
       (λ (i : _). absurd (cc)) e;
   answers_again = λ r number op o a b c d f e. let t = acknowledged s m.client in pushes_index t m.client (push.Answer number o (holding t (slot_of t.durable.index (op_key op)) m.client));
 })

@@ -6,7 +6,7 @@ use Rattle.std.proofs.lemmas.Bool.Decides.{nat_tests}
 use Rattle.krl_messages.specs.declared.to_server.ToServer.{ToServer}
 use Rattle.krl_messages.specs.declared.to_client.ToClient.{ToClient}
 use Rattle.krl_client.specs.Clients.{Client, begun}
-use Rattle.krl_client.specs.Commands.{locked, wrote, says_lock, says_write, says_release, says_bye}
+use Rattle.krl_client.specs.Commands.{locked, wrote, took, says_lock, says_write, says_release, says_bye}
 use Rattle.krl_client.specs.Messages as receiver
 use Rattle.krl_client.specs.Ticks.{tick, says_hello}
 use Rattle.krl_world.specs.declared.message.Message.{Message}
@@ -50,6 +50,7 @@ delivers v w c None ne h = absurd h
 obeys : (v w : State) (c d : ℕ) (k : Client) (what : Command) (answer : Answer) → IsOthersCommand c d what → Obeys v d k what answer w → IsStill v w c
 obeys v w c d k (command.Lock point hi m) answer ne h = other_place v w c d _ (says_lock (locked k point hi m) point hi m ∷ []) ne h.1
 obeys v w c d k (command.Write op) answer ne h = other_place v w c d _ (says_write (wrote k op) op ∷ []) ne h.1
+obeys v w c d k (command.Take op) answer ne h = other_place v w c d _ (says_write (took k op) op ∷ []) ne h.1
 obeys v w c d k (command.Scan lo hi) answer ne h = same_world v w c h.1
 obeys v w c d k (command.Lower lo hi keep) answer ne h = other_place v w c d _ (says_release k (span lo hi) keep ∷ []) ne h.1
 obeys v w c d k (command.Pin lo hi) answer ne h = other_place v w c d _ [] ne h.3

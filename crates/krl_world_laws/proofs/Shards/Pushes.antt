@@ -31,7 +31,7 @@ use Rattle.krl_client.specs.declared.scan_answer.ScanAnswer.TheVariants as scann
 use Rattle.krl_messages.specs.Writes.{op_key}
 use Rattle.krl_client.specs.declared.refused.CommandRefused.TheVariants as refused
 use Rattle.krl_client.specs.Clients.{has_joined, outstanding, is_in, is_writing_in}
-use Rattle.krl_client.specs.Commands.{Answers, is_pending, finds_rows, misses, locked, wrote, lowered, says_lock, says_write, says_release, says_bye, scan_refusal, write_refusal}
+use Rattle.krl_client.specs.Commands.{Answers, is_pending, finds_rows, misses, locked, wrote, took, lowered, says_lock, says_write, says_release, says_bye, scan_refusal, write_refusal, take_refusal}
 use Rattle.krl_client.specs.Messages as receiver
 use Rattle.krl_client.specs.Messages.{Case, Ignores, AcksAgain, Adopts, Accepts, Lowers, case_of}
 use Rattle.krl_client.specs.Ticks.{tick, says_hello}
@@ -210,9 +210,18 @@ writes_first k op ok x e =
     let bad : false ≡ true = sym third.0 ∙ ap (λ o. is_some o) e in
     absurd (cc)
 
+takes_first : (k : Client) (op : WriteOp) → take_refusal k op ≡ None → (x : WriteOp) → outstanding k.written ≡ Some x → outstanding (took k op).written ≡ Some x
+takes_first k op ok x e =
+    let first = passed (nat_le END (op_key op)) refused.BadPoint _ ok in
+    let second = passed (not (has_joined k)) refused.NotJoined _ first.1 in
+    let third = passed (is_some (outstanding k.written)) refused.Writing _ second.1 in
+    let bad : false ≡ true = sym third.0 ∙ ap (λ o. is_some o) e in
+    absurd (cc)
+
 obeys : (v w : State) (c d : ℕ) (k : Client) (what : Command) (answer : Answer) → NoEntry k → client_of v d ≡ Some k → command_refusal k what ≡ None → Obeys v d k what answer w → AllKnown (client_of v c) (client_of w c)
 obeys v w c d k (command.Lock point hi m) answer none up ok h = becomes v w c d _ k _ (says_lock (locked k point hi m) point hi m ∷ []) h.1 up (λ i. changes k (locked k point hi m) refl (λ op x. x))
 obeys v w c d k (command.Write op) answer none up ok h = becomes v w c d _ k _ (says_write (wrote k op) op ∷ []) h.1 up (λ i. changes k (wrote k op) refl (writes_first k op ok))
+obeys v w c d k (command.Take op) answer none up ok h = becomes v w c d _ k _ (says_write (took k op) op ∷ []) h.1 up (λ i. changes k (took k op) refl (takes_first k op ok))
 obeys v w c d k (command.Scan lo hi) answer none up ok h = still v w c (ap (λ x. client_of x c) (sym h.1))
 obeys v w c d k (command.Lower lo hi keep) answer none up ok h = becomes v w c d _ k _ (says_release k (span lo hi) keep ∷ []) h.1 up (λ i. lowers k (span lo hi) keep none)
 obeys v w c d k (command.Pin lo hi) answer none up ok h = becomes v w c d _ k _ [] h.3 up (λ i. changes k _ refl (λ op x. x))

@@ -222,6 +222,26 @@ impl ClientHandle {
         Ok(self.status()?.number)
     }
 
+    /// Sends the write, which takes the lock that it needs if that is free, and says its number. A
+    /// delete takes nothing: it is sent as by [`ClientHandle::write`].
+    pub fn write_with_lock(&mut self, write: &Write) -> Result<u64, Code> {
+        self.call(|handle| match write {
+            Write::Insert(Row { key, value }) => {
+                let bytes = value.as_bytes();
+                // SAFETY: as for any handle, and so many bytes of the value are there to be read.
+                unsafe { ffi::krl_client_take_insert(handle, *key, bytes.as_ptr(), bytes.len()) }
+            }
+            Write::Put(Row { key, value }) => {
+                let bytes = value.as_bytes();
+                // SAFETY: as for any handle, and so many bytes of the value are there to be read.
+                unsafe { ffi::krl_client_take_put(handle, *key, bytes.as_ptr(), bytes.len()) }
+            }
+            // SAFETY: `call` gives the handle to this call only.
+            Write::Delete(key) => unsafe { ffi::krl_client_delete(handle, *key) },
+        })?;
+        Ok(self.status()?.number)
+    }
+
     /// Scans the cache as it is at this moment into `rows`, in place of what they are. Nothing is
     /// sent, and nothing waits. No call of the client was made since that moment.
     pub fn scan(&self, keys: &Range<u64>, rows: &mut Vec<Row>, now: Now) -> Result<Scan, Code> {

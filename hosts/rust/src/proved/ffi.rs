@@ -167,6 +167,18 @@ unsafe extern "C" {
     ) -> Reply;
     pub fn krl_client_put(handle: *mut Handle, key: u64, bytes: *const u8, length: usize) -> Reply;
     pub fn krl_client_delete(handle: *mut Handle, key: u64) -> Reply;
+    pub fn krl_client_take_insert(
+        handle: *mut Handle,
+        key: u64,
+        bytes: *const u8,
+        length: usize,
+    ) -> Reply;
+    pub fn krl_client_take_put(
+        handle: *mut Handle,
+        key: u64,
+        bytes: *const u8,
+        length: usize,
+    ) -> Reply;
     pub fn krl_client_forget(handle: *mut Handle, lo: u64, hi: u64) -> Reply;
     pub fn krl_client_lower(handle: *mut Handle, lo: u64, hi: u64, keep: u32) -> Reply;
     pub fn krl_client_pin(handle: *mut Handle, lo: u64, hi: u64) -> Reply;

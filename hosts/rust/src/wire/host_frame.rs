@@ -280,17 +280,17 @@ mod tests {
         let refused = FromServer::Refused(Refusal::Incarnation { client: 3, registered: 258 });
         let bytes = [0, 17, 2, 3, 0, 0, 0, 0, 0, 0, 0, 2, 1, 0, 0, 0, 0, 0, 0];
         assert_eq!(body(&refused.frame()), bytes);
-        assert_eq!(FromClient::Hello(None).frame(), [3, 0, 0, 0, 0, 0, 0, 0, 0, 0, 2]);
+        assert_eq!(FromClient::Hello(None).frame(), [3, 0, 0, 0, 0, 0, 0, 0, 0, 0, 3]);
         let marked = [5, 0, 0, 0, 0, 0, 0, 0, 0, 0, 0, 0, 0, 0, 0, 128, 2, 1, 0, 0, 0, 0, 0, 0];
         let first = [7, 0, 0, 0, 0, 0, 0, 0, 0, 0, 0, 0, 0, 0, 0, 3];
         let marked_in = |seen| body(&FromServer::Mark(seen).frame());
         assert_eq!(marked_in(SEEN), [&[0, 18][..], &marked, &first].concat());
         assert_eq!(marked_in(SEEN_EARLIER), [&[0, 18][..], &marked].concat());
         let seen = FromClient::Hello(Some(SEEN));
-        assert_eq!(body(&seen.frame()), [&[0, 0][..], &marked, &first, &[2]].concat());
-        assert_eq!(body(&HELLO.frame()), [0, 16, 1, 2]);
+        assert_eq!(body(&seen.frame()), [&[0, 0][..], &marked, &first, &[3]].concat());
+        assert_eq!(body(&HELLO.frame()), [0, 16, 1, 3]);
         let unsigned = FromServer::Hello { answers_signs: false };
-        assert_eq!(body(&unsigned.frame()), [0, 16, 0, 2]);
+        assert_eq!(body(&unsigned.frame()), [0, 16, 0, 3]);
         let numbers = [5, 0, 0, 0, 0, 0, 0, 0, 2, 1, 0, 0, 0, 0, 0, 0, 7, 0, 0, 0, 0, 0, 0, 0];
         assert_eq!(body(&FromClient::Shard(shard()).frame()), [&[0, 2][..], &numbers].concat());
         assert_eq!(body(&FromServer::Shard(shard()).frame()), [&[0, 22][..], &numbers].concat());
@@ -301,12 +301,12 @@ mod tests {
     #[test]
     fn a_hello_of_another_version_is_known_by_both_sides() {
         let refused = |read| Some(FromServer::Refused(Refusal::Version { read }));
-        for (hello, read) in [(&[0, 16][..], 1), (&[0, 16, 1], 1), (&[0, 16, 1, 3, 9], 3)] {
+        for (hello, read) in [(&[0, 16][..], 1), (&[0, 16, 1], 1), (&[0, 16, 1, 2, 9], 2)] {
             assert_eq!(FromServer::read(hello), refused(read), "{hello:?}");
         }
         let of_client = |said: &[u8]| FromClient::read(&[&[0, 0], said].concat());
         // A mark of a host of before versions may end as a version does.
-        for said in [&[][..], &[2; 24], &[2; 40], &[1], &[3], &[2, 9], &[2; 26]] {
+        for said in [&[][..], &[3; 24], &[3; 40], &[1], &[2], &[3, 9], &[3; 26]] {
             assert_eq!(of_client(said), Some(FromClient::OtherVersion), "{said:?}");
         }
         for length in MARK_LENGTHS {

@@ -10,7 +10,7 @@ returns-in_err-body-clause-memory c = λ e.
     let p = err_from_is_err_and c.from_residual-in_err-body.result c.from_residual-in_err-body.ensures.1 in
     let error : c.in_err-body.field-0.0 ≡ errors.OutOfMemory = cc (p.1, p.2, e) in
     let rest = c.head.new.self in
-    let begins = head_is 0 8 c.in_ok-kind.kind c.args.bytes.now rest
+    let begins = head_is 0 11 c.in_ok-kind.kind c.args.bytes.now rest
     (λ i. omega (arith, c.type_inv.bytes i))
-    (ap (λ xs. head_at 0 8 xs) (sym c.new-reader.ensures) ∙ c.in_ok-kind.ensures) in
+    (ap (λ xs. head_at 0 11 xs) (sym c.new-reader.ensures) ∙ c.in_ok-kind.ensures) in
     (rest, begins ∙ ap (λ k. 1 ∷ k ∷ rest) (c.in_err-body.ensures.memory (ap Err error)))
