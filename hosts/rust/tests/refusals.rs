@@ -68,7 +68,7 @@ fn of_version(version: u8) -> Vec<u8> {
 #[test]
 fn a_message_of_another_version() {
     let server = server(MemoryStore::default());
-    assert_eq!(heard(&server, &[of_version(2)]), refused(0, [2, 0]));
+    assert_eq!(heard(&server, &[of_version(2)]), refused(0, [3, 0]));
     let no_message = [1, 0, 0, 0, 0, 0, 0, 0, 1].to_vec();
     assert_eq!(heard(&server, &[no_message]), [], "its version is the right one");
 }
@@ -80,14 +80,14 @@ fn a_host_of_another_version() {
     let server = server(MemoryStore::default());
     let hellos: [&[u8]; 3] = [
         &[2, 0, 0, 0, 0, 0, 0, 0, 0, 0],
-        &[3, 0, 0, 0, 0, 0, 0, 0, 0, 0, 3],
+        &[3, 0, 0, 0, 0, 0, 0, 0, 0, 0, 2],
         &[&[26, 0, 0, 0, 0, 0, 0, 0, 0, 0][..], &[7; 24]].concat(),
     ];
     for hello in hellos {
         let mut peer = Peer::new(&server);
         peer.say(&[hello, &frame(HELLO, 3, 1, &[])].concat());
         let begun = Instant::now();
-        assert_eq!(peer.hear(LONG), refused(0, [2, 0]), "{hello:?}");
+        assert_eq!(peer.hear(LONG), refused(0, [3, 0]), "{hello:?}");
         assert!(begun.elapsed() < LONG, "the connection ends");
     }
     assert_eq!(server.status().taken, 0, "the library hears nothing");
@@ -119,7 +119,7 @@ fn says(bytes: &'static [u8]) -> SocketAddr {
 fn a_server_of_another_version() {
     let answers: [(&[u8], u8); 3] = [
         (&[3, 0, 0, 0, 0, 0, 0, 0, 0, 16, 1], 1),
-        (&[4, 0, 0, 0, 0, 0, 0, 0, 0, 16, 1, 3], 3),
+        (&[4, 0, 0, 0, 0, 0, 0, 0, 0, 16, 1, 2], 2),
         (&[19, 0, 0, 0, 0, 0, 0, 0, 0, 17, 0, 5, 0, 0, 0, 0, 0, 0, 0, 0, 0, 0, 0, 0, 0, 0, 0], 5),
     ];
     for (answer, version) in answers {
@@ -207,6 +207,8 @@ fn an_operator_evicts_a_client_whose_clock_was_ahead() {
 fn a_client_that_was_replaced() {
     let (server, lock) = (server(MemoryStore::default()), lock_file("replaced"));
     let client = Client::join(server.address().clone(), 3, &lock).unwrap();
+    // What it reads there it gives back before it asks for the lock of a write.
+    client.read(0..9).unwrap();
     let evicting = lock_file("replacing");
     evict(server.address().clone(), 3, &evicting).unwrap();
     let registered = incarnation(&evicting);

@@ -2,6 +2,7 @@
 mod anew;
 mod batch;
 mod bound;
+mod contended;
 mod crossed;
 mod hold;
 mod leased;
@@ -31,6 +32,7 @@ use std::time::{Duration, Instant};
 pub(crate) use anew::Dropped;
 use batch::Report;
 use bound::{Bound, Wanted};
+use contended::Contended;
 use crossed::Crossed;
 use hold::Taking;
 pub use hold::{Held, Purpose};
@@ -151,6 +153,7 @@ pub(crate) struct Jobs {
     narrowed: Narrowed,
     shared: SharedRows,
     crossed: Crossed,
+    contended: Contended,
     asking: Asking,
     room: Vec<Row>,
     /// None if a tick is due.
@@ -194,6 +197,7 @@ impl Jobs {
             narrowed: Narrowed::default(),
             shared: SharedRows::default(),
             crossed: Crossed::default(),
+            contended: Contended::default(),
             asking: Asking::Allowed,
             room: Vec::with_capacity(64),
             ticked: None,
@@ -388,6 +392,7 @@ impl Jobs {
             if let Some(span) = message.called_back() {
                 self.pins.note(&span);
                 self.note_shared(&span);
+                self.note_contended(span);
             }
             self.step(message)?;
             if let Some(slot) = message.answered_slot() {

@@ -215,6 +215,7 @@ impl TlsSession {
     /// # Errors
     ///
     /// Those of OpenSSL.
+    #[cfg(feature = "unstable")]
     pub fn end(&mut self) -> io::Result<()> {
         let unsealed = std::mem::take(&mut self.unsealed);
         self.seal(&unsealed)?;

@@ -81,7 +81,7 @@ impl Jobs {
         let Some(first) = writes.first().copied() else {
             return self.answer_at_once(Ok(Judged { outcomes: Vec::new(), ended: None }));
         };
-        let wanted = Wanted { write: self.first_write_of(first), bond, kept: None };
+        let wanted = Wanted::new(self.first_write_of(first), bond);
         self.add(|reply| {
             let outcomes = Vec::with_capacity(writes.len());
             let batch = Batch { outcomes, left: writes.into(), reply };
@@ -111,7 +111,7 @@ impl Jobs {
             Some(Next::Same(write)) => write,
             Some(Next::Other(mutation)) => self.first_write_of(mutation),
         };
-        Some((Wanted { write, bond: wanted.bond, kept: None }, Report::Together(batch)))
+        Some((Wanted::new(write, wanted.bond), Report::Together(batch)))
     }
 
     /// The write that is made first. A set of a key that the client knows to have no row is an

@@ -32,8 +32,12 @@ pub(super) struct Bound {
 }
 
 impl Wanted {
+    pub fn new(write: Write, bond: Bond) -> Wanted {
+        Wanted { write, bond, kept: None }
+    }
+
     pub fn free(write: Write) -> Wanted {
-        Wanted { write, bond: Bond::Free, kept: None }
+        Wanted::new(write, Bond::Free)
     }
 
     /// The same write of a client that has dropped all, its pins too.
@@ -53,7 +57,7 @@ impl Jobs {
         if !self.may_ask_to_write(bond) {
             return self.answer_at_once(Err(Error::PinIsVoid));
         }
-        let wanted = Wanted { write, bond, kept: None };
+        let wanted = Wanted::new(write, bond);
         self.add(|reply| Job::Write(wanted, Report::Once(reply)))
     }
 

@@ -61,7 +61,11 @@ impl Jobs {
         }
         let was_waiting = self.shows(|shown| shown.is_waiting);
         give(&mut self.client, message.bytes())?;
-        if message.kind().is_push() { self.call_back_again(was_waiting) } else { Ok(()) }
+        if !message.kind().is_push() {
+            return Ok(());
+        }
+        self.contended.note_served();
+        self.call_back_again(was_waiting)
     }
 
     /// Whether this is so of the client, if it is still there.

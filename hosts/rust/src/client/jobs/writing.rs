@@ -67,6 +67,7 @@ impl Jobs {
         if outcome == Outcome::NotHeld {
             // The table was the server's to judge by: the client asks for what it lacks, and writes
             // again.
+            self.contended.note_not_free();
             let younger = self.open.iter().position(|(other, _)| *other > id);
             let place = younger.unwrap_or(self.open.len());
             self.open.insert(place, (id, Job::Write(wanted, report)));
@@ -133,6 +134,9 @@ impl Jobs {
         match self.client.write(write) {
             Ok(number) => Ok(Step::Sent(number)),
             Err(Code::Writing | Code::NotJoined) => Ok(Step::Waits),
+            Err(Code::NotHeld) if self.may_take(id, wanted) => {
+                self.client.write_with_lock(&wanted.write).map(Step::Sent)
+            }
             Err(Code::NotHeld) => self.lock_for(id, wanted),
             Err(code) => Err(code),
         }

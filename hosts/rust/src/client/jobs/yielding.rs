@@ -78,7 +78,7 @@ impl Jobs {
         self.give_back_and_ask(id, points, &left, Mode::RangeSS)
     }
 
-    fn may_ask(&self, id: JobId, point: u64) -> bool {
+    pub(super) fn may_ask(&self, id: JobId, point: u64) -> bool {
         self.asking == Asking::Allowed
             && !self.shows(|shown| shown.is_waiting)
             && self.takings.may_ask(id, point)
