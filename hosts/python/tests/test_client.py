@@ -311,7 +311,7 @@ class PinsTest(Served):
         while True:
             try:
                 return call()
-            except krl.StoreWentBack:
+            except (krl.StoreWentBack, krl.NotSent):
                 time.sleep(0.005)
 
     def keep_an_older_copy(self) -> None:
