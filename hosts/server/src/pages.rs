@@ -398,7 +398,7 @@ fn as_json(
         "messages_sent_total": status.sent,
         "messages_refused_total": status.refused,
         "denied_total": status.denied,
-        "pushes_held_back_total": status.held_back,
+        "repeats_held_back_total": status.held_back,
         "changes_total": status.changes,
         "commits_total": status.commits,
         "signs_total": status.signs,

@@ -382,7 +382,7 @@ impl EventLoop {
             let message = Message::read(message);
             let Some(client) = message.client() else { continue };
             let is_push = message.kind().is_push();
-            if is_push && self.held_back.holds(client, message.bytes(), now.monotonic) {
+            if self.held_back.holds(client, message, now.monotonic) {
                 continue;
             }
             self.open.said(client, message, now.monotonic, &self.timings);

@@ -195,7 +195,7 @@ pub(crate) mod tests {
     use super::*;
 
     /// A message with these numbers after its kind.
-    fn message(kind: u8, numbers: &[u64]) -> Vec<u8> {
+    pub(crate) fn message(kind: u8, numbers: &[u64]) -> Vec<u8> {
         let mut bytes = vec![1, kind];
         for number in numbers {
             bytes.extend_from_slice(&number.to_le_bytes());

@@ -98,8 +98,8 @@ impl Page {
             status.denied,
         );
         counter(
-            "krl_pushes_held_back_total",
-            "Repeats of a push that were not sent, as it had just been sent",
+            "krl_repeats_held_back_total",
+            "Repeats of a push or a callback that were not sent, as it had just been sent",
             status.held_back,
         );
         counter("krl_changes_total", "Changes that the store has committed", status.changes);

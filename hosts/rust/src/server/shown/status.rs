@@ -53,7 +53,7 @@ pub struct Status {
     /// How often a connection said what its certificate or its user may not say. Each was closed,
     /// and the library heard nothing of it.
     pub denied: u64,
-    /// The repeats of pushes that were held back.
+    /// The repeats of pushes and callbacks that were held back.
     pub held_back: u64,
     /// The changes that were kept.
     pub changes: u64,
