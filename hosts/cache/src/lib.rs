@@ -61,6 +61,7 @@ mod pinned;
 mod postgres;
 mod reads;
 mod repair;
+mod replacing;
 mod spans;
 #[cfg(feature = "sqlite")]
 mod sqlite;
@@ -82,7 +83,8 @@ pub use error::{CacheError, OtherKey};
 pub use mark::LAST_KEY;
 pub use memory::{MemoryOrigin, MemoryTransaction};
 pub use origin::{
-    Change, CommitError, Filling, Needed, Origin, OriginError, OriginIdentity, Stored, Transaction,
+    Change, CommitError, Filling, Needed, Origin, OriginError, OriginIdentity, Replacement, Stored,
+    Transaction,
 };
 #[cfg(feature = "postgres")]
 pub use postgres::{PostgresFilling, PostgresOrigin, PostgresRow, PostgresTransaction};

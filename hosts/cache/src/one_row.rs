@@ -1,4 +1,7 @@
 //! Writes of one row. They are announced while the database begins the transaction.
+//!
+//! An update of a row whose body is in memory is one question before the commit: see
+//! [`crate::replacing`].
 use crate::cache::Cache;
 use crate::error::CacheError;
 use crate::origin::{Origin, Transaction};
@@ -8,7 +11,9 @@ use crate::steps::Step;
 use crate::transact::{Changes, Failure, commit_unannounced};
 use crate::version::Version;
 use crate::work::Work;
+use crate::writing::Writing;
 use krl::Error;
+use std::sync::Arc;
 
 /// What a write of one row changes.
 #[derive(Clone, Copy, Debug, PartialEq, Eq)]
@@ -37,38 +42,74 @@ struct Begun<'o, O: Origin + 'o> {
 ///
 /// If the pin holds now, nobody else has pinned the key before this moment. Whoever does so later
 /// locks it later, and so after the end of this transaction.
-fn is_still_announced(pinned: &Pinned) -> bool {
+pub(crate) fn is_still_announced(pinned: &Pinned) -> bool {
     pinned.holds()
 }
 
 impl<O: Origin> Cache<O> {
-    /// Changes one row. If krl has what the write expects, the announcement is made while the
-    /// database begins and locks the key, and the change and the commit are one question.
-    pub(crate) fn write_one_once<T>(
+    /// Updates a row: by one question before the commit if its body is in memory.
+    pub(crate) fn update_once(
         &self,
         key: u64,
+        work: impl FnOnce(&O::Body) -> Option<O::Body>,
+    ) -> Result<bool, CacheError> {
+        let writing = self.turn()?;
+        let pinned = self.pin_one(&writing, key)?;
+        if let Some(known) = self.known_row(key, &pinned) {
+            return self.replace(&known, &pinned, work);
+        }
+        self.write_pinned(key, &pinned, Expects::Row, |rows| {
+            let body = rows.get(key)?.and_then(work);
+            let is_changed = body.is_some();
+            body.map_or(Ok(()), |body| rows.put(key, body))?;
+            Ok(is_changed)
+        })
+    }
+
+    /// Inserts a row, if the key has none.
+    pub(crate) fn insert_once(&self, key: u64, body: Arc<O::Body>) -> Result<bool, CacheError> {
+        let writing = self.turn()?;
+        let pinned = self.pin_one(&writing, key)?;
+        self.write_pinned(key, &pinned, Expects::NoRow, |rows| {
+            let is_free = rows.get(key)?.is_none();
+            if is_free {
+                rows.put(key, body)?;
+            }
+            Ok(is_free)
+        })
+    }
+
+    fn pin_one(&self, writing: &Writing<'_>, key: u64) -> Result<Pinned, CacheError> {
+        let pinned = Pinned::for_write(writing, key)?;
+        self.step(Step::Pinned);
+        Ok(pinned)
+    }
+
+    /// Changes one row. If krl has what the write expects, the announcement is made while the
+    /// database begins and locks the key, and the change and the commit are one question.
+    fn write_pinned<T>(
+        &self,
+        key: u64,
+        pinned: &Pinned,
         expects: Expects,
         work: impl FnOnce(&mut Work<'_, O>) -> Result<T, Failure>,
     ) -> Result<T, CacheError> {
-        let writing = self.turn()?;
-        let pinned = Pinned::for_write(&writing, key)?;
-        self.step(Step::Pinned);
         let announcement = Announcement { key, version: Version::fresh() };
         let will_change = pinned.has_row(key) == (expects == Expects::Row);
         let Begun { transaction, is_announced } =
-            self.begin_one(announcement, will_change, &pinned)?;
+            self.begin_one(announcement, will_change, pinned)?;
         self.step(Step::Locked);
         let mut rows = Work::new(vec![key], transaction);
         let answer = work(&mut rows);
         let (transaction, changes) = rows.into_parts(announcement.version);
         if is_announced && (answer.is_err() || changes.changes.is_empty()) {
-            take_back_locked(announcement, &transaction, &pinned);
+            take_back_locked(announcement, &transaction, pinned);
         }
         let answer = answer.map_err(CacheError::Work)?;
         match changes.changes.is_empty() {
             true => commit_unannounced(transaction)?,
-            false if is_announced => self.commit_announced(transaction, &pinned, &changes)?,
-            false => self.make(transaction, &pinned, &changes)?,
+            false if is_announced => self.commit_announced(transaction, pinned, &changes)?,
+            false => self.make(transaction, pinned, &changes)?,
         }
         self.step(Step::Ended);
         Ok(answer)
@@ -93,7 +134,7 @@ impl<O: Origin> Cache<O> {
             (Ok(transaction), Some(Ok(()))) => Ok(Begun { transaction, is_announced: true }),
             (Ok(_), Some(Err(error))) => Err(error),
             (Err(error), Some(Ok(()))) => {
-                take_back_unsent(announcement, pinned);
+                take_back_unsent(announcement.key, pinned);
                 Err(error.into())
             }
             (Err(error), _) => Err(error.into()),
@@ -127,12 +168,12 @@ impl<O: Origin> Cache<O> {
     }
 }
 
-/// Takes back the announcement of a transaction that has sent no change, and will send none.
+/// Takes back the announcement of a transaction that has sent no commit, and will send none.
 ///
 /// It puts back what krl had, whatever that was: while the pin holds, that is as right as it
 /// was before. So an attempt to write keeps no reader from the row while the database is down.
 /// What fails, the next reader does.
-fn take_back_unsent(Announcement { key, .. }: Announcement, pinned: &Pinned) {
+pub(crate) fn take_back_unsent(key: u64, pinned: &Pinned) {
     let Ok(pin) = pinned.pin_of(key) else { return };
     let _ = match pinned.value_of(key) {
         Some(value) => pin.put(key, value),

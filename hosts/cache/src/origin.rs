@@ -33,6 +33,42 @@ pub enum Change<B> {
     Delete,
 }
 
+/// Gives a row another body, if it has the version that is expected.
+#[derive(Debug, PartialEq, Eq)]
+pub struct Replacement<B> {
+    /// The key.
+    pub key: u64,
+    /// The version that the row has.
+    pub from: Version,
+    /// The version that it gets.
+    pub to: Version,
+    /// The body that it gets.
+    pub body: Arc<B>,
+}
+
+impl<B> Replacement<B> {
+    /// Changes the row in a transaction that has locked its key.
+    ///
+    /// # Errors
+    ///
+    /// If the row has another version, or the database refuses the change or does not answer.
+    pub fn make<T: Transaction<Body = B>>(&self, mut transaction: T) -> Result<T, OriginError> {
+        let has_version = |row: &Stored<B>| row.key == self.key && row.version == self.from;
+        if !transaction.rows().iter().any(has_version) {
+            return Err(not_replaced());
+        }
+        transaction.apply(self.to, &[(self.key, Change::Update(Arc::clone(&self.body)))])?;
+        Ok(transaction)
+    }
+}
+
+pub(crate) fn not_replaced() -> OriginError {
+    OriginError::new(
+        "the row has another version than krl, or a trigger or a rule has kept a change from being \
+         made",
+    )
+}
+
 /// Whether somebody still needs the rows of a load.
 #[derive(Clone, Copy, Debug, PartialEq, Eq)]
 pub enum Needed {
@@ -139,6 +175,22 @@ pub trait Origin: Send + Sync {
         let transaction = self.begin(keys)?;
         meanwhile();
         Ok(transaction)
+    }
+
+    /// Begins a transaction that locks a key and gives its row another body, and calls `meanwhile`
+    /// once: before it, while the database works, or afterwards. It need not answer the row that it
+    /// has locked. By default it begins as [`Origin::begin_while`] does, and then makes the change.
+    ///
+    /// # Errors
+    ///
+    /// Those of [`Origin::begin`] and [`Replacement::make`]. `meanwhile` may not have been called
+    /// then.
+    fn begin_replacing_while(
+        &self,
+        replacement: &Replacement<Self::Body>,
+        meanwhile: impl FnOnce(),
+    ) -> Result<Self::Transaction<'_>, OriginError> {
+        replacement.make(self.begin_while(&[replacement.key], meanwhile)?)
     }
 
     /// Begins a transaction that waits for all others, and keeps others from changing the table.

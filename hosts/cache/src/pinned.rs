@@ -1,5 +1,6 @@
 //! What a transaction has pinned in krl.
 use crate::error::CacheError;
+use crate::version::Version;
 use crate::writing::Writing;
 use krl::{Error, Pin, Row, Value};
 use std::collections::BTreeMap;
@@ -49,6 +50,11 @@ impl Pinned {
     /// What krl had of the key when it was pinned.
     pub fn value_of(&self, key: u64) -> Option<Value> {
         self.rows.get(&key).copied()
+    }
+
+    /// The version that krl had of the key when it was pinned.
+    pub fn version_of(&self, key: u64) -> Option<Version> {
+        Version::from_bytes(self.value_of(key)?.as_bytes())
     }
 
     /// Whether all pins hold, and so nobody else has written to krl there.

@@ -233,7 +233,7 @@ impl<O: Origin> Cache<O> {
         if missing.is_empty() { Scanned::All(rows) } else { Scanned::Missing(missing) }
     }
 
-    fn moment(&self) -> Moment {
+    pub(crate) fn moment(&self) -> Moment {
         self.bodies.now(self.filling.load(Ordering::SeqCst))
     }
 

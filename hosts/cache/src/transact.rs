@@ -2,7 +2,6 @@
 use crate::cache::Cache;
 use crate::error::CacheError;
 use crate::mark::LAST_KEY;
-use crate::one_row::Expects;
 use crate::origin::{Change, CommitError, Origin, OriginError, Transaction};
 use crate::pinned::Pinned;
 use crate::repair::{remove, write_version};
@@ -42,12 +41,7 @@ impl<O: Origin> Cache<O> {
         key: u64,
         work: impl FnOnce(&O::Body) -> Option<O::Body>,
     ) -> Result<bool, CacheError> {
-        self.write_one(key, Expects::Row, |rows| {
-            let body = rows.get(key)?.and_then(work);
-            let is_changed = body.is_some();
-            body.map_or(Ok(()), |body| rows.put(key, body))?;
-            Ok(is_changed)
-        })
+        self.write_one(key, || self.update_once(key, work))
     }
 
     /// Inserts a row. The answer is whether it was inserted; if the key has a row, nothing changes.
@@ -56,13 +50,7 @@ impl<O: Origin> Cache<O> {
     ///
     /// Those of [`Cache::transact`].
     pub fn insert(&self, key: u64, body: impl Into<Arc<O::Body>>) -> Result<bool, CacheError> {
-        self.write_one(key, Expects::NoRow, |rows| {
-            let is_free = rows.get(key)?.is_none();
-            if is_free {
-                rows.put(key, body)?;
-            }
-            Ok(is_free)
-        })
+        self.write_one(key, || self.insert_once(key, body.into()))
     }
 
     /// Deletes a row. The answer is whether there was one.
@@ -106,13 +94,12 @@ impl<O: Origin> Cache<O> {
     fn write_one<T>(
         &self,
         key: u64,
-        expects: Expects,
-        work: impl FnOnce(&mut Work<'_, O>) -> Result<T, Failure>,
+        write: impl FnOnce() -> Result<T, CacheError>,
     ) -> Result<T, CacheError> {
         if key > LAST_KEY {
             return Err(CacheError::BadKey);
         }
-        self.count_write(self.write_one_once(key, expects, work))
+        self.count_write(write())
     }
 
     fn count_write<T>(&self, done: Result<T, CacheError>) -> Result<T, CacheError> {
@@ -219,7 +206,11 @@ impl<O: Origin> Cache<O> {
     ///
     /// Keys with a row come first: a put takes the gap below the row too, so no insert asks for
     /// anything for which it could wait.
-    fn announce(&self, pinned: &Pinned, changes: &Changes<O::Body>) -> Result<(), CacheError> {
+    pub(crate) fn announce(
+        &self,
+        pinned: &Pinned,
+        changes: &Changes<O::Body>,
+    ) -> Result<(), CacheError> {
         self.step(Step::Announcing);
         let keys = changes.changes.iter().map(|(key, _)| *key);
         let (present, absent): (Vec<u64>, Vec<u64>) = keys.partition(|key| pinned.has_row(*key));

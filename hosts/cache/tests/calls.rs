@@ -1,7 +1,7 @@
 //! What each call of a cache does, over a table in memory.
 mod site;
 
-use krl_cache::{CacheError, LAST_KEY, OtherKey};
+use krl_cache::{CacheError, LAST_KEY, Origin, OtherKey};
 use site::wrapped::Wrapped;
 use site::{LONG, Site, expected, persist, text, texts};
 use std::thread;
@@ -107,6 +107,51 @@ fn what_is_in_memory_needs_no_message() {
     assert_eq!(two.statistics().loaded, after.loaded + 1, "the other bodies stayed");
 }
 
+/// How often a row was counted up.
+fn count(text: &str) -> u32 {
+    text.parse().unwrap()
+}
+
+/// Each of them finds the row in memory, or in the table if another one has changed it.
+#[test]
+fn no_update_is_lost_of_several_processes() {
+    const EACH: u32 = 50;
+    let site = Site::new();
+    let caches = [0, 1, 2].map(|number| site.cache(number));
+    persist(|| caches[0].insert(5, "0".to_string()));
+    thread::scope(|scope| {
+        for (place, cache) in (0..).zip(&caches) {
+            scope.spawn(move || {
+                for turn in 0..EACH {
+                    if turn % 2 == place % 2 {
+                        assert!(text(cache, 5).is_some());
+                    }
+                    assert!(persist(|| cache.update(5, |row| Some((count(row) + 1).to_string()))));
+                }
+            });
+        }
+    });
+    for cache in &caches {
+        assert_eq!(count(&text(cache, 5).unwrap()), 3 * EACH);
+    }
+}
+
+#[test]
+fn an_update_gets_the_row_of_memory_if_it_is_the_last_one() {
+    let site = Site::new();
+    let (one, two) = (site.cache(0), site.cache(1));
+    persist(|| one.insert(5, "a".to_string()));
+    assert_eq!(text(&one, 5).unwrap(), "a");
+    // The key is locked in the table: one who had to look there would wait.
+    let locked = site.table.begin(&[5]).unwrap();
+    assert!(!persist(|| one.update(5, |row| (row == "b").then(String::new))));
+    drop(locked);
+    assert!(persist(|| one.update(5, |row| Some(format!("{row}b")))));
+    assert!(persist(|| two.update(5, |row| Some(format!("{row}c")))));
+    assert!(persist(|| one.update(5, |row| Some(format!("{row}d")))));
+    assert_eq!(text(&two, 5).unwrap(), "abcd");
+}
+
 #[test]
 fn a_range_is_read_whose_bodies_do_not_fit_into_memory() {
     let site = Site::new();
@@ -178,6 +223,18 @@ fn after_a_filling_nobody_answers_what_was_in_memory_before() {
     assert_eq!(two.cached(10..11).unwrap(), None);
     assert_eq!(text(&two, 10).unwrap(), "b");
     assert_eq!(text(&one, 10).unwrap(), "b");
+}
+
+#[test]
+fn after_a_filling_nobody_updates_what_was_in_memory_before() {
+    let site = Site::new();
+    let cache = site.cache(0);
+    persist(|| cache.insert(10, "a".to_string()));
+    assert_eq!(text(&cache, 10).unwrap(), "a");
+    site.table.put_without_the_cache(10, "b".to_string());
+    site.fill();
+    assert!(persist(|| cache.update(10, |row| Some(format!("{row}c")))));
+    assert_eq!(text(&cache, 10).unwrap(), "bc");
 }
 
 #[test]

@@ -57,12 +57,19 @@ fn a_writer_that_dies_after_its_commit_has_changed_everything() {
 /// A write of one row.
 type Write = fn(&Rows) -> Result<bool, CacheError>;
 
-/// A writer of one row dies, which updates it or inserts another one.
+/// A writer of one row dies, which updates a row that it has in memory or not, or inserts one.
 fn one_row_dies_after(step: Step, is_committed: bool) {
     let update: Write = |cache| cache.update(10, |_| Some("new".to_string()));
+    let update_known: Write = |cache| {
+        assert_eq!(text(cache, 10).unwrap(), "old");
+        cache.update(10, |_| Some("new".to_string()))
+    };
     let insert: Write = |cache| cache.insert(11, "more".to_string());
-    let cases =
-        [(update, expected([(10, "new")])), (insert, expected([(10, "old"), (11, "more")]))];
+    let cases = [
+        (update, expected([(10, "new")])),
+        (update_known, expected([(10, "new")])),
+        (insert, expected([(10, "old"), (11, "more")])),
+    ];
     for (write, after) in cases {
         let site = Site::new();
         let reader = site.cache(0);
@@ -129,6 +136,31 @@ fn a_writer_that_lost_its_pin_before_its_lock_commits_nothing() {
     assert_eq!(site.table.committed(10).unwrap().as_str(), "new");
     assert_eq!(text(&other, 10).as_deref(), Some("new"));
     assert_eq!(text(&writer, 10).as_deref(), Some("new"));
+}
+
+/// The same of a writer that has the row in memory. Another process takes the announcement back, so
+/// that the row has the version that the writer expects.
+#[test]
+fn a_writer_that_lost_its_pin_of_a_row_in_memory_commits_nothing() {
+    let site = Site::leased();
+    let other = site.cache(0);
+    persist(|| other.insert(10, "old".to_string()));
+    let (builder, relay) = site.apart(1);
+    let halt = Halt::after(Step::Announced(1));
+    let writer = halt.open(builder);
+    assert_eq!(text(&writer, 10).as_deref(), Some("old"));
+    let refused = thread::scope(|scope| {
+        let write = scope.spawn(|| halt.reach(|| writer.update(10, |_| Some("late".to_string()))));
+        halt.stops.wait();
+        relay.cut();
+        assert_eq!(text(&other, 10).as_deref(), Some("old"));
+        relay.mend();
+        halt.goes_on.wait();
+        write.join().unwrap()
+    });
+    assert!(matches!(refused, Err(CacheError::Krl(_))), "{refused:?}");
+    assert_eq!(site.table.committed(10).unwrap().as_str(), "old");
+    assert_eq!(text(&other, 10).as_deref(), Some("old"));
 }
 
 /// A writer that stands still between its lock and its commit until its lease has ended and a reader

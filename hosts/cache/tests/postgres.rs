@@ -231,14 +231,14 @@ fn a_change_that_a_trigger_keeps_away_is_not_committed() {
     let open = |number| krl.cache_of(items(&database.address()), number).open().unwrap();
     let (one, two) = (open(0), open(1));
     let before = [(10, item("lamp", 30)), (12, item("shade", None))];
+    let raise = |lamp: &Item| Some(Item { price: Some(31), ..lamp.clone() });
     database.connect().run(
         "CREATE FUNCTION keep() RETURNS trigger LANGUAGE plpgsql AS 'BEGIN RETURN NULL; END';
          CREATE TRIGGER keep BEFORE INSERT OR UPDATE ON item FOR EACH ROW EXECUTE FUNCTION keep();",
     );
-    let changes: [&dyn Fn() -> Result<bool, CacheError>; 2] =
-        [&|| one.update(10, |lamp| Some(Item { price: Some(31), ..lamp.clone() })), &|| {
-            one.insert(11, item("bulb", 5))
-        }];
+    // The second update is of a row in memory.
+    let changes: [&dyn Fn() -> Result<bool, CacheError>; 3] =
+        [&|| one.update(10, raise), &|| one.update(10, raise), &|| one.insert(11, item("bulb", 5))];
     for change in changes {
         let refused = change().unwrap_err();
         assert!(matches!(refused, CacheError::Origin(_)), "{refused:?}");
@@ -248,6 +248,23 @@ fn a_change_that_a_trigger_keeps_away_is_not_committed() {
     database.connect().run("DROP TRIGGER keep ON item");
     assert!(one.insert(11, item("bulb", 5)).unwrap());
     assert_eq!(rows(&two)[1], (11, item("bulb", 5)));
+}
+
+/// Somebody has changed a row without the cache, and krl was not filled since.
+#[test]
+fn a_row_of_another_version_than_krls_is_not_replaced() {
+    let Some((database, krl)) = filled() else { return };
+    let cache = krl.cache_of(items(&database.address()), 0).open().unwrap();
+    let before = rows(&cache);
+    database.connect().run(
+        "ALTER TABLE item DISABLE TRIGGER krl_guard_rows;
+         UPDATE item SET price = 77, krl_version = uuid_send(gen_random_uuid()) WHERE number = 10;
+         ALTER TABLE item ENABLE ALWAYS TRIGGER krl_guard_rows;",
+    );
+    let refused = cache.update(10, |lamp| Some(Item { price: Some(31), ..lamp.clone() }));
+    assert!(refused.unwrap_err().to_string().contains("another version"));
+    assert_eq!(rows(&cache), before);
+    database.connect().wait_until("SELECT price FROM item WHERE number = 10", |price| price == 77);
 }
 
 #[test]
@@ -271,8 +288,7 @@ fn a_key_without_a_row_is_locked_too() {
     }
 }
 
-#[test]
-fn a_commit_whose_answer_was_lost_is_found() {
+fn is_found_though_the_answer_was_lost(has_the_row: bool) {
     let Some((database, krl)) = filled() else { return };
     let relay = Arc::new(DeafRelay::start(database.at()));
     let (deaf, is_lost) = (Arc::clone(&relay), AtomicBool::new(false));
@@ -283,9 +299,22 @@ fn a_commit_whose_answer_was_lost_is_found() {
         }
     });
     let cache = builder.open().unwrap();
+    if has_the_row {
+        assert_eq!(rows(&cache).len(), 2);
+    }
     assert!(cache.update(10, |lamp| Some(Item { price: Some(31), ..lamp.clone() })).unwrap());
     assert!(relay.has_lost());
     assert_eq!(rows(&cache), [(10, item("lamp", 31)), (12, item("shade", None))]);
+}
+
+#[test]
+fn a_commit_whose_answer_was_lost_is_found() {
+    is_found_though_the_answer_was_lost(false);
+}
+
+#[test]
+fn a_commit_of_a_row_in_memory_whose_answer_was_lost_is_found() {
+    is_found_though_the_answer_was_lost(true);
 }
 
 #[test]

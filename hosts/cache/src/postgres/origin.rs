@@ -4,7 +4,7 @@ use super::row::PostgresRow;
 use super::session::{CacheSession, Session, Timeouts, reported, signed, stored};
 use super::sql;
 use super::transaction::{PostgresFilling, PostgresTransaction, begin_while};
-use crate::origin::{Needed, Origin, OriginError, OriginIdentity, Stored};
+use crate::origin::{Needed, Origin, OriginError, OriginIdentity, Replacement, Stored};
 use crate::table::{Table, TableFault};
 use krl_postgres::{Connector, PostgresAddress};
 use std::fmt;
@@ -268,7 +268,7 @@ impl<T: PostgresRow> Origin for PostgresOrigin<T> {
     fn load(&self, keys: &[u64]) -> Result<Vec<Stored<T>>, OriginError> {
         let keys = signed(keys);
         let (rows, used) = self.ask(|used| {
-            let load = &used.statements.load;
+            let load = used.statements.load.of(&keys);
             Ok(used.session.ask(async |client| client.query(load, &[&keys]).await)?)
         })?;
         self.pool.give_back(used);
@@ -285,7 +285,7 @@ impl<T: PostgresRow> Origin for PostgresOrigin<T> {
             return if meanwhile() == Needed::Yes { self.load(keys) } else { Ok(Vec::new()) };
         };
         let keys = signed(keys);
-        let load = &used.statements.load;
+        let load = used.statements.load.of(&keys);
         let asked = async |client: &Client| client.query(load, &[&keys]).await;
         let rows = used.session.ask_while(asked, meanwhile)?;
         self.pool.give_back(used);
@@ -312,6 +312,27 @@ impl<T: PostgresRow> Origin for PostgresOrigin<T> {
             Err(_) if used.session.is_closed() => {
                 self.pool.idle().clear();
                 self.begin(keys)
+            }
+            Err(error) => Err(error),
+        }
+    }
+
+    fn begin_replacing_while(
+        &self,
+        replacement: &Replacement<T>,
+        meanwhile: impl FnOnce(),
+    ) -> Result<PostgresTransaction<'_, T>, OriginError> {
+        let keys = [replacement.key];
+        let Some(used) = self.idle_session() else {
+            let transaction = self.begin_while(&keys, meanwhile)?;
+            return replacement.make(transaction);
+        };
+        let mut transaction = PostgresTransaction::new(&self.pool, used, &keys, Vec::new());
+        match transaction.replace_while(replacement, meanwhile) {
+            Ok(()) => Ok(transaction),
+            Err(_) if transaction.is_closed() => {
+                self.pool.idle().clear();
+                replacement.make(self.begin(&keys)?)
             }
             Err(error) => Err(error),
         }

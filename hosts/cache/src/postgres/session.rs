@@ -1,9 +1,10 @@
 //! A connection to the database, with the statements that are used often.
-use super::sql;
+use super::sql::{self, Keys};
 use crate::origin::{Needed, OriginError, Stored};
 use crate::postgres::row::PostgresRow;
 use crate::table::Table;
 use crate::version::Version;
+use futures_util::future::try_join;
 use krl_postgres::{Carrier, Connector};
 use std::future::poll_fn;
 use std::pin::{Pin, pin};
@@ -34,13 +35,37 @@ pub(super) struct CacheSession {
 
 #[derive(Clone)]
 pub(super) struct Statements {
-    pub load: Statement,
-    pub lock: Statement,
+    pub load: OfKeys,
+    pub begin: Statement,
+    pub lock_keys: OfKeys,
+    pub lock: OfKeys,
     pub admit: Statement,
     pub insert: Statement,
     pub update: Statement,
+    pub replace: Statement,
     pub delete: Statement,
-    pub confirm: Statement,
+    pub confirm: OfKeys,
+    pub commit: Statement,
+}
+
+/// A statement whose first value is an array of keys, for one key and for several.
+#[derive(Clone)]
+pub(super) struct OfKeys {
+    one: Statement,
+    several: Statement,
+}
+
+impl OfKeys {
+    async fn prepare(client: &Client, sql: impl Fn(Keys) -> String) -> Result<OfKeys, Error> {
+        let (one, several) = (sql(Keys::One), sql(Keys::Several));
+        let (one, several) = try_join(client.prepare(&one), client.prepare(&several)).await?;
+        Ok(OfKeys { one, several })
+    }
+
+    /// The statement for these keys.
+    pub fn of(&self, keys: &[i64]) -> &Statement {
+        if keys.len() == 1 { &self.one } else { &self.several }
+    }
 }
 
 /// How long a process may stand still within a transaction, and how long it waits for an answer.
@@ -145,13 +170,17 @@ impl CacheSession {
         let columns = T::COLUMNS;
         let statements = session.ask(async |client| {
             Ok(Statements {
-                load: client.prepare(&sql::load(table, columns)).await?,
-                lock: client.prepare(&sql::lock(table, columns)).await?,
+                load: OfKeys::prepare(client, |keys| sql::load(table, columns, keys)).await?,
+                begin: client.prepare(sql::BEGIN).await?,
+                lock_keys: OfKeys::prepare(client, |keys| sql::lock_keys(keys).into()).await?,
+                lock: OfKeys::prepare(client, |keys| sql::lock(table, columns, keys)).await?,
                 admit: client.prepare(sql::ADMIT).await?,
                 insert: client.prepare(&sql::insert(table, columns)).await?,
                 update: client.prepare(&sql::update(table, columns)).await?,
+                replace: client.prepare(&sql::replace(table, columns)).await?,
                 delete: client.prepare(&sql::delete(table)).await?,
-                confirm: client.prepare(&sql::confirm(table)).await?,
+                confirm: OfKeys::prepare(client, |keys| sql::confirm(table, keys)).await?,
+                commit: client.prepare(sql::COMMIT).await?,
             })
         })?;
         Ok(CacheSession { session, statements, seed })

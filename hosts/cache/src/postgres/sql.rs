@@ -102,23 +102,45 @@ COMMIT;
     )
 }
 
-/// Begins a transaction and locks these keys, whether they have rows or not.
-pub(super) fn begin(keys: &[u64], seed: u64) -> String {
-    let mut asked = "BEGIN ISOLATION LEVEL READ COMMITTED READ WRITE;".to_string();
-    for key in keys {
-        let lock = key.wrapping_add(seed).cast_signed();
-        let _ = write!(asked, "SELECT pg_advisory_xact_lock({lock});");
+/// How many keys a statement is for. Its first value is an array of them in either case.
+///
+/// PostgreSQL plans a statement for any number of keys at each call, since the plan that it could
+/// keep is for ten keys and seems to cost more. It keeps the plan of a statement for one key.
+#[derive(Clone, Copy, Debug, PartialEq, Eq)]
+pub(super) enum Keys {
+    One,
+    Several,
+}
+
+impl Keys {
+    /// The condition that a row has one of the keys.
+    fn have(self, key: &str) -> String {
+        match self {
+            Keys::One => format!("{key} = ($1::bigint[])[1]"),
+            Keys::Several => format!("{key} = ANY ($1)"),
+        }
     }
-    asked
+}
+
+pub(super) const BEGIN: &str = "BEGIN ISOLATION LEVEL READ COMMITTED READ WRITE";
+
+/// Locks keys one after another, whether they have rows or not.
+pub(super) fn lock_keys(keys: Keys) -> &'static str {
+    match keys {
+        Keys::One => "SELECT pg_advisory_xact_lock(($1::bigint[])[1])",
+        Keys::Several => "SELECT pg_advisory_xact_lock(key) FROM unnest($1::bigint[]) AS key",
+    }
 }
 
 /// Lets the transaction change these keys, and give them this version, until it ends.
 pub(super) const ADMIT: &str = "
     SELECT set_config('krl_cache.version', $1, true), set_config('krl_cache.keys', $2, true)";
 
+pub(super) const COMMIT: &str = "COMMIT";
+
 /// A transaction that has failed is not committed, and PostgreSQL reports no error for that: the
 /// question before it does.
-pub(super) const COMMIT: &str = "SELECT 1; COMMIT";
+pub(super) const COMMIT_IF_SOUND: &str = "SELECT 1; COMMIT";
 
 /// A text for each column, by the place of its value and its name, each after a comma. The first
 /// two values of a statement are the key and the version.
@@ -130,19 +152,24 @@ fn listed(columns: &[&str], text: impl Fn(usize, &str) -> String) -> String {
 }
 
 /// The rows of some keys.
-pub(super) fn load(table: &Table, columns: &[&str]) -> String {
+pub(super) fn load(table: &Table, columns: &[&str], keys: Keys) -> String {
     let (key, version) = (table.quoted_key(), table.quoted_version());
     let columns = listed(columns, |_, name| quoted(name));
     format!(
         "SELECT {key} AS krl_cache_key, {version} AS krl_cache_version{columns}
-         FROM ONLY {} WHERE {key} = ANY ($1)",
-        table.quoted()
+         FROM ONLY {} WHERE {}",
+        table.quoted(),
+        keys.have(&key)
     )
 }
 
 /// The same, and they are locked.
-pub(super) fn lock(table: &Table, columns: &[&str]) -> String {
-    format!("{} ORDER BY {} FOR UPDATE", load(table, columns), table.quoted_key())
+pub(super) fn lock(table: &Table, columns: &[&str], keys: Keys) -> String {
+    let load = load(table, columns, keys);
+    match keys {
+        Keys::One => format!("{load} FOR UPDATE"),
+        Keys::Several => format!("{load} ORDER BY {} FOR UPDATE", table.quoted_key()),
+    }
 }
 
 /// Inserts a row: the values are the key, the version and the columns.
@@ -160,17 +187,24 @@ pub(super) fn update(table: &Table, columns: &[&str]) -> String {
     format!("UPDATE ONLY {name} SET {version} = $2{columns} WHERE {key} = $1")
 }
 
+/// The same, if the row has the version that is the last value.
+pub(super) fn replace(table: &Table, columns: &[&str]) -> String {
+    let (update, version) = (update(table, columns), table.quoted_version());
+    format!("{update} AND {version} = ${}", columns.len() + 3)
+}
+
 pub(super) fn delete(table: &Table) -> String {
     format!("DELETE FROM ONLY {} WHERE {} = $1", table.quoted(), table.quoted_key())
 }
 
 /// Fails unless, of the rows of these changed keys, there are just so many, and all have this
 /// version: a trigger or a rule may have kept a change from being made.
-pub(super) fn confirm(table: &Table) -> String {
+pub(super) fn confirm(table: &Table, keys: Keys) -> String {
     let (name, key, version) = (table.quoted(), table.quoted_key(), table.quoted_version());
     format!(
         "SELECT 1 / (count(*) = $3 AND count(*) FILTER (WHERE {version} = $2) = $3)::integer
-         FROM ONLY {name} WHERE {key} = ANY ($1)"
+         FROM ONLY {name} WHERE {}",
+        keys.have(&key)
     )
 }
 

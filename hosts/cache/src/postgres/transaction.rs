@@ -5,11 +5,14 @@ use super::session::{
     AskError, CacheSession, Session, Statements, key_and_version, reported, signed, stored,
 };
 use super::sql;
-use crate::origin::{Change, CommitError, Filling, Needed, OriginError, Stored, Transaction};
+use crate::origin::{
+    Change, CommitError, Filling, Needed, OriginError, Replacement, Stored, Transaction,
+    not_replaced,
+};
 use crate::table::Table;
 use crate::version::Version;
 use futures_util::Stream;
-use futures_util::future::{join, join3, try_join, try_join_all};
+use futures_util::future::{join3, try_join, try_join_all};
 use std::fmt;
 use std::future::poll_fn;
 use std::pin::pin;
@@ -24,6 +27,8 @@ pub struct PostgresTransaction<'o, T> {
     session: Option<CacheSession>,
     keys: Vec<u64>,
     rows: Vec<Stored<T>>,
+    /// Whether the last statement is known to have succeeded, so that a commit commits.
+    is_sound: bool,
 }
 
 /// The values of a row's statement.
@@ -38,7 +43,7 @@ impl<'o, T: PostgresRow> PostgresTransaction<'o, T> {
         rows: Vec<Stored<T>>,
     ) -> Self {
         let (session, keys) = (Some(session), keys.to_vec());
-        PostgresTransaction { pool, session, keys, rows }
+        PostgresTransaction { pool, session, keys, rows, is_sound: true }
     }
 
     /// Runs a statement of the application, and answers how many rows it has changed. It is for
@@ -53,6 +58,7 @@ impl<'o, T: PostgresRow> PostgresTransaction<'o, T> {
         statement: &str,
         values: &[&(dyn ToSql + Sync)],
     ) -> Result<u64, OriginError> {
+        self.is_sound = false;
         let session = &self.session()?.session;
         Ok(session.ask(async |client| client.execute(statement, values).await)?)
     }
@@ -67,8 +73,42 @@ impl<'o, T: PostgresRow> PostgresTransaction<'o, T> {
         query: &str,
         values: &[&(dyn ToSql + Sync)],
     ) -> Result<Vec<Row>, OriginError> {
+        self.is_sound = false;
         let session = &self.session()?.session;
         Ok(session.ask(async |client| client.query(query, values).await)?)
+    }
+
+    /// Begins the transaction, locks its key, gives the row another body if it has the expected
+    /// version, and calls `meanwhile` while the database works. All of it is sent at once.
+    pub(super) fn replace_while(
+        &mut self,
+        replacement: &Replacement<T>,
+        meanwhile: impl FnOnce(),
+    ) -> Result<(), OriginError> {
+        let CacheSession { session, statements, seed } = self.session()?;
+        let Replacement { key, from, to, body } = replacement;
+        let (locks, admitted) = (locks_of(&[*key], *seed), Admitted::of(*to, &[*key]));
+        let (from, to) = (from.as_bytes().as_slice(), to.as_bytes().as_slice());
+        let key = key.cast_signed();
+        let mut values = values(&key, &to, &**body);
+        values.push(&from);
+        let admit = admitted.values();
+        let asked = async |client: &Client| {
+            let admitted = client.query(&statements.admit, &admit);
+            let admitted = try_join(begun(client, statements, &locks), admitted);
+            let replaced = client.execute(&statements.replace, &values);
+            Ok(try_join(admitted, replaced).await?.1)
+        };
+        let count = session.ask_while(asked, || {
+            meanwhile();
+            Needed::Yes
+        })?;
+        if count == Some(1) { Ok(()) } else { Err(not_replaced()) }
+    }
+
+    /// Whether the connection has ended.
+    pub(super) fn is_closed(&self) -> bool {
+        self.session.as_ref().is_none_or(|session| session.session.is_closed())
     }
 
     fn session(&self) -> Result<&CacheSession, OriginError> {
@@ -76,26 +116,40 @@ impl<'o, T: PostgresRow> PostgresTransaction<'o, T> {
     }
 }
 
-/// Locks the keys, then reads the rows, and calls `meanwhile` while the database works. Both
-/// questions are sent at once; the second one sees what was committed while the first one waited.
+/// Locks the keys, then reads the rows, and calls `meanwhile` while the database works. All
+/// questions are sent at once; the last one sees what was committed while the one before it waited.
 pub(super) fn begin_while<T: PostgresRow>(
-    session: &CacheSession,
+    CacheSession { session, statements, seed }: &CacheSession,
     keys: &[u64],
     meanwhile: impl FnOnce(),
 ) -> Result<Vec<Stored<T>>, OriginError> {
-    let asked = sql::begin(keys, session.seed);
-    let signed = signed(keys);
+    let (locks, keys) = (locks_of(keys, *seed), signed(keys));
     let begin = async |client: &Client| {
-        let values: [&(dyn ToSql + Sync); 1] = [&signed];
-        let locking = client.batch_execute(&asked);
-        let (begun, rows) = join(locking, client.query(&session.statements.lock, &values)).await;
-        begun.and(rows)
+        let values: [&(dyn ToSql + Sync); 1] = [&keys];
+        let begun = try_join(
+            begun(client, statements, &locks),
+            client.query(statements.lock.of(&keys), &values),
+        );
+        Ok(begun.await?.1)
     };
-    let rows = session.session.ask_while(begin, || {
+    let rows = session.ask_while(begin, || {
         meanwhile();
         Needed::Yes
     })?;
     stored(&rows.unwrap_or_default())
+}
+
+/// Begins a transaction and locks its keys.
+async fn begun(client: &Client, statements: &Statements, locks: &[i64]) -> Result<(), Error> {
+    let values: [&(dyn ToSql + Sync); 1] = [&locks];
+    let locked = client.execute(statements.lock_keys.of(locks), &values);
+    try_join(client.execute(&statements.begin, &[]), locked).await?;
+    Ok(())
+}
+
+/// The numbers of the locks of these keys.
+fn locks_of(keys: &[u64], seed: u64) -> Vec<i64> {
+    keys.iter().map(|key| key.wrapping_add(seed).cast_signed()).collect()
 }
 
 impl<T: PostgresRow> Transaction for PostgresTransaction<'_, T> {
@@ -115,6 +169,7 @@ impl<T: PostgresRow> Transaction for PostgresTransaction<'_, T> {
         changes: &[(u64, Change<T>)],
         meanwhile: impl FnOnce(),
     ) -> Result<(), OriginError> {
+        self.is_sound = false;
         let CacheSession { session, statements, .. } = self.session()?;
         let admitted = Admitted::of(version, &self.keys);
         let (keys, version) = (changed_keys(changes), version.as_bytes().as_slice());
@@ -130,11 +185,8 @@ impl<T: PostgresRow> Transaction for PostgresTransaction<'_, T> {
             meanwhile();
             Needed::Yes
         })?;
-        if counts.is_some_and(|counts| counts.iter().all(|count| *count == 1)) {
-            Ok(())
-        } else {
-            Err(kept_from_being_made())
-        }
+        self.is_sound = counts.is_some_and(|counts| counts.iter().all(|count| *count == 1));
+        if self.is_sound { Ok(()) } else { Err(kept_from_being_made()) }
     }
 
     /// All statements are sent at once. If one of them fails, the database makes none of those after
@@ -157,8 +209,9 @@ impl<T: PostgresRow> Transaction for PostgresTransaction<'_, T> {
         let asked = async |client: &Client| {
             let admit = client.query(&statements.admit, &admit);
             let applied = try_join(admit, try_join_all(executed(client, &made)));
-            let confirmed = client.query(&statements.confirm, &confirm);
-            Ok(join3(applied, confirmed, client.batch_execute(sql::COMMIT)).await)
+            let confirmed = client.query(statements.confirm.of(&keys), &confirm);
+            let committed = client.batch_execute(sql::COMMIT_IF_SOUND);
+            Ok(join3(applied, confirmed, committed).await)
         };
         match session.ask(asked) {
             Ok((_, _, Ok(()))) => {
@@ -182,7 +235,15 @@ impl<T: PostgresRow> Transaction for PostgresTransaction<'_, T> {
         let Some(session) = self.session.take() else {
             return Err(CommitError::NotDone(OriginError::new("the transaction has ended")));
         };
-        match session.session.ask(async |client| client.batch_execute(sql::COMMIT).await) {
+        let is_sound = self.is_sound;
+        let committed = session.session.ask(async |client| {
+            if is_sound {
+                client.execute(&session.statements.commit, &[]).await.map(|_| ())
+            } else {
+                client.batch_execute(sql::COMMIT_IF_SOUND).await
+            }
+        });
+        match committed {
             Ok(()) => {
                 self.pool.give_back(session);
                 Ok(())

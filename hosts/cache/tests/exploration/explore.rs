@@ -16,6 +16,8 @@ pub enum Broken {
     MadeAndNotCommitted,
     /// A transaction was answered as failed, and is committed or may be.
     FailedAndCommitted,
+    /// A transaction has replaced a row that the database has not.
+    ReplacedAnotherRow,
     /// krl's version of a key is none that the argument allows.
     NotInvariant,
 }

@@ -96,9 +96,14 @@ impl Filler<'_> {
         self.go(state, FillerAt::Compare(0))
     }
 
+    /// Reads what krl has of the next key. It waits for one who has pinned the key for a write.
     fn compare(&self, mut state: State, key: Key) -> Vec<Next> {
         if key == KEYS {
             return self.go(state, FillerAt::Confirm);
+        }
+        let is_taken = |owner: u8| self.world.roles[usize::from(owner)].pins_for_a_write();
+        if state.pins[key].is_some_and(is_taken) {
+            return Vec::new();
         }
         let (known, stored) = (state.index[key], state.actors[self.actor].stored[key]);
         state.actors[self.actor].known[key] = known;

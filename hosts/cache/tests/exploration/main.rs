@@ -148,4 +148,6 @@ fn each_wrong_cache_is_found() {
     assert_breaks(fillings(), Wrong::IgnoresTheMark);
     assert_breaks(fillings(), Wrong::KeepsBodiesOverFillings);
     assert_breaks(fillings(), Wrong::FillsWithoutLock);
+    assert_breaks(overwrites(), Wrong::ReplacesAnyVersion);
+    assert_breaks(fillings(), Wrong::ReplacesUnmarked);
 }

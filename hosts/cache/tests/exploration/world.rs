@@ -61,6 +61,13 @@ pub enum Role {
 }
 
 impl Role {
+    /// Whether it pins a key to write to it, so that nobody else reads the key from krl.
+    pub fn pins_for_a_write(self) -> bool {
+        let Role::Writer { changes, .. } = self else { return false };
+        let mut changes = changes.into_iter().flatten();
+        matches!((changes.next(), changes.next()), (Some(Change::Update | Change::Insert), None))
+    }
+
     pub fn process(self) -> usize {
         match self {
             Role::Writer { process, .. }
@@ -102,6 +109,10 @@ pub enum Wrong {
     KeepsBodiesOverFillings,
     /// A filling does not lock the table.
     FillsWithoutLock,
+    /// A writer replaces a row that it has in memory, whatever version krl has.
+    ReplacesAnyVersion,
+    /// A writer that replaces a row that it has in memory does not look for the mark.
+    ReplacesUnmarked,
 }
 
 /// Who acts in a world, and by which cache.
@@ -203,6 +214,8 @@ pub struct Actor {
     pub found: [Option<Version>; KEYS],
     /// What krl had when it was pinned, or scanned.
     pub known: [Option<Version>; KEYS],
+    /// A writer: the row that it replaces, as its process had it in memory.
+    pub replaces: Option<Row>,
     /// A writer: the answer to its commit was lost.
     pub is_lost: bool,
     pub read: Read,
@@ -271,6 +284,7 @@ impl State {
             stored: [None; KEYS],
             found: [None; KEYS],
             known: [None; KEYS],
+            replaces: None,
             is_lost: false,
             read: Read {
                 left: match world.roles.get(place) {

@@ -1,7 +1,8 @@
-//! A transaction, step by step: `transact.rs`, `one_row.rs` and `outcome.rs` of the crate.
+//! A transaction, step by step: `transact.rs`, `one_row.rs`, `replacing.rs` and `outcome.rs` of the
+//! crate.
 use crate::explore::{Broken, Next};
 use crate::world::{
-    At, Change, KEYS, Kept, Key, Purpose, Role, Session, State, World, Wrong, owner,
+    At, Change, KEYS, Kept, Key, Purpose, Role, Row, Session, State, World, Wrong, owner,
 };
 
 /// The next step of a writer.
@@ -95,11 +96,25 @@ impl Writer<'_> {
             return Vec::new();
         }
         state.actors[self.actor].known[key] = state.index[key];
+        if self.key_from(0) == Some(key) && self.wanted[key] == Some(Change::Update) {
+            state.actors[self.actor].replaces = self.row_in_memory(&state, key);
+        }
         match self.key_from(key + 1) {
             Some(next) => self.go(state, WriterAt::Pin(next)),
             None if self.is_early(&state) => self.go(state, WriterAt::AnnounceEarly(key)),
             None => self.go(state, WriterAt::Lock(self.key_from(0).unwrap_or_default())),
         }
+    }
+
+    /// The row of a key that is pinned, if the process has it in memory.
+    fn row_in_memory(&self, state: &State, key: Key) -> Option<Row> {
+        let process = state.processes[self.process];
+        let Kept { row, filling } = process.memory[key]?;
+        let is_current =
+            Some(row.version) == state.index[key] || self.world.has(Wrong::ReplacesAnyVersion);
+        let is_marked = state.mark == Some(filling) && filling == process.filling
+            || self.world.has(Wrong::ReplacesUnmarked);
+        (is_current && is_marked && self.key_from(key + 1).is_none()).then_some(row)
     }
 
     /// Whether the transaction is announced before its only key is locked: it updates a row that krl
@@ -158,7 +173,11 @@ impl Writer<'_> {
         if !state.has_pinned(self.actor, key) && !self.world.has(Wrong::ConfirmsNoPin) {
             return self.fail(state);
         }
-        self.sent(state)
+        let replaced = state.actors[self.actor].replaces;
+        let is_other = replaced.is_some_and(|row| state.table()[key] != Some(row));
+        let mut next = self.sent(state);
+        next[0].broken = (is_other && state.is_promised).then_some(Broken::ReplacedAnotherRow);
+        next
     }
 
     fn lock(&self, mut state: State, key: Key) -> Vec<Next> {
