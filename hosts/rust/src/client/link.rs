@@ -243,10 +243,12 @@ impl Link {
     /// Hears what the server says, until the connection ends.
     fn serve(&self, carrier: Carrier, poller: &mut Poller) -> io::Result<Infallible> {
         self.open_reading(carrier, poller)?;
-        let mut due_in = self.go_on(std::iter::empty())?;
+        let mut is_due = self.go_on(std::iter::empty())?;
         while self.runs() {
-            poller.wait(due_in.min(self.deadlines.next_in(Instant::now())))?;
-            due_in = self.go_on(poller.ready())?;
+            let now = Instant::now();
+            let due_in = is_due.saturating_duration_since(now);
+            poller.wait(due_in.min(self.deadlines.next_in(now)))?;
+            is_due = self.go_on(poller.ready())?;
             self.let_caller_read();
             self.deadlines.wake_due(Instant::now());
         }
@@ -271,22 +273,21 @@ impl Link {
 
     /// Takes what has come on the connection, and continues with what the client was asked. It
     /// answers when that is due again if nothing comes: the thread sleeps until then.
-    fn go_on(&self, ready: impl Iterator<Item = Ready>) -> io::Result<Duration> {
-        let due_in = self.go_on_reading(ready);
+    fn go_on(&self, ready: impl Iterator<Item = Ready>) -> io::Result<Instant> {
+        let is_due = self.go_on_reading(ready);
         self.wakes.wake_all();
-        due_in
+        is_due
     }
 
-    fn go_on_reading(&self, ready: impl Iterator<Item = Ready>) -> io::Result<Duration> {
+    fn go_on_reading(&self, ready: impl Iterator<Item = Ready>) -> io::Result<Instant> {
         let mut reading = lock(&self.reading);
         let reading = reading.as_mut().ok_or(ErrorKind::NotConnected)?;
         if let Some(error) = reading.failed.take() {
             return Err(error);
         }
-        let due_in = self.read_on(reading, ready)?;
-        reading.is_due = Instant::now() + due_in;
+        reading.is_due = self.read_on(reading, ready)?;
         reading.sleeps_until = reading.is_due;
-        Ok(due_in)
+        Ok(reading.is_due)
     }
 
     /// Reads what there is, and continues with what the client was asked after each part.
@@ -294,15 +295,15 @@ impl Link {
         &self,
         reading: &mut Reading,
         ready: impl Iterator<Item = Ready>,
-    ) -> io::Result<Duration> {
+    ) -> io::Result<Instant> {
         reading.unread = ready.fold(reading.unread, Unread::after);
         loop {
             let Reading { carrier, frames, unread, .. } = reading;
             let has_come = *unread != Unread::Nothing && unread.read(carrier, frames)?;
-            let (written, due_in) = self.proceed(has_come.then_some(frames))?;
+            let (written, is_due) = self.proceed(has_come.then_some(frames))?;
             if reading.unread == Unread::Nothing {
                 self.watch(reading, written)?;
-                return Ok(due_in);
+                return Ok(is_due);
             }
         }
     }
@@ -330,14 +331,14 @@ impl Link {
 
     /// Takes what has come, if something has; continues with what the client was asked, and writes
     /// what it says. It answers when that is due again if nothing comes.
-    fn proceed(&self, came: Option<&mut Frames>) -> io::Result<(Written, Duration)> {
+    fn proceed(&self, came: Option<&mut Frames>) -> io::Result<(Written, Instant)> {
         let mut session = self.session();
         if let Some(frames) = came {
             session.receive(frames)?;
         }
         session.proceed()?;
-        let due_in = session.due_in();
-        Ok((self.send(session), due_in))
+        let is_due = session.due_at();
+        Ok((self.send(session), is_due))
     }
 
     /// Has the incarnation on the disk before anything of it leaves. A client whose number is free

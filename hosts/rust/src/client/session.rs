@@ -270,6 +270,11 @@ impl Session {
         self.jobs.longest_sleep().unwrap_or(IDLE_TICK).min(self.jobs.next_tick())
     }
 
+    /// The same as a moment: it stays the same as long as nothing comes and no tick is due earlier.
+    pub fn due_at(&self) -> Instant {
+        self.now() + self.due_in()
+    }
+
     /// Waits until the client has joined, and no longer once the server reports a reason for which
     /// the caller gives up.
     pub fn join(&mut self, gives_up: GivesUp) -> Asked<()> {

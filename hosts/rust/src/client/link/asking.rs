@@ -105,7 +105,7 @@ impl Link {
         let mut reading = lock(&self.reading);
         let Some(reading) = reading.as_mut().filter(|it| it.failed.is_none()) else { return false };
         match self.read_on(reading, ready) {
-            Ok(due_in) => reading.is_due = Instant::now() + due_in,
+            Ok(is_due) => reading.is_due = is_due,
             Err(error) => reading.failed = Some(error),
         }
         reading.failed.is_none() && self.runs()

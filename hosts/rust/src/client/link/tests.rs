@@ -96,6 +96,25 @@ fn a_caller_reads_the_connection_while_it_waits() {
 }
 
 #[test]
+fn a_caller_that_has_its_answer_leaves_the_thread_asleep() {
+    let listener = Listener::bind(&"127.0.0.1:0".parse().unwrap()).unwrap();
+    let server = Server::start(listener, MemoryStore::default()).unwrap();
+    let carrier = Carrier::connect(server.address(), None, LONG).unwrap();
+    let (link, mut poller) = link_over(carrier);
+    let joining = link.begin(Jobs::join);
+    assert_eq!(link.read_until(&joining.answer, Instant::now() + LONG), Some(Ok(())));
+    // From here on the thread would sleep until its next tick.
+    link.go_on(std::iter::empty()).unwrap();
+    for key in 0..50 {
+        let reading = link.begin(|jobs| jobs.read(key..key + 1));
+        assert_eq!(link.read_until(&reading.answer, Instant::now() + LONG), Some(Ok(Vec::new())));
+    }
+    poller.wait(Duration::ZERO).unwrap();
+    assert!(!poller.ready().any(|ready| ready == Ready::Woken));
+    server.stop().unwrap();
+}
+
+#[test]
 fn a_caller_learns_of_the_answer_that_the_thread_has_read() {
     let (link, _poller, _theirs) = &connected();
     let (answering, answer) = crate::client::answer::place(&link.wakes);
