@@ -2,22 +2,23 @@
 pub(crate) mod checksum;
 pub(crate) mod copy;
 mod progress;
+mod transaction;
 mod version;
 
 use crate::model::change::{Change, Outcome, Record, Write};
 
 use crate::model::client_set::ClientSet;
-use crate::model::history::{History, Mark};
+use crate::model::history::History;
 use crate::model::lease_record::LeaseRecord;
 use crate::model::room::Room;
 use crate::model::row::{Row, Value};
 use crate::model::snapshot::Snapshot;
 use crate::store::sqlite::checksum::Checksum;
+use crate::store::sqlite::progress::Known;
+use crate::store::sqlite::transaction::WriteTransaction;
 use crate::store::sqlite::version::Found;
 use crate::store::{Store, StoreError};
-use rusqlite::{
-    Connection, OptionalExtension, Row as SqlRow, Transaction, TransactionBehavior, params,
-};
+use rusqlite::{Connection, OptionalExtension, Row as SqlRow, params};
 use std::path::Path;
 use std::time::Duration;
 
@@ -29,8 +30,8 @@ use std::time::Duration;
 #[derive(Debug)]
 pub struct SqliteStore {
     connection: Connection,
-    /// The last mark of what this value has loaded and committed.
-    last: Option<Mark>,
+    /// The state of the file after what this value has loaded and committed.
+    known: Known,
 }
 
 /// How long it waits for another process that has the file open.
@@ -45,9 +46,10 @@ const LONGEST_WAIT: Duration = Duration::from_secs(60);
 /// tenth longer, and 512 save next to nothing more.
 const PAGE_SIZE: i64 = 1024;
 
-/// How long the log may grow, in bytes, before its pages are copied into the file: as long as with
-/// SQLite's own page size and limit.
-const LOG: i64 = 1000 * 4096;
+/// How many pages the log may have before they are copied into the file. SQLite finds the pages of
+/// the log by a hash table, and puts a page there after all its earlier copies: with 4,000 pages a
+/// commit of one write spends half of its processor time on that. A copy takes three syncs.
+const LOG_PAGES: i64 = 1000;
 
 const TABLES: &str = "
     CREATE TABLE IF NOT EXISTS epoch (id INTEGER PRIMARY KEY CHECK (id = 0), epoch INTEGER NOT NULL);
@@ -113,10 +115,9 @@ impl SqliteStore {
     /// `Deposed` if somebody else has changed the store since it was loaded; `Failed` if SQLite
     /// can't write it.
     pub fn remove_from(&mut self, key: u64) -> Result<(), StoreError> {
-        let (last, transaction) = (self.last, self.begin()?);
-        is_own(&transaction, last)?;
+        let transaction = self.begin()?;
         run(&transaction, DELETE_FROM, params![signed(key)?])?;
-        self.last = finish(transaction, last, &[])?;
+        self.known = finish(transaction, self.known, &[])?;
         Ok(())
     }
 
@@ -129,15 +130,17 @@ impl SqliteStore {
     /// `Deposed` if somebody else has changed the store since it was loaded; `Failed` if SQLite
     /// can't write it.
     pub fn write_rows(&mut self, rows: impl IntoIterator<Item = Row>) -> Result<(), StoreError> {
-        let (last, transaction) = (self.last, self.begin()?);
-        is_own(&transaction, last)?;
+        let transaction = self.begin()?;
         rows.into_iter().try_for_each(|row| commit_write(&transaction, &Write::Put(row)))?;
-        self.last = finish(transaction, last, &[])?;
+        self.known = finish(transaction, self.known, &[])?;
         Ok(())
     }
 
-    fn begin(&mut self) -> Result<Transaction<'_>, StoreError> {
-        Ok(self.connection.transaction_with_behavior(TransactionBehavior::Immediate)?)
+    /// Begins a transaction, if the store is still this value's.
+    fn begin(&self) -> Result<WriteTransaction<'_>, StoreError> {
+        let transaction = WriteTransaction::begin(&self.connection)?;
+        is_own(&transaction, self.known)?;
+        Ok(transaction)
     }
 
     fn open_by(path: &Path, locking: &str) -> Result<SqliteStore, StoreError> {
@@ -165,8 +168,8 @@ impl SqliteStore {
             prepare(&connection)?;
         }
         take_checksum(&connection)?;
-        let last = progress::last_mark(&connection)?;
-        Ok(SqliteStore { connection, last })
+        let known = Known::read(&connection)?;
+        Ok(SqliteStore { connection, known })
     }
 }
 
@@ -192,25 +195,24 @@ pub(crate) fn page_size(connection: &Connection) -> Result<i64, StoreError> {
 }
 
 fn limit_log(connection: &Connection) -> Result<(), StoreError> {
-    let pages = LOG / page_size(connection)?;
-    Ok(connection.query_row(&format!("PRAGMA wal_autocheckpoint = {pages}"), [], |_| Ok(()))?)
+    let limit = format!("PRAGMA wal_autocheckpoint = {LOG_PAGES}");
+    Ok(connection.query_row(&limit, [], |_| Ok(()))?)
 }
 
 impl Store for SqliteStore {
     fn load(&mut self) -> Result<Snapshot, StoreError> {
         let transaction = self.connection.transaction()?;
-        self.last = progress::last_mark(&transaction)?;
+        self.known = Known::read(&transaction)?;
         load(&transaction)
     }
 
     fn commit(&mut self, changes: &[Change]) -> Result<(), StoreError> {
-        let (last, transaction) = (self.last, self.begin()?);
-        is_own(&transaction, last)?;
+        let transaction = self.begin()?;
         if changes.is_empty() {
             return Ok(());
         }
-        progress::begin(&transaction, last, changes)?;
-        self.last = finish(transaction, last, changes)?;
+        progress::begin(&transaction, self.known.last, changes)?;
+        self.known = finish(transaction, self.known, changes)?;
         Ok(())
     }
 
@@ -229,20 +231,25 @@ impl Store for SqliteStore {
 
 /// Commits the changes as one batch, and answers how far the store has come by it.
 fn finish(
-    transaction: Transaction<'_>,
-    last: Option<Mark>,
+    transaction: WriteTransaction<'_>,
+    known: Known,
     changes: &[Change],
-) -> Result<Option<Mark>, StoreError> {
-    let number = progress::next_number(last, changes);
+) -> Result<Known, StoreError> {
+    let number = progress::next_number(known.last, changes);
     let batch = signed(number)?;
     changes.iter().try_for_each(|change| commit_one(&transaction, change, batch))?;
-    let last = progress::finish(&transaction, last, changes, number)?;
+    let last = progress::finish(&transaction, known.last, changes, number)?;
     transaction.commit()?;
-    Ok(last)
+    Ok(Known { last, ..known })
 }
 
-/// Refuses what rests on another state of the store than this one.
-fn is_own(transaction: &Transaction<'_>, last: Option<Mark>) -> Result<(), StoreError> {
+/// Refuses what rests on another state of the store than this one. The marks are compared only if
+/// SQLite reports that somebody else has committed something since.
+fn is_own(transaction: &WriteTransaction<'_>, known: Known) -> Result<(), StoreError> {
+    let Known { last, .. } = known;
+    if known.version == progress::data_version(transaction)? {
+        return Ok(());
+    }
     match progress::last_mark(transaction)? {
         found if found == last => Ok(()),
         found => Err(StoreError::Deposed(format!("{found:?}, and not {last:?}"))),
@@ -251,11 +258,11 @@ fn is_own(transaction: &Transaction<'_>, last: Option<Mark>) -> Result<(), Store
 
 /// Gives the file the tables of a store, and the marks of this version, all or none.
 pub(crate) fn prepare(connection: &Connection) -> Result<(), StoreError> {
-    let transaction = connection.unchecked_transaction()?;
+    let transaction = WriteTransaction::begin(connection)?;
     transaction.execute_batch(TABLES)?;
     progress::add_commits(&transaction)?;
     version::mark(&transaction)?;
-    Ok(transaction.commit()?)
+    transaction.commit()
 }
 
 /// All that the file has.
@@ -322,8 +329,8 @@ fn lease_record(connection: &Connection) -> Result<LeaseRecord, StoreError> {
 }
 
 /// Gives a file that has the tables of a store and no more all of the snapshot.
-pub(crate) fn save(connection: &mut Connection, snapshot: &Snapshot) -> Result<(), StoreError> {
-    let transaction = connection.transaction()?;
+pub(crate) fn save(connection: &Connection, snapshot: &Snapshot) -> Result<(), StoreError> {
+    let transaction = WriteTransaction::begin(connection)?;
     let keep = |change: &Change| commit_one(&transaction, change, NOT_COUNTED);
     keep(&Change::Started { epoch: snapshot.epoch })?;
     if let Some(first_start) = snapshot.first_start {
@@ -340,13 +347,13 @@ pub(crate) fn save(connection: &mut Connection, snapshot: &Snapshot) -> Result<(
         keep(&Change::Room(room))?;
     }
     checksum::write(&transaction, snapshot)?;
-    Ok(transaction.commit()?)
+    transaction.commit()
 }
 
 /// What is written before a server has started is of no batch.
 const NOT_COUNTED: i64 = 0;
 
-fn save_record(transaction: &Transaction<'_>, record: &Record) -> Result<(), StoreError> {
+fn save_record(transaction: &WriteTransaction<'_>, record: &Record) -> Result<(), StoreError> {
     let Record { client, incarnation, last, left } = *record;
     run(transaction, REGISTER, params![client, signed(incarnation)?, NOT_COUNTED])?;
     if let Some((number, outcome)) = last {
@@ -358,7 +365,7 @@ fn save_record(transaction: &Transaction<'_>, record: &Record) -> Result<(), Sto
 
 /// Makes one change of the batch of this number.
 fn commit_one(
-    transaction: &Transaction<'_>,
+    transaction: &WriteTransaction<'_>,
     change: &Change,
     batch: i64,
 ) -> Result<(), StoreError> {
@@ -384,7 +391,7 @@ fn commit_one(
     }
 }
 
-fn commit_write(transaction: &Transaction<'_>, write: &Write) -> Result<(), StoreError> {
+fn commit_write(transaction: &WriteTransaction<'_>, write: &Write) -> Result<(), StoreError> {
     match write {
         Write::Insert(Row { key, value }) | Write::Put(Row { key, value }) => {
             run(transaction, PUT, params![signed(*key)?, value.as_bytes()])
@@ -394,11 +401,11 @@ fn commit_write(transaction: &Transaction<'_>, write: &Write) -> Result<(), Stor
 }
 
 fn run(
-    transaction: &Transaction<'_>,
+    connection: &Connection,
     statement: &str,
     values: &[&dyn rusqlite::ToSql],
 ) -> Result<(), StoreError> {
-    transaction.prepare_cached(statement)?.execute(values)?;
+    connection.prepare_cached(statement)?.execute(values)?;
     Ok(())
 }
 

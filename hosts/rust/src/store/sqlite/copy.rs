@@ -153,10 +153,10 @@ fn exists(path: &Path) -> StoreError {
 }
 
 fn write(path: &Path, snapshot: &Snapshot) -> Result<(), StoreError> {
-    let mut connection = Connection::open(path)?;
+    let connection = Connection::open(path)?;
     sqlite::set_page_size(&connection)?;
     sqlite::prepare(&connection)?;
-    sqlite::save(&mut connection, snapshot)?;
+    sqlite::save(&connection, snapshot)?;
     connection.close().map_err(|(_, error)| error.into())
 }
 

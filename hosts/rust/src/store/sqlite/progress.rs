@@ -4,11 +4,12 @@
 //! it changes anyway, so counting touches no further page: a page more costs a commit a tenth of its
 //! time. Only a batch that changes no record writes the number next to the start. The greatest of
 //! these numbers is how far the store has come.
+use super::transaction::WriteTransaction;
 use super::{positive, run, signed};
 use crate::model::change::Change;
 use crate::model::history::{History, Mark};
 use crate::store::StoreError;
-use rusqlite::{Connection, Row as SqlRow, Transaction, params};
+use rusqlite::{Connection, Row as SqlRow, params};
 
 /// A column of records, which those of stores before version 5 lack.
 pub(super) const COMMITS: &str = "ALTER TABLE record ADD COLUMN commits INTEGER NOT NULL DEFAULT 0";
@@ -23,6 +24,32 @@ const COUNT: &str = "UPDATE start SET commits = ?1 WHERE place = (SELECT max(pla
 const FORGET_COUNTS: &str = "UPDATE record SET commits = 0";
 const START: &str = "INSERT INTO start (bits, commits) VALUES (randomblob(16), 0)";
 
+// It changes with each commit of another connection, and with none of this one.
+const DATA_VERSION: &str = "PRAGMA data_version";
+
+/// The state of a store, as a value of it has loaded it and changed it since.
+#[derive(Clone, Copy, Debug, PartialEq, Eq)]
+pub(super) struct Known {
+    /// SQLite's number of the state.
+    pub version: i64,
+    /// The last mark in it.
+    pub last: Option<Mark>,
+}
+
+impl Known {
+    /// The state of now. The number is read first: a commit of somebody else between the two reads
+    /// makes the next commit compare the marks.
+    pub fn read(connection: &Connection) -> Result<Known, StoreError> {
+        let version = data_version(connection)?;
+        Ok(Known { version, last: last_mark(connection)? })
+    }
+}
+
+/// SQLite's number of the state of the file.
+pub(super) fn data_version(connection: &Connection) -> Result<i64, StoreError> {
+    Ok(connection.prepare_cached(DATA_VERSION)?.query_row([], |row| row.get(0))?)
+}
+
 /// The number of a batch after so much: the commits of its start, with it.
 pub(super) fn next_number(last: Option<Mark>, changes: &[Change]) -> u64 {
     match last {
@@ -33,7 +60,7 @@ pub(super) fn next_number(last: Option<Mark>, changes: &[Change]) -> u64 {
 
 /// Makes room for what a batch counts: if a server starts by it, then from 0.
 pub(super) fn begin(
-    transaction: &Transaction<'_>,
+    transaction: &WriteTransaction<'_>,
     last: Option<Mark>,
     changes: &[Change],
 ) -> Result<(), StoreError> {
@@ -50,7 +77,7 @@ pub(super) fn begin(
 /// Counts a batch of this number, unless a record has the number by now. It answers how far the
 /// store has come with it.
 pub(super) fn finish(
-    transaction: &Transaction<'_>,
+    transaction: &WriteTransaction<'_>,
     last: Option<Mark>,
     changes: &[Change],
     number: u64,
@@ -100,7 +127,7 @@ fn mark_of(row: &SqlRow<'_>) -> Result<Mark, StoreError> {
 }
 
 /// Gives the records of a store of an older version the column that they lack.
-pub(super) fn add_commits(transaction: &Transaction<'_>) -> Result<(), StoreError> {
+pub(super) fn add_commits(transaction: &WriteTransaction<'_>) -> Result<(), StoreError> {
     let columns: i64 = transaction.query_row(HAS_COMMITS, [], |row| row.get(0))?;
     if columns == 0 {
         transaction.execute_batch(COMMITS)?;

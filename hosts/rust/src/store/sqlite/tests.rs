@@ -1,4 +1,5 @@
 use super::*;
+use crate::model::history::Mark;
 use crate::store::store_tests::{self, changes, row};
 
 /// What the store has, but for its first start, which it draws.
@@ -77,7 +78,7 @@ fn a_batch_of_any_kind_is_counted_once_and_an_earlier_start_keeps_its_count() {
         store.commit(batch).unwrap();
         let mark = store.history().unwrap().unwrap().mark().unwrap();
         assert_eq!(progress::last_mark(&store.connection).unwrap(), Some(mark));
-        assert_eq!(store.last, Some(mark), "what it knows is what the file has");
+        assert_eq!(store.known.last, Some(mark), "what it knows is what the file has");
         marks.push(mark);
     }
     assert_eq!(marks.iter().map(|mark| mark.commits).collect::<Vec<_>>(), [1, 2, 3, 4]);
