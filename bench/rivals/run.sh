@@ -4,13 +4,14 @@
 #
 #     bench/rivals/run.sh [OPTIONS] [ROUNDS]         7 rounds by default: three to four minutes, besides the build
 #     bench/rivals/run.sh [OPTIONS] reads [ROUNDS]   50 rounds by default: a minute, besides the build
+#     bench/rivals/run.sh [OPTIONS] writes [ROUNDS]  7 rounds by default: a minute and a half, besides the build
 #     bench/rivals/run.sh [OPTIONS] load PLOT [SECONDS]  2 seconds by default for each system and number of clients
 #
 # OPTIONS: --rows N, 10000 to 1000000 rows (10000 by default), and --value N, values of 8 to 32 bytes (8 by default).
 #
 # `reads` measures only what a client reads first: scans of 100 rows, and 10,000 rows into an empty cache. It has a
-# second server of krl, whose grants take 8 slots at most. `load` measures how long reads and writes take as 1 to 16
-# clients make them, prints that as CSV, and draws it into the file PLOT as SVG.
+# second server of krl, whose grants take 8 slots at most. `writes` measures only synced writes. `load` measures how
+# long reads and writes take as 1 to 16 clients make them, prints that as CSV, and draws it into the file PLOT as SVG.
 #
 # For KRL_LIBRARY, KRL_KIT_C and CARGO_TARGET_DIR see tests/hosts. The rivals are taken where they are installed, from
 # Debian 12's packages redis-server, etcd-server and postgresql, and libhiredis-dev for Redis' own client; the others
@@ -23,7 +24,7 @@
 set -eu
 
 usage() {
-    sed -n '5,9p' "$0" >&2
+    sed -n '5,10p' "$0" >&2
     exit 2
 }
 
@@ -47,6 +48,10 @@ case ${1-} in
 reads)
     what=reads
     count=50
+    shift
+    ;;
+writes)
+    what=writes
     shift
     ;;
 load)

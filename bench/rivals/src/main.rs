@@ -32,6 +32,7 @@ const USAGE: &str =
        krl-rivals serve ADDRESS FOLDER REACH TABLE    a server of krl over SQLite, with the rows
        krl-rivals measure FOLDER ROUNDS TABLE SYSTEM=ADDRESS..
        krl-rivals reads FOLDER ROUNDS TABLE SYSTEM=ADDRESS..    measures first reads only
+       krl-rivals writes FOLDER ROUNDS TABLE SYSTEM=ADDRESS..   measures synced writes only
        krl-rivals load FOLDER SECONDS TABLE SYSTEM=ADDRESS..    prints times over load as CSV
        a TABLE is ROWSxBYTES, 10000 to 1000000 rows and 8 to 32 bytes, as 10000x8;
        a SYSTEM is krl, krl-reach-8, redis, hiredis, etcd or postgres";
@@ -71,6 +72,12 @@ fn run(words: &[String]) -> Done {
                 measures::first_reads(system, table, figures)
             };
             measure(&mut all(systems, folder, table)?, rounds, of)
+        }
+        ["writes", folder, rounds, rows, ref systems @ ..] if !systems.is_empty() => {
+            let of = |system: &dyn System, figures: &mut Figures| {
+                measures::synced_writes(system, &Plan::STANDARD, figures)
+            };
+            measure(&mut all(systems, folder, table(rows)?)?, number(rounds)?, of)
         }
         ["load", folder, seconds, rows, ref systems @ ..] if !systems.is_empty() => {
             let mut systems = all(systems, folder, table(rows)?)?;

@@ -60,6 +60,22 @@ fn reads(system: &dyn System, table: Table) -> Found<Round> {
     Ok(round)
 }
 
+/// One round of what clients write.
+pub fn synced_writes(system: &dyn System, plan: &Plan, figures: &mut Figures) -> Done {
+    figures.rounds.push(written(system, plan)?);
+    Ok(())
+}
+
+fn written(system: &dyn System, plan: &Plan) -> Found<Round> {
+    let mut times = writes(system, 1, plan.writing)?;
+    let mut round: Round = [(What::Write, middle(&mut times).as_secs_f64())].into();
+    for writers in WRITERS {
+        let count = writes(system, writers, plan.writing)?.len() as u64;
+        round.insert(What::Writes(writers), rate(count, plan.writing));
+    }
+    Ok(round)
+}
+
 /// One round.
 pub fn of(system: &dyn System, table: Table, plan: &Plan, figures: &mut Figures) -> Done {
     let mut round = reads(system, table)?;
@@ -67,12 +83,7 @@ pub fn of(system: &dyn System, table: Table, plan: &Plan, figures: &mut Figures)
     let scan = cached_scan(connection.as_mut(), plan.cached_batches)?;
     round.extend(scan.map(|took| (What::CachedScan, took)));
     connection.close()?;
-    let mut times = writes(system, 1, plan.writing)?;
-    round.insert(What::Write, middle(&mut times).as_secs_f64());
-    for writers in WRITERS {
-        let count = writes(system, writers, plan.writing)?.len() as u64;
-        round.insert(What::Writes(writers), rate(count, plan.writing));
-    }
+    round.extend(written(system, plan)?);
     let mix = mix::of(system, mix::CLIENTS, Caching::On, plan)?;
     let calls = rate(mix.calls(), plan.mixing);
     let fresh_calls = if system.may_be_stale() {
