@@ -49,7 +49,8 @@ pub fn ask(port: &StatusPort, file: &Path) -> Result<(), Box<dyn Error>> {
     }
 }
 
-/// Makes the backup, and says what it has. The server stops for as long as its store is read.
+/// Makes the backup, and reports what it contains. The server stops for as long as its store is
+/// read.
 pub fn make(monitor: &Monitor, order: &Order) -> Result<String, Box<dyn Error + Send + Sync>> {
     let file = &order.file;
     if !file.is_absolute() {

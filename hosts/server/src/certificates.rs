@@ -14,8 +14,7 @@ pub fn is_pem(bytes: &[u8]) -> bool {
     bytes.windows(BEGIN.len()).any(|part| part == BEGIN)
 }
 
-/// What certificates are told to be, and whether all are valid at this moment and for so many days
-/// after it.
+/// A description of the certificates, and whether all are valid now and for this many days.
 pub fn judge(certificates: &[Certificate], now: SystemTime, days: u32) -> (String, bool) {
     let now = now.duration_since(UNIX_EPOCH).map_or(0, |since| since.as_secs());
     let now = i64::try_from(now).unwrap_or(i64::MAX);

@@ -11,11 +11,11 @@ use std::path::Path;
 use std::process::ExitCode;
 use std::time::SystemTime;
 
-/// So many bytes tell what a file is.
+/// This many bytes show what a file is.
 const FIRST_BYTES: u64 = 4096;
 
-/// Prints what the file holds: a store, or certificates. The exit status is 1 if no server can start
-/// on the store, or a certificate is not valid now and for so many days.
+/// Prints what the file holds: a store, or certificates. The exit status is 1 if no server can
+/// start on the store, or a certificate is not valid now and for this many days.
 pub fn check(path: &Path, days: u32) -> Result<ExitCode, Box<dyn Error>> {
     match first_bytes(path) {
         Ok(bytes) if certificates::is_pem(&bytes) => check_certificates(path, days),
@@ -23,7 +23,7 @@ pub fn check(path: &Path, days: u32) -> Result<ExitCode, Box<dyn Error>> {
     }
 }
 
-/// What tells a file as PEM from a store.
+/// The bytes that distinguish a PEM file from a store.
 fn first_bytes(path: &Path) -> io::Result<Vec<u8>> {
     let mut bytes = Vec::new();
     File::open(path)?.take(FIRST_BYTES).read_to_end(&mut bytes)?;

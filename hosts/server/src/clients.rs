@@ -17,7 +17,7 @@ const HEADS: [&str; 6] = ["number", "peer", "connected", "last word", "lease", "
 /// What stands where there is nothing.
 const NONE: &str = "-";
 
-/// A client, and what else a status has of it.
+/// A client, and what a status reports of it.
 #[derive(Clone, Copy, Debug)]
 pub struct Shown<'a> {
     pub status: &'a ClientStatus,

@@ -25,15 +25,15 @@ pub struct CommandLine {
 
 const STATUSES: &str = "\
 Exit statuses:
-  0  it is done; a server that was told to stop has stopped in order
-  1  it failed, and standard error says why
+  0  it is done; a server that was stopped has stopped in order
+  1  it failed, and standard error has the reason
   2  the command line, the environment, the configuration file or a certificate is wrong
   3  the store of a server lacks what a client has seen of it: see docs/STORES.md";
 
 const MORE: &str = "\
 Exit statuses:
-  0  it is done; a server that was told to stop has stopped in order
-  1  it failed, and standard error says why
+  0  it is done; a server that was stopped has stopped in order
+  1  it failed, and standard error has the reason
   2  the command line, the environment, the configuration file or a certificate is wrong
   3  the store of a server lacks what a client has seen of it: see docs/STORES.md
 
@@ -89,12 +89,12 @@ how long ago something last came from it, how long its lease still runs, and wha
         #[command(flatten)]
         format: FormatOptions,
     },
-    /// Ask whether a server is alive, or whether it is ready: the exit status says so
+    /// Ask whether a server is alive or ready: the exit status is the answer
     #[command(long_about = "\
-Ask whether a server is alive, or whether it is ready: the exit status says so.
+Ask whether a server is alive or ready: the exit status is the answer.
 
-It is 0 if that is so, and 1 if not, or if the server gives no answer within five seconds. A server
-that stands by, or waits for reports of clients, is alive and not ready.")]
+It is 0 if the server is, and 1 if not, or if the server gives no answer within five seconds. A
+server that stands by, or waits for reports of clients, is alive and not ready.")]
     Health {
         /// The server's status port, with tls: before it if it serves by TLS
         #[arg(env = "KRL_STATUS", default_value = crate::settings::STATUS)]
@@ -109,7 +109,7 @@ that stands by, or waits for reports of clients, is alive and not ready.")]
     #[command(long_about = "\
 Print who holds which slots of a range, in which mode, and who waits there.
 
-A slot is the key of a row and the gap below it; the last slot has the gap behind all rows. Without
+A slot is the key of a row and the gap below it; the last slot has the gap after all rows. Without
 a range the whole table is meant.")]
     Locks(LocksOptions),
     /// End a client for good whose process is dead
@@ -119,8 +119,8 @@ End a client for good whose process is dead.
 What the client held is free then, and a server that starts again does not wait for it. A client
 that has a lease is evicted when that ends, and the server does so by itself: this command waits for
 it, a minute at most. A client without one is evicted at once. Do so only when its process is dead,
-not when it is silent: one that still runs would go on to answer from its cache what is no longer
-so.")]
+not when it is silent: one that still runs would continue to answer from its cache with outdated
+rows.")]
     Evict {
         /// Where the server listens: 127.0.0.1:7400, tls:10.0.0.5:7400, or unix: and a path
         address: String,
@@ -131,7 +131,7 @@ so.")]
         number: u8,
         /// The client's lock file, or a new file if that is lost
         lock_file: PathBuf,
-        /// The shard that the server serves, as its own --shard says, if it serves one
+        /// The shard that the server serves, as in its own --shard, if it serves one
         #[arg(long, value_name = "SHARD")]
         shard: Option<krl::ShardBounds>,
     },
@@ -149,8 +149,8 @@ so.")]
 Make a new store of a backup, on which a server serves at once.
 
 What was written after the backup is lost. All clients have to be stopped before: one that still
-runs may know of writes that the backup does not have, and would go on to answer from its cache what
-is no longer so. In the new store each client counts as left, so the server waits for nobody, and
+runs may know of writes that the backup does not have, and would continue to answer from its cache
+with outdated rows. In the new store each client counts as left, so the server waits for nobody, and
 the epoch is 4294967296 greater than in the backup, so that no client has seen it.")]
     Restore {
         /// The backup. It is only read, and no server may run on it
@@ -235,14 +235,14 @@ No server may run on it. While one does, krl-client export does the same.")]
         #[arg(long)]
         json: bool,
     },
-    /// Say what a store holds, and whether a server can start on it; or until when certificates
+    /// Show what a store holds, and whether a server can start on it; or until when certificates
     /// last
     #[command(long_about = "\
-Say what a store holds, and whether a server can start on it; or until when certificates last.
+Show what a store holds, and whether a server can start on it; or until when certificates last.
 
 Of a backup, or another store that no server has served since it was made, it compares the checksum.
 The exit status is 1 if no server can start on the store, if it is damaged, or if a certificate is not
-valid now and for so many days.")]
+valid now and for that many days.")]
     Check {
         /// The store, which no server may run on; or a file of certificates, as PEM. It is only
         /// read
@@ -372,19 +372,19 @@ pub struct ServeOptions {
     /// The key of that certificate, as PEM in PKCS #8
     #[arg(long, env = "KRL_STORE_KEY", value_name = "FILE", requires = "store_certificate")]
     pub store_key: Option<String>,
-    /// How many rows the table may have, from 1 to 1048576. If it is not said, it is the greatest
-    /// that a server over this store had before, and 65536 over a new store
+    /// How many rows the table may have, from 1 to 1048576. By default it is the greatest that a
+    /// server over this store had before, and 65536 over a new store
     #[arg(long, env = "KRL_ROOM", value_name = "ROWS")]
     pub room: Option<String>,
     /// How many slots one grant takes at most, from 1 to 128: a client that reads many rows for the
-    /// first time asks once for each so many
+    /// first time asks once per that many slots
     #[arg(long, env = "KRL_REACH", value_name = "SLOTS")]
     pub reach: Option<String>,
     /// The shard that the server serves, as FIRST..END@VERSION: its keys, and the version of the
     /// map. Clients of another map are refused
     #[arg(long, env = "KRL_SHARD", value_name = "SHARD")]
     pub shard: Option<String>,
-    /// Where clients reach this server, if that is not where it listens. The store tells it
+    /// Where clients reach this server, if that is not where it listens. It is kept in the store
     #[arg(long, env = "KRL_ADVERTISE", value_name = "ADDRESS")]
     pub advertise: Option<String>,
     /// How many seconds a server over a cluster may be silent before another takes its place
@@ -407,7 +407,7 @@ pub struct ServeOptions {
     /// that is silent for longer is evicted. Or off: then only an operator evicts a client
     #[arg(long, env = "KRL_LEASE", value_name = "LENGTH")]
     pub lease: Option<String>,
-    /// How much further this machine's clock may go than a client's meanwhile, in a hundred
+    /// How much further this machine's clock may go than a client's meanwhile, in percent
     #[arg(long, env = "KRL_DRIFT", value_name = "PERCENT")]
     pub drift: Option<String>,
     /// A configuration file in TOML. Its keys are the names of these options

@@ -24,7 +24,7 @@ impl Asked {
     }
 }
 
-/// Prints what the server says of itself. The exit status is 1 if it is not as was asked.
+/// Prints the server's own report. The exit status is 1 if it is not as was asked.
 pub fn ask(port: &StatusPort, asked: Asked) -> Result<ExitCode, Box<dyn Error>> {
     let reply = http::get(port, asked.path(), TEXT, WAIT)?;
     output::print(&reply.text)?;

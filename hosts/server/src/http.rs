@@ -66,7 +66,7 @@ impl StatusPort {
         }
     }
 
-    /// The page of the server, as a browser is told of it.
+    /// The address of the server's page, for a browser.
     pub fn url(&self) -> String {
         let scheme = if self.tls.is_some() { "https" } else { "http" };
         format!("{scheme}://{}/", self.place)
@@ -134,7 +134,7 @@ pub async fn fetch(
     answered(port, request.map_err(|error| error.to_string())?, wait).await
 }
 
-/// The answer, or a sentence that says why there is none.
+/// The answer, or a sentence that explains why there is none.
 async fn answered(
     port: &StatusPort,
     request: Request<Body>,

@@ -23,7 +23,7 @@ struct Added {
     kept: usize,
 }
 
-/// Writes the rows of the file to the store, all or none, and says what it has then.
+/// Writes the rows of the file to the store, all or none, and reports what it has then.
 pub fn import(file: &Path, is_json: bool, place: &StorePlace, existing: Existing) -> Done {
     let format = if is_json { FileFormat::JsonLines } else { FileFormat::of_name(file) };
     let lines = read_file(file, format, ValueForm::Text)

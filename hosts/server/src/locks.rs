@@ -14,7 +14,7 @@ use std::time::Duration;
 /// The path at which a status port shows it.
 pub const PATH: &str = "/locks";
 
-/// The most slots that are reported if nothing else is asked for.
+/// The most slots that are reported by default.
 pub const LIMIT: usize = 1000;
 
 /// The limits that may be asked for.
@@ -26,7 +26,7 @@ pub const TOP: u64 = END + 1;
 /// How long `krl-server locks` waits for an answer.
 const WAIT: Duration = Duration::from_secs(30);
 
-/// What is asked for: the slots that meet the points, and at most so many.
+/// What is asked for: the slots that meet the points, and at most this many.
 #[derive(Clone, Debug, PartialEq, Eq)]
 pub struct Question {
     pub points: Range<u64>,
@@ -142,7 +142,7 @@ pub fn whom(wait: &Wait) -> String {
     }
 }
 
-/// Asks a status port, and answers what it says.
+/// Asks a status port, and returns its answer.
 pub fn ask(options: &LocksOptions) -> Result<String, Box<dyn Error>> {
     let question = Question::of_words(options)?;
     let port = StatusPort::new(&options.status, &options.tls)?;
@@ -153,7 +153,7 @@ pub fn ask(options: &LocksOptions) -> Result<String, Box<dyn Error>> {
         StatusCode::NOT_FOUND => {
             Err(format!("{port} is no status port that reports who holds what").into())
         }
-        _ => Err(format!("{port} does not tell: {}", reply.text.trim_end()).into()),
+        _ => Err(format!("{port} answers with an error: {}", reply.text.trim_end()).into()),
     }
 }
 

@@ -1,6 +1,6 @@
 //! The log, on standard error.
 //!
-//! A thread of its own writes it. So nobody who logs waits for whoever reads the log, and a line
+//! A thread of its own writes it. So logging never waits for the reader of the log, and a line
 //! that can't be written is lost and counted: the server continues.
 use crate::settings::{LogFormat, Settings};
 use krl::Seldom;
@@ -26,7 +26,7 @@ const PAUSE: Duration = Duration::from_millis(5);
 /// How many lines were lost.
 static LOST: AtomicU64 = AtomicU64::new(0);
 
-/// What the writing thread is told.
+/// What the writing thread receives.
 enum Order {
     Write(Vec<u8>),
     /// All before is to be written, and then this is answered.
@@ -46,8 +46,8 @@ pub fn lost() -> u64 {
     LOST.load(Ordering::Relaxed)
 }
 
-/// From now on events are written to standard error, as the settings say. Who calls it twice keeps
-/// the first log.
+/// From now on events are written to standard error, as configured. A second call keeps the first
+/// log.
 pub fn start(settings: &Settings) -> io::Result<Log> {
     let queue = Queue::new(io::stderr())?;
     let writer = queue.clone();

@@ -12,11 +12,11 @@ const LONG: Duration = Duration::from_secs(10);
 /// How often the waits are looked at.
 const LOOKS: Duration = Duration::from_secs(1);
 
-/// The clients whose waits were told as long, and for how long each had waited when last seen.
+/// The clients whose waits were reported as long, and for how long each had waited when last seen.
 #[derive(Debug, Default)]
 struct LongWaits(BTreeMap<u8, Duration>);
 
-/// What there is to tell.
+/// What there is to report.
 #[derive(Clone, Debug, PartialEq, Eq)]
 enum News {
     IsLong(Wait),

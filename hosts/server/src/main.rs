@@ -1,5 +1,5 @@
-//! A krl server over SQLite, and what its operator needs. `krl-server --help` says its words, and
-//! `docs/OPERATING.md` how it is run.
+//! A krl server over SQLite, and what its operator needs. `krl-server --help` lists its commands,
+//! and `docs/OPERATING.md` describes how it is run.
 mod backup;
 mod certificates;
 mod check;
@@ -144,8 +144,8 @@ fn evict(
     Ok(())
 }
 
-/// An error and what caused it, as one line. What the error itself has told of its cause is not
-/// told again.
+/// An error and what caused it, as one line. A cause that the error's own text includes is not
+/// repeated.
 fn sentence(error: &dyn Error) -> String {
     let mut text = error.to_string();
     let mut cause = error.source();
@@ -159,7 +159,7 @@ fn sentence(error: &dyn Error) -> String {
     text
 }
 
-/// What made a store fail, without saying once more that it is a store.
+/// What made a store fail, without naming the store again.
 fn cause(error: &StoreError) -> String {
     error.source().map_or_else(|| error.to_string(), ToString::to_string)
 }

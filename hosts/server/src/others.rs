@@ -10,7 +10,7 @@ use std::sync::{Arc, Mutex, MutexGuard, PoisonError};
 use std::time::{Duration, Instant};
 use tokio::time::{sleep, timeout};
 
-/// A server is asked again so long after the time before.
+/// The time between two requests to a server.
 const PACE: Duration = Duration::from_secs(1);
 
 /// How long a server may take to answer.
@@ -42,7 +42,7 @@ struct Seen {
     answer: Option<Answer>,
 }
 
-/// The state of a server, or a sentence that says why it is not known.
+/// The state of a server, or a sentence that explains why it is not known.
 pub type Answer = Result<Report, String>;
 
 /// Another server.

@@ -31,7 +31,7 @@ fn write(text: &str) -> io::Result<()> {
     output.flush()
 }
 
-/// Writes a line to standard error. If that can't be written, nobody can be told.
+/// Writes a line to standard error. If that can't be written, it is lost.
 pub fn report(text: &str) {
     let _ = writeln!(io::stderr(), "krl-server: {text}");
 }

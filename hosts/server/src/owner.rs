@@ -1,4 +1,4 @@
-//! Who serves a store: a file next to it that says so.
+//! Who serves a store, as stated in a file next to it.
 use std::ffi::OsString;
 use std::fmt;
 use std::fs::{File, OpenOptions, TryLockError};
@@ -8,7 +8,7 @@ use std::thread;
 use std::time::{Duration, Instant};
 
 /// The right to serve a store. Another process may take it when this value is gone, or the process
-/// is. The file stays, and says who served last.
+/// is. The file stays, and states who served last.
 #[derive(Debug)]
 pub struct Owner {
     _file: File,
@@ -30,7 +30,7 @@ const LOOKS: Duration = Duration::from_millis(100);
 const MAX_LINE: u64 = 1000;
 
 impl Owner {
-    /// Takes the right to serve the store, and says in the file next to it who has it.
+    /// Takes the right to serve the store, and writes the holder into the file next to it.
     pub fn take(store: &Path, address: &dyn fmt::Display) -> Result<Owner, NotOwned> {
         let path = path_of(store);
         let fails = |error| NotOwned::File { path: path.clone(), error };
@@ -84,10 +84,10 @@ fn note(file: &mut File, address: &dyn fmt::Display) -> io::Result<()> {
     writeln!(file, "process {}, at {address}", std::process::id())
 }
 
-/// What the file says, if it says something.
+/// The content of the file, if there is any.
 fn line_of(file: &File) -> String {
     let mut text = String::new();
-    // What can't be read is not told.
+    // What can't be read is not reported.
     let _ = file.take(MAX_LINE).read_to_string(&mut text);
     match text.trim_end() {
         "" => "another process".to_string(),

@@ -28,11 +28,11 @@ pub const PATH: &str = "/";
 /// The path of the picture of who holds which keys.
 pub const PICTURE_PATH: &str = "/locks.svg";
 
-/// The style of a picture that stands alone: it has a ground of its own.
+/// The style of a picture that is served by itself: it has its own background.
 const PICTURE_STYLE: &str =
     concat!(include_str!("page/picture.css"), ".picture { background: var(--ground); }\n");
 
-/// What a picture may do that stands alone: it has a style, and nothing else.
+/// What a picture that is served by itself may do: it has a style, and nothing else.
 pub const PICTURE_POLICY: &str =
     "default-src 'none'; style-src 'unsafe-inline'; frame-ancestors 'none'";
 

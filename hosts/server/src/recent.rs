@@ -1,7 +1,7 @@
 //! What has happened lately: rates, and the histograms of the last minutes.
 //!
-//! A server counts from its start on. Samples of what it has counted, which are taken outside its
-//! loop, tell how much of that is new.
+//! A server counts from its start. Samples of its counts, which are taken outside its loop, show
+//! how much of that is new.
 use crate::role::State;
 use krl::{Counts, Measured, Monitor, Status};
 use serde_json::{Value, json};
@@ -216,7 +216,7 @@ mod tests {
         let expected = Counts { buckets: vec![(10, 400)], count: 400, sum: 2800 };
         assert_eq!((histograms.over, histograms.commits), (Duration::from_secs(301), expected));
         recent.take(sample(after(605), 2, 0));
-        assert_eq!(recent.lock().len(), 1, "another server counts anew");
+        assert_eq!(recent.lock().len(), 1, "another server counts from zero");
         recent.look(&State::Starts, after(606));
         assert_eq!(recent.histograms(&measured, 2, after(606)), None);
     }

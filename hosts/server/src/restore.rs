@@ -14,13 +14,13 @@ use std::path::Path;
 /// often since the backup was made.
 const FAR: u64 = 1 << 32;
 
-/// Why it has to be said that all clients are stopped.
+/// Why the operator has to confirm that all clients are stopped.
 const CLIENTS_LIVE: &str = "\
-    stop every client's process first, and say so by --clients-are-stopped: one that still runs \
-    may know of writes that the backup does not have, and would go on to answer from its cache \
-    what is no longer so";
+    stop every client's process first, and confirm that by --clients-are-stopped: one that still \
+    runs may know of writes that the backup does not have, and would continue to answer from its \
+    cache with outdated rows";
 
-/// Writes the backup as a new store on which a server serves at once, and says what it has.
+/// Writes the backup as a new store on which a server serves at once, and reports what it contains.
 pub fn restore(backup: &Path, store: &StorePlace, are_stopped: bool) -> Result<(), Box<dyn Error>> {
     if !are_stopped {
         return Err(BadSetting::new(CLIENTS_LIVE.to_string()).into());

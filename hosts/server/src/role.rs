@@ -37,7 +37,7 @@ impl Role {
         !is_known
     }
 
-    /// It serves no more, and does not know who does.
+    /// It no longer serves, and does not know who does.
     pub fn ends(&self) {
         *self.lock() = State::Starts;
     }

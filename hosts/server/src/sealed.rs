@@ -25,7 +25,7 @@ pub struct Sealed {
     socket: TcpStream,
     session: TlsSession,
     plain: DuplexStream,
-    /// What the peer has said in the hand-shake's last bytes.
+    /// What the peer has sent with the hand-shake's last bytes.
     first: Vec<u8>,
 }
 
@@ -40,7 +40,7 @@ pub async fn open(mut socket: TcpStream, mut session: TlsSession) -> io::Result<
     Ok(Opened { plain: ours, peer, sealed: Sealed { socket, session, plain: theirs, first } })
 }
 
-/// Continues until it is known who is at the other end, and answers who, and what it has said.
+/// Continues until the other end is identified; returns its identity and what it has sent.
 async fn shake(
     socket: &mut TcpStream,
     session: &mut TlsSession,
@@ -125,7 +125,7 @@ impl Ways {
         }
     }
 
-    /// Seals what is said, if something is. Nothing is the end.
+    /// Seals what is sent, if anything. `None` is the end.
     fn seal(&self, said: Option<&[u8]>) -> io::Result<Vec<u8>> {
         let mut session = self.session();
         match said {

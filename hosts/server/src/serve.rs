@@ -1,4 +1,4 @@
-//! A server, from its start until it is told to stop.
+//! A server, from its start until it is stopped.
 use crate::cause;
 use crate::log;
 use crate::others::Others;
@@ -211,7 +211,7 @@ pub fn stands_by(leader: &str) {
     tell(&[NotifyState::Ready, NotifyState::Status(&status)]);
 }
 
-/// A server had started, and has failed. The log has told so as it did.
+/// A server had started, and has failed. The log has reported why.
 #[derive(Debug)]
 pub struct HasFailed(pub ServeError);
 
@@ -230,8 +230,8 @@ pub enum Ended {
     LeaseRanOut,
 }
 
-/// Waits until a signal comes, or until `runs` says after a wait that the server is to run no more,
-/// and stops the server then; or until it has failed by itself.
+/// Waits until a signal comes, or until `runs` returns false after a wait, and then stops the
+/// server; or until it has failed by itself.
 pub fn until_it_ends(
     server: Server,
     signal: &Signal,
@@ -254,11 +254,11 @@ pub fn until_it_ends(
 /// Tells the service manager, if there is one.
 fn tell(state: &[NotifyState]) {
     if let Err(error) = sd_notify::notify(false, state) {
-        tracing::warn!(%error, "the service manager was not told");
+        tracing::warn!(%error, "the service manager was not notified");
     }
 }
 
-/// The signal that tells the process to stop. A second one ends it at once.
+/// The signal to stop. A second one ends it at once.
 pub struct Signal {
     number: Arc<AtomicUsize>,
 }

@@ -19,10 +19,10 @@ use std::fmt;
 use std::path::{Path, PathBuf};
 use tracing::level_filters::LevelFilter;
 
-/// Where clients connect if nothing says otherwise.
+/// Where clients connect by default.
 pub const LISTEN: &str = "127.0.0.1:7400";
 
-/// Where the status is served if nothing says otherwise.
+/// Where the status is served by default.
 pub const STATUS: &str = "127.0.0.1:7401";
 
 /// A value, and where it comes from.
@@ -63,7 +63,7 @@ pub struct Settings {
     pub drift: Setting<Drift>,
 }
 
-/// What a configuration file may say.
+/// What a configuration file may contain.
 #[derive(Debug, Default, Deserialize)]
 #[serde(deny_unknown_fields, rename_all = "kebab-case")]
 struct ConfigFile {
@@ -97,7 +97,7 @@ pub struct BadSetting(String);
 
 impl Settings {
     /// The settings of these options: a flag comes first, then the environment, then the
-    /// configuration file, then the default. `matches` says which option came from where.
+    /// configuration file, then the default. `matches` knows where each option came from.
     pub fn of(options: &ServeOptions, matches: &ArgMatches) -> Result<Settings, BadSetting> {
         let path = options.config.as_deref();
         let mut file = path.map(ConfigFile::read).transpose()?.unwrap_or_default();
@@ -187,7 +187,7 @@ impl Settings {
         Ok(settings)
     }
 
-    /// Refuses what is told to be dangerous and was not allowed.
+    /// Refuses settings that are dangerous and were not allowed explicitly.
     fn check(&self) -> Result<(), BadSetting> {
         self.access.check(key::LISTEN.name, &self.listen.value)?;
         self.access.check_users(&self.listen.value)?;
@@ -227,8 +227,8 @@ impl Given<'_> {
         };
         let Some(value) = parse(&text) else {
             let Key { name, expected, .. } = key;
-            let says = format!("{name} is '{text}' ({source}), and has to be {expected}");
-            return Err(BadSetting(says));
+            let reason = format!("{name} is '{text}' ({source}), and has to be {expected}");
+            return Err(BadSetting(reason));
         };
         Ok(Setting { value, source })
     }
@@ -243,10 +243,10 @@ impl Given<'_> {
 
 impl ConfigFile {
     fn read(path: &Path) -> Result<ConfigFile, BadSetting> {
-        let says =
+        let bad_file =
             |what: String| BadSetting(format!("the configuration file {}: {what}", path.display()));
-        let text = std::fs::read_to_string(path).map_err(|error| says(error.to_string()))?;
-        toml::from_str(&text).map_err(|error| says(error.to_string().trim_end().to_string()))
+        let text = std::fs::read_to_string(path).map_err(|error| bad_file(error.to_string()))?;
+        toml::from_str(&text).map_err(|error| bad_file(error.to_string().trim_end().to_string()))
     }
 }
 
@@ -275,8 +275,7 @@ impl fmt::Display for BadSetting {
 
 impl std::error::Error for BadSetting {}
 
-/// The settings as a configuration file that says the same, each with a comment that says where it
-/// comes from.
+/// The settings as an equivalent configuration file, each with a comment on where it comes from.
 impl fmt::Display for Settings {
     fn fmt(&self, f: &mut fmt::Formatter<'_>) -> fmt::Result {
         line(f, &key::LISTEN, &self.listen)?;
@@ -318,7 +317,7 @@ fn line<T: fmt::Display>(
     writeln!(f, "{} = {value} # {}", key.name, setting.source)
 }
 
-/// A setting that is left out has no line: a file can't say so otherwise.
+/// A setting that is left out has no line: a file has no other way to leave it out.
 fn optional_line<T>(
     f: &mut fmt::Formatter<'_>,
     key: &Key,

@@ -40,8 +40,8 @@ const LAST_WRITES: Duration = Duration::from_secs(5);
 /// How long to wait before the next try when the system has no room for another connection.
 const PAUSE: Duration = Duration::from_millis(50);
 
-/// Serves the pages at the address, and says where it listens. At an address of TLS it shows this,
-/// and serves only operators.
+/// Serves the pages at the address, and returns where it listens. At an address of TLS it shows
+/// this, and serves only operators.
 pub fn start(
     address: &Address,
     tls: Option<TlsConfig>,
@@ -135,7 +135,7 @@ async fn attend(
     }
 }
 
-/// Answers by TLS, if an operator is at the other end. Anybody else is closed.
+/// Answers by TLS, if an operator is at the other end. Any other connection is closed.
 async fn answer_operator(
     stream: TcpStream,
     tls: &TlsConfig,

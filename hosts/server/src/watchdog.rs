@@ -17,7 +17,7 @@ pub fn start(role: Role) -> io::Result<()> {
     let reports = move || {
         loop {
             if is_alive(&role) {
-                // A manager that is not told restarts the service, which is what can be done.
+                // A manager that hears nothing restarts the service, which is all that can be done.
                 let _ = sd_notify::notify(false, &[NotifyState::Watchdog]);
             }
             thread::sleep(pause);
@@ -50,7 +50,7 @@ mod tests {
         assert_eq!(pause_of(Duration::from_secs(60)), Duration::from_secs(15));
     }
 
-    /// A store that does not answer for as long as it is told, and may not be silent at all.
+    /// A store whose commits wait for as long as `is_silent` is set.
     #[derive(Default)]
     struct Silent {
         store: MemoryStore,

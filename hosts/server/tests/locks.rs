@@ -103,7 +103,7 @@ fn words_that_are_no_question_are_told() {
     assert!(errors(&output).contains(&address), "{}", errors(&output));
 }
 
-/// All slots of a client, page by page as each page says.
+/// All slots of a client, page by page, as each page links to the next.
 fn all_slots(serving: &Serving, client: u8) -> Vec<(u64, u64)> {
     let (mut slots, mut lo) = (Vec::new(), Some(0));
     while let Some(from) = lo {
@@ -122,7 +122,7 @@ fn all_slots(serving: &Serving, client: u8) -> Vec<(u64, u64)> {
     slots
 }
 
-/// Has a client read again and again from the server, and says how long each read took.
+/// Has a client read again and again from the server, and returns how long each read took.
 fn read_times(client: &Client, ends: &AtomicBool) -> Vec<Duration> {
     let mut times = Vec::new();
     while !ends.load(Ordering::Relaxed) {

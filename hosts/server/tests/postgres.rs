@@ -42,7 +42,7 @@ fn an_older_server_ends_once_another_one_has_started() {
     let ended = first.ended();
     assert_eq!(ended.status.code(), Some(1));
     let errors: Vec<_> = ended.log.iter().filter(|event| event["level"] == "ERROR").collect();
-    assert_eq!(errors.len(), 1, "it is told once: {:?}", ended.log);
+    assert_eq!(errors.len(), 1, "it is reported once: {:?}", ended.log);
     assert!(errors[0].to_string().contains("another server"), "{errors:?}");
     let client = join(&second.address, folder.path(), 4);
     assert_eq!(client.insert(1, Value::from(1)), Ok(Outcome::Applied));
@@ -72,7 +72,7 @@ fn a_backup_becomes_a_store_in_a_database() {
     client.leave().unwrap();
 }
 
-/// It is told at once, and a signal is heeded at once.
+/// It is reported at once, and a signal is heeded at once.
 #[test]
 fn a_database_that_is_away_is_waited_for_until_a_signal_comes() {
     let store = format!("postgres://krl@{}/x", free_address().unwrap());

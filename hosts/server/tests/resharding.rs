@@ -7,7 +7,7 @@ use krl::{SqliteStore, Value};
 use std::path::Path;
 use std::time::Duration;
 
-/// As many rows as a server has room for, if nothing else is said.
+/// As many rows as a server has room for, by default.
 const FULL: u64 = 65_536;
 const CUT: u64 = 40_000;
 
@@ -154,7 +154,7 @@ fn a_split_and_a_merge_write_the_next_map() {
     std::fs::write(&map, text_of(1)).unwrap();
     let split = ["split", &store, "1001", &upper, "--map", &map, "--new-map", &next];
     let refused = run(&split);
-    assert_eq!(refused.status.code(), Some(2), "where the new store is served is not said");
+    assert_eq!(refused.status.code(), Some(2), "the new store's address is missing");
     let split = [&split[..], &["--servers", "127.0.0.1:2"]].concat();
     let done = run(&split);
     assert_eq!(done.status.code(), Some(0), "{}", errors(&done));

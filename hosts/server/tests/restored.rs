@@ -25,7 +25,7 @@ fn looked_up(client: &Client, ends: &AtomicBool) -> Vec<Option<Vec<Row>>> {
     found
 }
 
-/// Says that the test is over, even if it fails: otherwise who looks would continue for ever.
+/// Signals that the test is over, even if it fails: otherwise the reader would continue forever.
 struct Over<'f>(&'f AtomicBool);
 
 impl Drop for Over<'_> {
@@ -34,7 +34,7 @@ impl Drop for Over<'_> {
     }
 }
 
-/// The restored server has told people what its client had seen.
+/// The restored server has reported what its client had seen.
 fn is_told(serving: &Serving) {
     until("the alarm", || serving.sample("krl_store_alarms_total") > 0.0);
     let (status, page) = serving.get("/status");
@@ -82,7 +82,7 @@ fn a_client_that_lives_through_a_restore_drops_its_cache_and_joins_anew() {
         // It may have left before the client noticed that the server had ended.
         let expected = [Error::StoreWentBack, Error::NotSent(Unsent::StoreWentBack)];
         assert!(expected.contains(&written), "{written:?}");
-        assert_eq!(client.read(1..2), Ok(vec![row(1, 1)]), "it has joined anew");
+        assert_eq!(client.read(1..2), Ok(vec![row(1, 1)]), "it has joined again");
         drop(over);
         let looked = looks.join().unwrap();
         let old = looked.iter().filter(|found| **found == Some(vec![row(1, 7)]));

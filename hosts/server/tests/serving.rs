@@ -13,7 +13,7 @@ use std::sync::atomic::{AtomicBool, AtomicU64, Ordering};
 use std::thread;
 use std::time::Duration;
 
-/// Inserts keys for as long as the server answers, and says which were Applied.
+/// Inserts keys for as long as the server answers, and returns which were Applied.
 fn insert_all(address: &Address, folder: &Path, number: u8, count: &AtomicU64) -> Vec<u64> {
     let client = join(address, folder, number);
     client.set_timeout(Duration::from_secs(2));
@@ -185,7 +185,7 @@ fn a_server_is_ready_when_nobody_is_missing() {
     let store = folder.path().join("krl.db");
     let serving = Serving::start(&store);
     let serving = serving.killed_beside(3, folder.path(), &store);
-    until("the server says who is missing", || {
+    until("the server reports who is missing", || {
         let (status, text) = serving.get("/readyz");
         status == 503 && text.contains("clients 3 have")
     });
@@ -196,7 +196,7 @@ fn a_server_is_ready_when_nobody_is_missing() {
     until("the server serves", || serving.get("/readyz").0 == 200);
 }
 
-/// Says that the test is over, even if it fails: otherwise the client would continue for ever.
+/// Signals that the test is over, even if it fails: otherwise the client would continue forever.
 struct Over<'f>(&'f AtomicBool);
 
 impl Drop for Over<'_> {
@@ -241,7 +241,7 @@ fn a_backup_under_load_is_the_table_at_a_moment() {
 }
 
 /// One client inserts 0, 1, 2, and so on: so a table at a moment has just the keys below some
-/// number, and the client's record says that this was its last write.
+/// number, and by the client's record this was its last write.
 fn is_moment(file: &Path, least: u64, most: u64) {
     let snapshot = SqliteStore::read(file).unwrap().snapshot;
     let rows = snapshot.rows.len() as u64;
@@ -312,7 +312,7 @@ fn a_restored_backup_is_served_at_once() {
     assert!(errors(&refused).contains("is served, by process"), "{}", errors(&refused));
     serving.signal(&["KILL"]);
     serving.ended();
-    // They can't say Bye, as there is no server.
+    // They can't send Bye, as there is no server.
     drop((client, other));
 
     let refused = run(&words[..4]);

@@ -35,7 +35,7 @@ fn another_server_takes_the_place_of_one_that_is_killed() {
     let first = Serving::start_by(&mut over(&cluster, "killed"));
     let mut command = over(&cluster, "killed");
     let second = Serving::start_until(command.args(["--others", &first.status]), "stands by");
-    // It advertises where it was told to listen.
+    // It advertises the address at which it was set to listen.
     let stands_by = "role: stands by: the server at 127.0.0.1:0 serves\n".to_string();
     assert_eq!(second.get("/status"), (200, stands_by.clone()));
     assert_eq!(second.get("/readyz"), (503, stands_by));
@@ -100,7 +100,7 @@ fn a_server_that_stops_in_order_gives_its_place_at_once() {
     until("the second one serves", || second.get("/readyz").0 == 200);
 }
 
-/// A service manager ends a service that does not say in time that it has started.
+/// A service manager ends a service that does not report in time that it has started.
 #[test]
 fn a_service_manager_is_told_that_a_server_stands_by() {
     let Some(cluster) = Cluster::start() else { return };

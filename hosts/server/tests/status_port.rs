@@ -104,7 +104,7 @@ fn a_head_has_a_whole_deadline() {
     let mut room = [0; 100];
     loop {
         assert!(Instant::now() < end, "it is open after a minute");
-        // A header every now and then buys no more time.
+        // A header every now and then gains no further time.
         let _ = stream.write_all(b"A: b\r\n");
         match stream.read(&mut room) {
             Ok(0) => break,

@@ -28,14 +28,14 @@ fn held(serving: &Serving) -> usize {
 }
 
 /// The most memory that the server takes beyond what it has now, until it has closed all these
-/// strangers, who have said this and wait.
+/// strangers, which have sent this and wait.
 fn taken_by_strangers(serving: &Serving, at: &str, said: &[u8]) -> usize {
     let before = held(serving);
     let connect = |_| {
         let mut stream = TcpStream::connect(at).unwrap();
         stream.set_read_timeout(Some(PATIENCE)).unwrap();
         stream.set_write_timeout(Some(PATIENCE)).unwrap();
-        // One that is closed at once has said enough.
+        // One that is closed at once has sent enough.
         let _ = stream.write_all(said);
         stream
     };
@@ -58,7 +58,7 @@ fn wait_for_end(mut stream: TcpStream) {
     }
 }
 
-/// A frame that promises so many bytes, and brings fewer.
+/// A frame that announces this many bytes, and has fewer.
 fn unfinished(kind: u8, promised: usize, brought: usize) -> Vec<u8> {
     let head = [&[1, kind][..], &3u64.to_le_bytes(), &1u64.to_le_bytes()].concat();
     let mut frame = (promised as u64).to_le_bytes().to_vec();
@@ -80,7 +80,7 @@ fn strangers_at_the_port_of_clients_take_little_and_leave_it() {
     let at = serving.address.to_string();
     let before = held(&serving);
     for kind in [0, 2] {
-        // Neither a Hello nor the report of a client that nobody knows may be so long.
+        // Neither a Hello nor the report of an unknown client may be this long.
         let taken = taken_by_strangers(&serving, &at, &unfinished(kind, 31 * MIB, MIB));
         assert!(taken < 8 * MIB, "{taken} bytes by long frames of kind {kind}");
     }

@@ -11,7 +11,7 @@ use std::process::{Child, Command, ExitStatus, Output, Stdio};
 use std::thread;
 use std::time::{Duration, Instant};
 
-/// A folder of certificates, and of all else that a test has.
+/// A folder of certificates, and of everything else that a test has.
 struct Setup {
     folder: tempfile::TempDir,
 }
@@ -28,7 +28,7 @@ impl Setup {
         self.certify_for("365", holders);
     }
 
-    /// Makes certificates that are good for so many days.
+    /// Makes certificates that are valid for this many days.
     fn certify_for(&self, days: &str, holders: &[&str]) {
         let script = concat!(env!("CARGO_MANIFEST_DIR"), "/../packaging/certificates");
         let mut command = Command::new(script);
@@ -220,7 +220,7 @@ fn a_hangup_has_the_certificates_read_again() {
     until("the new one is shown", || {
         matches!(setup.join(&serving, 2), Err(JoinError::TurnedAway(_)))
     });
-    assert_eq!(client.insert(1, Value::from(1)), Ok(Outcome::Applied), "what stands goes on");
+    assert_eq!(client.insert(1, Value::from(1)), Ok(Outcome::Applied), "open connections continue");
     client.leave().unwrap();
     serving.signal(&["TERM"]);
     let log = serving.ended().log;
@@ -258,7 +258,7 @@ fn a_server_over_an_older_store_says_so_once_and_ends_with_status_3() {
     assert_eq!(log.matches(told).count(), 1, "{log}");
     until("the client has dropped its cache", || client.cached(1..2).unwrap().is_none());
     let serving = setup.serve_at(&at, &[]);
-    assert_eq!(client.put(1, Value::from(3)), Ok(Outcome::Applied), "it has joined anew");
+    assert_eq!(client.put(1, Value::from(3)), Ok(Outcome::Applied), "it has joined again");
     drop(serving);
 }
 
@@ -368,9 +368,9 @@ fn what_is_dangerous_or_half_said_is_refused() {
         assert!(errors(&output).contains(told), "{words:?}: {}", errors(&output));
     };
     refused(&["config", "--listen", "10.0.0.5:7400"], "tls:10.0.0.1:7400");
-    refused(&["config", "--listen", "plain:10.0.0.5:7400"], "say --plain-beyond-loopback");
-    refused(&["config", "--status", "plain:0.0.0.0:7401"], "say --plain-beyond-loopback");
-    refused(&["config", "--users", "1001"], "users and what each may say");
+    refused(&["config", "--listen", "plain:10.0.0.5:7400"], "give --plain-beyond-loopback");
+    refused(&["config", "--status", "plain:0.0.0.0:7401"], "give --plain-beyond-loopback");
+    refused(&["config", "--users", "1001"], "users and what each may send");
     refused(&["config", "--table", "a table"], "1 to 64 letters");
     let listen = ["serve", "--listen", "tls:127.0.0.1:0", "--status", "off", "--store"];
     let store = setup.file("other.db");

@@ -112,7 +112,7 @@ impl HeldPicture<'_> {
         clients
     }
 
-    /// The labels of the axis, and its parts, each of which a click shows alone.
+    /// The labels of the axis, and its parts, each of which a click shows by itself.
     fn lines(&self, svg: &mut Markup, axis: &Axis, bottom: f64) {
         for label in axis.labels() {
             let (x, y, words) = (axis.x(label), bottom + 14.0, end_in_words(label));

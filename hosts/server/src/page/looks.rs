@@ -1,9 +1,9 @@
-//! Looks at who holds what, for pictures: not more of them than a server's loop has time for.
+//! Looks at who holds what, for pictures: no more than the server's loop has time for.
 //!
 //! The server goes through its whole table for each client, and a page is read again each second by
 //! anybody who watches. So all who watch share one look at each range, which a thread makes again
-//! for as long as somebody asks. After each part of it, that thread leaves the loop alone for so
-//! long that all looks take less than a hundredth of its time.
+//! for as long as somebody asks. After each part of it, that thread pauses for long enough that all
+//! looks take less than one percent of the loop's time.
 use krl::{HeldPage, HeldRun, HeldSearch, LocksError, Monitor};
 use std::collections::BTreeMap;
 use std::ops::Range;
@@ -13,13 +13,13 @@ use std::time::{Duration, Instant};
 use tokio::sync::Notify;
 use tokio::time::timeout;
 
-/// A look begins so long after the one before, if there is time for it.
+/// The time from one look to the next, if there is time for it.
 const PACE: Duration = Duration::from_millis(500);
 
 /// How many clients a server may have.
 const CLIENTS: usize = 64;
 
-/// Looks take one part in so many of the loop's time.
+/// Looks take one part in this many of the loop's time.
 const SHARE: u32 = 125;
 
 /// The most bars of a picture.
@@ -28,7 +28,7 @@ const MOST: usize = 1000;
 /// The most ranges that are looked at.
 const MOST_VIEWS: usize = 8;
 
-/// A range for which nobody has asked for so long is looked at no more.
+/// A range for which nobody has asked for this long is no longer looked at.
 const FORGOTTEN: Duration = Duration::from_secs(10);
 
 /// How long those who ask first wait for a look to be whole.
@@ -86,7 +86,7 @@ struct Seen {
     runs: Vec<HeldRun>,
 }
 
-/// For how long the loop is left alone after it was busy for so long with a look.
+/// How long to pause after a look that kept the loop busy for this time.
 fn rest_after(took: Duration) -> Duration {
     took * (SHARE - 1)
 }
@@ -282,8 +282,8 @@ impl View {
     }
 }
 
-/// Puts the runs in order, and leaves out those after the first so many, each with all that begin
-/// where it does. It answers where those begin, if there are any.
+/// Puts the runs in order, and leaves out those after the first `most`, and all that begin where
+/// the first of these does. It answers where those begin, if there are any.
 fn cut(runs: &mut Vec<HeldRun>, most: usize) -> Option<u64> {
     runs.sort_unstable();
     let next = runs.get(most)?.lo;

@@ -28,7 +28,7 @@ pub struct Overview<'a> {
     pub servers: String,
 }
 
-/// Older looks than this are said to be old.
+/// Looks older than this are marked as old.
 const OLD: Duration = Duration::from_secs(2);
 
 pub const STYLE: &str = concat!(include_str!("overview.css"), include_str!("picture.css"));

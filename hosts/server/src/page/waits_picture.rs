@@ -57,7 +57,7 @@ pub fn text(waits: &[Wait]) -> String {
     sentences.join(". ") + "."
 }
 
-/// What is said of each circle.
+/// The text of each circle.
 pub fn alarms(waits: &[Wait]) -> Vec<String> {
     let alarm = |group: &Vec<u8>| {
         let clients = list(group);

@@ -77,12 +77,12 @@ impl AccessSettings {
         }
         Err(BadSetting::new(format!(
             "{name} is '{address}', which other machines reach, and whoever can connect there can \
-             speak for any client: use an address that begins with tls:, or say {}",
+             speak for any client: use an address that begins with tls:, or give {}",
             key::PLAIN.flag
         )))
     }
 
-    /// Refuses users that no address lets in: the system tells them over a Unix socket only.
+    /// Refuses users that no address lets in: the system identifies them over a Unix socket only.
     pub(super) fn check_users(&self, listen: &Address) -> Result<(), BadSetting> {
         if self.users.value.0.is_none() || matches!(listen, Address::Unix(_)) {
             return Ok(());

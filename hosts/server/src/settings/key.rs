@@ -57,7 +57,7 @@ pub const USERS: Key = Key {
     variable: "KRL_USERS",
     id: "users",
     default: "",
-    expected: "users and what each may say, as 1001=3,4 or 1001=3 1002=operator",
+    expected: "users and what each may send, such as 1001=3,4 or 1001=3 1002=operator",
 };
 pub const PLAIN: Key = Key {
     name: "plain-beyond-loopback",

@@ -57,7 +57,7 @@ pub enum LeaseLength {
     Of(Leases),
 }
 
-/// How much further the server's clock may go than a client's, in a hundred.
+/// How much further the server's clock may go than a client's, in percent.
 #[derive(Clone, Copy, Debug, PartialEq, Eq)]
 pub struct Drift(u32);
 
@@ -83,7 +83,7 @@ pub enum StatusAddress {
 #[derive(Clone, Debug, PartialEq, Eq)]
 pub struct StatusPorts(pub Vec<String>);
 
-/// Users of the machine, by number, and what each may say over a Unix socket.
+/// Users of the machine, by number, and what each may send over a Unix socket.
 #[derive(Clone, Debug, PartialEq, Eq)]
 pub struct Users(pub Vec<(u32, Identity)>);
 
@@ -115,7 +115,7 @@ pub fn parse_store(text: &str) -> Option<StorePlace> {
 }
 
 /// A setting that may be left out, as its default is.
-#[allow(clippy::unnecessary_wraps, reason = "it stands beside parsers that may refuse")]
+#[allow(clippy::unnecessary_wraps, reason = "it has the form of parsers that may refuse")]
 pub fn parse_optional_path(text: &str) -> Option<Optional<PathBuf>> {
     Some(Optional((!text.is_empty()).then(|| text.into())))
 }

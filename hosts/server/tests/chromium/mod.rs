@@ -1,4 +1,4 @@
-//! A browser without a window, told what to do by its own protocol for debuggers.
+//! A browser without a window, driven by its own protocol for debuggers.
 use serde_json::{Value, json};
 use std::env;
 use std::fs;
@@ -11,7 +11,7 @@ use std::thread;
 use std::time::{Duration, Instant};
 use tempfile::TempDir;
 
-/// How long the browser may take to do what it is told.
+/// How long the browser may take to do what it is asked.
 const PATIENCE: Duration = Duration::from_secs(60);
 
 /// The browser reads commands from descriptor 3 and writes answers to descriptor 4, with a 0 after
@@ -76,7 +76,7 @@ impl Browser {
         thread::spawn(move || {
             let texts = output.split(0).map_while(Result::ok);
             for answer in texts.filter_map(|text| serde_json::from_slice(&text).ok()) {
-                // A test that has ended hears no more.
+                // A test that has ended no longer listens.
                 let _ = send.send(answer);
             }
         });
@@ -127,7 +127,7 @@ impl Browser {
         self.call("Runtime.evaluate", &parameters)["result"]["value"].clone()
     }
 
-    /// Waits until an expression is true, and says how long that took.
+    /// Waits until an expression is true, and returns how long that took.
     pub fn until(&mut self, expression: &str) -> Duration {
         let began = Instant::now();
         while self.evaluate(expression) != true {

@@ -72,12 +72,12 @@ impl Serving {
         Serving::start_by(&mut command)
     }
 
-    /// Starts a server, at free ports if nothing else is said, and waits until it serves.
+    /// Starts a server, at free ports by default, and waits until it serves.
     pub fn start_by(command: &mut Command) -> Serving {
         Serving::start_until(command, "ready")
     }
 
-    /// Starts a server, at free ports if nothing else is said, and waits until it reports this.
+    /// Starts a server, at free ports by default, and waits until it reports this.
     pub fn start_until(command: &mut Command, told: &str) -> Serving {
         for flag in ["--listen", "--status"] {
             if !command.get_args().any(|word| word == flag) {
@@ -91,7 +91,7 @@ impl Serving {
         let address = loop {
             let line = lines.next().expect("the server ended").unwrap();
             let event: Value = serde_json::from_str(&line).expect(&line);
-            // One that stands by listens nowhere, and says where another one serves.
+            // One that stands by listens nowhere, and reports where another one serves.
             let address = event["address"].as_str().or(event["leader"].as_str());
             match event["message"].as_str() {
                 Some("status port") => status = address.unwrap_or_default().to_string(),
@@ -123,7 +123,7 @@ impl Serving {
         assert_eq!(client.insert(7, krl::Value::from(7)), Ok(Outcome::Applied));
         self.signal(&["KILL"]);
         self.ended();
-        // It can't say Bye, as there is no server.
+        // It can't send Bye, as there is no server.
         drop(client);
         Serving::start(store)
     }
@@ -160,7 +160,7 @@ impl Serving {
     }
 }
 
-/// A service manager, which is told the state of a service.
+/// A service manager, which receives the state of a service.
 pub struct ServiceManager {
     socket: UnixDatagram,
     path: PathBuf,
@@ -174,12 +174,12 @@ impl ServiceManager {
         ServiceManager { socket, path }
     }
 
-    /// Has the service of this command tell its state here.
+    /// Has the service of this command send its state here.
     pub fn runs<'c>(&self, command: &'c mut Command) -> &'c mut Command {
         command.env("NOTIFY_SOCKET", &self.path)
     }
 
-    /// What the service says next, as lines.
+    /// What the service reports next, as lines.
     pub fn next(&self) -> Vec<String> {
         let mut text = [0; 1000];
         let length = self.socket.recv(&mut text).unwrap();
