@@ -20,7 +20,7 @@ stands for 2^63 - 1.
 Values have at most 32 bytes. A value is text, or
   hex:cafe    the bytes ca fe
   u64:5       the eight bytes of the number 5, the highest first
-  text:u64:5  the text behind text:
+  text:u64:5  the text after text:
 --hex and --number-values read and show values without a prefix as hexadecimal
 digits, or as numbers (and x with digits for what is no number, as the scripts
 of krl do).
@@ -32,8 +32,8 @@ printed as u64: and a number if it has eight bytes, else as hex: and digits.
 The client's number: one process at a time is the client of a number, from 0
 to 63. Without --number the first free one from 63 down to 56 is taken, so
 eight commands run at once. Lock files in $XDG_STATE_HOME/krl, or
-~/.local/state/krl, tell which are free on this machine to this user. If the
-server tells that another user or machine has a number, the next one is tried
+~/.local/state/krl, show which are free for this user on this machine. If the
+server reports that another user or machine has a number, the next one is tried
 after a second: give --number, or KRL_NUMBER, to each of them, as 40-47.
 --number auto takes any free number.
 
@@ -178,8 +178,8 @@ impl Options {
         }))
     }
 
-    /// How answers are printed. `--json` is the more particular word, even if `KRL_FORMAT` says
-    /// otherwise.
+    /// How answers are printed. `--json` is the more particular word, even if `KRL_FORMAT` has
+    /// another value.
     pub fn format(&self) -> Format {
         if self.json { Format::Json } else { self.format }
     }
@@ -278,7 +278,7 @@ pub enum ClientCommand {
     Watch {
         #[command(flatten)]
         range: RangeWords,
-        /// End after so many changes
+        /// End after this many changes
         #[arg(long, value_name = "N")]
         count: Option<u64>,
     },
@@ -286,7 +286,7 @@ pub enum ClientCommand {
     Hold {
         #[command(flatten)]
         range: RangeWords,
-        /// Nobody else holds it with --update either; others still read it
+        /// Nor does anybody else hold it with --update; others still read it
         #[arg(long)]
         update: bool,
         /// The command and its arguments
@@ -334,7 +334,7 @@ impl RangeWords {
 /// A range in one word or two, or all keys.
 #[derive(Clone, Debug, Args)]
 pub struct OptionalRangeWords {
-    /// The least key, or the whole range as LO..HI; all keys if nothing is said
+    /// The least key, or the whole range as LO..HI; all keys by default
     #[arg(value_name = "LO")]
     first: Option<String>,
     /// One past the greatest key

@@ -106,7 +106,7 @@ fn refuse_rows(table: &Table, keys: &Range<u64>) -> Result<(), Failure> {
     )))
 }
 
-/// Makes the rows, and says the keys of those that it has made.
+/// Makes the rows, and returns the keys of those that it has made.
 fn make_rows(
     table: &Table,
     keys: &Range<u64>,
@@ -135,8 +135,8 @@ fn delete_rows(table: &Table, mut made: Range<u64>) -> Result<(), Failure> {
     Ok(())
 }
 
-/// Lets each thread of each client work until the time is over, and says what was measured in how
-/// long.
+/// Lets each thread of each client work until the time is over, and returns what was measured, and
+/// in how much time.
 fn measure(
     sessions: &[Session],
     keys: &Range<u64>,

@@ -86,12 +86,12 @@ impl From<Error> for Failure {
         match refused {
             Error::TimedOut => Failure::NoAnswer(
                 "the server did not answer in time: it is away, or another client holds what \
-                 this command needs (its status page says who waits for whom)"
+                 this command needs (its status page shows who waits for whom)"
                     .into(),
             ),
             Error::NotSent(Unsent::TimedOut) => Failure::NoAnswer(
                 "the write was not made: it was not sent in time, since the server is away, or \
-                 another client holds what it needs (its status page says who waits for whom)"
+                 another client holds what it needs (its status page shows who waits for whom)"
                     .into(),
             ),
             Error::Unserved(why) => Failure::NoAnswer(why.to_string()),
@@ -153,7 +153,7 @@ impl Failure {
         self.reworded(|why| format!("shard {shard}: {why}"))
     }
 
-    /// The same failure in other words, if it is told in words.
+    /// The same failure in other words, if it is reported in words.
     pub fn reworded(self, how: impl FnOnce(String) -> String) -> Failure {
         match self {
             Failure::Refused(why) => Failure::Refused(how(why)),
@@ -174,7 +174,7 @@ impl Failure {
             }
             JoinError::NoAnswer(None) => Failure::NoAnswer(format!(
                 "the server at {server} did not answer in time: it may wait for clients that it \
-                 misses after a restart, which its status page tells, or know a later client of \
+                 misses after a restart, which its status page shows, or know a later client of \
                  number {number}"
             )),
             JoinError::Unserved(
@@ -194,7 +194,7 @@ impl Failure {
     }
 }
 
-/// An error and what caused it, as one line. Some errors tell their causes themselves.
+/// An error and what caused it, as one line. Some errors include their causes themselves.
 pub fn sentence(error: &dyn std::error::Error) -> String {
     let mut text = error.to_string();
     let mut cause = error.source();

@@ -1,4 +1,4 @@
-//! The client of krl for the command line. `krl-client --help` says what it does.
+//! The client of krl for the command line. `krl-client --help` describes what it does.
 mod arguments;
 mod bench;
 mod commands;

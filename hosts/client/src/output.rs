@@ -57,7 +57,7 @@ impl Printer {
         }
     }
 
-    /// What a watched range has after so many changes.
+    /// What a watched range has after this many changes.
     pub fn change(self, number: u64, rows: &[Row]) -> Result<(), Failure> {
         match self.format {
             Format::Text => {

@@ -23,7 +23,7 @@ pub struct Station<'p> {
 }
 
 impl Place {
-    /// The place that the options say: a map comes before a server.
+    /// The place that the options name: a map comes before a server.
     pub fn of(options: &Options, keys: Range<u64>) -> Result<Place, Failure> {
         match &options.map {
             None => Ok(Place::One(options.with_tls(options.server.clone())?)),

@@ -74,12 +74,12 @@ fn read_line(lines: &mut impl BufRead, place: u64) -> Result<Option<String>, Fai
     String::from_utf8(line.into()).map(Some).map_err(|error| told(&error))
 }
 
-/// Refuses a line of so many bytes if it is too long.
+/// Refuses a line of this many bytes if it is too long.
 fn refuse_long(length: usize) -> Result<(), Failure> {
     if length <= LONGEST_LINE {
         return Ok(());
     }
-    let why = format!("the line is longer than {LONGEST_LINE} bytes, and no command is so long");
+    let why = format!("the line is longer than {LONGEST_LINE} bytes: no command is that long");
     Err(Failure::Usage(why))
 }
 
@@ -201,7 +201,7 @@ mod tests {
             let ended = run_lines(lines, &mut |_| Ok(0)).unwrap_err();
             (ended.status(), ended.to_string())
         };
-        let expected = "line 1: the line is longer than 4096 bytes, and no command is so long";
+        let expected = "line 1: the line is longer than 4096 bytes: no command is that long";
         let expected = (2, expected.to_string());
         assert_eq!(told(&mut line(LONGEST_LINE + 1).as_bytes()), expected);
         assert_eq!(told(&mut io::BufReader::new(Endless(0))), expected);

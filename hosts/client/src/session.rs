@@ -15,7 +15,7 @@ use std::path::{Path, PathBuf};
 use std::thread;
 use std::time::{Duration, Instant};
 
-/// How long a number of several is tried that another process has, as the server tells.
+/// How long one of several numbers is tried if the server reports that another process has it.
 const IN_USE: Duration = Duration::from_secs(1);
 
 /// A client that has joined.
@@ -42,7 +42,7 @@ impl Session {
         sessions.pop().ok_or_else(|| none_is_free(options))
     }
 
-    /// Joins so many clients, the greatest free numbers first. Those that other users or machines
+    /// Joins this many clients, the greatest free numbers first. Those that other users or machines
     /// have come last.
     pub fn join_some(
         options: &Options,
@@ -129,7 +129,7 @@ fn try_number(
     }
 }
 
-/// Joins as the client of this number, and waits so long for another process that has it.
+/// Joins as the client of this number, and waits for this time for another process that has it.
 fn join_as(
     options: &Options,
     place: &Place,

@@ -80,7 +80,7 @@ impl Signals {
     }
 
     /// Waits while a signal is obeyed. It does not come back if that ends the process: what a
-    /// command then says of its client, which has left, is no news.
+    /// command then reports of its client, which has left, does not matter.
     pub fn settle(&self) {
         drop(lock(&self.0.taker));
     }
@@ -101,7 +101,7 @@ impl Signals {
     fn end_process(&self, signal: i32) -> ! {
         let end = Instant::now() + FAREWELL;
         let tables: Vec<_> = lock(&self.0.tables).iter().filter_map(WeakTable::upgrade).collect();
-        // All say Bye before one is waited for; and the process ends in any case.
+        // All send Bye before one is waited for; and the process ends in any case.
         for table in &tables {
             let _ = table.leave(Duration::ZERO);
         }

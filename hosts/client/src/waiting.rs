@@ -5,10 +5,10 @@ use std::sync::mpsc::{RecvTimeoutError, channel};
 use std::thread;
 use std::time::Duration;
 
-/// Who waits longer is reported, and for what.
+/// A wait that takes longer is reported.
 const LONG: Duration = Duration::from_secs(1);
 
-/// Does something. A user at a terminal is told what it waits for, if that takes long.
+/// Does something. If that takes long, a user at a terminal learns what it waits for.
 pub fn told_if_long<T>(waits_for: impl FnOnce() -> String + Send, does: impl FnOnce() -> T) -> T {
     if !io::stderr().is_terminal() {
         return does();
@@ -26,7 +26,7 @@ pub fn told_if_long<T>(waits_for: impl FnOnce() -> String + Send, does: impl FnO
     })
 }
 
-/// Tells a user at a terminal what the program does now.
+/// Shows a user at a terminal what the program does now.
 pub fn tell_at_terminal(what: &str) {
     if io::stderr().is_terminal() {
         tell(what);

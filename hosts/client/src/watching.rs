@@ -10,7 +10,7 @@ use std::time::Duration;
 /// How often a watch looks whether a signal ends it.
 const LOOK: Duration = Duration::from_millis(200);
 
-/// Prints the range, and again after each change, so many times or until a signal.
+/// Prints the range, and again after each change, this many times or until a signal.
 ///
 /// Between two changes the client holds the range, and the server is asked nothing.
 pub fn watch(context: &Context<'_>, keys: &Range<u64>, count: Option<u64>) -> Result<(), Failure> {

@@ -84,7 +84,7 @@ fn nothing_of_the_warm_up_is_counted() {
     let world = World::new("warming");
     let words = ["bench", "--json", "--warm-up", "3600", "--keys", "20", "--mix", "50,50"];
     let program = world.spawn(&words);
-    wait_for("it writes, behind its inserts", || world.server.status().commits > 3 * KEYS);
+    wait_for("it writes, after its inserts", || world.server.status().commits > 3 * KEYS);
     signal(&program, Signal::SIGINT);
     let ended = Ended::from(program.wait_with_output().unwrap());
     assert_eq!(ended.status, 0, "{ended:?}");

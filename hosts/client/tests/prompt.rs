@@ -114,7 +114,7 @@ fn commands_are_typed_one_by_one() {
 #[test]
 fn a_user_is_told_for_what_the_program_waits() {
     let world = World::new("waits-at-a-terminal");
-    // A socket that takes connections and says nothing.
+    // A socket that takes connections and sends nothing.
     let silent = TcpListener::bind("127.0.0.1:0").unwrap();
     let at = silent.local_addr().unwrap().to_string();
     let mut prompt = Prompt::start_with(&world, &["--server", &at, "--timeout", "3s", "get", "5"]);

@@ -84,7 +84,7 @@ fn a_watch_that_sees_no_change_asks_the_server_nothing() {
     let before = world.server.status();
     thread::sleep(Duration::from_secs(2));
     let after = world.server.status();
-    // A client says four times a second that it is there.
+    // A client sends a sign of life four times a second.
     let taken = after.taken - before.taken;
     assert!(taken <= 12, "{taken} messages in two seconds");
     signal(&program, Signal::SIGINT);
@@ -118,7 +118,7 @@ fn a_watch_outlives_a_writer_that_holds_the_range_for_long() {
     let pin = client.pin(10..20).unwrap();
     assert_eq!(client.put(15, value("b")), Ok(Outcome::Applied));
     thread::sleep(Duration::from_millis(1500));
-    assert!(program.try_wait().unwrap().is_none(), "the watch goes on");
+    assert!(program.try_wait().unwrap().is_none(), "the watch continues");
     drop(pin);
     assert_eq!(next(&mut lines, 2), ["# change 1, rows 1", "15=b"]);
     assert_eq!(program.wait().unwrap().code(), Some(0));

@@ -12,14 +12,14 @@ const PER_SECOND: u8 = 10;
 pub struct Progress(ProgressBar);
 
 impl Progress {
-    /// Of a work of so many steps, or of an unknown number.
+    /// Of work of this many steps, or of an unknown number.
     pub fn new(what: impl Into<Cow<'static, str>>, steps: Option<u64>) -> Progress {
         let with_bar = "{msg} {wide_bar} {percent}% {eta}";
         let style = if steps.is_some() { with_bar } else { "{msg} {pos} {elapsed}" };
         Progress::styled(what, steps, style)
     }
 
-    /// Of the reading of a file of so many bytes.
+    /// Of the reading of a file of this many bytes.
     pub fn of_bytes(what: impl Into<Cow<'static, str>>, bytes: Option<u64>) -> Progress {
         let with_bar = "{msg} {wide_bar} {bytes} of {total_bytes} {eta}";
         let style = if bytes.is_some() { with_bar } else { "{msg} {bytes} {elapsed}" };

@@ -36,7 +36,7 @@ enum Why {
     Io(io::Error),
 }
 
-/// A line of JSON. What else it has is refused: it may be a file of something else.
+/// A line of JSON. Anything else in it is refused: it may be a file of something else.
 #[derive(Deserialize)]
 #[serde(deny_unknown_fields)]
 struct Line {

@@ -11,8 +11,8 @@ pub enum ValueForm {
     Text,
     /// Hexadecimal digits.
     Hex,
-    /// Numbers of eight bytes, the highest first, and `x` with hexadecimal digits for all else, as
-    /// the scripts of krl have them.
+    /// Numbers of eight bytes, the highest first, and `x` with hexadecimal digits for everything
+    /// else, as the scripts of krl have them.
     Number,
 }
 

@@ -61,7 +61,8 @@ pub struct BenchWords {
         value_parser = clap::value_parser!(u64).range(1..=65_536)
     )]
     pub rows: u64,
-    /// At most so many calls a second, of all threads together: as many as they can by default
+    /// At most this many calls a second, of all threads together; by default as many as they can
+    /// make
     #[arg(
         long,
         value_name = "N",

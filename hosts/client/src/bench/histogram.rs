@@ -1,7 +1,7 @@
 //! How often calls took how long.
 use std::time::Duration;
 
-/// Each power of two is divided into so many buckets, as a power of two: a time is told by 3 %.
+/// The logarithm of the number of buckets for each power of two: a time is accurate to 3 %.
 const DIVISION_BITS: u32 = 5;
 
 /// A bucket for each division of each power of two of a `u64`.
@@ -59,7 +59,7 @@ impl Histogram {
         Duration::from_nanos(self.max)
     }
 
-    /// The time that so many of a thousand calls did not exceed, rounded up to the end of its
+    /// The time that this many of a thousand calls did not exceed, rounded up to the end of its
     /// bucket; zero if nothing was counted.
     pub fn quantile(&self, of_thousand: u64) -> Duration {
         let rank = (u128::from(self.count) * u128::from(of_thousand)).div_ceil(1000).max(1);

@@ -11,7 +11,7 @@ use std::time::Duration;
 /// The quantiles that are reported: of a thousand calls, and their names.
 const QUANTILES: [(u64, &str); 3] = [(500, "p50"), (990, "p99"), (999, "p99.9")];
 
-/// Prints what was measured in so long.
+/// Prints what was measured in this time.
 pub fn print(
     format: Format,
     words: &BenchWords,

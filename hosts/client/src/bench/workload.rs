@@ -47,7 +47,7 @@ impl Span {
     }
 }
 
-/// A value of so many bytes, 32 at most.
+/// A value of this many bytes, 32 at most.
 pub fn random_value(random: &mut impl Rng, size: u8) -> Value {
     let bytes: [u8; MAX_VALUE_BYTES] = random.r#gen();
     Value::try_from(&bytes[..MAX_VALUE_BYTES.min(size.into())]).unwrap_or_default()
@@ -100,8 +100,8 @@ struct Pace {
 }
 
 impl Pace {
-    /// That of one of so many threads which make so many calls a second together. It begins at a
-    /// random moment, so that they do not call all at once.
+    /// The pace of one of `threads` threads that together make `rate` calls a second. It begins at
+    /// a random moment, so that they do not call all at once.
     fn of(rate: u32, threads: u32, random: &mut impl Rng) -> Pace {
         let every = Duration::from_secs(threads.into()) / rate;
         Pace { every, next: Instant::now() + every.mul_f64(random.r#gen()) }
