@@ -36,7 +36,7 @@ fn warn_without(library: &Path, remedy: &str) {
 }
 
 fn link(folder: &Path, name: &str) {
-    // If nothing was found, the warning says what to do.
+    // If nothing was found, the warning describes what to do.
     if folder != Path::new("") {
         println!("cargo:rustc-link-search=native={}", folder.display());
     }

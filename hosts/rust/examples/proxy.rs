@@ -42,7 +42,7 @@ fn main() -> Done<()> {
     }
 }
 
-/// Answers all who connect, each in a thread of its own. They share the client and its cache.
+/// Answers all who connect, each in its own thread. They share the client and its cache.
 fn serve(client: &Client, listener: &UnixListener) -> Done<()> {
     thread::scope(|scope| {
         for stream in listener.incoming() {

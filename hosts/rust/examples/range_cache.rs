@@ -109,7 +109,7 @@ fn node(number: u8, folder: &Path) -> Done {
             fetched += 1;
             match client.read(keys.clone()) {
                 Ok(rows) => rows,
-                // The server is down, and what the node lacks nobody can tell just now.
+                // The server is down, and what the node lacks can't be known just now.
                 Err(krl::Error::TimedOut | krl::Error::Unserved(_)) => continue,
                 Err(refused) => return Err(refused.into()),
             }

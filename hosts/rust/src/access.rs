@@ -1,5 +1,5 @@
 //! Whom a server lets in.
-#[cfg_attr(not(any(feature = "tls", test)), expect(dead_code, reason = "TLS alone reads names"))]
+#[cfg_attr(not(any(feature = "tls", test)), expect(dead_code, reason = "only TLS reads names"))]
 pub(crate) mod identity;
 
 use crate::access::identity::Identity;
@@ -15,10 +15,10 @@ const ROOT: u32 = 0;
 
 /// Whom a server lets in, and what it shows them.
 ///
-/// Over **TLS** the certificate of a peer says who it is. Over a **Unix socket** its user does: the
-/// server's own user and the superuser may say all, and others what the list of users says. By
-/// **plain TCP** nobody can be told from anybody: whoever can connect may say all. So a server does
-/// not listen there at an address beyond the loopback, unless that is allowed.
+/// Over **TLS** the certificate of a peer names who it is. Over a **Unix socket** its user does:
+/// the server's own user and the superuser may send everything, and others what the list of users
+/// allows. By **plain TCP** nobody can be identified: whoever can connect may send everything. So a
+/// server does not listen there at an address beyond the loopback, unless that is allowed.
 ///
 /// # Examples
 ///
@@ -62,9 +62,9 @@ impl Access {
         Access { tls: Some(config), ..self }
     }
 
-    /// A user of this machine, by number, who may connect over a Unix socket, and what it may say
-    /// there. If there is one, every user of the machine may connect to the socket, and those
-    /// who are not named may say nothing.
+    /// A user of this machine, by number, who may connect over a Unix socket, and what it may send
+    /// there. If there is one, every user of the machine may connect to the socket, and those who
+    /// are not named may send nothing.
     pub fn user(mut self, user: u32, identity: Identity) -> Access {
         self.users.push((user, identity));
         self
@@ -115,7 +115,7 @@ impl Access {
         Ok(self.of_user(user_at(stream)?, own_user()?))
     }
 
-    /// What this user may say to a server of the own user.
+    /// What this user may send to a server of the own user.
     fn of_user(&self, user: u32, own: u32) -> Identity {
         if user == own || user == ROOT {
             return Identity::everybody();

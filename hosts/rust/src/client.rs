@@ -40,23 +40,23 @@ use std::ops::{Range, RangeBounds};
 use std::sync::Arc;
 use std::time::{Duration, Instant};
 
-/// A client of a number from 0 to 63. Its calls may come from several threads; a thread of its own
-/// keeps the connection, makes it again when it breaks, and sends again what is not answered.
+/// A client of a number from 0 to 63. Its calls may come from several threads; its own thread keeps
+/// the connection, makes it again when it breaks, and sends again what is not answered.
 ///
 /// A clone is the same client: it has the same cache, the same pins and the same timeout.
 ///
 /// If the server's store went back, since an older copy of it was brought back, the client drops
 /// its cache as if it had crashed, and joins again: those who wait just then get
 /// [`Error::StoreWentBack`]. Until it has joined, `cached` answers `None`, and other calls wait. A
-/// store without a history says nothing about it.
+/// store without a history reports nothing about it.
 ///
 /// If the server serves another store than the one that the client has seen, the client drops its
 /// cache too, and calls that wait just then end with `Unserved` by [`Refusal::OtherStore`]. It
 /// joins again when it finds a server of its own store, and no other one.
 ///
-/// A server with leases lets the client answer from its cache only for so long after its last word.
-/// When its lease ends the client drops its cache and joins again, as above: only a write that is
-/// on its way ends with [`Error::LeaseEnded`], and all other calls continue.
+/// A server with leases lets the client answer from its cache only for a limited time after
+/// the client's last word. When its lease ends the client drops its cache and joins again, as above:
+/// only a write that is on its way ends with [`Error::LeaseEnded`], and all other calls continue.
 ///
 /// When its last clone and its last pin are dropped, the client sends Bye, and waits a second at
 /// most until the server has kept that. A process that ends without a Bye leaves what it held:
@@ -103,8 +103,8 @@ impl Client {
         self.shared.link()
     }
 
-    /// From now on, each call waits so long for an answer, a year at most. A call that waits
-    /// already continues as it began.
+    /// From now on, each call waits at most this long for an answer, and a year at most. A call
+    /// that waits already continues as it began.
     pub fn set_timeout(&self, timeout: Duration) {
         self.shared.set_timeout(timeout);
     }
@@ -115,8 +115,8 @@ impl Client {
         self.shared.timeout()
     }
 
-    /// The same calls, each of which waits so long for an answer, a year at most. Calls of other
-    /// threads wait as before.
+    /// The same calls, each of which waits at most this long for an answer, and a year at most.
+    /// Calls of other threads wait as before.
     ///
     /// ```no_run
     /// # use std::time::Duration;
@@ -304,8 +304,8 @@ impl Client {
     /// too.
     ///
     /// It takes the range in ascending order and pins what it has got, so clients that pin one
-    /// range each do not wait for one another for ever. Who pins several should take them in
-    /// ascending order.
+    /// range each do not wait for one another forever. A client that pins several should take them
+    /// in ascending order.
     ///
     /// # Errors
     ///
@@ -443,7 +443,7 @@ impl Client {
     }
 
     /// How long the client may still answer from its cache if it hears nothing more of the server;
-    /// or `None` if for ever, as from a server without leases.
+    /// or `None` if forever, as from a server without leases.
     #[must_use]
     pub fn lease_left(&self) -> Option<Duration> {
         self.link().with_jobs(|jobs| jobs.lease_left())

@@ -3,7 +3,7 @@
 //!
 //! The protocol's rules are the library's, `krl_embed`, whose functions are proved. This crate is
 //! the host around it: it has the sockets, the threads and the disk. Nothing of it is proved.
-//! `docs/EMBEDDING.md` says what a host has to do.
+//! `docs/EMBEDDING.md` describes what a host has to do.
 //!
 //! In the source, start at `client` or `server`. Both stand on `proved`, the library of the rules,
 //! and send what `wire` spells over `net`.

@@ -1,4 +1,4 @@
-//! What a table is, and what is said of it: rows, ranges, changes, and why a call is refused.
+//! What a table is, and what is known of it: rows, ranges, changes, and why a call is refused.
 pub(crate) mod batch;
 pub(crate) mod change;
 pub(crate) mod client_number;

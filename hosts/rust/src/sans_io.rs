@@ -1,5 +1,5 @@
 //! A client without sockets, threads and clocks, for hosts that have their own: bytes come in,
-//! bytes go out, and each call is told what time it is. The lock file of its number is inside.
+//! bytes go out, and each call gets the time. The lock file of its number is inside.
 //!
 //! `hosts/capi` has it for C, by `krl_host.h`. Nothing here is a part of the interface in Rust,
 //! whose client is [`crate::Client`].
@@ -237,7 +237,7 @@ impl Client {
         self.at(now).jobs().unpin(pin);
     }
 
-    /// Waits until what it knows of the range is no more these rows.
+    /// Waits until what it knows of the range is no longer these rows.
     pub fn watch(&mut self, now: Duration, keys: Range<u64>, rows: Vec<Row>) -> Call<()> {
         Call(self.at(now).jobs().watch(keys, rows))
     }

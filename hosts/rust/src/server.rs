@@ -71,8 +71,8 @@ impl Server {
         self.status.lock().unwrap_or_else(PoisonError::into_inner).clone()
     }
 
-    /// A view of the server that may live in another thread: of its status, and of all else that it
-    /// shows.
+    /// A view of the server that may live in another thread: of its status, and of everything else
+    /// that it shows.
     #[must_use]
     pub fn monitor(&self) -> Monitor {
         Monitor {
@@ -83,8 +83,8 @@ impl Server {
         }
     }
 
-    /// Whether it still serves. One that does not has failed: its status shows why, and `stop` says
-    /// so.
+    /// Whether it still serves. One that does not has failed: its status shows why, and `stop`
+    /// returns the error.
     #[must_use]
     pub fn is_running(&self) -> bool {
         self.thread.as_ref().is_some_and(|thread| !thread.is_finished())
@@ -100,7 +100,7 @@ impl Server {
         Err(ServeError::Panicked)
     }
 
-    /// Ends the server in order, and says how it ended: the messages that wait are judged, what
+    /// Ends the server in order, and returns how it ended: the messages that wait are judged, what
     /// they change is committed, and the answers are written, as far as the peers take them within
     /// half a second. What it kept stays; its clients answer from their caches.
     ///

@@ -102,10 +102,10 @@ pub trait Store: Send {
     fn snapshot(&mut self) -> Result<Snapshot, StoreError>;
 
     /// Each start of a server that is committed, and how many batches were committed since. A store
-    /// that has a history draws the bits of a start by chance as it commits [`Change::Started`],
-    /// and counts each batch as it commits it, in one transaction with the changes. By it the
-    /// clients notice a copy from before that is brought back. A store without one has `None`, and
-    /// then nobody notices.
+    /// that has a history draws the random bits of a start as it commits [`Change::Started`], and
+    /// counts each batch as it commits it, in one transaction with the changes. By it the clients
+    /// notice a copy from before that is brought back. A store without one has `None`, and then
+    /// nobody notices.
     ///
     /// # Errors
     ///

@@ -1,4 +1,4 @@
-//! What is said on a connection: frames, messages of the library, and frames of the hosts.
+//! What is sent on a connection: frames, messages of the library, and frames of the hosts.
 pub(crate) mod frames;
 pub(crate) mod host_frame;
 pub(crate) mod incoming;

@@ -1,4 +1,4 @@
-//! Connections that hear what no server says, or that one side rejects: what a client makes of one
+//! Connections that hear what no server sends, or that one side rejects: what a client makes of one
 //! of them, and of several.
 mod secure;
 

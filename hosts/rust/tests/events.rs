@@ -53,7 +53,7 @@ impl Lines {
         lines.iter().filter(|line| words.iter().all(|word| line.contains(word))).count()
     }
 
-    /// Waits until so many lines have all the words, for a minute at most.
+    /// Waits until this many lines have all the words, for a minute at most.
     #[track_caller]
     fn expect(&self, count: usize, words: &[&str]) {
         let end = Instant::now() + Duration::from_secs(60);

@@ -90,7 +90,7 @@ fn a_client_of_the_same_shard_is_served_and_every_other_one_is_refused() {
             assert_eq!((ours, theirs), (expected.map(bounds), served.map(bounds)));
         }
         let records = server.monitor().snapshot().unwrap().records;
-        assert_eq!(records.len(), 1, "the library hears the served client alone");
+        assert_eq!(records.len(), 1, "the library hears only the served client");
     }
 }
 
@@ -136,7 +136,7 @@ fn next_frame(stream: &mut TcpStream) -> Option<Vec<u8>> {
     Some(frame)
 }
 
-/// A server that answers signs and knows nothing of shards, and the frames that its clients say.
+/// A server that answers signs and knows nothing of shards, and the frames that its clients send.
 fn heedless_server() -> (SocketAddr, Receiver<Vec<u8>>) {
     let listener = TcpListener::bind("127.0.0.1:0").unwrap();
     let (address, (tell, said)) = (listener.local_addr().unwrap(), channel());

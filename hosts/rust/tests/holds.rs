@@ -90,7 +90,7 @@ fn one_client_at_a_time_pins_a_range_for_update() {
         other.leave().unwrap();
     }
     assert!(second.pin_for_update(0..41).is_ok(), "it lies below");
-    assert_eq!(reader.read(0..300).unwrap().len(), 30, "readers go on");
+    assert_eq!(reader.read(0..300).unwrap().len(), 30, "readers continue");
     drop(pin);
     assert_eq!(second.pin_for_update(50..300).unwrap().0.len(), 25);
 }
@@ -108,7 +108,7 @@ fn a_range_of_no_rows_is_pinned_for_update_by_one() {
     assert!(second.pin_for_update(10..20).is_ok());
 }
 
-/// Each adds one to the same row again and again. None is lost, and none waits for ever.
+/// Each adds one to the same row again and again. None is lost, and none waits forever.
 #[test]
 fn those_who_pin_for_update_and_write_do_not_block_one_another() {
     const CLIENTS: u8 = 4;
@@ -133,7 +133,7 @@ fn those_who_pin_for_update_and_write_do_not_block_one_another() {
 }
 
 /// Each reads the row before it pins it for an update or changes it without a pin. What it reads
-/// puts it in front of nobody, so none waits for ever.
+/// puts it in front of nobody, so none waits forever.
 #[test]
 fn those_who_read_before_they_pin_for_update_do_not_block_one_another() {
     const PINNING: u8 = 2;

@@ -214,7 +214,7 @@ fn who_joined_without_a_lease_is_left_to_an_operator() {
     server.stop().unwrap();
     let again = serve(Listener::bind(&address).unwrap(), &store, T);
     thread::sleep(3 * T);
-    assert!(gone.cached(0..100).unwrap().is_some(), "it answers for ever");
+    assert!(gone.cached(0..100).unwrap().is_some(), "it answers forever");
     let status = again.status();
     assert!(!status.is_serving && status.missing == [0] && status.unleased == [0], "{status}");
     assert_eq!(status.evicted, 0);
@@ -284,7 +284,7 @@ fn a_process_that_starts_again_on_its_machine_waits_for_nothing() {
     let first = folder.join(&network.address(), 0);
     first.read(0..100).unwrap();
     network.cut(true);
-    // Its Bye is lost, as a dead process says none.
+    // Its Bye is lost, as a dead process sends none.
     drop(first);
     let begun = Instant::now();
     let again = folder.join(server.address(), 0);

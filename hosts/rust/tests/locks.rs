@@ -102,7 +102,7 @@ fn a_server_that_has_ended_tells_nothing() {
     assert_eq!(monitor.locks(.., 100), Err(LocksError::Ended));
 }
 
-/// Has a client read again and again from the server, and says how long each read took.
+/// Has a client read again and again from the server, and returns how long each read took.
 fn read_times(client: &Client, ends: &AtomicBool) -> Vec<Duration> {
     let mut times = Vec::new();
     while !ends.load(Ordering::Relaxed) {

@@ -9,7 +9,7 @@ use std::sync::atomic::{AtomicBool, Ordering};
 use std::thread;
 use std::time::{Duration, Instant};
 
-/// A store in memory whose commits hang for as long as it is told.
+/// A store in memory whose commits hang for as long as it is set to.
 #[derive(Debug, Default)]
 struct Hanging {
     store: MemoryStore,

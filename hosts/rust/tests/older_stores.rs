@@ -73,7 +73,7 @@ fn wait_until(is_so: impl Fn() -> bool) -> bool {
     is_so()
 }
 
-/// The server ends by itself, and says that this client has seen what its store lacks.
+/// The server ends by itself, and reports that this client has seen what its store lacks.
 fn ends_by_the_word_of(number: u8, server: Server) {
     assert!(wait_until(|| !server.is_running()), "{}", server.status());
     let status = server.status();
@@ -92,9 +92,9 @@ fn a_server_over_an_older_copy_ends_and_serves_when_it_is_started_again() {
     place.copy("copy.db", "table.db");
     assert_eq!(client.cached(1..2), Ok(Some(vec![row(2)])), "it has heard nothing");
     ends_by_the_word_of(3, place.serve());
-    assert!(wait_until(|| client.cached(1..2).unwrap().is_none()), "it was told");
+    assert!(wait_until(|| client.cached(1..2).unwrap().is_none()), "it was notified");
     let server = place.serve();
-    assert_eq!(client.read(1..2), Ok(vec![row(1)]), "it has joined anew");
+    assert_eq!(client.read(1..2), Ok(vec![row(1)]), "it has joined again");
     assert_eq!(client.put(1, Value::from(3)), Ok(Outcome::Applied));
     assert!(server.is_running());
     server.stop().unwrap();
@@ -108,9 +108,9 @@ fn a_server_over_a_restored_backup_is_one_over_an_older_store() {
     SqliteStore::create(place.file("restored.db"), &backup).unwrap();
     place.copy("restored.db", "table.db");
     ends_by_the_word_of(3, place.serve());
-    assert!(wait_until(|| client.cached(1..2).unwrap().is_none()), "it was told");
+    assert!(wait_until(|| client.cached(1..2).unwrap().is_none()), "it was notified");
     let server = place.serve();
-    assert_eq!(client.read(1..2), Ok(vec![row(1)]), "it has joined anew");
+    assert_eq!(client.read(1..2), Ok(vec![row(1)]), "it has joined again");
     server.stop().unwrap();
 }
 
@@ -121,9 +121,9 @@ fn the_right_store_is_served_after_a_server_over_the_wrong_one_has_ended() {
     place.copy("table.db", "right.db");
     place.copy("copy.db", "table.db");
     ends_by_the_word_of(3, place.serve());
-    assert!(wait_until(|| client.cached(1..2).unwrap().is_none()), "it was told");
+    assert!(wait_until(|| client.cached(1..2).unwrap().is_none()), "it was notified");
     place.copy("right.db", "table.db");
     let server = place.serve();
-    assert_eq!(client.read(1..2), Ok(vec![row(2)]), "it has joined anew");
+    assert_eq!(client.read(1..2), Ok(vec![row(2)]), "it has joined again");
     server.stop().unwrap();
 }

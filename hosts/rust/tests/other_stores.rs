@@ -89,6 +89,6 @@ fn a_server_goes_on_and_a_client_of_another_store_waits_for_its_own() {
 
     let server = place.serve("own.db");
     client.set_timeout(Duration::from_secs(60));
-    assert_eq!(client.read(0..100), Ok(vec![row(1)]), "it has kept its mark, and joins anew");
+    assert_eq!(client.read(0..100), Ok(vec![row(1)]), "it has kept its mark, and joins again");
     server.stop().unwrap();
 }

@@ -10,7 +10,7 @@ fn lock_file(number: u8) -> PathBuf {
     std::env::temp_dir().join(format!("krl-pins-{}-{number}.lock", std::process::id()))
 }
 
-/// Says that the test is over, even if it fails: otherwise the writer would continue for ever.
+/// Signals that the test is over, even if it fails: otherwise the writer would continue forever.
 struct Over<'f>(&'f AtomicBool);
 
 impl Drop for Over<'_> {
@@ -48,13 +48,13 @@ fn a_writer_that_pins_again_at_once_keeps_no_reader_out() {
             let begun = Instant::now();
             let number = reader.read(0..20).unwrap()[0].value.to_u64().unwrap();
             assert!(begun.elapsed() < Duration::from_secs(5), "{:?}", begun.elapsed());
-            assert!(last <= number, "{number} behind {last}");
+            assert!(last <= number, "{number} after {last}");
             last = number;
         }
         drop(over);
         thread.join().unwrap()
     });
-    assert!(written >= READS / 2, "{written} writes beside {READS} reads");
+    assert!(written >= READS / 2, "{written} writes with {READS} reads");
     for (client, number) in [(writer, 1), (reader, 2)] {
         client.leave().unwrap();
         std::fs::remove_file(lock_file(number)).unwrap();

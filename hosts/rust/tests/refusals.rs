@@ -43,7 +43,7 @@ fn refused(reason: u8, numbers: [u64; 2]) -> Vec<u8> {
     bytes
 }
 
-/// What a peer hears that says these frames after its host's Hello.
+/// What a peer hears that sends these frames after its host's Hello.
 fn heard(server: &Server, said: &[Vec<u8>]) -> Vec<u8> {
     let mut peer = Peer::new(server);
     peer.say(&HOST_HELLO);
@@ -100,7 +100,7 @@ fn a_host_of_another_version() {
 }
 
 /// A server that answers each connection by these bytes, and reads what comes until it ends.
-fn says(bytes: &'static [u8]) -> SocketAddr {
+fn server_of(bytes: &'static [u8]) -> SocketAddr {
     let listener = TcpListener::bind("127.0.0.1:0").unwrap();
     let address = listener.local_addr().unwrap();
     thread::spawn(move || {
@@ -124,7 +124,7 @@ fn a_server_of_another_version() {
     ];
     for (answer, version) in answers {
         let lock = lock_file(&format!("version-{version}"));
-        let client = Client::builder(says(answer), 3, &lock).timeout(2 * LONG);
+        let client = Client::builder(server_of(answer), 3, &lock).timeout(2 * LONG);
         let begun = Instant::now();
         let error = client.join().unwrap_err();
         assert!(begun.elapsed() < LONG, "{:?}", begun.elapsed());
@@ -223,8 +223,8 @@ fn a_client_that_was_replaced() {
 fn a_server_that_misses_reports() {
     let (server, lock) = (server(store(&[3, 7])), lock_file("missing"));
     let client = Client::builder(server.address().clone(), 5, &lock);
-    // It joins, and no request is answered before the reports have come. The server may have told
-    // nothing yet at a timeout.
+    // It joins, and no request is answered before the reports have come. The server may have
+    // reported nothing yet at a timeout.
     let (client, end) = (client.timeout(LONG).join().unwrap(), Instant::now() + LONG);
     client.set_timeout(SHORT);
     let told = || client.read(0..9).unwrap_err().to_string();

@@ -70,7 +70,7 @@ fn wait_until(is_so: impl Fn() -> bool) -> bool {
     is_so()
 }
 
-/// Looks into the cache again and again until it is told to end, and says what it found there, one
+/// Looks into the cache again and again until it is told to end, and sends what it found there, one
 /// after another.
 fn looked_up(client: &Client, ends: &AtomicBool) -> Vec<Option<Vec<Row>>> {
     let mut found = Vec::new();
@@ -83,7 +83,7 @@ fn looked_up(client: &Client, ends: &AtomicBool) -> Vec<Option<Vec<Row>>> {
     found
 }
 
-/// Says that the test is over, even if it fails: otherwise who looks would continue for ever.
+/// Signals that the test is over, even if it fails: otherwise the reader would continue forever.
 struct Over<'f>(&'f AtomicBool);
 
 impl Drop for Over<'_> {
@@ -121,7 +121,7 @@ fn notices(place: &Place, client: &Client) {
         let expected = [Error::StoreWentBack, Error::NotSent(Unsent::StoreWentBack)];
         assert!(expected.contains(&written), "{written:?}");
         assert_eq!(reads.join().unwrap(), Err(Error::StoreWentBack));
-        assert_eq!(client.read(1..2), Ok(vec![row(1, 1)]), "it has joined anew");
+        assert_eq!(client.read(1..2), Ok(vec![row(1, 1)]), "it has joined again");
         drop(over);
         let looked = looks.join().unwrap();
         let old = looked.iter().filter(|found| **found == Some(vec![row(1, 2)]));
@@ -291,7 +291,7 @@ const WENT_BACK: [u8; 10] = [2, 0, 0, 0, 0, 0, 0, 0, 0, 19];
 
 #[test]
 fn nothing_is_taken_of_a_connection_whose_host_has_seen_more() {
-    // It never told a mark.
+    // It never sent a mark.
     let listener = std::net::TcpListener::bind("127.0.0.1:0").unwrap();
     let server = Server::start(listener, MemoryStore::default()).unwrap();
     let mut peer = Peer::new(&server);

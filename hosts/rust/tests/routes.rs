@@ -37,7 +37,7 @@ fn a_forged_bye_of_an_older_incarnation_is_not_answered() {
     client.leave().unwrap();
     writer.leave().unwrap();
     std::fs::remove_file(other).unwrap();
-    // The client that has left may say so again, and is answered.
+    // The client that has left may send its Bye again, and is answered.
     stranger.say(&frame(BYE, 3, incarnation(&lock), &[]));
     assert_eq!(stranger.hear(QUIET), [0; 8]);
     std::fs::remove_file(lock).unwrap();
@@ -66,7 +66,7 @@ fn an_incarnation_that_never_said_hello_takes_no_route() {
     }
 }
 
-/// A process that was evicted and still runs says its Hello and its acknowledgements again and
+/// A process that was evicted and still runs sends its Hello and its acknowledgements again and
 /// again, next to its successor.
 #[test]
 fn a_zombie_takes_nothing_of_its_successor() {

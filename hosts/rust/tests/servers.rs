@@ -43,7 +43,7 @@ fn a_full_server_takes_a_client_when_another_one_has_left() {
     }
 }
 
-/// A store that takes so many batches, and then fails as it is told.
+/// A store that takes this many batches, and then fails as it is set to.
 struct Failing {
     store: MemoryStore,
     batches: usize,
@@ -221,7 +221,7 @@ fn who_asks_an_idle_server_is_answered_at_once() {
         begun.elapsed()
     };
     // The server turns by itself each 50 milliseconds. One that answered then would hold up each of
-    // these but the first for so long; a busy machine leaves some alone.
+    // these but the first for that long; a busy machine leaves some out.
     let times: Vec<_> = (0..20).map(|_| ask()).collect();
     let least = times[1..].iter().min().unwrap();
     assert!(*least < Duration::from_millis(25), "{times:?}");

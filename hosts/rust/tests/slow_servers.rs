@@ -16,7 +16,7 @@ fn lock_file(name: &str) -> PathBuf {
     std::env::temp_dir().join(format!("krl-slow-{}-{name}.lock", std::process::id()))
 }
 
-/// A client that tries to join for so long, and why it does not.
+/// A client that tries to join for this long, and why it does not.
 fn fails_to_join(server: SocketAddr, name: &str, timeout: Duration) -> (JoinError, Duration) {
     let (lock, begun) = (lock_file(name), Instant::now());
     let client = Client::builder(server, 5, &lock).timeout(timeout);
@@ -26,17 +26,17 @@ fn fails_to_join(server: SocketAddr, name: &str, timeout: Duration) -> (JoinErro
     (joined.expect_err("there is no such server"), took)
 }
 
-/// A server that takes each connection, says this on it and ends it, and when it did.
-fn ends_all(says: &'static [u8]) -> (SocketAddr, Receiver<Instant>) {
+/// A server that takes each connection, sends this on it and ends it, and when it did.
+fn ends_all(bytes: &'static [u8]) -> (SocketAddr, Receiver<Instant>) {
     let listener = TcpListener::bind("127.0.0.1:0").unwrap();
     let (address, (told, times)) = (listener.local_addr().unwrap(), channel());
     thread::spawn(move || {
         for mut stream in listener.incoming().flatten() {
             let _ = told.send(Instant::now());
             thread::spawn(move || {
-                let _ = stream.write_all(says);
+                let _ = stream.write_all(bytes);
                 let _ = stream.shutdown(Shutdown::Write);
-                // A connection that ends with something unread loses what was said on it.
+                // A connection that ends with something unread loses what was sent on it.
                 let _ = stream.read_to_end(&mut Vec::new());
             });
         }
@@ -44,22 +44,22 @@ fn ends_all(says: &'static [u8]) -> (SocketAddr, Receiver<Instant>) {
     (address, times)
 }
 
-/// A client asks a server that says this on each connection no more than once a second.
-fn is_asked_once_a_second(name: &str, says: &'static [u8]) {
+/// A client asks a server that sends this on each connection no more than once a second.
+fn is_asked_once_a_second(name: &str, bytes: &'static [u8]) {
     // Its time may be over while the last connection still is open: then nothing has failed.
-    assert!((0..5).any(|_| shows_why_it_ended(name, says)), "no cause in five tries");
+    assert!((0..5).any(|_| shows_why_it_ended(name, bytes)), "no cause in five tries");
 }
 
 /// Whether a client that can't join shows why its last connection ended.
-fn shows_why_it_ended(name: &str, says: &'static [u8]) -> bool {
-    let (address, times) = ends_all(says);
+fn shows_why_it_ended(name: &str, bytes: &'static [u8]) -> bool {
+    let (address, times) = ends_all(bytes);
     let (error, took) = fails_to_join(address, name, Duration::from_secs(6));
     assert!(took < Duration::from_secs(6) + LATE, "{took:?}");
     let JoinError::NoAnswer(cause) = error else { panic!("{error:?}") };
     let times: Vec<Instant> = times.try_iter().collect();
     assert!((6..=14).contains(&times.len()), "{} connections in six seconds", times.len());
     let pauses: Vec<Duration> = times.windows(2).map(|pair| pair[1] - pair[0]).collect();
-    // Each is told a little late on a busy machine.
+    // Each is reported a little late on a busy machine.
     assert!(pauses[pauses.len() - 2..].iter().all(|pause| pause.as_millis() >= 800), "{pauses:?}");
     cause.is_some()
 }
@@ -91,7 +91,7 @@ fn a_server_that_takes_nothing_holds_no_call_beyond_its_timeout() {
     let (error, took) = fails_to_join(listener.local_addr().unwrap(), "mute", timeout);
     assert!(matches!(error, JoinError::NoAnswer(None)), "{error:?}");
     assert!(timeout <= took && took < timeout + LATE, "{took:?}");
-    // Its host has said Hello and a sign, and both again. It waits for terms before it says more.
+    // Its host has sent Hello and a sign, and both again. It waits for terms before it sends more.
     let (mut stream, _) = listener.accept().unwrap();
     let mut said = Vec::new();
     stream.read_to_end(&mut said).unwrap();

@@ -7,7 +7,7 @@ use std::net::TcpListener;
 use std::path::PathBuf;
 use std::time::{Duration, Instant};
 
-/// How long a call waits: no connection that swallows is kept so long.
+/// How long a call waits: no connection that swallows is kept that long.
 const LONG: Duration = Duration::from_secs(60);
 
 /// Longer than the client waits for an answer on one connection, and on a busy machine too.

@@ -167,7 +167,7 @@ fn right_connect(
 
 type Recorded = Arc<Mutex<Vec<Vec<u8>>>>;
 
-/// Passes connections on, and notes what each client says.
+/// Passes connections on, and notes what each client sends.
 fn eavesdrop(server: SocketAddr) -> (SocketAddr, Recorded) {
     let listener = TcpListener::bind("127.0.0.1:0").unwrap();
     let at = listener.local_addr().unwrap();
@@ -238,7 +238,7 @@ fn idle_strangers_keep_nobody_out() {
     let strangers: Vec<_> = (0..300).map(|_| TcpStream::connect(at(&server)).unwrap()).collect();
     let begun = Instant::now();
     let other = setup.join(&server, &two, 2).unwrap();
-    println!("beside 300 idle connections a client joined in {:?}", begun.elapsed());
+    println!("with 300 idle connections a client joined in {:?}", begun.elapsed());
     for key in 0..100 {
         assert_eq!(client.insert(key, Value::from(key)), Ok(Outcome::Applied));
         assert_eq!(other.read(0..=key).unwrap().len() as u64, key + 1);
@@ -264,7 +264,7 @@ fn who_says_a_byte_now_and_then_is_turned_away_by_the_deadline() {
     while !matches!(stream.read(&mut [0; 8]), Ok(0)) && begun.elapsed() < Duration::from_secs(20) {
         let _ = stream.write_all(&[0]);
     }
-    println!("one that says a byte at a time was turned away after {:?}", begun.elapsed());
+    println!("one that sends a byte at a time was turned away after {:?}", begun.elapsed());
     assert!(begun.elapsed() > Duration::from_secs(4), "not by a bad record");
     assert!(begun.elapsed() < Duration::from_secs(8));
     // What a server shows of itself may be some milliseconds old.
@@ -316,7 +316,7 @@ fn a_server_shows_a_new_certificate_to_who_comes_then() {
     shown.reload().unwrap();
     let error = setup.join(&server, &setup.config(&["krl:client:2"]), 2).unwrap_err();
     assert!(matches!(error, JoinError::TurnedAway(_)), "{error}");
-    assert_eq!(client.insert(1, Value::from(1)), Ok(Outcome::Applied), "what stands goes on");
+    assert_eq!(client.insert(1, Value::from(1)), Ok(Outcome::Applied), "open connections continue");
 }
 
 #[test]

@@ -1,4 +1,4 @@
-//! Who is at the other end of a connection, and what it may say.
+//! Who is at the other end of a connection, and what it may send.
 use crate::model::client_number::ClientNumber;
 use crate::model::client_set::ClientSet;
 use crate::wire::incoming::Incoming;
@@ -37,7 +37,7 @@ pub struct TableName(String);
 #[derive(Clone, Copy, Debug, PartialEq, Eq)]
 pub struct BadTableName;
 
-/// What the names of a certificate say.
+/// What the names of a certificate stand for.
 #[derive(Clone, Copy, Debug, PartialEq, Eq)]
 pub(crate) enum Role {
     Client(u8),
@@ -46,12 +46,12 @@ pub(crate) enum Role {
 }
 
 impl Identity {
-    /// It may say all.
+    /// It may send everything.
     pub(crate) fn everybody() -> Identity {
         Identity { clients: ClientSet::of_bits(u64::MAX), is_operator: true }
     }
 
-    /// It may say nothing.
+    /// It may send nothing.
     pub(crate) fn nobody() -> Identity {
         Identity::default()
     }
@@ -90,11 +90,12 @@ impl Identity {
         self.is_operator
     }
 
-    /// Whether it may say this frame: one that names a client of its own, or, if it is an operator,
-    /// one that ends a client. Whoever may say anything may say a host's Hello, which names no
-    /// client. Only who may say all may say a string that names no client: such a string is judged.
+    /// Whether it may send this frame: one that names one of its own clients, or, if it is an
+    /// operator, one that ends a client. Whoever may send anything may send a host's Hello, which
+    /// names no client. Only a peer that may send everything may send a string that names no
+    /// client: such a string is judged.
     ///
-    /// A frame of a host that says nothing known may be said: it is passed over.
+    /// A frame of a host without a known meaning may be sent: it is passed over.
     pub(crate) fn may_say(&self, frame: &Incoming<'_>) -> bool {
         match frame {
             Incoming::Message(message) => self.may_say_message(message),
@@ -118,7 +119,7 @@ impl Identity {
 }
 
 impl Role {
-    /// What the name says at the table. It has to be spelled in its one way, so that what an
+    /// What the name stands for at the table. It has to be spelled in its one way, so that what an
     /// authority reads is what the name grants.
     fn of_name(name: &str, table: Option<&TableName>) -> Option<Role> {
         let (role, of) = match name.split_once('@') {

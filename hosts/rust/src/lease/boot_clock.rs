@@ -2,8 +2,8 @@
 use std::io;
 
 /// A moment by `CLOCK_BOOTTIME`, in nanoseconds since the machine was started. That clock continues
-/// while the machine is suspended, and nobody sets it. The moments of two machines say nothing of
-/// each other.
+/// while the machine is suspended, and nobody sets it. The moments of two machines can't be
+/// compared.
 #[derive(Clone, Copy, Debug, PartialEq, Eq, PartialOrd, Ord)]
 pub(crate) struct Moment(u64);
 

@@ -53,7 +53,7 @@ impl Now {
 
 #[cfg(feature = "simulated")]
 impl Now {
-    /// The clocks of a machine that was started at such a moment, and runs for so long. Of the
+    /// The clocks of a machine that was started at this moment, and has run for this long. Of the
     /// clock of timeouts only differences mean something.
     pub fn simulated(running: std::time::Duration) -> Now {
         const STARTED: std::time::Duration = std::time::Duration::from_secs(1_800_000_000);

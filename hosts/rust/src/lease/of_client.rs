@@ -1,5 +1,5 @@
 //! How long a client may answer from its cache, by the clock of its machine. The rule is the
-//! library's; what is said to the server, and when, is decided here.
+//! library's; what is sent to the server, and when, is decided here.
 use crate::lease::boot_clock::Moment;
 use crate::lease::terms::{FOR_EVER, Grant, Older, Sign};
 use crate::proved::ffi;
@@ -55,7 +55,7 @@ pub(crate) struct Lease {
     /// As the library keeps it.
     state: ffi::Lease,
     end: Arc<End>,
-    /// The first sign on this connection, if one was said there.
+    /// The first sign on this connection, if one was sent there.
     first: Option<Moment>,
     /// The last sign on any connection.
     last: Option<Moment>,
@@ -80,7 +80,7 @@ impl Lease {
         Arc::clone(&self.end)
     }
 
-    /// How often a sign is due if nothing else is said, or `None` if the lease does not end.
+    /// How often a sign is due if nothing else is sent, or `None` if the lease does not end.
     pub fn pace(&self) -> Option<Duration> {
         match self.state.length {
             0 | FOR_EVER => None,
@@ -106,8 +106,8 @@ impl Lease {
         ffi::krl_lease_holds(&self.state, now.nanoseconds())
     }
 
-    /// The first sign on a new connection. What older connections answer counts no more: each
-    /// server has a length of its own. None if the clock has not gone on since the last sign.
+    /// The first sign on a new connection. What older connections answer no longer counts: each
+    /// server has its own length. None if the clock has not gone on since the last sign.
     pub fn greet(&mut self, now: Moment) -> Option<Sign> {
         let sign = self.sign(now)?;
         self.first = Some(sign.stamp);
@@ -163,7 +163,7 @@ impl Lease {
     }
 
     /// Takes terms, if they answer a sign of this incarnation on this connection. It answers
-    /// whether they were taken: from then on the host may say Hello on this connection.
+    /// whether they were taken: from then on the host may send Hello on this connection.
     pub fn take(&mut self, grant: Grant, now: Moment) -> bool {
         if !self.is_answer(grant) {
             return false;
@@ -174,7 +174,7 @@ impl Lease {
         self.state != before
     }
 
-    /// Whether terms answer a sign that this incarnation said on this connection.
+    /// Whether terms answer a sign that this incarnation sent on this connection.
     fn is_answer(&self, grant: Grant) -> bool {
         let is_of_this_connection = match (self.first, self.last) {
             (Some(first), Some(last)) => (first..=last).contains(&grant.stamp),

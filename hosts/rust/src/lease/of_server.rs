@@ -69,8 +69,8 @@ impl LeaseTable {
         self.record
     }
 
-    /// Takes a sign, and says what to answer. `now` is read after the sign. The answer leaves only
-    /// if the store is still this server's after that: a server that another one has replaced
+    /// Takes a sign, and returns what to answer. `now` is read after the sign. The answer leaves
+    /// only if the store is still this server's after that: a server that another one has replaced
     /// grants nothing.
     pub fn sign(&mut self, sign: Sign, now: Moment) -> Option<Answer> {
         let Sign { client, incarnation, stamp, length, older } = sign;
@@ -88,7 +88,7 @@ impl LeaseTable {
 
     /// A client registers. The record has to be stored with that, before the client is answered.
     ///
-    /// A client of which no sign came has a host that knows nothing of leases: it answers for ever,
+    /// A client of which no sign came has a host that knows nothing of leases: it answers forever,
     /// and only an operator evicts it.
     pub fn register(&mut self, client: u8, incarnation: u64, now: Moment) -> LeaseRecord {
         let place = usize::from(client) % CLIENTS;
@@ -187,7 +187,7 @@ impl LeaseTable {
         present.map(|(client, it)| (client, left_until(it.until, now))).collect()
     }
 
-    /// The clients that may answer for ever, and that only an operator evicts.
+    /// The clients that may answer forever, and that only an operator evicts.
     pub fn unleased(&self) -> Vec<u8> {
         let clients = (0u8..).zip(&self.known);
         let present = clients.filter_map(|(client, known)| Some((client, known.present?)));
@@ -203,7 +203,7 @@ fn left_until(until: u64, now: Moment) -> LeaseLeft {
 }
 
 impl Known {
-    /// Whether this incarnation answers nothing any more, whatever it says.
+    /// Whether this incarnation no longer answers anything, whatever it sends.
     fn has_ended(&self, incarnation: u64) -> bool {
         let is_present = self.present.is_some_and(|it| it.incarnation == incarnation);
         incarnation <= self.registered && !is_present

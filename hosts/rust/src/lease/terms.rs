@@ -1,4 +1,4 @@
-//! What a server grants its clients, and what the two hosts say to each other of it.
+//! What a server grants its clients, and what the two hosts send each other about it.
 use crate::lease::boot_clock::Moment;
 use crate::proved::ffi;
 use std::fmt;
@@ -12,7 +12,7 @@ const SHORTEST: Duration = Duration::from_millis(300);
 const LONGEST: Duration = Duration::from_secs(24 * 3600);
 
 /// In a hundred. Two clocks that are slewed against each other as fast as chrony ever does, 83,333
-/// parts in a million each, differ by 18.2 in a hundred.
+/// parts in a million each, differ by 18.2 percent.
 pub(crate) const DRIFT: u32 = 25;
 const MAX_DRIFT: u32 = 100;
 
@@ -20,7 +20,7 @@ const MAX_DRIFT: u32 = 100;
 #[derive(Clone, Copy, Debug, PartialEq, Eq)]
 pub struct Leases {
     length: Duration,
-    /// How much further the server's clock may go than a client's meanwhile, in a hundred.
+    /// How much further the server's clock may go than a client's meanwhile, in percent.
     drift: u32,
 }
 
@@ -30,12 +30,12 @@ pub struct Leases {
 pub enum BadLeases {
     /// It is shorter than 300 milliseconds, or longer than a day.
     Length(Duration),
-    /// It is more than 100 in a hundred.
+    /// It is more than 100 percent.
     Drift(u32),
 }
 
 impl Leases {
-    /// Leases of a length from 300 milliseconds to a day, with a drift of 25 in a hundred.
+    /// Leases of a length from 300 milliseconds to a day, with a drift of 25 percent.
     ///
     /// # Errors
     ///
@@ -45,7 +45,7 @@ impl Leases {
         is_length.then_some(Leases { length, drift: DRIFT }).ok_or(BadLeases::Length(length))
     }
 
-    /// The same with another drift, from 0 to 100 in a hundred.
+    /// The same with another drift, from 0 to 100 percent.
     ///
     /// # Errors
     ///
@@ -80,7 +80,7 @@ impl fmt::Display for BadLeases {
                 write!(f, "a lease of {length:?}: expected 300 milliseconds to a day")
             }
             BadLeases::Drift(drift) => {
-                write!(f, "a drift of {drift} in a hundred: expected 0 to {MAX_DRIFT}")
+                write!(f, "a drift of {drift} percent: expected 0 to {MAX_DRIFT}")
             }
         }
     }
@@ -109,12 +109,12 @@ pub(crate) enum Older {
     Vouched,
 }
 
-/// What a client's host says of its lease.
+/// What a client's host reports of its lease.
 #[derive(Clone, Copy, Debug, PartialEq, Eq)]
 pub(crate) struct Sign {
     pub client: u8,
     pub incarnation: u64,
-    /// When it was said, by the clock of the client's machine. It comes back as it is.
+    /// When it was sent, by the clock of the client's machine. It comes back as it is.
     pub stamp: Moment,
     /// The length of the lease by which the client lives, in nanoseconds: 0 before its first terms,
     /// and `FOR_EVER` if its lease does not end.
@@ -152,7 +152,7 @@ mod tests {
         assert_eq!(Leases::of(short), Err(BadLeases::Length(short)));
         assert!(Leases::of(LONGEST + Duration::from_nanos(1)).is_err());
         let bad = Leases::of(LONGEST).unwrap().with_drift(101).unwrap_err();
-        assert_eq!(bad.to_string(), "a drift of 101 in a hundred: expected 0 to 100");
+        assert_eq!(bad.to_string(), "a drift of 101 percent: expected 0 to 100");
         let said = BadLeases::Length(short).to_string();
         assert_eq!(said, "a lease of 299ms: expected 300 milliseconds to a day");
     }

@@ -1,11 +1,11 @@
-//! What a server and a client tell a log: by `tracing`, if the feature of this name is on.
+//! What a server and a client write to a log: by `tracing`, if the feature of this name is on.
 #![cfg_attr(
     not(feature = "tracing"),
     allow(
         unused_variables,
         clippy::if_same_then_else,
         clippy::single_match,
-        reason = "without the feature nothing is told"
+        reason = "without the feature nothing is logged"
     )
 )]
 use crate::access::identity::Identity;
@@ -77,8 +77,8 @@ impl EventLog {
         }
     }
 
-    /// A server with this room has started over so many rows. Less room than one had before may be
-    /// meant, or be a slip.
+    /// A server with this room has started over this many rows. Less room than one had before may
+    /// be meant, or be a slip.
     pub fn has_room(rows: usize, room: Room, greatest: Room) {
         if room < greatest {
             tell!(warn, %room, %greatest, "the server has less room than one had before it");
@@ -177,7 +177,7 @@ impl EventLog {
         }
     }
 
-    /// A connection said what is no message, and is closed.
+    /// A connection sent what is no message, and is closed.
     pub fn bad_message(&mut self, at: &At, length: usize) {
         if let Some(passed_over) = self.bad_messages.lets(Instant::now()) {
             tell!(
@@ -186,7 +186,7 @@ impl EventLog {
                 peer = %at.peer,
                 length,
                 passed_over,
-                "a connection is closed: it said what is no message"
+                "a connection is closed: it sent what is no message"
             );
         }
     }
@@ -249,7 +249,7 @@ impl EventLog {
         }
     }
 
-    /// A connection said what its identity may not say, and is closed.
+    /// A connection sent what its identity may not send, and is closed.
     pub fn denied(&mut self, at: &At, identity: &Identity, client: Option<u8>) {
         if let Some(passed_over) = self.denials.lets(Instant::now()) {
             tell!(
@@ -259,7 +259,7 @@ impl EventLog {
                 %identity,
                 client,
                 passed_over,
-                "a connection is closed: it said what its certificate or its user may not say"
+                "a connection is closed: it sent what its certificate or its user may not send"
             );
         }
     }
@@ -298,7 +298,7 @@ pub(crate) fn store_went_back(server: &Address) {
         error,
         %server,
         "ALARM: the server's store lacks what this client has seen of it: the client drops its \
-         cache and joins anew"
+         cache and joins again"
     );
 }
 
@@ -327,7 +327,7 @@ pub(crate) fn failed(error: &dyn Display) {
     tell!(error, %error, "the server has failed");
 }
 
-/// A connection is closed as it comes, since so many are open.
+/// A connection is closed as it comes, because this many are open.
 pub(crate) fn full(seldom: &mut Seldom, open: usize) {
     if let Some(passed_over) = seldom.lets(Instant::now()) {
         tell!(warn, open, passed_over, "a connection is closed: no more may be open");

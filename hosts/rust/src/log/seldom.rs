@@ -1,7 +1,7 @@
 //! Events that come again and again, and are reported now and then.
 use std::time::{Duration, Instant};
 
-/// How long an event that repeats waits until it is told again.
+/// How long an event that repeats waits until it is reported again.
 const PAUSE: Duration = Duration::from_secs(1);
 
 /// Lets an event through once a second, and counts those between. It is for the programs of krl's
@@ -13,7 +13,8 @@ pub struct Seldom {
 }
 
 impl Seldom {
-    /// How many were passed over since the last one that was told, if this one is to be told.
+    /// How many were passed over since the last one that was reported, if this one is to be
+    /// reported.
     pub fn lets(&mut self, now: Instant) -> Option<u64> {
         if self.told.is_some_and(|told| now.saturating_duration_since(told) < PAUSE) {
             self.passed_over += 1;

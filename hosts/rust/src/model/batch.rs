@@ -80,7 +80,7 @@ impl Judged {
         Judged { outcomes: Vec::new(), ended: Some(why) }
     }
 
-    /// What became of each of so many writes: the one after those that were judged was the only one
+    /// What became of each of `count` writes: the one after those that were judged was the only one
     /// on its way, and those after it were never sent.
     pub fn fates(&self, count: usize) -> Vec<Fate> {
         let mut fates: Vec<_> = self.outcomes.iter().copied().map(Fate::Judged).collect();
@@ -91,7 +91,7 @@ impl Judged {
         fates
     }
 
-    /// The outcomes of so many writes if all were judged.
+    /// The outcomes of `count` writes if all were judged.
     pub fn all(self, count: usize) -> Result<Vec<Outcome>, BatchError> {
         match self.ended {
             None => Ok(self.outcomes),

@@ -19,7 +19,7 @@ pub enum Write {
 #[derive(Clone, Copy, Debug, PartialEq, Eq)]
 #[must_use = "the write may have changed nothing: only `Applied` has"]
 pub enum Outcome {
-    /// The table has changed as the write says.
+    /// The table has changed as the write asks.
     Applied,
     /// An insert of a key that has a row already.
     Exists,
@@ -108,7 +108,7 @@ impl Write {
 }
 
 impl Change {
-    /// How many rows a table has after the change that had so many before.
+    /// How many rows a table has after the change that had this many before.
     pub(crate) fn rows_after(&self, before: u64) -> u64 {
         let Change::Judged { write, outcome: Outcome::Applied, .. } = self else { return before };
         match write {

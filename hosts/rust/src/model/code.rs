@@ -2,12 +2,12 @@
 use std::fmt;
 
 macro_rules! codes {
-    ($($name:ident = $number:literal, $says:literal;)*) => {
-        /// The code of a call of the library: what `krl.h` says of each.
+    ($($name:ident = $number:literal, $text:literal;)*) => {
+        /// The code of a call of the library: `krl.h` describes each.
         #[derive(Clone, Copy, Debug, PartialEq, Eq)]
         #[non_exhaustive]
         pub enum Code {
-            $(#[doc = $says] $name,)*
+            $(#[doc = $text] $name,)*
             /// A number that `krl.h` does not have.
             Other(u32),
         }
@@ -26,7 +26,7 @@ macro_rules! codes {
         impl fmt::Display for Code {
             fn fmt(&self, f: &mut fmt::Formatter<'_>) -> fmt::Result {
                 match self {
-                    $(Code::$name => f.write_str($says),)*
+                    $(Code::$name => f.write_str($text),)*
                     Code::Other(number) => {
                         write!(f, "the library answered by the unknown code {number}")
                     }
@@ -38,7 +38,7 @@ macro_rules! codes {
 
 codes! {
     Done = 0, "it is done";
-    ReplyLost = 1, "it is done, but memory for what it says was refused";
+    ReplyLost = 1, "it is done, but memory for its answer was refused";
     OutOfMemory = 2, "memory was refused";
     Closed = 3, "the handle is closed";
     OpenAlready = 4, "the handle is open already";
@@ -60,7 +60,7 @@ codes! {
     BadMode = 20, "a mode that is none";
     BadPoint = 21, "a point above 2^63 - 1, or a written key of 2^63 - 1 or more";
     BadSpan = 22, "a range does not begin below its end, or ends above 2^63";
-    NotJoined = 23, "the client has been told no epoch yet";
+    NotJoined = 23, "the client has learned no epoch yet";
     Busy = 24, "the client waits for the answer to a lock request";
     NotHeld = 25, "the client does not hold what it takes, or there is no such pin";
     Pinned = 26, "the range meets a pin";

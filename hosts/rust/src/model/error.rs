@@ -38,7 +38,7 @@ pub enum Error {
     StoreWentBack,
     /// The client's lease has ended while the write was on its way: the server was not heard in
     /// time. The client has dropped its cache and its pins, and joins again. The table has changed
-    /// or not, and this write changes it no more: a read of the key knows.
+    /// or not, and this write can no longer change it: a read of the key shows which.
     LeaseEnded,
     /// The write was bound to a pin, and the pin is void: since it was taken, the client's lease
     /// has ended or the server's store went back. The write was not made, and changes nothing.
@@ -91,8 +91,8 @@ pub enum JoinError {
     /// ended, or why none was made, unless the server took the client on a later one. Without it
     /// the server recovers, or is silent.
     NoAnswer(Option<io::Error>),
-    /// The server has told why it does not serve the client, and within the client's timeout it did
-    /// not answer.
+    /// The server has reported why it does not serve the client, and within the client's timeout it
+    /// did not answer.
     Unserved(Refusal),
     /// This side of the connection has no right to the client, for this reason: the two sides don't
     /// take each other's certificates, or the certificate or the user is not that of the client's
@@ -134,7 +134,7 @@ impl Error {
     }
 
     /// Whether a write that ended so may have been applied, or may still be: a read of the key
-    /// tells. After any other error the write changes nothing.
+    /// shows which. After any other error the write changes nothing.
     #[must_use]
     pub fn is_unknown_outcome(&self) -> bool {
         match self {
@@ -209,11 +209,11 @@ impl fmt::Display for Error {
             Error::OtherShard(other) => other.fmt(f),
             Error::StoreWentBack => f.write_str(
                 "the server's store went back, and lacks what this client has seen of it: the \
-                 client has dropped its cache and its pins, and joins anew",
+                 client has dropped its cache and its pins, and joins again",
             ),
             Error::LeaseEnded => f.write_str(
                 "the client's lease has ended, since no terms of the server came in time: the client \
-                 has dropped its cache and its pins, and joins anew",
+                 has dropped its cache and its pins, and joins again",
             ),
             Error::PinIsVoid => f.write_str(
                 "the pin that the write is bound to is void: the write was not made",

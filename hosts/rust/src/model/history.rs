@@ -4,8 +4,7 @@ use std::fmt;
 /// How far a store had come at one moment.
 #[derive(Clone, Copy, PartialEq, Eq)]
 pub struct Mark {
-    /// The last start of a server by then, as 128 bits that were drawn by chance: no two starts
-    /// have the same.
+    /// The last start of a server by then, as 128 random bits: no two starts have the same.
     pub start: u128,
     /// How many batches were committed since, that of the start among them.
     pub commits: u64,

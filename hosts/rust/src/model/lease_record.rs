@@ -16,11 +16,11 @@ pub struct LeaseRecord {
 
 impl LeaseRecord {
     /// That of a store in which nothing is kept of leases: whoever is registered there may answer
-    /// for ever.
+    /// forever.
     pub const UNKNOWN: LeaseRecord =
         LeaseRecord { longest: 0, unleased: ClientSet::of_bits(u64::MAX) };
 
-    /// What a server with these leases, or with none, has to store before it says anything.
+    /// What a server with these leases, or with none, has to store before it sends anything.
     pub(crate) fn at_start(self, leases: Option<Leases>) -> LeaseRecord {
         let terms = Leases::terms(leases);
         self.each(|_, kept| ffi::krl_kept_start(&kept, &terms))

@@ -3,14 +3,14 @@ use std::fmt;
 use std::ops::Range;
 
 macro_rules! modes {
-    ($($(#[doc = $says:literal])+ $mode:ident = $number:literal, $name:literal;)*) => {
-        /// What a client holds of a slot, or asks of it: of its entry, and of the gap below that. The
-        /// section "Modes" of `docs/PROTOCOL.md` says which of them are compatible. `Display` and
-        /// [`Mode::name`] give a mode the name that it has there.
+    ($($(#[doc = $text:literal])+ $mode:ident = $number:literal, $name:literal;)*) => {
+        /// What a client holds of a slot, or asks of it: of its entry, and of the gap below that.
+        /// The section "Modes" of `docs/PROTOCOL.md` lists which of them are compatible. `Display`
+        /// and [`Mode::name`] give a mode the name that it has there.
         #[derive(Clone, Copy, Debug, PartialEq, Eq, PartialOrd, Ord, Hash)]
         #[non_exhaustive]
         pub enum Mode {
-            $($(#[doc = $says])+ $mode = $number,)*
+            $($(#[doc = $text])+ $mode = $number,)*
         }
 
         impl Mode {

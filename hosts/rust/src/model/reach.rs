@@ -4,7 +4,7 @@ use std::fmt;
 use std::str::FromStr;
 
 /// How many slots one grant of a server takes at most, from 1 to 128. A client that reads many rows
-/// for the first time asks once for each so many slots.
+/// for the first time asks once per that many slots.
 ///
 /// As text it is that number.
 #[derive(Clone, Copy, Debug, PartialEq, Eq, PartialOrd, Ord)]
@@ -18,7 +18,7 @@ impl Reach {
     /// The greatest reach: 128 slots.
     pub const MAX: Reach = Reach(ffi::MAX_REACH);
 
-    /// A reach of so many slots.
+    /// A reach of this many slots.
     ///
     /// # Errors
     ///

@@ -8,8 +8,8 @@ use std::fmt;
 /// took the lock that it needs.
 pub(crate) const STREAM_VERSION: u8 = 3;
 
-/// Why a server does not serve a client. It is a hint for people: the library's rules don't rest
-/// on it, and a server of another kind may say none. Only [`Refusal::OtherStore`] is more: a client
+/// Why a server does not serve a client. It is a hint for people: the library's rules don't rest on
+/// it, and a server of another kind may give none. Only [`Refusal::OtherStore`] is more: a client
 /// that hears it drops its cache.
 #[derive(Clone, Copy, Debug, PartialEq, Eq)]
 #[non_exhaustive]
@@ -47,8 +47,8 @@ pub enum Refusal {
         /// The older incarnation.
         registered: u64,
     },
-    /// Who is at the other end of the connection may not say what it said: its certificate, or its
-    /// user, is not that of the client.
+    /// The other end of the connection may not send what it sent: its certificate, or its user, is
+    /// not that of the client.
     Denied,
     /// The server serves this shard, or all keys, and the client takes it for another one.
     OtherShard(Option<ShardBounds>),

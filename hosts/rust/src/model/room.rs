@@ -3,8 +3,8 @@ use crate::proved::ffi;
 use std::fmt;
 use std::str::FromStr;
 
-/// How many rows a server has room for, from 1 to 1,048,576. An insert into a table that has so many
-/// is judged `Full`.
+/// How many rows a server has room for, from 1 to 1,048,576. An insert into a table that has that
+/// many is judged `Full`.
 ///
 /// As text it is that number.
 #[derive(Clone, Copy, Debug, PartialEq, Eq, PartialOrd, Ord)]
@@ -18,7 +18,7 @@ impl Room {
     /// The greatest room: for 1,048,576 rows.
     pub const MAX: Room = Room(ffi::MAX_ROOM);
 
-    /// Room for so many rows.
+    /// Room for this many rows.
     ///
     /// # Errors
     ///
@@ -27,7 +27,7 @@ impl Room {
         (1..=ffi::MAX_ROOM).contains(&rows).then_some(Room(rows)).ok_or(BadRoom)
     }
 
-    /// The least room for so many rows, or the greatest if no room is for so many.
+    /// The least room for this many rows, or the greatest if no room is enough.
     pub(crate) fn for_rows(rows: usize) -> Room {
         Room(rows.clamp(1, ffi::MAX_ROOM))
     }

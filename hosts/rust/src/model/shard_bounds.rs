@@ -8,8 +8,8 @@ use std::str::FromStr;
 /// One past the last point, where the last shard ends.
 const TOP: u64 = END + 1;
 
-/// What one shard has of the keys, and the version of the map that says so. A server that serves a
-/// shard, and a client of it, compare theirs before anything else is said.
+/// What one shard has of the keys, and the version of the map by which it does. A server that
+/// serves a shard, and a client of it, compare theirs before anything else is sent.
 ///
 /// As text it is `FIRST..END@VERSION`, such as `0..500000@3`; the last shard's is `500000..@3`.
 #[derive(Clone, Copy, Debug, PartialEq, Eq)]

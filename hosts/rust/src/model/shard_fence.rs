@@ -1,5 +1,5 @@
-//! The fence between maps: a client of one shard and the server of another one say nothing to each
-//! other.
+//! The fence between maps: a client of one shard and the server of another one exchange no
+//! messages.
 //!
 //! A client with an old map would write a key to a server that no longer has it, where nobody looks
 //! for it. So both sides compare what the server serves, before the library hears a message.
@@ -31,7 +31,7 @@ pub(crate) fn compare(
 #[derive(Debug)]
 pub(crate) struct Fence {
     expected: Option<ShardBounds>,
-    /// What the server has said that it serves.
+    /// What the server has reported that it serves.
     served: Option<ShardBounds>,
 }
 
@@ -40,19 +40,20 @@ impl Fence {
         Fence { expected, served: None }
     }
 
-    /// The server has said what it serves.
+    /// The server has reported what it serves.
     pub fn hear(&mut self, served: ShardBounds) -> Result<(), OtherShard> {
         self.served = Some(served);
         self.passes()
     }
 
-    /// The server has said that it serves this, and not what the client expects.
+    /// The server has reported that it serves this, and not what the client expects.
     pub fn is_refused(&self, served: Option<ShardBounds>) -> OtherShard {
         OtherShard { expected: self.expected, served }
     }
 
-    /// Whether the library may speak on this connection. It is asked when the server has answered all
-    /// that came before: a server that has not said by then what it serves knows nothing of shards.
+    /// Whether the library may speak on this connection. It is asked when the server has answered
+    /// all that came before: a server that has not reported by then what it serves knows nothing of
+    /// shards.
     pub fn passes(&self) -> Result<(), OtherShard> {
         compare(self.expected, self.served)
     }

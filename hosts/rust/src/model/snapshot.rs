@@ -21,7 +21,7 @@ pub struct Snapshot {
     /// and one of before it was kept neither.
     pub room: Option<Room>,
     /// The bits of the first start of a server over the store, if there was one and the store keeps
-    /// its history. A copy has the same: by them an older copy is told from another store.
+    /// its history. A copy has the same: they distinguish an older copy from another store.
     pub first_start: Option<u128>,
 }
 
@@ -99,7 +99,7 @@ impl Snapshot {
     /// Cuts it in two: the rows below the key, and those from it on. Both keep the epoch, the
     /// records, what is known of leases and the room. The lower one keeps the first start; the
     /// upper one is a new store, on which no server has started. A server can start on either only
-    /// if it can start on this, and a client may be told of the cut only if all have left before:
+    /// if it can start on this, and a client may learn of the cut only if all have left before:
     /// otherwise one would continue to answer for both halves.
     #[must_use]
     pub fn split(mut self, at: u64) -> (Snapshot, Snapshot) {

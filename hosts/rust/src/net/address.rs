@@ -17,7 +17,7 @@ const LOCALHOST: &str = "localhost";
 /// plain TCP.
 ///
 /// **By plain TCP whoever can connect can speak for any client.** So an address beyond the loopback
-/// is plain TCP only if that is said.
+/// is plain TCP only if that is explicit.
 #[derive(Clone, Debug, PartialEq, Eq)]
 #[non_exhaustive]
 pub enum Address {
@@ -40,7 +40,7 @@ pub enum Address {
 pub enum BadAddress {
     /// It is written in no way that an address is.
     Form,
-    /// It is beyond the loopback, and does not say whether it is of TLS or of plain TCP.
+    /// It is beyond the loopback, and does not state whether it is of TLS or of plain TCP.
     Unsaid,
 }
 

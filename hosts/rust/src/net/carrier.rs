@@ -1,4 +1,5 @@
-//! What carries frames between a client and its server: a stream, and TLS if the address says so.
+//! What carries frames between a client and its server: a stream, and TLS if the address begins
+//! with `tls:`.
 use crate::net::address::Address;
 use crate::net::connect_fault::NotTaken;
 use crate::net::stream::Stream;

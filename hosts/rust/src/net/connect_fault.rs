@@ -112,8 +112,8 @@ impl Rejections {
         }
     }
 
-    /// The server has answered a sign or said a message of the library, so it takes this side. It
-    /// may still reject what this side says next, which then follows the rejections before it.
+    /// The server has answered a sign or sent a message of the library, so it takes this side. It
+    /// may still reject what this side sends next, which then follows the rejections before it.
     pub fn accept(&mut self) {
         self.is_accepted = true;
     }
@@ -208,6 +208,6 @@ mod tests {
         rejections.accept();
         assert!(!rejections.are_final() && rejections.last().is_none());
         rejections.note(&not_taken().into());
-        assert!(rejections.are_final(), "what it says is rejected each time");
+        assert!(rejections.are_final(), "what it sends is rejected each time");
     }
 }

@@ -5,7 +5,7 @@ use std::time::{Duration, Instant};
 /// So much may wait before a batch more is lost: 39 of the longest messages.
 const MAX_WAITING: usize = 1 << 18;
 
-/// A peer that takes nothing for so long loses its connection.
+/// A peer that takes nothing for this long loses its connection.
 const STALL: Duration = Duration::from_secs(5);
 
 /// So much room is kept for the next batch when all is written.
@@ -82,7 +82,7 @@ impl Outgoing {
 mod tests {
     use super::*;
 
-    /// Takes so many bytes at once, and then none until it is asked again.
+    /// Takes this many bytes at once, and then none until it is asked again.
     struct Narrow {
         takes: usize,
         took: Vec<u8>,

@@ -9,7 +9,7 @@ use std::os::fd::{AsRawFd, BorrowedFd, OwnedFd};
 use std::sync::Arc;
 use std::time::Duration;
 
-/// The most sockets that are told at once. Those left out are told the next time.
+/// The most sockets that are reported at once. Those left out are reported the next time.
 const MAX_READY: usize = 256;
 
 const LISTENER: Token = Token(usize::MAX);
@@ -84,13 +84,13 @@ impl Poller {
         self.poll.registry().register(&mut SourceFd(&socket), token, Interest::READABLE)
     }
 
-    /// Watches a connection for this from now on. What it is ready for already is told again.
+    /// Watches a connection for this from now on. What it is ready for already is reported again.
     pub fn watch(&self, connection: u64, stream: &Stream, watched: Watched) -> io::Result<()> {
         let (token, socket) = (token_of(connection)?, stream.as_raw_fd());
         self.poll.registry().reregister(&mut SourceFd(&socket), token, watched.interest())
     }
 
-    /// Watches a connection no more.
+    /// No longer watches a connection.
     pub fn remove(&self, stream: &Stream) {
         // One that is not watched is not watched.
         let _ = self.poll.registry().deregister(&mut SourceFd(&stream.as_raw_fd()));
@@ -145,7 +145,7 @@ impl SecondPoller {
         }
     }
 
-    /// Watches a connection for this from now on. What it is ready for already is told again.
+    /// Watches a connection for this from now on. What it is ready for already is reported again.
     pub fn watch(&self, connection: u64, stream: &Stream, watched: Watched) -> io::Result<()> {
         let (token, socket) = (token_of(connection)?, stream.as_raw_fd());
         self.registry.reregister(&mut SourceFd(&socket), token, watched.interest())
@@ -214,7 +214,7 @@ mod tests {
         let (second, longest) = (SecondPoller::of(&poller).unwrap(), Duration::from_secs(30));
         waker.wake().unwrap();
         assert_eq!(second.wait(longest).unwrap(), Some(Ready::Woken));
-        assert_eq!(second.wait(Duration::ZERO).unwrap(), None, "an event is told once");
+        assert_eq!(second.wait(Duration::ZERO).unwrap(), None, "an event is reported once");
         let (ours, mut theirs) = UnixStream::pair().unwrap();
         let ours = Stream::Unix(ours);
         poller.add(7, &ours).unwrap();

@@ -29,7 +29,7 @@ impl Servers {
         Servers { tls: Some(config), ..self }
     }
 
-    /// The same servers, which a client takes for those of this shard: it says nothing to a server
+    /// The same servers, which a client takes for those of this shard: it sends nothing to a server
     /// that serves another one, or the shard of another map.
     #[must_use]
     pub fn of_shard(self, shard: ShardBounds) -> Servers {

@@ -15,10 +15,10 @@ use std::time::Duration;
 /// How long a server may take to show that it listens at a Unix socket.
 const PROBE: Duration = Duration::from_secs(1);
 
-/// The mode of a Unix socket: its user's alone.
+/// The mode of a Unix socket: for its user only.
 const OWN: u32 = 0o600;
 
-/// The mode if other users may connect: who they are decides what they may say.
+/// The mode if other users may connect: who they are decides what they may send.
 const OTHERS_TOO: u32 = 0o666;
 
 /// How many connections the system keeps at a Unix socket until they are taken, as the standard
@@ -100,8 +100,8 @@ impl fmt::Display for PeerAddress {
 
 impl Listener {
     /// Listens at the address. The file of a Unix socket at which nobody listens any more is
-    /// replaced. Any other file is left alone, and so is a socket of which that can't be known. The
-    /// new one is its user's alone, with the mode 0600.
+    /// replaced. Any other file is kept, and so is a socket of which that can't be known. Only its
+    /// user may connect to the new one, whose mode is 0600.
     ///
     /// # Errors
     ///
@@ -154,7 +154,7 @@ impl Listener {
         }
     }
 
-    /// `accept` does not wait from now on, whatever the socket was told before.
+    /// `accept` does not wait from now on, whatever mode the socket had before.
     pub(crate) fn never_wait(&self) -> io::Result<()> {
         match self {
             Listener::Tcp(listener) | Listener::Tls(listener) => listener.set_nonblocking(true),
@@ -325,7 +325,7 @@ impl AsRawFd for Stream {
     }
 }
 
-/// Connects to the first address that takes it. Each may take so long.
+/// Connects to the first address that takes it. Each may take this long.
 fn connect_to_one(
     addresses: impl Iterator<Item = SocketAddr>,
     wait: Duration,

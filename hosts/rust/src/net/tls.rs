@@ -61,9 +61,9 @@ pub struct TlsSession {
     shaken: usize,
     /// What is to leave as soon as the hand-shake is done and it is sealed.
     unsealed: Vec<u8>,
-    /// Room for what a record says.
+    /// Room for the content of a record.
     room: Box<[u8]>,
-    /// The other side has said that it ends.
+    /// The other side has announced its end.
     is_ended: bool,
     /// Whose certificate was refused.
     refused: RefusedSubject,
@@ -139,13 +139,13 @@ impl TlsSession {
         Ok(session)
     }
 
-    /// Who is at the other end: none until the hand-shake is done. A server may say nothing.
+    /// Who is at the other end: none until the hand-shake is done. A server may send nothing.
     #[must_use]
     pub fn peer(&self) -> Option<Identity> {
         self.peer
     }
 
-    /// Reads once from the stream, and puts what it says after the frames. It answers how many
+    /// Reads once from the stream, and puts its content after the frames. It answers how many
     /// bytes came: none if the other side has ended.
     pub(crate) fn fill(
         &mut self,
@@ -157,22 +157,22 @@ impl TlsSession {
         self.open_into(&sealed[..count], frames)
     }
 
-    /// Takes what came from the socket, and puts what it says after the frames. It answers how
-    /// many bytes came: none if the other side has ended.
+    /// Takes what came from the socket, and puts its content after the frames. It answers how many
+    /// bytes came: none if the other side has ended.
     pub(crate) fn open_into(&mut self, sealed: &[u8], frames: &mut Frames) -> io::Result<usize> {
         let opened = self.open(sealed)?;
         put(&opened, frames)?;
         Ok(if self.is_ended && opened.is_empty() { 0 } else { sealed.len() })
     }
 
-    /// Takes what came from the socket, and answers what it says. What is to be written may be more
+    /// Takes what came from the socket, and returns its content. What is to be written may be more
     /// then: see [`TlsSession::take_sealed`].
     ///
     /// # Errors
     ///
     /// `PermissionDenied`, with a sentence, if one side does not take the other's certificate;
     /// `InvalidData` if the bytes are none of TLS 1.3, or the other side ended the session for
-    /// another reason. What is to be written still tells the other side.
+    /// another reason. What is to be written still informs the other side.
     pub fn open(&mut self, sealed: &[u8]) -> io::Result<Vec<u8>> {
         self.shake(sealed)?;
         if self.peer.is_some() { self.open_records() } else { Ok(Vec::new()) }
@@ -245,7 +245,7 @@ impl TlsSession {
         Ok(())
     }
 
-    /// Who the certificate of the other side says that it is.
+    /// Who the other side is by its certificate.
     fn find_peer(&self) -> io::Result<Identity> {
         let certificate = self.stream.ssl().peer_certificate().ok_or_else(|| not_taken(NO_NAME))?;
         let found = peer_of(&certificate, self.side, self.table.as_ref());
@@ -290,7 +290,7 @@ impl TlsSession {
 
 const NO_NAME: &str = "the certificate of the other end has no name that counts here: a server's \
                        is krl:server, a client's krl:client:N, and an operator's krl:operator, \
-                       each with @TABLE behind it if the table has a name";
+                       each with @TABLE after it if the table has a name";
 
 /// Whether the certificate names who may be at the other end. Those of authorities name nobody.
 fn is_named(chain: &mut X509StoreContextRef, side: Side, table: Option<&TableName>) -> bool {
@@ -305,7 +305,7 @@ fn is_named(chain: &mut X509StoreContextRef, side: Side, table: Option<&TableNam
 }
 
 /// Who is at the other end of this side's connection, by its certificate. A server is nobody: it
-/// says nothing as a client.
+/// sends nothing as a client.
 fn peer_of(certificate: &X509Ref, side: Side, table: Option<&TableName>) -> Option<Identity> {
     let names = certificate::names_of(certificate);
     let names = names.iter().map(String::as_str);
@@ -316,7 +316,7 @@ fn peer_of(certificate: &X509Ref, side: Side, table: Option<&TableName>) -> Opti
 }
 
 /// The alert by which the other side has refused this certificate, if it has. One about something
-/// otherwise, such as an internal error, says nothing of the certificate.
+/// else, such as an internal error, is no verdict on the certificate.
 fn alert_of(errors: &ErrorStack) -> Option<&'static str> {
     let refused = errors.errors().iter().find(|error| is_about_certificate(error.code()));
     refused.map(|error| error.reason().unwrap_or("an alert"))

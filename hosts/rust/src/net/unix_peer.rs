@@ -29,7 +29,7 @@ pub(crate) fn user_at(stream: &UnixStream) -> io::Result<u32> {
     let mut found = Credentials { process: 0, user: u32::MAX, group: 0 };
     let mut length = u32::try_from(size_of::<Credentials>()).unwrap_or_default();
     let (socket, at) = (stream.as_raw_fd(), &raw mut found);
-    // SAFETY: the socket is open, and the system writes so many bytes at most into what is this
+    // SAFETY: the socket is open, and the system writes that many bytes at most into what is this
     // call's own.
     match unsafe { getsockopt(socket, SOL_SOCKET, SO_PEERCRED, at, &raw mut length) } {
         0 => Ok(found.user),

@@ -24,7 +24,7 @@ pub(crate) enum Scan {
     Miss(u64),
     /// A write of the client to a key of the range is not answered yet.
     Pending,
-    /// The client's lease has ended: what is there counts no more.
+    /// The client's lease has ended: what is there no longer counts.
     Ended,
 }
 
@@ -51,9 +51,9 @@ pub(crate) struct Shown {
 pub(crate) struct ClientHandle {
     handle: Owner<Incarnation>,
     lease: Lease,
-    /// A call was made since the last `take`, and may have said something.
+    /// A call was made since the last `take`, and may have sent something.
     has_spoken: bool,
-    /// Its incarnation is on the disk. Until then nothing of it may be said.
+    /// Its incarnation is on the disk. Until then nothing of it may be sent.
     is_kept: bool,
 }
 
@@ -91,7 +91,7 @@ impl Cache {
 
 #[cfg(test)]
 impl Cache {
-    /// Whether a call of the client waits until somebody holds the cache no more.
+    /// Whether a call of the client waits until somebody no longer holds the cache.
     pub fn keeps_a_call_waiting(&self) -> bool {
         self.0.keeps_a_change_waiting()
     }
@@ -131,7 +131,7 @@ impl ClientHandle {
         Ok(client)
     }
 
-    /// One whose host knows so much of older incarnations. It says nothing before
+    /// One whose host knows this much of older incarnations. It sends nothing before
     /// [`ClientHandle::confirm`].
     pub fn open_behind(number: u8, incarnation: u64, older: Older) -> Result<ClientHandle, Code> {
         let mut handle = Handle::closed();
@@ -145,7 +145,7 @@ impl ClientHandle {
         self.is_kept
     }
 
-    /// Confirms that the incarnation is on the disk: from now on it may be said.
+    /// Confirms that the incarnation is on the disk: from now on it may be sent.
     pub fn confirm(&mut self) -> Result<(), Code> {
         if !self.is_kept {
             self.handle.change(|it| it.handle.confirm(1))?;
@@ -187,7 +187,7 @@ impl ClientHandle {
 
     pub fn step(&mut self, message: &[u8]) -> Result<(), Code> {
         let (at, length) = (message.as_ptr(), message.len());
-        // SAFETY: as for any handle, and so many bytes of the message are there to be read.
+        // SAFETY: as for any handle, and that many bytes of the message are there to be read.
         self.call(|handle| unsafe { ffi::krl_client_step(handle, at, length) }).map(drop)
     }
 
@@ -203,17 +203,17 @@ impl ClientHandle {
             .map(drop)
     }
 
-    /// Sends the write, and says its number.
+    /// Sends the write, and returns its number.
     pub fn write(&mut self, write: &Write) -> Result<u64, Code> {
         self.call(|handle| match write {
             Write::Insert(Row { key, value }) => {
                 let bytes = value.as_bytes();
-                // SAFETY: as for any handle, and so many bytes of the value are there to be read.
+                // SAFETY: as for any handle, and that many bytes of the value are there to be read.
                 unsafe { ffi::krl_client_insert(handle, *key, bytes.as_ptr(), bytes.len()) }
             }
             Write::Put(Row { key, value }) => {
                 let bytes = value.as_bytes();
-                // SAFETY: as for any handle, and so many bytes of the value are there to be read.
+                // SAFETY: as for any handle, and that many bytes of the value are there to be read.
                 unsafe { ffi::krl_client_put(handle, *key, bytes.as_ptr(), bytes.len()) }
             }
             // SAFETY: `call` gives the handle to this call only.
@@ -222,18 +222,18 @@ impl ClientHandle {
         Ok(self.status()?.number)
     }
 
-    /// Sends the write, which takes the lock that it needs if that is free, and says its number. A
-    /// delete takes nothing: it is sent as by [`ClientHandle::write`].
+    /// Sends the write, which takes the lock that it needs if that is free, and returns its number.
+    /// A delete takes nothing: it is sent as by [`ClientHandle::write`].
     pub fn write_with_lock(&mut self, write: &Write) -> Result<u64, Code> {
         self.call(|handle| match write {
             Write::Insert(Row { key, value }) => {
                 let bytes = value.as_bytes();
-                // SAFETY: as for any handle, and so many bytes of the value are there to be read.
+                // SAFETY: as for any handle, and that many bytes of the value are there to be read.
                 unsafe { ffi::krl_client_take_insert(handle, *key, bytes.as_ptr(), bytes.len()) }
             }
             Write::Put(Row { key, value }) => {
                 let bytes = value.as_bytes();
-                // SAFETY: as for any handle, and so many bytes of the value are there to be read.
+                // SAFETY: as for any handle, and that many bytes of the value are there to be read.
                 unsafe { ffi::krl_client_take_put(handle, *key, bytes.as_ptr(), bytes.len()) }
             }
             // SAFETY: `call` gives the handle to this call only.
@@ -424,7 +424,7 @@ impl Handle {
             unsafe { ffi::krl_reader_scan(&raw mut reader, keys.start, keys.end, at, length) };
         if code(reply) == Code::Done {
             let length = rows.len() + count(reply)?;
-            // SAFETY: the library has written so many rows after the others, for which there was
+            // SAFETY: the library has written that many rows after the others, for which there was
             // room.
             unsafe { rows.set_len(length) };
         }

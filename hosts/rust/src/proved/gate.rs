@@ -10,7 +10,7 @@ use std::sync::atomic::{AtomicBool, AtomicUsize, Ordering};
 use std::thread;
 use std::time::Duration;
 
-/// Threads that read count themselves in one of so many places.
+/// Threads that read count themselves in one of this many places.
 const PLACES: usize = 16;
 
 /// A thread that waits spins at first, then it lets others run, and then it sleeps again and again.
@@ -188,7 +188,7 @@ impl Drop for Shut<'_> {
     }
 }
 
-/// Waits until something is so, or for so many turns.
+/// Waits until something is so, or for this many turns.
 fn wait(turns: impl Iterator<Item = u64>, is_so: impl Fn() -> bool) {
     for turn in turns {
         if is_so() {
@@ -202,7 +202,7 @@ fn wait(turns: impl Iterator<Item = u64>, is_so: impl Fn() -> bool) {
     }
 }
 
-/// The place of this thread. Threads beyond so many share places.
+/// The place of this thread. Threads beyond that many share places.
 fn place() -> usize {
     static NEXT: AtomicUsize = AtomicUsize::new(0);
     thread_local!(static PLACE: usize = NEXT.fetch_add(1, Ordering::Relaxed) % PLACES);

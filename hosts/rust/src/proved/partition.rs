@@ -1,10 +1,10 @@
-//! Which shard has a key, and which part of a range each shard has: the library says it.
+//! Which shard has a key, and which part of a range each shard has: the library computes it.
 use crate::model::code::Code;
 use crate::proved::ffi;
 use crate::proved::server_handle::done;
 use std::ops::Range;
 
-/// There are so many shards at most.
+/// The most shards.
 pub(crate) const MAX_SHARDS: usize = 64;
 
 /// What one shard has of a range.
@@ -34,7 +34,7 @@ impl Partition {
     /// The shard of a point.
     pub fn shard_of(&self, point: u64) -> Result<usize, Code> {
         let (at, length) = (self.bounds.as_ptr(), self.bounds.len());
-        // SAFETY: so many bounds are there to be read.
+        // SAFETY: that many bounds are there to be read.
         place(done(unsafe { ffi::krl_shard_of(at, length, point) })?)
     }
 
@@ -44,7 +44,7 @@ impl Partition {
         let mut parts = [ffi::RawPart { shard: 0, lo: 0, hi: 0 }; MAX_SHARDS];
         let (at, length) = (self.bounds.as_ptr(), self.bounds.len());
         let (to, room) = (parts.as_mut_ptr(), parts.len());
-        // SAFETY: so many bounds are there to be read, and there is so much room to be written to.
+        // SAFETY: that many bounds are there to be read, and that much room to be written to.
         let count = done(unsafe { ffi::krl_parts(at, length, start, end, to, room) })?;
         parts.iter().take(place(count)?).map(Part::of).collect()
     }

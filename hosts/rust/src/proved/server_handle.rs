@@ -13,14 +13,14 @@ use std::ptr;
 /// A handle. It stays in its place: the library's caller may not copy it.
 pub(crate) struct Handle(Box<ffi::Handle>);
 
-// SAFETY: what a handle keeps may go to another thread, as the library's proof says. A handle
-// serves one call at a time, since each call takes it by `&mut`; a lock makes each thread see what
-// the one before it did.
+// SAFETY: what a handle keeps may go to another thread, by the library's proof. A handle serves one
+// call at a time, since each call takes it by `&mut`; a lock makes each thread see what the one
+// before it did.
 unsafe impl Send for Handle {}
 
-// SAFETY: a `&` gives only readers. The library's proof says that several threads may call it at
-// once, each by a reader of its own, while no call runs that takes the handle; and a `&mut` is
-// needed for such a call.
+// SAFETY: a `&` gives only readers. By the library's proof, several threads may call it at once,
+// each by its own reader, while no call runs that takes the handle; and a `&mut` is needed for such
+// a call.
 unsafe impl Sync for Handle {}
 
 impl Handle {
@@ -54,7 +54,7 @@ impl Handle {
         taken.map(drop)
     }
 
-    /// Takes the same into the room after the old bytes, and says how long it is. The room grows
+    /// Takes the same into the room after the old bytes, and returns how long it is. The room grows
     /// as it has to.
     fn take_behind(&mut self, old: usize, frames: &mut Vec<u8>) -> Result<usize, Code> {
         loop {
@@ -82,7 +82,7 @@ pub(crate) fn code(reply: ffi::Reply) -> Code {
     Code::of(reply.code)
 }
 
-/// What was done, or why not. A call that could not say something has done what it should.
+/// What was done, or why not. A call that could not send something has done what it should.
 pub(crate) fn done(reply: ffi::Reply) -> Result<u64, Code> {
     match code(reply) {
         Code::Done | Code::ReplyLost => Ok(reply.detail),
@@ -98,8 +98,8 @@ pub(crate) struct ServerHandle {
 }
 
 impl ServerHandle {
-    /// Starts a server of this room and this reach on what was kept, and says its epoch: it has to
-    /// be kept before anything is sent.
+    /// Starts a server of this room and this reach on what was kept, and returns its epoch: it has
+    /// to be kept before anything is sent.
     pub fn open(
         snapshot: &Snapshot,
         room: Room,
@@ -109,7 +109,7 @@ impl ServerHandle {
             snapshot.rows.iter().map(|(key, value)| Row { key: *key, value: *value }).collect();
         let records: Vec<_> = snapshot.records.iter().map(raw_record).collect();
         let mut handle = Handle::closed();
-        // SAFETY: as for any handle, and so many rows and records are there to be read.
+        // SAFETY: as for any handle, and that many rows and records are there to be read.
         let reply = unsafe {
             ffi::krl_server_open(
                 handle.raw(),
@@ -126,9 +126,9 @@ impl ServerHandle {
         Ok((ServerHandle { handle, confirmed: 0 }, epoch))
     }
 
-    /// Gives the server a message, and says what has to be kept before anything more is sent.
+    /// Gives the server a message, and returns what has to be kept before anything more is sent.
     pub fn step(&mut self, message: &[u8]) -> Result<Option<Change>, Code> {
-        // SAFETY: as for any handle, and so many bytes of the message are there to be read.
+        // SAFETY: as for any handle, and that many bytes of the message are there to be read.
         let stepped =
             unsafe { ffi::krl_server_step(self.handle.raw(), message.as_ptr(), message.len()) };
         done(stepped.reply)?;
@@ -220,7 +220,7 @@ impl ServerHandle {
         Some(HeldSlot { lo, hi, client, mode })
     }
 
-    /// Takes what waits to be sent, as frames, into the front of `room`, and says how many bytes
+    /// Takes what waits to be sent, as frames, into the front of `room`, and returns how many bytes
     /// they have. The room grows as it has to, and is used again.
     pub fn take(&mut self, room: &mut Vec<u8>) -> Result<usize, Code> {
         self.handle.take_behind(0, room)

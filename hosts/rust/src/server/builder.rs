@@ -1,4 +1,4 @@
-//! How a server is told to start, and starts.
+//! How a server is configured, and starts.
 use crate::access::Access;
 use crate::lease::clocks::Now;
 use crate::lease::terms::Leases;
@@ -64,8 +64,8 @@ impl<S: Store + 'static> ServerBuilder<S> {
     }
 
     /// The most connections that are open at once: 256 if this is not called. For one more the
-    /// oldest is closed that has not said who it is; if there is none, the new one is closed as it
-    /// comes. Each client takes one.
+    /// oldest is closed that has not identified itself; if there is none, the new one is closed as
+    /// it comes. Each client takes one.
     pub fn max_connections(mut self, count: usize) -> ServerBuilder<S> {
         self.options.max_connections = count;
         self
@@ -86,11 +86,11 @@ impl<S: Store + 'static> ServerBuilder<S> {
         self
     }
 
-    /// For how many rows the server has room. An insert into a table that has so many is judged
+    /// For how many rows the server has room. An insert into a table that has that many is judged
     /// `Full`. The memory for them is reserved at the start, and used as rows come.
     ///
     /// If this is not called, it is the greatest room that a server had over this store, and 65,536
-    /// over a new one. With less than that the server has the room that is said here, the store
+    /// over a new one. With less than that the server has the room that is given here, the store
     /// keeps the greatest, and the log reports both.
     pub fn room(mut self, room: Room) -> ServerBuilder<S> {
         self.options.room = Some(room);
@@ -98,7 +98,7 @@ impl<S: Store + 'static> ServerBuilder<S> {
     }
 
     /// How many slots one grant takes at most: 128 if this is not called. A client that reads many
-    /// rows for the first time asks once for each so many slots. A grant of more slots keeps the
+    /// rows for the first time asks once per that many slots. A grant of more slots keeps the
     /// server longer from what others ask meanwhile.
     ///
     /// Each start may give another reach: the store keeps none.

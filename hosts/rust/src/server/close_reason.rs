@@ -9,9 +9,9 @@ pub(crate) enum CloseReason {
     Silent,
     /// Its peer took nothing for too long.
     TakesNothing,
-    /// It has not said whose it is in time.
+    /// It has not identified itself in time.
     StrangerLate,
-    /// It was the oldest of too many that had not said whose they are.
+    /// It was the oldest of too many that had not identified themselves.
     StrangerCrowded,
     /// It was the oldest of too many of one identity.
     IdentityCrowded,
@@ -21,9 +21,9 @@ pub(crate) enum CloseReason {
     HandshakeFailed,
     /// It began a frame that is longer than it may be.
     FrameTooLong,
-    /// It said what is no message.
+    /// It sent what is no message.
     BadMessage,
-    /// It said what its identity may not say.
+    /// It sent what its identity may not send.
     Denied,
     /// Its client takes the server for another shard's.
     OtherShard,
@@ -86,9 +86,9 @@ impl CloseReason {
     pub(crate) fn news(self) -> Option<&'static str> {
         match self {
             CloseReason::TakesNothing => Some("its peer took nothing for 5 seconds"),
-            CloseReason::StrangerLate => Some("it did not say whose it is within 5 seconds"),
+            CloseReason::StrangerLate => Some("it did not identify itself within 5 seconds"),
             CloseReason::StrangerCrowded => {
-                Some("it was the oldest of too many that had not said whose they are")
+                Some("it was the oldest of too many that had not identified themselves")
             }
             CloseReason::IdentityCrowded => {
                 Some("it was the oldest of too many of one certificate or user")

@@ -12,7 +12,7 @@ use std::io;
 #[derive(Debug)]
 #[non_exhaustive]
 pub enum ServeError {
-    /// The store failed. What was not kept was not told to anybody either.
+    /// The store failed. What was not kept was not reported to anybody either.
     Store(StoreError),
     /// What the store gave is not what a server kept, or memory was refused.
     Refused(Code),
@@ -36,8 +36,9 @@ pub enum ServeError {
         room: Room,
     },
     /// The store lacks what a client has seen of it: it is an older copy, or another store. The
-    /// client has shown who it is, and has been told. A server ends by no stranger's word: then
-    /// [`Status::store_alarms`](crate::Status::store_alarms) counts it, and the server continues.
+    /// client has shown who it is, and has been notified. A server does not end by a stranger's
+    /// word: then [`Status::store_alarms`](crate::Status::store_alarms) counts it, and the server
+    /// continues.
     OlderStore {
         /// Who has seen it.
         identity: Identity,

@@ -1,4 +1,4 @@
-//! A peer for whom there is no room: it is told so, if its host takes host frames.
+//! A peer for whom there is no room: it is sent the reason, if its host takes host frames.
 use crate::model::refusal::Refusal;
 use crate::net::stream::Stream;
 use crate::wire::frames::Frames;
@@ -6,7 +6,7 @@ use crate::wire::host_frame::{FromClient, FromServer};
 use std::io::{ErrorKind, Write};
 use std::time::{Duration, Instant};
 
-/// How long the peer has to say Hello, and then to take the answer.
+/// How long the peer has to send Hello, and then to take the answer.
 const PATIENCE: Duration = Duration::from_secs(1);
 
 /// How long one read or write may take.
@@ -24,8 +24,8 @@ pub(crate) fn tell(mut stream: Stream, connections: u64) {
         && says_hello(&mut stream, end)
         && stream.write_all(&refusal.frame()).is_ok()
     {
-        // What the peer has said next to it is read too: a stream that is closed with bytes unread
-        // may take the answer with it.
+        // What else the peer has sent is read too: a stream that is closed with bytes unread may
+        // take the answer with it.
         stream.shut_writing();
         while Instant::now() < end && reads(&mut stream, &mut Frames::to_server(LONGEST)) {}
     }
@@ -68,11 +68,11 @@ mod tests {
     use std::os::unix::net::UnixStream;
     use std::thread;
 
-    /// What a peer hears that says this.
-    fn heard(says: &[&[u8]]) -> Vec<u8> {
+    /// What a peer hears that sends these pieces.
+    fn heard(pieces: &[&[u8]]) -> Vec<u8> {
         let (ours, mut theirs) = UnixStream::pair().unwrap();
         let told = thread::spawn(move || tell(Stream::Unix(ours), 5));
-        for piece in says {
+        for piece in pieces {
             theirs.write_all(piece).unwrap();
             thread::sleep(Duration::from_millis(20));
         }

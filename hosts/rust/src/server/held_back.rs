@@ -6,9 +6,9 @@ use std::time::{Duration, Instant};
 
 /// How long a repeat is held back.
 ///
-/// A server says a push again if a client seems not to have seen it, and a client acknowledges
-/// what it hears again. Without this, one late acknowledgement brings a repeat, the repeat another
-/// late acknowledgement, and so on for ever.
+/// A server repeats a push if a client seems not to have seen it, and a client acknowledges what it
+/// hears again. Without this, one late acknowledgement brings a repeat, the repeat another late
+/// acknowledgement, and so on forever.
 ///
 /// A server calls back again, for each waiter, with each message that acts. A client answers each
 /// callback by a release. So a busy server would repeat a callback many times before the first

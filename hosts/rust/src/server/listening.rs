@@ -1,4 +1,4 @@
-//! New connections: which are taken, and which are told that there is no room.
+//! New connections: which are taken, and which learn that there is no room.
 use crate::log::event_log;
 use crate::log::seldom::Seldom;
 use crate::net::stream::{Accepted, Listener, Stream};
@@ -12,15 +12,15 @@ use std::time::{Duration, Instant};
 /// How long to wait before another connection is taken if the system had no room for one.
 const NO_ROOM: Duration = Duration::from_millis(50);
 
-/// The most connections that are told at once that there is no room for them. One more is closed
-/// as it comes.
+/// The most connections that are informed at once that there is no room for them. One more is
+/// closed as it comes.
 const MAX_TURNED_AWAY: usize = 16;
 
 /// The socket that takes connections. It never waits.
 pub(crate) struct Listening {
     listener: Listener,
     max_connections: usize,
-    /// The system has told of a connection, and not yet that there is none.
+    /// The system has reported a connection, and not yet that there is none.
     has_some: bool,
     /// None is taken before that.
     not_before: Option<Instant>,
@@ -43,7 +43,7 @@ impl Listening {
         })
     }
 
-    /// The system has told that connections wait.
+    /// The system has reported that connections wait.
     pub fn has_some(&mut self) {
         self.has_some = true;
     }
@@ -62,7 +62,7 @@ impl Listening {
         Ok(None)
     }
 
-    /// Closes a connection, since so many are open. One by TLS is told nothing.
+    /// Closes a connection, because this many are open. One by TLS is sent nothing.
     pub fn refuse_full(&mut self, accepted: Accepted, open: usize) {
         event_log::full(&mut self.full, open);
         if !accepted.is_tls {

@@ -37,7 +37,7 @@ enum Runs {
     Joined,
 }
 
-/// What is asked for: the slots that meet the points, at most so many runs of each client. It has
+/// What is asked for: the slots that meet the points, at most this many runs of each client. It has
 /// too from which client and point on they have not been looked up yet.
 #[derive(Clone, Debug)]
 pub(crate) struct Search {
@@ -65,7 +65,7 @@ pub(crate) struct Page {
 }
 
 impl HeldRun {
-    /// A run of so many slots of these points, for tests of what shows locks.
+    /// A run of this many slots of these points, for tests of what shows locks.
     #[must_use]
     pub fn new(client: u8, points: Range<u64>, mode: Mode, slots: u64) -> HeldRun {
         HeldRun { lo: points.start, hi: points.end, client, mode, slots }

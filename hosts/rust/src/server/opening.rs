@@ -18,7 +18,7 @@ use crate::server::shown::timings::Timings;
 use crate::store::Store;
 use std::sync::Arc;
 
-/// What a server is told of what it decides.
+/// The decisions that a server is given.
 #[derive(Clone, Copy, Debug)]
 pub(crate) struct Decided {
     pub leases: Option<Leases>,

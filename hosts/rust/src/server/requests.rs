@@ -10,7 +10,7 @@ use std::time::Duration;
 /// The most requests that wait. One more is refused.
 const MAX_WAITING: usize = 256;
 
-/// What is said of a server whose loop does not answer.
+/// The report on a server whose loop does not answer.
 pub(crate) const BUSY: &str = "the server's loop did not answer in time: it is busy, or hangs";
 
 /// What another thread asks.

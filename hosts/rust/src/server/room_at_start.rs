@@ -45,7 +45,7 @@ mod tests {
         Room::of(rows).unwrap()
     }
 
-    /// A store with so many rows that keeps this room, if any.
+    /// A store with this many rows that keeps this room, if any.
     fn store(rows: u64, kept: Option<usize>) -> Snapshot {
         let rows = (0..rows).map(|key| (key, Value::from(key))).collect();
         Snapshot { epoch: 1, rows, room: kept.map(room), ..Snapshot::default() }

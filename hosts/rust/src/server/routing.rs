@@ -2,7 +2,7 @@
 use crate::model::change::Record;
 use std::collections::HashMap;
 
-/// What a message says of its connection.
+/// What a message shows about its connection.
 #[derive(Clone, Copy, Debug, PartialEq, Eq)]
 pub(crate) enum Sender {
     /// It comes from the client that the server knows under this number: the connection is the
@@ -11,8 +11,8 @@ pub(crate) enum Sender {
     /// It comes from that client, which has left. Nothing more goes to it but the frame of no
     /// bytes.
     Left,
-    /// It comes from another incarnation, or from nobody that ever said Hello. Whoever sent it gets
-    /// nothing: an evicted process that still runs would else take its successor's messages.
+    /// It comes from another incarnation, or from nobody that ever sent Hello. Whoever sent it gets
+    /// nothing: otherwise an evicted process that still runs would take its successor's messages.
     Stranger,
 }
 

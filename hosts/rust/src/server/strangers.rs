@@ -11,13 +11,13 @@ const MAX_FROM_ONE: usize = 64;
 /// The most strangers in all.
 const MAX_IN_ALL: usize = 128;
 
-/// How long a connection may take to say whose it is. A byte now and then buys no more.
+/// How long a connection may take to identify itself. A byte now and then gains no further time.
 pub const PATIENCE: Duration = Duration::from_secs(5);
 
-/// The connections that have not said whose they are, the oldest first, and those that have.
+/// The connections that have not identified themselves, the oldest first, and those that have.
 ///
 /// For one more than there may be **the oldest is closed**, and not the newest refused: a client
-/// says whose it is in a few milliseconds, and gets in next to any number that say nothing.
+/// identifies itself in a few milliseconds, and gets in next to any number that send nothing.
 ///
 /// It is for the programs of krl's repository, and may change in any release.
 #[derive(Debug, Default)]
@@ -47,13 +47,13 @@ impl Strangers {
         gone
     }
 
-    /// Whether it has not said whose it is.
+    /// Whether it has not identified itself.
     #[must_use]
     pub fn has(&self, connection: u64) -> bool {
         self.waiting.iter().any(|stranger| stranger.connection == connection)
     }
 
-    /// It has said whose it is. It answers which one is to be closed for it, if one is: the oldest
+    /// It has identified itself. It answers which one is to be closed for it, if one is: the oldest
     /// of the same identity.
     pub(crate) fn is_known(&mut self, connection: u64, identity: Identity) -> Option<u64> {
         self.waiting.retain(|stranger| stranger.connection != connection);

@@ -47,7 +47,7 @@ impl ShardedBuilder {
     }
 
     /// How long `join` waits for its number if a server reports that another process has it, as
-    /// [`ClientBuilder::wait_if_in_use`] says.
+    /// [`ClientBuilder::wait_if_in_use`] describes.
     ///
     /// [`ClientBuilder::wait_if_in_use`]: crate::ClientBuilder::wait_if_in_use
     pub fn wait_if_in_use(mut self, wait: Duration) -> ShardedBuilder {
@@ -129,8 +129,8 @@ impl ShardedClient {
         ShardedClient::builder(map, number, lock_folder.as_ref()).join()
     }
 
-    /// A builder for a client of this number, as [`ShardedClient::join`] takes it: it says more before
-    /// the client joins, such as how long its calls wait, and for which keys it is.
+    /// A builder for a client of this number, as [`ShardedClient::join`] takes it: it configures
+    /// the client before it joins, such as how long its calls wait, and for which keys it is.
     pub fn builder(map: ShardMap, number: u8, lock_folder: impl Into<PathBuf>) -> ShardedBuilder {
         ShardedClient::builder_with_numbers(map, [number], lock_folder)
     }

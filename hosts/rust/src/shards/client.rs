@@ -24,11 +24,11 @@ use std::time::Duration;
 /// answered only if all its parts are known at one moment**: the rows are that range of all
 /// tables together at one moment of the call.
 ///
-/// A write is at one shard. Two writes at two shards are two writes: another client may see the
-/// first one alone, also after a crash between the two.
+/// A write is at one shard. Two writes at two shards are two writes: another client may see only
+/// the first one, also after a crash between the two.
 ///
-/// All that [`Client`] says of a client holds at each shard: so each shard has its own lock file,
-/// its own eight pins, and its own room for rows.
+/// All that [`Client`] promises of a client holds at each shard: so each shard has its own lock
+/// file, its own eight pins, and its own room for rows.
 ///
 /// A clone is the same client.
 ///
@@ -106,7 +106,7 @@ impl ShardedClient {
         self.joined.clients().map(status).collect()
     }
 
-    /// From now on, each call waits so long for an answer, a year at most.
+    /// From now on, each call waits at most this long for an answer, and a year at most.
     pub fn set_timeout(&self, timeout: Duration) {
         self.joined.clients().for_each(|(_, client)| client.set_timeout(timeout));
     }
@@ -118,8 +118,8 @@ impl ShardedClient {
         first.map_or(Duration::ZERO, |(_, client)| client.timeout())
     }
 
-    /// The same calls, each of which waits so long for an answer, a year at most. Calls of other
-    /// threads wait as before.
+    /// The same calls, each of which waits at most this long for an answer, and a year at most.
+    /// Calls of other threads wait as before.
     pub fn within(&self, timeout: Duration) -> ShardedWithin<'_> {
         ShardedWithin::new(&self.joined, timeout)
     }

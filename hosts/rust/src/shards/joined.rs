@@ -83,8 +83,8 @@ impl Joined {
         let parts = self.parts(keys)?;
         let mut rows = Vec::new();
         while !self.is_known(&parts, &mut rows) {
-            // Nothing is pinned before each shard has answered: one that is down would else keep
-            // those waiting who write at the others.
+            // Nothing is pinned before each shard has answered: otherwise one that is down would
+            // keep those waiting who write at the others.
             self.fetch(&parts, end)?;
             if self.is_known(&parts, &mut rows) {
                 break;
@@ -234,7 +234,7 @@ impl Joined {
         if parts.is_empty() {
             return Ok(Waited::Changed);
         }
-        // Each part tells one end, so none waits for room.
+        // Each part reports one end, so none waits for room.
         let (told, change) = sync_channel(parts.len());
         let watch = |Part { shard, keys }: &Part| {
             let known = rows.iter().filter(|row| keys.contains(&row.key)).copied().collect();

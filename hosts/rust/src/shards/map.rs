@@ -55,7 +55,7 @@ impl ShardMap {
     ///
     /// # Errors
     ///
-    /// `BadShardMap`, which says what makes none.
+    /// `BadShardMap`, which describes what makes none.
     pub fn new(shards: Vec<Shard>) -> Result<ShardMap, BadShardMap> {
         let mut firsts = shards.iter().map(|shard| shard.first);
         if firsts.next() != Some(0) {
@@ -84,7 +84,7 @@ impl ShardMap {
     }
 
     /// What the shard of this number has of the keys, by the version of this map. A map without a
-    /// version says `None`, and so does one that has no such shard.
+    /// version returns `None`, and so does one that has no such shard.
     #[must_use]
     pub fn bounds_of(&self, shard: usize) -> Option<ShardBounds> {
         let first = self.shards.get(shard)?.first;

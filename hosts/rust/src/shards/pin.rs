@@ -12,9 +12,9 @@ use crate::shards::joined::{Joined, PinOfShard};
 use std::sync::Arc;
 use std::time::{Duration, Instant};
 
-/// A pinned range of several shards: no other client takes away what the client holds of it, as long
-/// as this lives. If a server's store goes back, or the lease there ends, the pin is void at that
-/// shard: [`Client`](crate::Client) says more.
+/// A pinned range of several shards: no other client takes away what the client holds of it, as
+/// long as this lives. If a server's store goes back, or the lease there ends, the pin is void at
+/// that shard: [`Client`](crate::Client) describes more.
 ///
 /// Its writes are bound to it as those of [`Pin`] are, each at the shard of its key: if such a write
 /// is made, then before any other client changed what was pinned at that shard.
@@ -38,7 +38,7 @@ impl ShardedPin {
         self.pins.iter().all(|part| part.pin.holds())
     }
 
-    /// The same writes, each of which waits so long for an answer, a year at most.
+    /// The same writes, each of which waits at most this long for an answer, and a year at most.
     pub fn within(&self, timeout: Duration) -> ShardedPinWithin<'_> {
         ShardedPinWithin::new(self, timeout)
     }

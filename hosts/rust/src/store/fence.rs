@@ -5,8 +5,8 @@
 //! older one's first change is refused, and it ends. No clock, no lease and no message between
 //! servers is needed for that.
 //!
-//! How a head is stored and compared is the store's own. The rest is here: what a head says, the
-//! [`Fence`]; whether a value of the store may still commit, its [`Ownership`]; and why a
+//! How a head is stored and compared is the store's own. The rest is here: the content of a head,
+//! the [`Fence`]; whether a value of the store may still commit, its [`Ownership`]; and why a
 //! transaction has no answer, a [`Failure`].
 use crate::model::history::Mark;
 use crate::store::StoreError;
@@ -17,8 +17,8 @@ use std::fmt;
 pub struct Fence {
     /// The epoch of the server.
     pub epoch: u64,
-    /// Drawn by chance for each value of a store, and 0 if no server has committed anything. It
-    /// tells two servers apart that both read one epoch and both want the next.
+    /// Random for each value of a store, and 0 if no server has committed anything. It
+    /// distinguishes two servers that both read one epoch and both want the next.
     pub owner: u128,
     /// How many transactions the owner has committed. One that is sent again since its answer was
     /// lost, or that comes late, finds another count and does nothing.
@@ -111,7 +111,7 @@ impl Ownership {
         self.0 = State::IsLoaded;
     }
 
-    /// Whether this value may commit, or tell what it has committed.
+    /// Whether this value may commit, or report what it has committed.
     ///
     /// # Errors
     ///

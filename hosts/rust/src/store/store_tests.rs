@@ -80,7 +80,7 @@ pub fn apply(snapshot: &mut Snapshot, changes: &[Change]) {
     }
 }
 
-/// The snapshot without the first start, which a store with a history draws by chance.
+/// The snapshot without the first start, which a store with a history draws at random.
 #[must_use]
 pub fn without_first_start(snapshot: Snapshot) -> Snapshot {
     Snapshot { first_start: None, ..snapshot }

@@ -1,6 +1,6 @@
 //! Messages on a stream: each has its length before it, in eight bytes, the lowest first.
 //!
-//! A frame of no bytes is no message: by it a server's host says that a Bye is kept.
+//! A frame of no bytes is no message: by it a server's host reports that a Bye is kept.
 use crate::model::room::Room;
 use crate::proved::ffi;
 use std::io::{self, Read};
@@ -45,9 +45,9 @@ const KEPT: usize = 4 * GULP;
 #[derive(Clone, Copy, Debug, PartialEq, Eq)]
 pub(crate) struct TooLong;
 
-/// The bytes that came and belong to no frame that was taken yet. It grows with what came, never by
-/// a length alone, and at a server beyond `LONGEST_SHORT` only for a frame that was admitted by its
-/// head.
+/// The bytes that came and belong to no frame that was taken yet. It grows with what came, never
+/// merely by a length, and at a server beyond `LONGEST_SHORT` only for a frame that was admitted by
+/// its head.
 #[derive(Debug, Default)]
 pub(crate) struct Frames {
     /// Room for bytes. What is after `filled` was zero, or is of frames that were taken: no read
@@ -63,7 +63,7 @@ pub(crate) struct Frames {
 }
 
 impl Frames {
-    /// What comes to a server, in which a frame has so many bytes at most.
+    /// What comes to a server, in which a frame has this many bytes at most.
     pub fn to_server(longest: usize) -> Frames {
         Frames { longest, longest_unadmitted: LONGEST_SHORT, ..Frames::default() }
     }
@@ -74,7 +74,7 @@ impl Frames {
         Frames { longest, longest_unadmitted: longest, ..Frames::default() }
     }
 
-    /// Reads once from the stream, at most `GULP` bytes, and says how many came: none if it has
+    /// Reads once from the stream, at most `GULP` bytes, and returns how many came: none if it has
     /// ended.
     pub fn fill(&mut self, stream: &mut impl Read) -> io::Result<usize> {
         self.make_room();

@@ -1,10 +1,10 @@
-//! Frames of the hosts: what the host of a client and that of a server say to one another beneath
-//! the messages. `docs/WIRE.md` has the table.
+//! Frames of the hosts: what the host of a client and that of a server send each other beneath the
+//! messages. `docs/WIRE.md` has the table.
 //!
 //! The first byte of a host frame is 0. No message of the library begins so: its version is 1.
 //!
 //! A Hello names the version of the stream, and its layout is the same in each version from 2 on:
-//! so each side can tell the other that they do not fit together.
+//! so each side can report to the other that they do not fit together.
 use crate::model::client_set::ClientSet;
 use crate::model::history::{Mark, Seen};
 use crate::model::refusal::{Refusal, STREAM_VERSION};
@@ -23,21 +23,21 @@ const ANSWERS_SIGNS: u8 = 1;
 /// none.
 const MARK_LENGTHS: [usize; 3] = [0, 24, 40];
 
-/// What the host of a client says.
+/// What the host of a client sends.
 #[derive(Clone, Copy, Debug, PartialEq, Eq)]
 pub(crate) enum FromClient {
-    /// It takes host frames, and has seen so much of the store, if anything. This is the first
+    /// It takes host frames, and has seen this much of the store, if anything. This is the first
     /// frame of its connection.
     Hello(Option<Seen>),
     /// The Hello of a host of another version.
     OtherVersion,
     /// It takes the server for this shard's.
     Shard(ShardBounds),
-    /// The same, with numbers that are no shard's. No host says it.
+    /// The same, with numbers that are no shard's. No host sends it.
     NoShard,
 }
 
-/// What the host of a server says, and only to a host that has said Hello.
+/// What the host of a server sends, and only to a host that has sent Hello.
 #[derive(Clone, Copy, Debug, PartialEq, Eq)]
 pub(crate) enum FromServer {
     /// It takes host frames. A host without leases answers no signs. The Hello of another version
@@ -45,11 +45,11 @@ pub(crate) enum FromServer {
     Hello { answers_signs: bool },
     /// It does not serve the client, for this reason.
     Refused(Refusal),
-    /// So much is on the disk. It leaves before the messages that rest on it.
+    /// This much is on the disk. It leaves before the messages that rest on it.
     Mark(Seen),
     /// The store lacks what the client's host has seen of it.
     WentBack,
-    /// It serves this shard, as the client's host has said.
+    /// It serves this shard, as the client's host has stated.
     Shard(ShardBounds),
 }
 
@@ -80,7 +80,7 @@ impl FromClient {
         }
     }
 
-    /// What the frame says, or `None` if it is of another kind: then it says nothing.
+    /// The content of the frame, or `None` if it is of another kind, which has no meaning.
     pub fn read(frame: &[u8]) -> Option<FromClient> {
         match frame {
             [HOST, FromClient::HELLO, said @ ..] => Some(read_hello(said)),
@@ -118,7 +118,7 @@ impl FromServer {
         }
     }
 
-    /// What the frame says, or `None` if it is of another kind: then it says nothing.
+    /// The content of the frame, or `None` if it is of another kind, which has no meaning.
     pub fn read(frame: &[u8]) -> Option<FromServer> {
         match frame {
             [HOST, FromServer::HELLO, said @ ..] => Some(read_server_hello(said)),
@@ -258,7 +258,7 @@ mod tests {
             let body = body(&said.frame());
             assert!(is_of_host(&body) && body.len() < crate::wire::frames::LONGEST_TO_CLIENT);
             assert_eq!(FromServer::read(&body), Some(said));
-            // A later release may say more after it.
+            // A later release may send more after it.
             assert_eq!(FromServer::read(&[&body[..], b"more"].concat()), Some(said));
         }
         for seen in [None, Some(SEEN), Some(SEEN_EARLIER)] {

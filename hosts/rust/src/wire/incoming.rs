@@ -1,4 +1,4 @@
-//! What a client and its host say to a server, frame by frame.
+//! What a client and its host send to a server, frame by frame.
 use crate::lease::terms::Sign;
 use crate::wire::host_frame::{self, FromClient};
 use crate::wire::message::Message;
@@ -8,7 +8,7 @@ use crate::wire::message::Message;
 pub(crate) enum Incoming<'f> {
     /// A message of the library, or a string that is none: the library judges it.
     Message(Message<'f>),
-    /// A word of the client's host, or `None` if it says nothing that this server knows.
+    /// A word of the client's host, or `None` if this server does not know it.
     Host(Option<FromClient>),
     /// A sign of the client's host.
     Sign(Sign),

@@ -8,7 +8,7 @@ const SIGN: u8 = 1;
 const TERMS: u8 = 20;
 const ENDED: u8 = 21;
 
-/// How a number says that an operator vouches. No incarnation is so great.
+/// The number by which an operator vouches. No incarnation is that great.
 const VOUCHED: u64 = FOR_EVER;
 
 impl Sign {
@@ -23,7 +23,7 @@ impl Sign {
         framed(SIGN, &[client.into(), incarnation, stamp.nanoseconds(), length, older])
     }
 
-    /// What the frame says, without its length, or `None` if it is of another kind.
+    /// The content of the frame, without its length, or `None` if it is of another kind.
     pub fn read(frame: &[u8]) -> Option<Sign> {
         let [client, incarnation, stamp, length, older] = numbers(frame, SIGN)?;
         let older = match older {
@@ -47,7 +47,7 @@ impl Answer {
         }
     }
 
-    /// What the frame says, without its length, or `None` if it is of another kind.
+    /// The content of the frame, without its length, or `None` if it is of another kind.
     pub fn read(frame: &[u8]) -> Option<Answer> {
         if let Some([incarnation, stamp, length]) = numbers(frame, TERMS) {
             let stamp = Moment::of_nanoseconds(stamp);
@@ -64,7 +64,7 @@ fn framed(kind: u8, numbers: &[u64]) -> Vec<u8> {
     [&length.to_le_bytes()[..], &[HOST, kind], &body].concat()
 }
 
-/// The numbers of a frame of this kind. A later release may say more after them.
+/// The numbers of a frame of this kind. A later release may send more after them.
 fn numbers<const N: usize>(frame: &[u8], kind: u8) -> Option<[u64; N]> {
     let mut rest = frame.strip_prefix(&[HOST, kind])?;
     let mut numbers = [0; N];

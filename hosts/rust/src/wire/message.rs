@@ -92,7 +92,7 @@ impl Kind {
     }
 
     /// Whether a server that takes it from a client may give the client something or take something
-    /// away. What an idle client says is none of these.
+    /// away. What an idle client sends is none of these.
     pub fn may_change_holdings(self) -> bool {
         !matches!(self, Kind::Hello | Kind::Bye | Kind::Ack)
     }

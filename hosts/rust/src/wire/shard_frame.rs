@@ -17,7 +17,7 @@ pub(crate) fn spelled_bytes(shard: Option<ShardBounds>) -> Vec<u8> {
     spelled(shard).into_iter().flat_map(u64::to_le_bytes).collect()
 }
 
-/// The shard of these bytes. A later release may say more after them.
+/// The shard of these bytes. A later release may send more after them.
 pub(crate) fn read(bytes: &[u8]) -> Option<ShardBounds> {
     let (first, rest) = number(bytes)?;
     let (end, rest) = number(rest)?;

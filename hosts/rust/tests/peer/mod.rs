@@ -1,4 +1,4 @@
-//! A connection to a server that says what it likes.
+//! A connection that sends a server what it likes.
 #![allow(dead_code, reason = "each test uses what it needs")]
 use krl::Server;
 use std::io::{ErrorKind, Read, Write};
@@ -29,7 +29,7 @@ pub fn frame(kind: u8, client: u64, incarnation: u64, fields: &[u64]) -> Vec<u8>
     [&(message.len() as u64).to_le_bytes()[..], &message].concat()
 }
 
-/// A connection that says what it likes.
+/// A connection that sends what it likes.
 pub struct Peer(TcpStream);
 
 impl Peer {

@@ -27,7 +27,7 @@ impl Setup {
         self.authority.certify(&self.folder, names, 5)
     }
 
-    /// The same, good for so many days.
+    /// The same, valid for this many days.
     pub fn certify_for(&self, names: &[&str], days: i64) -> Files {
         self.authority.certify(&self.folder, names, days)
     }
@@ -37,7 +37,7 @@ impl Setup {
         self.config_for(names, 5)
     }
 
-    /// The same, good for so many days.
+    /// The same, valid for this many days.
     pub fn config_for(&self, names: &[&str], days: i64) -> TlsConfig {
         config(&self.certify_for(names, days))
     }

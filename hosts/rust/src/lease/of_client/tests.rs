@@ -60,8 +60,8 @@ fn terms_of_others_count_nothing() {
     let mut lease = lease();
     let sign = lease.greet(at(1000)).unwrap();
     assert!(!lease.take(Grant { incarnation: OTHER, ..grant(sign, 9) }, at(1001)));
-    assert!(!lease.take(Grant { stamp: at(1001), ..grant(sign, 9) }, at(1002)), "never said");
-    assert!(!lease.take(Grant { stamp: at(999), ..grant(sign, 9) }, at(1002)), "never said");
+    assert!(!lease.take(Grant { stamp: at(1001), ..grant(sign, 9) }, at(1002)), "never sent");
+    assert!(!lease.take(Grant { stamp: at(999), ..grant(sign, 9) }, at(1002)), "never sent");
     assert!(allows(&lease, u64::MAX - 1), "no terms were taken");
 }
 

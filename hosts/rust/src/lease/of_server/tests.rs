@@ -115,7 +115,7 @@ fn who_lives_by_a_longer_lease_is_waited_for() {
 fn whoever_is_in_a_store_without_leases_may_answer_for_ever() {
     let mut table = table(LeaseRecord::UNKNOWN, Some(ten()));
     assert_eq!((table.to_evict(at(9999)), table.unleased()), (vec![], vec![3, 5]));
-    // It says so itself, as it has not heard the terms yet.
+    // It reports that itself, as it has not heard the terms yet.
     table.sign(sign(3, 7, FOR_EVER), at(1));
     assert_eq!(table.unleased(), [3, 5]);
     table.sign(sign(3, 7, 10 * SECOND), at(2));
@@ -159,7 +159,7 @@ fn a_second_process_waits_until_the_first_has_ended() {
     assert!(hears(kept, 3, 8, Unknown, at(12)), "its lease has ended");
     assert!(hears(kept, 3, 8, IsOver(7), at(1)), "it had the lock file");
     assert!(!hears(kept, 3, 9, IsOver(8), at(1)), "a later start that failed");
-    assert!(!hears(kept, 5, 8, Unknown, at(9999)), "it answers for ever");
+    assert!(!hears(kept, 5, 8, Unknown, at(9999)), "it answers forever");
     assert!(hears(kept, 5, 8, Vouched, at(1)), "nothing else ends it");
 }
 

@@ -23,7 +23,7 @@ impl Dice {
     }
 }
 
-/// A server that runs, and what was said on the client's connection to it.
+/// A server that runs, and what was sent on the client's connection to it.
 struct Serving {
     table: LeaseTable,
     signs: Vec<Sign>,
@@ -50,7 +50,7 @@ struct World {
     stored: LeaseRecord,
     record: Option<Record>,
     evicted: Vec<Arc<End>>,
-    /// The server hears nothing. What it said before still comes.
+    /// The server hears nothing. What it sent before still comes.
     is_cut: bool,
     counts: Counts,
 }

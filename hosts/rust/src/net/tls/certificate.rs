@@ -1,4 +1,4 @@
-//! What a side's own certificate says.
+//! The content of a side's own certificate.
 use crate::access::identity::{Role, TableName};
 use openssl::asn1::{Asn1Time, Asn1TimeRef};
 use openssl::error::ErrorStack;

@@ -16,11 +16,11 @@ use std::time::{SystemTime, UNIX_EPOCH};
 
 /// What one side of a connection shows, and whom it believes.
 ///
-/// All certificates are of one authority, and each says by names of the kind URI, in its
-/// subjectAltName, who its holder is: `krl:client:3` may speak for the client 3, `krl:operator` may
-/// evict clients and see the status, and `krl:server` is a server. One certificate may have several
-/// names. If the table has a name, each is followed by `@` and that name, as `krl:client:3@orders`,
-/// and names of other tables, or of none, count nothing.
+/// All certificates are of one authority, and each names its holder by names of the kind URI in its
+/// subjectAltName: `krl:client:3` may speak for the client 3, `krl:operator` may evict clients and
+/// see the status, and `krl:server` is a server. One certificate may have several names. If the
+/// table has a name, each is followed by `@` and that name, as `krl:client:3@orders`, and names of
+/// other tables, or of none, count nothing.
 ///
 /// **Whoever the authority certifies is believed.** It has to be krl's own, or one that lets nobody
 /// choose such names.
@@ -118,8 +118,8 @@ impl TlsConfig {
         Ok(TlsConfig { is_of_server: true, ..self })
     }
 
-    /// Reads the files again. Connections that are made from now on show and believe what they say
-    /// now; those that stand continue.
+    /// Reads the files again. Connections that are made from now on show and believe what they
+    /// contain now; those that stand continue.
     ///
     /// # Errors
     ///

@@ -39,7 +39,7 @@ impl Load {
         !self.writes || figures.callbacks >= LEAST_CALLBACKS
     }
 
-    /// Scans at places that no processor can guess until the end, and says how many.
+    /// Scans at places that no processor can guess until the end, and returns how many.
     fn scan_until(self, end: Instant, seed: u64, scan: Scans) -> u32 {
         const AT_ONCE: u32 = 16;
         let mut rows = Vec::with_capacity(usize::try_from(self.rows).unwrap());
@@ -115,7 +115,7 @@ fn loads() -> impl Iterator<Item = Load> {
     [1, 100].into_iter().flat_map(writers).flat_map(threads)
 }
 
-/// `KRL_ROUNDS` says how many rounds there are.
+/// `KRL_ROUNDS` is the number of rounds.
 #[test]
 #[ignore = "it takes a minute, and measures"]
 fn many_readers() {

@@ -8,7 +8,7 @@ use std::sync::mpsc::channel;
 use std::thread;
 use std::time::{Duration, Instant};
 
-/// What scans came to that were made while the other client held the last row alone.
+/// What scans came to that were made while the other client held only the last row.
 #[derive(Debug, Default)]
 struct Judged {
     callbacks: u64,
@@ -176,7 +176,7 @@ fn what_was_cached_goes_with_the_client() {
     assert_eq!(cache.scan(&LAST, &mut Vec::new(), Moment::now), Ok(Scan::Miss(LAST.start)));
     let mut frames = Vec::new();
     world.scanned.take(&mut frames).unwrap();
-    assert!(!frames.is_empty(), "it says Hello");
+    assert!(!frames.is_empty(), "it sends Hello");
 }
 
 #[test]

@@ -74,7 +74,7 @@ impl<S: Scanned> World<S> {
         assert_eq!(rows.len() as u64, ROWS);
     }
 
-    /// Hands messages over until nobody says anything.
+    /// Hands messages over until nobody sends anything.
     pub fn settle(&mut self) {
         loop {
             self.hear_clients();
@@ -91,7 +91,7 @@ impl<S: Scanned> World<S> {
         }
     }
 
-    /// The server hears what the clients say.
+    /// The server hears what the clients send.
     fn hear_clients(&mut self) {
         self.frames.clear();
         self.scanned.change(|client| client.take(&mut self.frames)).unwrap();
@@ -103,7 +103,7 @@ impl<S: Scanned> World<S> {
         }
     }
 
-    /// What the server says.
+    /// What the server sends.
     fn hear_server(&mut self) {
         let length = self.server.take(&mut self.frames).unwrap();
         self.frames.truncate(length);

@@ -40,7 +40,7 @@ impl ClientStatus {
 }
 
 impl ClientConnection {
-    /// A connection to this peer that has been open for so long, for tests of what shows clients.
+    /// A connection to this peer that has been open for this long, for tests of what shows clients.
     #[must_use]
     pub fn new(peer: PeerAddress, open_for: Duration) -> ClientConnection {
         ClientConnection { peer, open_for }

@@ -36,7 +36,7 @@ impl HeldPage {
 }
 
 impl HeldSearch {
-    /// A search for at most so many runs of each client that meet this range.
+    /// A search for at most this many runs of each client that meet this range.
     ///
     /// # Errors
     ///

@@ -47,8 +47,8 @@ impl Liveness {
         matches!(self, Liveness::Turns | Liveness::WaitsForStore { .. })
     }
 
-    /// The loop made its last step so long ago, and has waited for its store for so long, if it
-    /// does, which may take so long.
+    /// The loop made its last step this long ago, and has waited for its store for `waited`, if it
+    /// does, which may take `longest`.
     pub(crate) fn judge(
         since_last_step: Duration,
         waited: Option<Duration>,

@@ -23,8 +23,9 @@ pub struct Locks {
     pub next: Option<u64>,
     /// The clients that wait with a request that meets the range.
     pub waits: Vec<Wait>,
-    /// All of this is as it was at one moment. Otherwise the server has told it in several pages,
-    /// and continued between them: what a client holds may have changed from one page to the next.
+    /// All of this is as it was at one moment. Otherwise the server has reported it in several
+    /// pages, and continued between them: what a client holds may have changed from one page to the
+    /// next.
     pub is_of_one_moment: bool,
 }
 
@@ -72,8 +73,8 @@ pub(crate) fn page(requests: &Requests, search: Search) -> Result<Page, LocksErr
     })
 }
 
-/// Puts the slots in order, and leaves out those after the first so many, each with all that hold
-/// it. It answers where those begin, if there are any.
+/// Puts the slots in order, and leaves out those after the first `most`, and all holders of the
+/// first of these. It answers where those begin, if there are any.
 fn cut(held: &mut Vec<HeldSlot>, most: usize) -> Option<u64> {
     held.sort_unstable();
     let next = held.get(most)?.lo;

@@ -94,7 +94,7 @@ impl Page {
         );
         counter(
             "krl_denied_total",
-            "Frames that a connection's certificate or user may not say; each ended its connection",
+            "Frames not allowed by a connection's certificate or user; each ended its connection",
             status.denied,
         );
         counter(
@@ -201,7 +201,7 @@ impl Page {
 }
 
 impl Unit {
-    /// The number in the unit that the name of the metric says.
+    /// The number in the unit that the metric's name states.
     fn shows(self, number: u64) -> String {
         match self {
             Unit::Microseconds => Duration::from_micros(number).as_secs_f64().to_string(),

@@ -68,8 +68,9 @@ impl Monitor {
         answered.map_err(SnapshotError::from)?.map_err(SnapshotError::Store)
     }
 
-    /// Who holds which slots that meet this range, at most so many (64 if fewer are asked for), and
-    /// who waits there. Slots of a client are told one by one, even if neighbours have one mode.
+    /// Who holds which slots that meet this range, at most this many (64 if fewer are asked for),
+    /// and who waits there. Slots of a client are reported one by one, even if neighbours have one
+    /// mode.
     ///
     /// The server reports them between its turns, in pages of up to 1,024 slots and some
     /// milliseconds each, so that its clients do not wait for that. It may look at its whole table

@@ -50,7 +50,7 @@ pub struct Status {
     pub sent: u64,
     /// The strings that were no message. Each ended its connection.
     pub refused: u64,
-    /// How often a connection said what its certificate or its user may not say. Each was closed,
+    /// How often a connection sent what its certificate or its user may not send. Each was closed,
     /// and the library heard nothing of it.
     pub denied: u64,
     /// The repeats of pushes and callbacks that were held back.
@@ -59,15 +59,15 @@ pub struct Status {
     pub changes: u64,
     /// How often the store was asked to commit changes.
     pub commits: u64,
-    /// The signs that came: what the clients' hosts say to keep their leases.
+    /// The signs that came: what the clients' hosts send to keep their leases.
     pub signs: u64,
     /// How many clients were evicted since their leases had ended.
     pub evicted: u64,
-    /// The clients that may answer from their caches for ever, and that only an operator evicts.
+    /// The clients that may answer from their caches forever, and that only an operator evicts.
     pub unleased: Vec<u8>,
     /// No lease that ends and may still run is longer.
     pub longest_lease: Duration,
-    /// Why the server has ended, if it has failed. All else is as it was last.
+    /// Why the server has ended, if it has failed. Everything else is as it was last.
     pub failure: Option<String>,
 }
 

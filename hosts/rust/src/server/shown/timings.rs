@@ -116,7 +116,7 @@ impl Timings {
         }
     }
 
-    /// The store has made a commit of so many changes, which took so long.
+    /// The store has made a commit of this many changes, which took this long.
     pub fn committed(&self, changes: usize, time: Duration) {
         self.commits.add_time(time);
         self.commit_changes.add(changes as u64);
@@ -216,7 +216,7 @@ impl Open {
                     timings.releases.add_time(now.saturating_duration_since(since));
                 }
             }
-            // What an earlier incarnation asked, or was told to give back, is over.
+            // What an earlier incarnation asked, or was asked to give back, is over.
             (Kind::Hello, _) => self.forget(place),
             _ => {}
         }

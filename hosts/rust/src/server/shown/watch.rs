@@ -38,8 +38,8 @@ pub struct HeldSlots {
 }
 
 impl Wait {
-    /// A client that has waited so long for this mode at these points, and for these clients. It is
-    /// for tests of what shows waits.
+    /// A client that has waited this long for this mode at these points, and for these clients. It
+    /// is for tests of what shows waits.
     #[must_use]
     pub fn new(
         client: u8,
@@ -53,7 +53,7 @@ impl Wait {
 }
 
 impl HeldSlots {
-    /// A client that holds something of so many slots, for tests of what shows that.
+    /// A client that holds something of this many slots, for tests of what shows that.
     #[must_use]
     pub fn new(client: u8, slots: u64) -> HeldSlots {
         HeldSlots { client, slots }
@@ -146,7 +146,7 @@ impl Watch {
         Some(next)
     }
 
-    /// The client holds something of so many slots.
+    /// The client holds something of this many slots.
     pub fn counted(&mut self, client: u8, slots: u64) {
         self.holdings.retain(|holding| holding.client != client);
         if slots > 0 {
