@@ -36,7 +36,7 @@ class world {
 
     shared_client &client_of(std::size_t number) { return *clients_[number]; }
 
-    /* Hands messages over until nobody has anything to say. */
+    /* Hands messages over until nobody has one to send. */
     void settle() {
         for (std::size_t said = 1; said > 0;) {
             said = 0;

@@ -203,7 +203,7 @@ class handle {
     /* How many notes were reported: the first is the opening, and each change of a server's step is one more. */
     std::uint64_t notes() const { return detail::done("krl_confirm", krl_confirm(get(), 0)).detail; }
 
-    /* Confirms that the first so many notes are on the disk. */
+    /* Confirms that the first `count` notes are on the disk. */
     void confirm(std::uint64_t count) { detail::done("krl_confirm", krl_confirm(get(), count)); }
 
     /* Calls `deliver` with each message that may leave, in their order, and returns whether more wait for a

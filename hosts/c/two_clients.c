@@ -32,7 +32,7 @@ typedef struct client {
     krl_handle handle;
     uint64_t incarnation;
     krl_lease lease;
-    /* Nothing that it says arrives, and nothing reaches it. */
+    /* Nothing that it sends arrives, and nothing reaches it. */
     bool is_cut_off;
 } client;
 
@@ -221,7 +221,7 @@ static void evict_silent(void)
     }
 }
 
-/* Takes what `from` has to say, and hands each message to `deliver`. It answers how many there were. */
+/* Takes the messages of `from`, and hands each to `deliver`. It returns how many there were. */
 static int hand_over(krl_handle *from, void (*deliver)(const uint8_t *, size_t))
 {
     static uint8_t room[ROOM];
@@ -237,7 +237,7 @@ static int hand_over(krl_handle *from, void (*deliver)(const uint8_t *, size_t))
     return count;
 }
 
-/* Hands messages over until nobody has anything to say. */
+/* Hands messages over until nobody has one to send. */
 static void settle(void)
 {
     for (int round = 0; round < MAX_ROUNDS; round++) {
@@ -254,7 +254,7 @@ static void settle(void)
     exit(1);
 }
 
-/* Starts a client. Its host says a sign first, and no Hello before it has terms; the server may have spent the
+/* Starts a client. Its host sends a sign first, and no Hello before it has terms; the server may have spent the
  * incarnation, to evict the one before. */
 static void join(int number)
 {
@@ -268,7 +268,8 @@ static void join(int number)
     } while (!say_sign(number));
 }
 
-/* A step of time. Who is not cut off says a sign and a tick, and the server evicts who has been silent for too long. */
+/* A step of time. A client that is not cut off sends a sign and a tick, and the server evicts one that has been silent
+ * for too long. */
 static void pass_time(void)
 {
     elapsed += STEP * MILLISECOND;
@@ -364,7 +365,7 @@ static void cut_off(void)
         insert(1, 17, "seventeen");
     }
     clients[0].is_cut_off = false;
-    printf("client 0 joins anew\n");
+    printf("client 0 joins again\n");
     join(0);
     settle();
     scan(0, 0, 100);

@@ -26,9 +26,9 @@
  * it: no other call may use it during that call or after it. Calls that take rows or an error are made by one thread
  * at a time for each of these. Which thread makes a call never matters.
  *
- * Waiting. A call with a `timeout_ms` waits for an answer for at most so many milliseconds, and at most a year. 0 means
- * the client's timeout. `krlc_join`, `krlc_evict` and `krlc_free` wait as they describe. Every other call waits for
- * at most one step of the client, which takes microseconds.
+ * Waiting. A call with a `timeout_ms` waits for an answer for at most that many milliseconds, and at most a year. 0
+ * means the client's timeout. `krlc_join`, `krlc_evict` and `krlc_free` wait as they describe. Every other call waits
+ * for at most one step of the client, which takes microseconds.
  *
  * Misuse. A null pointer where none may be, a handle that was freed, and text that is not UTF-8 return KRLC_MISUSE. A
  * freed handle is detected as long as fewer than 1,000 handles of its kind have been freed since. No call unwinds into
@@ -171,7 +171,7 @@ typedef enum krlc_code {
     KRLC_DISCONNECT = 65,
     /* The write was not sent within the timeout: the client was not connected, or waited for a lock. The error has the
      * server's reason if it gave one. Or the server's store went back, or the client's thread ended, before the write
-     * was sent: the error's text says which. Also of one of several writes: it was not made. */
+     * was sent: the error's text states which. Also of one of several writes: it was not made. */
     KRLC_NOT_MADE = 66
 } krlc_code;
 
@@ -326,7 +326,7 @@ KRLC_NODISCARD uint32_t krlc_join(const krlc_options *options, krlc_client **cli
  *
  * A client with a lease is evicted when that ends: this call waits a minute at most for it. A client that lives is not
  * evicted, since its lease does not end. *The process of a client without a lease has to be dead*: one that runs may
- * continue to answer from its cache what is no longer so. Errors: those of `krlc_join`; KRLC_UNSERVED, by
+ * continue to answer from its cache with outdated rows. Errors: those of `krlc_join`; KRLC_UNSERVED, by
  * KRLC_REASON_LEASE_RUNS, if the lease does not end in time. */
 KRLC_NODISCARD uint32_t krlc_evict(const krlc_options *options, krlc_error *error);
 
@@ -339,15 +339,15 @@ KRLC_NODISCARD uint32_t krlc_leave(krlc_client *client, uint64_t timeout_ms, krl
  * or after it; the client's number is free again after both. A null pointer and a freed client change nothing. */
 void krlc_free(krlc_client *client);
 
-/* From now on, calls whose `timeout_ms` is 0 wait for so many milliseconds, from 1 to a year: greater numbers count as
- * a year. Errors: KRLC_MISUSE for 0. */
+/* From now on, calls whose `timeout_ms` is 0 wait for this many milliseconds, from 1 to a year: greater numbers count
+ * as a year. Errors: KRLC_MISUSE for 0. */
 KRLC_NODISCARD uint32_t krlc_set_timeout(krlc_client *client, uint64_t timeout_ms, krlc_error *error);
 
 /* Reads the files for TLS again: connections that are made from now on use them. Errors: KRLC_BAD_TLS, also if the
  * client has none. Then the earlier ones stay. */
 KRLC_NODISCARD uint32_t krlc_reload_tls(krlc_client *client, krlc_error *error);
 
-/* The client's number: it tells which one of `numbers` was free. KRLC_NUMBERS if the client cannot be used. */
+/* The client's number: the one of `numbers` that was free. KRLC_NUMBERS if the client cannot be used. */
 uint32_t krlc_number(krlc_client *client);
 
 /* How many shards the client has joined: 1 without a map. 0 if the client cannot be used. */
@@ -379,7 +379,7 @@ KRLC_NODISCARD uint32_t krlc_cached_row(krlc_client *client, uint64_t key, krlc_
 KRLC_NODISCARD uint32_t krlc_read(krlc_client *client, uint64_t lo, uint64_t hi, krlc_rows *rows, uint64_t timeout_ms,
                                   krlc_error *error);
 
-/* Waits for at most so many milliseconds, with 0 not at all, until the client no longer knows that the range has just
+/* Waits for at most this many milliseconds, with 0 not at all, until the client no longer knows that the range has just
  * these rows. KRLC_OK means that a read may have something new; KRLC_UNCHANGED that the time is over. It sends nothing.
  * For a range that the cache does not have, it is KRLC_OK at once. The rows are those of an earlier answer, in the
  * order of their keys. Errors: KRLC_MISUSE, KRLC_BAD_RANGE, KRLC_TOO_LONG, KRLC_STOPPED. */

@@ -1,10 +1,10 @@
 /* krl_host: a client of a krl server without sockets, threads and clocks, for engines that have their own.
  *
- * The caller owns the connection and the time. Bytes that came go in, bytes to be sent come out, each call receives
- * the time, and the client returns when it has to be called next. All else is inside: the frames of the stream, locks,
- * callbacks of the server, what is repeated and what is given back, leases, the lock file of the client's number, and
- * how long the client pauses before it connects again. The library is libkrl_client; `examples/embedded_host.c` is a
- * whole host.
+ * The caller owns the connection and the time. Bytes that came go in, bytes to be sent come out, each call receives the
+ * time, and the client returns when it has to be called next. Everything else is inside: the frames of the stream,
+ * locks, callbacks of the server, what is repeated and what is given back, leases, the lock file of the client's
+ * number, and how long the client pauses before it connects again. The library is libkrl_client;
+ * `examples/embedded_host.c` is a whole host.
  *
  *     krlh_open(&options, now, &client, &error)
  *     forever
@@ -78,7 +78,7 @@ typedef struct krlh_answer {
 } krlh_answer;
 
 /* How a call is answered. From the moment `deadline` on it is answered by KRLC_TIMED_OUT, or by KRLC_UNSERVED if the
- * server has told why; KRLH_NEVER stands for no deadline. */
+ * server has given its reason; KRLH_NEVER stands for no deadline. */
 typedef struct krlh_asked {
     void (*answered)(void *context, const krlh_answer *answer);
     void *context;

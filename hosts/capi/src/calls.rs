@@ -1,5 +1,5 @@
-//! The calls of the header, which says what each does and what its caller has to see to: these are
-//! the conditions under which each is safe. Each examines what C gives it, and hands on values.
+//! The calls of the header, which describes what each does and what its caller has to see to: these
+//! are the conditions under which each is safe. Each examines what C gives it, and hands on values.
 #![allow(clippy::missing_safety_doc, reason = "the header has it")]
 #![allow(missing_docs, reason = "the header has it")]
 mod host;
@@ -302,7 +302,7 @@ pub unsafe extern "C" fn krlc_wait_for_change(
     error: *mut ErrorRoom,
 ) -> u32 {
     let wait = || {
-        // SAFETY: the caller frees the client after this call, and vouches for so many rows.
+        // SAFETY: the caller frees the client after this call, and vouches for this many rows.
         let (table, rows) = unsafe { (table(client)?, input::rows(rows, count)?) };
         let timeout = Duration::from_millis(timeout_ms);
         Ok(match table.wait_for_change(range(lo, hi)?, &rows, timeout)? {
@@ -336,7 +336,7 @@ pub unsafe extern "C" fn krlc_forget(
 ///
 /// # Safety
 ///
-/// As the header says of the calls below.
+/// As the header requires of the calls below.
 unsafe fn write(
     client: *mut Client,
     timeout_ms: u64,
@@ -361,7 +361,7 @@ pub unsafe extern "C" fn krlc_insert(
     timeout_ms: u64,
     error: *mut ErrorRoom,
 ) -> u32 {
-    // SAFETY: the caller vouches for so many bytes.
+    // SAFETY: the caller vouches for this many bytes.
     let value = || unsafe { input::value(bytes.cast(), length) };
     // SAFETY: the caller vouches for the client and the room.
     unsafe { write(client, timeout_ms, error, || Ok(Write::Insert(key, value()?))) }
@@ -376,7 +376,7 @@ pub unsafe extern "C" fn krlc_put(
     timeout_ms: u64,
     error: *mut ErrorRoom,
 ) -> u32 {
-    // SAFETY: the caller vouches for so many bytes.
+    // SAFETY: the caller vouches for this many bytes.
     let value = || unsafe { input::value(bytes.cast(), length) };
     // SAFETY: the caller vouches for the client and the room.
     unsafe { write(client, timeout_ms, error, || Ok(Write::Put(key, value()?))) }
@@ -391,7 +391,7 @@ pub unsafe extern "C" fn krlc_set(
     timeout_ms: u64,
     error: *mut ErrorRoom,
 ) -> u32 {
-    // SAFETY: the caller vouches for so many bytes.
+    // SAFETY: the caller vouches for this many bytes.
     let value = || unsafe { input::value(bytes.cast(), length) };
     // SAFETY: the caller vouches for the client and the room.
     unsafe { write(client, timeout_ms, error, || Ok(Write::Set(key, value()?))) }
@@ -417,7 +417,7 @@ pub unsafe extern "C" fn krlc_write_all(
     error: *mut ErrorRoom,
 ) -> u32 {
     let write = || {
-        // SAFETY: the caller vouches for so many writes, and frees the client after this call.
+        // SAFETY: the caller vouches for this many writes, and frees the client after this call.
         let (given, table) = unsafe { (writes(at, count)?, table(client)?) };
         write_all(given, |wanted| table.write_all(wanted, table.timeout_of(timeout_ms)))
     };

@@ -9,7 +9,7 @@ use std::slice;
 /// The greatest end of a range.
 const TOP: u64 = END + 1;
 
-/// The most rows that a caller may name: a table has fewer, and so many fit into memory.
+/// The most rows that a caller may name: a table has fewer, and this many fit into memory.
 const MAX_ROWS: usize = 1 << 27;
 
 /// A text that may be missing.
@@ -27,11 +27,11 @@ pub unsafe fn text<'a>(what: &str, at: *const c_char) -> Result<Option<&'a str>,
     text.to_str().map(Some).map_err(is_not)
 }
 
-/// A value of so many bytes. Too many are not looked at.
+/// A value of this many bytes. Too many are not looked at.
 ///
 /// # Safety
 ///
-/// `at` points to so many bytes if they are 1 to 32.
+/// `at` points to this many bytes if they are 1 to 32.
 pub unsafe fn value(at: *const u8, length: usize) -> Result<Value, Fault> {
     if length == 0 {
         return Ok(Value::default());
@@ -42,7 +42,7 @@ pub unsafe fn value(at: *const u8, length: usize) -> Result<Value, Fault> {
     if at.is_null() {
         return Err(Fault::misuse("the pointer to the bytes of a value is null"));
     }
-    // SAFETY: the caller vouches for so many bytes.
+    // SAFETY: the caller vouches for this many bytes.
     let bytes = unsafe { slice::from_raw_parts(at, length) };
     Value::try_from(bytes).map_err(|_| too_long(length))
 }
@@ -90,7 +90,7 @@ const _: () = assert!(
 ///
 /// # Safety
 ///
-/// `at` points to so many rows, or `count` is 0 or too great.
+/// `at` points to `count` rows, or `count` is 0 or too great.
 pub unsafe fn rows(at: *const GivenRow, count: usize) -> Result<Vec<Row>, Fault> {
     if count == 0 {
         return Ok(Vec::new());
@@ -98,7 +98,7 @@ pub unsafe fn rows(at: *const GivenRow, count: usize) -> Result<Vec<Row>, Fault>
     if at.is_null() || count > MAX_ROWS {
         return Err(Fault::misuse("the pointer to rows is null, or they are more than 2^27"));
     }
-    // SAFETY: the caller vouches for so many rows, which are less than half of all memory.
+    // SAFETY: the caller vouches for this many rows, which are less than half of all memory.
     let given = unsafe { slice::from_raw_parts(at, count) };
     let mut rows = Vec::new();
     let refused = |_| Fault::new(Code::OutOfMemory, "memory was refused");

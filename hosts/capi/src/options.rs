@@ -81,7 +81,7 @@ pub unsafe fn options_at(at: *const Options) -> Result<Options, Fault> {
 ///
 /// # Safety
 ///
-/// `at` is null, or points to a size and so many bytes altogether, of which none is written
+/// `at` is null, or points to a size and that many bytes altogether, of which none is written
 /// meanwhile. `T` begins with the size, and all bytes make one.
 pub unsafe fn bytes_at<T>(at: *const T) -> Result<T, Fault> {
     if at.is_null() {
@@ -92,14 +92,14 @@ pub unsafe fn bytes_at<T>(at: *const T) -> Result<T, Fault> {
     if !(size_of::<usize>()..=MAX_SIZE).contains(&size) {
         return Err(Fault::misuse(format!("`size` of the options is {size}: it is not set")));
     }
-    // SAFETY: the caller vouches for so many bytes.
+    // SAFETY: the caller vouches for this many bytes.
     let bytes = unsafe { slice::from_raw_parts(at.cast::<u8>(), size) };
     let known = size.min(size_of::<T>());
     if bytes[known..].iter().any(|byte| *byte != 0) {
         return Err(Fault::misuse("the options have members that this library does not know"));
     }
     let mut options = MaybeUninit::<T>::zeroed();
-    // SAFETY: so many bytes are there, and there is room for them. All bytes make options.
+    // SAFETY: that many bytes are there, and there is room for them. All bytes make options.
     unsafe {
         ptr::copy_nonoverlapping(at.cast::<u8>(), options.as_mut_ptr().cast(), known);
         Ok(options.assume_init())

@@ -37,12 +37,12 @@ impl OwnPin {
         self.pin.holds()
     }
 
-    /// Makes a write that waits for so many milliseconds, of which 0 stands for the timeout.
+    /// Makes a write that waits for this many milliseconds; 0 stands for the timeout.
     pub fn write(&self, write: Write, timeout_ms: u64) -> Result<Outcome, ShardError> {
         self.pin.write(write, self.table.timeout_of(timeout_ms))
     }
 
-    /// Makes several writes, which wait for so many milliseconds together.
+    /// Makes several writes, which wait for this many milliseconds together.
     pub fn write_all(&self, writes: Vec<Mutation>, timeout_ms: u64) -> Judged {
         self.pin.write_all(writes, self.table.timeout_of(timeout_ms))
     }

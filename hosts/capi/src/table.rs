@@ -154,7 +154,7 @@ impl Table {
         }
     }
 
-    /// Leaves, and waits so long until each server has kept that.
+    /// Leaves, and waits for at most this time until each server has kept that.
     pub fn leave(&self, timeout: Duration) -> Answer<()> {
         match self {
             Table::One(client) => Ok(client.within(timeout).leave()?),
@@ -169,7 +169,7 @@ impl Table {
         }
     }
 
-    /// How long a call waits that names so many milliseconds, of which 0 stands for the timeout.
+    /// How long a call waits that names this many milliseconds; 0 stands for the timeout.
     pub fn timeout_of(&self, milliseconds: u64) -> Duration {
         if milliseconds == 0 { self.timeout() } else { Duration::from_millis(milliseconds) }
     }

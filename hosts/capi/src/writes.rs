@@ -6,7 +6,7 @@ use crate::table::Judged;
 use krl::{Fate, Mutation};
 use std::slice;
 
-/// The most writes of a call: so many fit into memory.
+/// The most writes of a call: this many fit into memory.
 const MAX_WRITES: usize = 1 << 27;
 
 /// A `krlc_write` of the header, as a caller writes it: its kind and its length may be anything.
@@ -23,8 +23,8 @@ pub struct GivenWrite {
 ///
 /// # Safety
 ///
-/// `at` points to so many writes, or `count` is 0 or too great; and nothing else uses them as long as
-/// the answer lives.
+/// `at` points to `count` writes, or `count` is 0 or too great; and nothing else uses them as long
+/// as the answer lives.
 pub unsafe fn writes<'a>(at: *mut GivenWrite, count: usize) -> Result<&'a mut [GivenWrite], Fault> {
     if count == 0 {
         return Ok(&mut []);
@@ -32,7 +32,7 @@ pub unsafe fn writes<'a>(at: *mut GivenWrite, count: usize) -> Result<&'a mut [G
     if at.is_null() || count > MAX_WRITES {
         return Err(Fault::misuse("the pointer to writes is null, or they are more than 2^27"));
     }
-    // SAFETY: the caller vouches for so many writes, which are less than half of all memory.
+    // SAFETY: the caller vouches for this many writes, which are less than half of all memory.
     let given = unsafe { slice::from_raw_parts_mut(at, count) };
     note(given, Code::NotMade);
     Ok(given)

@@ -269,7 +269,7 @@ fn a_lease_that_ends_leaves_neither_rows_nor_pins() {
 const README: &str = include_str!("../README.md");
 const CLIENTS: &str = include_str!("../../../docs/CLIENTS.md");
 
-/// The first blocks of the page in this language, so many.
+/// The first `count` blocks of the page in this language.
 fn blocks(page: &str, language: &str, count: usize) -> String {
     let fence = format!("```{language}\n");
     let blocks = page.split(&fence).skip(1).take(count);

@@ -102,7 +102,7 @@ pub unsafe extern "C" fn krlh_received(
         }
         let bytes = match length {
             0 => &[],
-            // SAFETY: the caller vouches for so many bytes.
+            // SAFETY: the caller vouches for this many bytes.
             _ => unsafe { slice::from_raw_parts(bytes.cast::<u8>(), length) },
         };
         host.received(now, bytes)
@@ -161,7 +161,7 @@ pub unsafe extern "C" fn krlh_disconnected(client: *mut HostHandle, now: u64) ->
 ///
 /// # Safety
 ///
-/// As the header says of the calls below.
+/// As the header requires of the calls below.
 unsafe fn begin<A>(
     client: *mut HostHandle,
     now: u64,
@@ -284,7 +284,7 @@ pub unsafe extern "C" fn krlh_watch(
     error: *mut ErrorRoom,
 ) -> u32 {
     let ask = || {
-        // SAFETY: the caller vouches for so many rows.
+        // SAFETY: the caller vouches for this many rows.
         let (keys, rows) = (host::some(range(lo, hi)?)?, unsafe { input::rows(rows, count) }?);
         Ok(move |client: &mut HostClient, now| Asked::Done(client.watch(now, keys, rows)))
     };

@@ -41,7 +41,7 @@ pub unsafe extern "C" fn krlc_pin_held(
 ///
 /// # Safety
 ///
-/// As the header says of the calls below.
+/// As the header requires of the calls below.
 unsafe fn pin_for(
     purpose: Purpose,
     (client, lo, hi): (*mut Client, u64, u64),
@@ -125,7 +125,7 @@ pub unsafe extern "C" fn krlc_pin_holds(pin: *mut Pin) -> u32 {
 ///
 /// # Safety
 ///
-/// As the header says of the calls below.
+/// As the header requires of the calls below.
 unsafe fn write(
     pin: *mut Pin,
     timeout_ms: u64,
@@ -150,7 +150,7 @@ pub unsafe extern "C" fn krlc_pin_insert(
     timeout_ms: u64,
     error: *mut ErrorRoom,
 ) -> u32 {
-    // SAFETY: the caller vouches for so many bytes.
+    // SAFETY: the caller vouches for this many bytes.
     let value = || unsafe { input::value(bytes.cast(), length) };
     // SAFETY: the caller vouches for the pin and the room.
     unsafe { write(pin, timeout_ms, error, || Ok(Write::Insert(key, value()?))) }
@@ -165,7 +165,7 @@ pub unsafe extern "C" fn krlc_pin_put(
     timeout_ms: u64,
     error: *mut ErrorRoom,
 ) -> u32 {
-    // SAFETY: the caller vouches for so many bytes.
+    // SAFETY: the caller vouches for this many bytes.
     let value = || unsafe { input::value(bytes.cast(), length) };
     // SAFETY: the caller vouches for the pin and the room.
     unsafe { write(pin, timeout_ms, error, || Ok(Write::Put(key, value()?))) }
@@ -180,7 +180,7 @@ pub unsafe extern "C" fn krlc_pin_set(
     timeout_ms: u64,
     error: *mut ErrorRoom,
 ) -> u32 {
-    // SAFETY: the caller vouches for so many bytes.
+    // SAFETY: the caller vouches for this many bytes.
     let value = || unsafe { input::value(bytes.cast(), length) };
     // SAFETY: the caller vouches for the pin and the room.
     unsafe { write(pin, timeout_ms, error, || Ok(Write::Set(key, value()?))) }
@@ -206,7 +206,7 @@ pub unsafe extern "C" fn krlc_pin_write_all(
     error: *mut ErrorRoom,
 ) -> u32 {
     let write = || {
-        // SAFETY: the caller vouches for so many writes, and frees the pin after this call.
+        // SAFETY: the caller vouches for this many writes, and frees the pin after this call.
         let (given, pin) = unsafe { (writes(at, count)?, PINS.own_value(pin)?) };
         write_all(given, |wanted| pin.write_all(wanted, timeout_ms))
     };

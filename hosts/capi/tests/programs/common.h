@@ -71,7 +71,7 @@ static inline krlc_client *join(const world *world, uint32_t number) {
     return client;
 }
 
-/* Whether the rows are those of so many keys, each with the text of its value. */
+/* Whether the rows are those of this many keys, each with the text of its value. */
 static inline bool are(const krlc_rows *rows, size_t wanted, const uint64_t *keys, const char **values) {
     size_t count = 99;
     const krlc_row *row = krlc_rows_get(rows, &count);

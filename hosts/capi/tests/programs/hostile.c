@@ -230,7 +230,7 @@ static void child(const world *world, krlc_client *client, krlc_pin *pin, krlc_r
     WANT(strstr(error.sentence, "parent") != NULL);
     krlc_free(client);
     krlc_rows_free(rows);
-    /* A client of its own serves it as any. */
+    /* It has its own client, which serves as any other. */
     client = join(world, 3);
     EXPECT(KRLC_OK, krlc_insert(client, 40, "child", 5, 0, &error));
     EXPECT(KRLC_OK, krlc_read(client, 40, 41, own_rows, 0, &error));
