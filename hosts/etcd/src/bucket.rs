@@ -21,7 +21,7 @@ pub(crate) fn count_for(room: Room) -> usize {
     room.rows().div_ceil(ROWS_OF_A_GREAT_ROOM).next_power_of_two()
 }
 
-/// Whether a store may have so many buckets.
+/// Whether a store may have this many buckets.
 pub(crate) fn is_count(count: usize) -> bool {
     (FEWEST..=count_for(Room::MAX)).contains(&count)
 }
@@ -116,7 +116,7 @@ fn mix(key: u64, salt: u64) -> u64 {
     mixed ^ (mixed >> 31)
 }
 
-/// The bucket of a mixed key, of so many buckets. One that is not there yet has its rows in the
+/// The bucket of a mixed key, of `count` buckets. One that is not there yet has its rows in the
 /// bucket from which it will take them.
 fn number_of(mixed: u64, count: usize) -> usize {
     let all = count.next_power_of_two();

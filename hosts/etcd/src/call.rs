@@ -146,7 +146,7 @@ impl Etcd {
                 .map_err(|error| unknown(error.to_string())),
             Err(ureq::Error::Status(status, answer)) => {
                 let (code, why) = told(&read_body(answer));
-                let is_final = code.is_some_and(says_that_nothing_was_done);
+                let is_final = code.is_some_and(means_that_nothing_was_done);
                 if is_final && !explain::passes_by_itself(&why) {
                     Err(Failure::Refused(explain::refusal(&why, &self.given)).into())
                 } else {
@@ -156,7 +156,7 @@ impl Etcd {
             Err(error) => {
                 let why = error.to_string();
                 match explain::connection(&why, &self.given) {
-                    Some(says) => Err(Attempt::Unusable(format!("{endpoint}: {says}"))),
+                    Some(reason) => Err(Attempt::Unusable(format!("{endpoint}: {reason}"))),
                     None => Err(unknown(explain::attempt(why))),
                 }
             }
@@ -179,9 +179,9 @@ fn told(text: &str) -> (Option<u64>, String) {
     (json["code"].as_u64(), why.to_string())
 }
 
-/// Whether a status of gRPC says that nothing was done: the request is wrong, not allowed, or more
+/// Whether a status of gRPC means that nothing was done: the request is wrong, not allowed, or more
 /// than there is room for. The others leave it open.
-fn says_that_nothing_was_done(code: u64) -> bool {
+fn means_that_nothing_was_done(code: u64) -> bool {
     // Those that etcd and its gateway use: INVALID_ARGUMENT, NOT_FOUND, ALREADY_EXISTS,
     // PERMISSION_DENIED, RESOURCE_EXHAUSTED, FAILED_PRECONDITION, OUT_OF_RANGE, UNIMPLEMENTED,
     // UNAUTHENTICATED.
@@ -227,10 +227,10 @@ mod tests {
     fn only_some_statuses_say_that_nothing_was_done() {
         let (code, why) = told(r#"{"error":"mvcc: x","code":11,"message":"mvcc: compacted"}"#);
         assert_eq!((code, why.as_str()), (Some(11), "mvcc: compacted"));
-        assert!(says_that_nothing_was_done(11));
+        assert!(means_that_nothing_was_done(11));
         // Cancelled, Unknown, DeadlineExceeded, Aborted, Internal, Unavailable, DataLoss.
         for code in [1, 2, 4, 10, 13, 14, 15] {
-            assert!(!says_that_nothing_was_done(code), "{code}");
+            assert!(!means_that_nothing_was_done(code), "{code}");
         }
         assert_eq!(told("no JSON\n"), (None, "no JSON".to_string()));
     }

@@ -1,8 +1,7 @@
 //! Which server should serve: the one that has a key with a lease.
 //!
-//! **No promise rests on it.** Two servers that both believe to have it are told apart by the
-//! store, which refuses the older one's first change. The lease only says when another one should
-//! try.
+//! **No promise rests on it.** If two servers both believe that they have it, the store decides: it
+//! refuses the older one's first change. The lease only determines when another one should try.
 use crate::address::{Credentials, EtcdAddress};
 use crate::call::Etcd;
 use crate::explain;
@@ -17,7 +16,7 @@ use std::time::{Duration, Instant};
 /// How often a server that stands by looks.
 const LOOK: Duration = Duration::from_millis(100);
 
-/// How long an answer is waited for that only tells people something.
+/// How long an answer is waited for that is only for people.
 const ASK: Duration = Duration::from_secs(5);
 
 /// The shortest lease that etcd keeps to.
@@ -83,7 +82,7 @@ impl Election {
     }
 
     /// Waits until the server has the place. Each time that another server's address is found in
-    /// the place, `tell` hears it; it answers whether to continue. None if it is not to continue.
+    /// the place, `tell` gets it, and returns whether to continue. None if it is not to continue.
     ///
     /// # Errors
     ///
@@ -207,7 +206,7 @@ impl Lease {
         }
         let answer = etcd.call("lease/keepalive", &json!({"ID": self.id}), asked + length / 3);
         let runs = match answer {
-            // A node that has just learned who leads says so.
+            // A node that has just learned who leads reports it.
             Err(Failure::Refused(why)) if explain::is_of_lost_lease(&why) => false,
             answer => number_of(&answer?["result"]["TTL"]) > 0,
         };
@@ -227,7 +226,7 @@ fn may_have_run_out(alive: Instant, length: Duration, now: Instant) -> bool {
     now.saturating_duration_since(alive) > length
 }
 
-/// Keeps the lease alive until it is told to stop, and gives it back then, or until it has run out.
+/// Keeps the lease alive until it is stopped, and gives it back then, or until it has run out.
 fn keep(mut etcd: Etcd, mut lease: Lease, length: Duration, stopped: &Receiver<()>) {
     let id = lease.id.clone();
     while stopped.recv_timeout(length / 10) == Err(RecvTimeoutError::Timeout) {
@@ -255,7 +254,7 @@ impl Term {
         self.runs.try_recv() == Err(std::sync::mpsc::TryRecvError::Empty)
     }
 
-    /// Waits so long for the end of the lease, and answers whether it still runs.
+    /// Waits this long for the end of the lease, and returns whether it still runs.
     #[must_use]
     pub fn runs_after(&self, wait: Duration) -> bool {
         self.runs.recv_timeout(wait) == Err(RecvTimeoutError::Timeout)
@@ -266,7 +265,7 @@ impl Drop for Term {
     fn drop(&mut self) {
         self.stop = None;
         if let Some(thread) = self.thread.take() {
-            // A panic of that thread has been told by itself.
+            // A panic of that thread has been reported by itself.
             let _ = thread.join();
         }
     }
@@ -292,7 +291,7 @@ mod tests {
     use krl_testing::cluster::Cluster;
     use std::sync::atomic::{AtomicBool, AtomicU32, Ordering};
 
-    /// Each call of the cluster has so long.
+    /// Each call of the cluster may take this long.
     const LEASE: Duration = Duration::from_secs(30);
     const LONG: Duration = Duration::from_secs(60);
 

@@ -4,7 +4,7 @@ use crate::address::{Credentials, EtcdAddress};
 /// What stands in an error of TLS of which another attempt at the same node comes to nothing.
 const UNTRUSTED: &str = "certificate verify failed";
 const HANDSHAKE: &str = "native_tls connect failed";
-/// How a connection ends if the node doesn't know what it was told: which of them depends on how
+/// How a connection ends if the node doesn't know what it was sent: which of them depends on how
 /// much the node had read by then.
 const ENDED: [&str; 4] =
     ["unexpected EOF", "Unexpected EOF", "Connection reset by peer", "Broken pipe"];
@@ -112,20 +112,20 @@ mod tests {
         let empty = "etcdserver: user name is empty";
         assert_eq!(refusal(empty, &given(None)), "etcd wants a user and a password");
         let denied = "etcdserver: permission denied";
-        let says = "the user krl may not use the keys below /krl/orders/";
-        assert_eq!(refusal(denied, &krl), says);
+        let reason = "the user krl may not use the keys below /krl/orders/";
+        assert_eq!(refusal(denied, &krl), reason);
         assert_eq!(refusal("mvcc: compacted", &krl), "etcd refuses it: mvcc: compacted");
     }
 
     #[test]
     fn a_node_that_ends_a_connection_may_want_another_scheme() {
         for end in ["unexpected EOF", "Connection reset by peer (os error 104)"] {
-            let says = attempt(format!("Connection Failed: native_tls connect failed: {end}"));
-            assert!(says.ends_with("reached by etcd://"), "{says}");
+            let reason = attempt(format!("Connection Failed: native_tls connect failed: {end}"));
+            assert!(reason.ends_with("reached by etcd://"), "{reason}");
         }
         for end in ["Unexpected EOF", "Connection reset by peer (os error 104)"] {
-            let says = attempt(format!("Network Error: {end}"));
-            assert!(says.ends_with("reached by etcds://"), "{says}");
+            let reason = attempt(format!("Network Error: {end}"));
+            assert!(reason.ends_with("reached by etcds://"), "{reason}");
         }
         assert_eq!(attempt("timed out".into()), "timed out");
     }
@@ -136,6 +136,6 @@ mod tests {
             assert_eq!(connection(why, &given(None)), None);
         }
         let untrusted = connection("certificate verify failed: self-signed", &given(None));
-        assert!(untrusted.is_some_and(|says| says.contains("of this system")));
+        assert!(untrusted.is_some_and(|reason| reason.contains("of this system")));
     }
 }

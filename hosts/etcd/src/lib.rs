@@ -4,7 +4,7 @@
 //! machine may serve from it. **Which one may, the store decides**: every transaction compares one
 //! key, which each transaction sets again, so that of two servers that both believe to serve the
 //! older one's first change is refused, and it ends. No lease, clock or message between servers is
-//! needed for that. The [`Election`] only says when another server should try.
+//! needed for that. The [`Election`] only determines when another server should try.
 mod address;
 mod bucket;
 mod call;

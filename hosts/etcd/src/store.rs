@@ -24,10 +24,10 @@ use krl::{Change, History, Outcome, Snapshot, Store, StoreError};
 use serde_json::{Value as Json, json};
 use std::time::{Duration, Instant};
 
-/// A change sets so many keys at most: a bucket and a record.
+/// A change sets this many keys at most: a bucket and a record.
 const KEYS_OF_A_CHANGE: usize = 2;
 
-/// An answer of a load has some so many bytes of keys and values, and at least so many keys.
+/// An answer of a load has about this many bytes of keys and values, and at least this many keys.
 const PAGE_BYTES: usize = 1 << 20;
 const FEWEST_KEYS: usize = 64;
 
@@ -44,8 +44,7 @@ const LAST_ATTEMPT: Duration = Duration::from_secs(5);
 /// A store in etcd, which keeps it on several machines. Any number of servers may open it: one of
 /// them at a time can commit something, the one that loaded and committed last.
 ///
-/// It takes an etcd of version 3.4 or newer, whose JSON gateway is on, as it is unless it is told
-/// otherwise.
+/// It takes an etcd of version 3.4 or newer, whose JSON gateway is on, as it is by default.
 #[derive(Debug)]
 pub struct EtcdStore {
     etcd: Etcd,
@@ -94,8 +93,8 @@ impl EtcdStore {
         create::create(address, credentials, snapshot)
     }
 
-    /// From now on a commit waits so long for the cluster. Longer than an election of etcd takes,
-    /// the server continues over one.
+    /// From now on a commit waits at most this long for the cluster. Longer than an election of
+    /// etcd takes, the server continues over one.
     #[must_use]
     pub fn with_commit_timeout(self, commit_timeout: Duration) -> EtcdStore {
         EtcdStore { commit_timeout, ..self }
@@ -175,7 +174,7 @@ impl EtcdStore {
         Ok(())
     }
 
-    /// What a transaction does that sets this head, and what the part says.
+    /// What a transaction does that sets this head and the content of the part.
     fn operations(&self, next: &Head, part: &Part) -> Vec<Json> {
         let mut operations = vec![request::put(&self.key("head"), next.to_string().as_bytes())];
         if let Some(past) = part.past {
@@ -221,7 +220,7 @@ impl EtcdStore {
         self.ownership.judge(found, head.as_ref())
     }
 
-    /// Makes a change in the table, and says what of it the part has to set.
+    /// Makes a change in the table, and adds to the part what it has to set.
     fn note(&mut self, change: &Change, part: &mut Part) {
         match *change {
             Change::Started { epoch } => {
@@ -357,7 +356,7 @@ impl Store for EtcdStore {
     }
 }
 
-/// How many keys the next answer may have, after one of so many keys and bytes.
+/// How many keys the next answer may have, after one of this many keys and bytes.
 fn next_limit(keys: usize, bytes: usize) -> usize {
     (keys * PAGE_BYTES / bytes.max(1)).clamp(FEWEST_KEYS, 64 * FEWEST_KEYS)
 }

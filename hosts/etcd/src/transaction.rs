@@ -21,7 +21,7 @@ const KEY_BYTES: usize = 1024;
 /// What etcd answers if a request is larger than it takes, or has more operations.
 const LIMITS: [&str; 3] = ["request is too large", "larger than max", "too many operations"];
 
-/// Whether one transaction may set so many keys, of values of so many bytes in all.
+/// Whether one transaction may set this many keys, whose values have this many bytes in all.
 fn fits(keys: usize, bytes: usize) -> bool {
     keys <= MAX_KEYS && bytes + keys * KEY_BYTES <= MAX_BYTES
 }
@@ -91,7 +91,7 @@ impl Part {
         self.buckets.keys().copied()
     }
 
-    /// Whether it may set so many more keys, of so many bytes.
+    /// Whether it may set this many more keys, of this many bytes.
     pub fn has_room_for(&self, keys: usize, bytes: usize) -> bool {
         let keys = keys + self.buckets.len() + self.clients.len() + OTHER_KEYS;
         fits(keys, bytes + self.buckets.values().sum::<usize>())
@@ -115,7 +115,7 @@ pub(crate) fn probe(etcd: &mut Etcd, prefix: &str, end: Instant) -> Result<(), F
                  --max-txn-ops 128, its defaults, or more ({why})"
             )))
         }
-        // What else is refused is told by what needs it.
+        // Any other refusal is reported by what needs it.
         Ok(_) | Err(Failure::Refused(_)) => Ok(()),
         Err(unknown) => Err(unknown),
     }

@@ -73,8 +73,8 @@ fn a_change_that_comes_behind_another_start_is_not_made() {
     assert_eq!(value_of(&address), Some(2));
 }
 
-/// Both have loaded the same, and both make their first transaction: who drew which owner is all
-/// that tells them apart.
+/// Both have loaded the same, and both make their first transaction: only the random owner
+/// distinguishes them.
 #[test]
 fn of_two_starts_that_cross_one_is_made() {
     let Some(cluster) = Cluster::start() else { return };

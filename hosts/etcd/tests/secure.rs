@@ -40,26 +40,26 @@ fn a_cluster_that_wants_certificates_gets_one() {
     assert_eq!(Election::leader(&address, &right), Ok(None));
 
     let wrong = Credentials { authority: Some(other.certificate()), ..right.clone() };
-    let says = refused(&address, &wrong);
-    assert!(says.contains("is not certified by"), "{says}");
+    let reason = refused(&address, &wrong);
+    assert!(reason.contains("is not certified by"), "{reason}");
     let none = Credentials { certificate: None, ..right.clone() };
-    let says = refused(&address, &none);
-    assert!(says.contains("takes no client without a certificate of its authority"), "{says}");
+    let reason = refused(&address, &none);
+    assert!(reason.contains("takes no client without a certificate of its authority"), "{reason}");
     let others = Credentials { certificate: Some(other.client()), ..right };
-    let says = refused(&address, &others);
-    assert!(says.contains("takes no client without a certificate of its authority"), "{says}");
+    let reason = refused(&address, &others);
+    assert!(reason.contains("takes no client without a certificate of its authority"), "{reason}");
     // It may be a node that ends just now: so it is asked again for a while.
     let plain = EtcdAddress { is_secure: false, ..address };
-    let says = Election::leader(&plain, &Credentials::default()).unwrap_err().to_string();
-    assert!(says.ends_with("reached by etcds://"), "{says}");
+    let reason = Election::leader(&plain, &Credentials::default()).unwrap_err().to_string();
+    assert!(reason.ends_with("reached by etcds://"), "{reason}");
 }
 
 #[test]
 fn a_node_without_tls_is_told() {
     let Some(cluster) = Cluster::start() else { return };
     let secure = EtcdAddress { is_secure: true, ..cluster.address("plain") };
-    let says = Election::leader(&secure, &Credentials::default()).unwrap_err().to_string();
-    assert!(says.ends_with("reached by etcd://"), "{says}");
+    let reason = Election::leader(&secure, &Credentials::default()).unwrap_err().to_string();
+    assert!(reason.ends_with("reached by etcd://"), "{reason}");
 }
 
 /// Has the cluster ask for a user from now on: `root`, or `krl`, who may use the keys of `krl`.
@@ -82,24 +82,24 @@ fn a_cluster_that_wants_a_user_gets_one() {
     enable_users(&cluster);
     let address: EtcdAddress = cluster.address("users");
     let mut store = serve(&address, &user("krl", "of krl")).unwrap();
-    // The token of before counts no more then.
+    // The earlier token no longer counts then.
     cluster.ask_as("root", "of all", "auth/user/add", &json!({"name": "one", "password": "more"}));
     store.commit(&[Change::Registered { client: 9, incarnation: 1 }]).unwrap();
 
-    let says = refused(&address, &user("krl", "other"));
-    assert!(says.contains("the user krl or the password is wrong"), "{says}");
-    let says = refused(&address, &user("nobody", "of krl"));
-    assert!(says.contains("the user nobody or the password is wrong"), "{says}");
-    let says = refused(&address, &Credentials::default());
-    assert!(says.contains("wants a user and a password"), "{says}");
+    let reason = refused(&address, &user("krl", "other"));
+    assert!(reason.contains("the user krl or the password is wrong"), "{reason}");
+    let reason = refused(&address, &user("nobody", "of krl"));
+    assert!(reason.contains("the user nobody or the password is wrong"), "{reason}");
+    let reason = refused(&address, &Credentials::default());
+    assert!(reason.contains("wants a user and a password"), "{reason}");
     let elsewhere = EtcdAddress { prefix: "/other".to_string(), ..address };
-    let says = refused(&elsewhere, &user("krl", "of krl"));
-    assert!(says.contains("the user krl may not use the keys"), "{says}");
+    let reason = refused(&elsewhere, &user("krl", "of krl"));
+    assert!(reason.contains("the user krl may not use the keys"), "{reason}");
 }
 
 #[test]
-fn a_user_of_a_cluster_without_users_is_told() {
+fn a_user_of_a_cluster_without_users_learns_the_reason() {
     let Some(cluster) = Cluster::start() else { return };
-    let says = refused(&cluster.address("no-users"), &user("krl", "of krl"));
-    assert!(says.contains("has no users"), "{says}");
+    let reason = refused(&cluster.address("no-users"), &user("krl", "of krl"));
+    assert!(reason.contains("has no users"), "{reason}");
 }

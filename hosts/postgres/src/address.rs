@@ -63,7 +63,7 @@ impl FromStr for PostgresAddress {
     }
 }
 
-/// What an address says of TLS.
+/// What an address states about TLS.
 #[derive(Debug, Default)]
 struct Given {
     mode: Option<Mode>,
@@ -72,7 +72,7 @@ struct Given {
     key: Option<PathBuf>,
 }
 
-/// The address without what it says of TLS, and that: `tokio_postgres` knows no files.
+/// The address without its part about TLS, and that part: `tokio_postgres` knows no files.
 fn split(text: &str) -> Option<(String, Given)> {
     let Some((start, query)) = text.split_once('?') else {
         return Some((text.to_string(), Given::default()));

@@ -4,7 +4,7 @@ use std::ops::RangeInclusive;
 use tokio_postgres::Row;
 
 /// The formats of the tables that this version reads. What it commits makes them of the last one,
-/// as `sql::COMMIT` says. Format 1 has no room.
+/// as `sql::COMMIT` does. Format 1 has no room.
 const FORMATS: RangeInclusive<u64> = 1..=2;
 
 /// The fence of a row of `epoch, owner, transaction, commits, format`, if it is one that a server

@@ -23,7 +23,7 @@ const REFUSED_BY_TLS: [&str; 2] = ["certificate verify failed", "server does not
 
 /// All that is stored, as it was at one moment.
 pub(crate) struct Loaded {
-    /// Whether the database writes to the disk what it says to have written.
+    /// Whether the database writes to the disk what it reports as written.
     pub is_safe: bool,
     pub head: Row,
     pub starts: Vec<Row>,
@@ -242,8 +242,8 @@ fn failure_of(error: &Error) -> Failure {
     if leaves_it_open(told.code()) { Failure::Unknown(why) } else { Failure::Refused(why) }
 }
 
-/// Whether an error of the database says nothing of what was asked, or passes by itself: the server
-/// ends or starts, is a replica, has no connection left, or two transactions met.
+/// Whether an error of the database leaves open what became of the request, or passes by itself:
+/// the server ends or starts, is a replica, has no connection left, or two transactions met.
 fn leaves_it_open(code: &SqlState) -> bool {
     let code = code.code();
     ["08", "40", "53", "57P", "25006"].iter().any(|class| code.starts_with(class))

@@ -67,15 +67,15 @@ impl Security {
     }
 
     fn connector(&self, mode: Mode) -> Result<SslConnector, String> {
-        let says = |error: ErrorStack| error.to_string();
-        let mut builder = SslConnector::builder(SslMethod::tls_client()).map_err(says)?;
+        let message_of = |error: ErrorStack| error.to_string();
+        let mut builder = SslConnector::builder(SslMethod::tls_client()).map_err(message_of)?;
         if mode == Mode::Require {
             builder.set_verify(SslVerifyMode::NONE);
         }
         if let Some(path) = &self.authority {
-            let mut store = X509StoreBuilder::new().map_err(says)?;
+            let mut store = X509StoreBuilder::new().map_err(message_of)?;
             for certificate in authorities(path)? {
-                store.add_cert(certificate).map_err(says)?;
+                store.add_cert(certificate).map_err(message_of)?;
             }
             builder.set_cert_store(store.build());
         }

@@ -37,7 +37,7 @@ pub(crate) const SESSION: &str = "
     SET synchronous_commit = on;
     SET default_transaction_isolation = 'read committed';";
 
-/// Whether the database itself writes to the disk what it says to have written.
+/// Whether the database itself writes to the disk what it reports as written.
 pub(crate) const IS_SAFE: &str =
     "SELECT current_setting('fsync') = 'on' AND current_setting('full_page_writes') = 'on'";
 

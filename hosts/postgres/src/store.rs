@@ -28,15 +28,15 @@ const LAST_ATTEMPT: Duration = Duration::from_secs(5);
 /// A store in a database of PostgreSQL, in its schema `krl`. Any number of servers may open it: one
 /// of them at a time can commit something, the one that loaded and committed last.
 ///
-/// **It rests on what the database answers.** What was answered has to be there for ever. So it
+/// **It rests on what the database answers.** What was answered has to be there forever. So it
 /// loads from no database that runs without `fsync` or `full_page_writes`, and commits with
 /// `synchronous_commit`. It can't see how the database fails over: a replica that lags and is
-/// promoted takes back what clients were told, and the epoch may fall, so that an older server's
+/// promoted takes back what clients have learned, and the epoch may fall, so that an older server's
 /// changes are taken. Then nothing is promised. Only synchronous replication keeps the promise:
 /// `synchronous_standby_names` names the replicas, and none is promoted that it did not wait for.
 ///
-/// It waits for the database by a runtime of its own. So it panics on a thread on which another
-/// runtime of tokio runs: start a server over it on a thread that has none.
+/// It waits for the database by its own runtime. So it panics on a thread on which another runtime
+/// of tokio runs: start a server over it on a thread that has none.
 pub struct PostgresStore {
     link: Link,
     commit_timeout: Duration,
@@ -51,7 +51,7 @@ pub struct PostgresStore {
 }
 
 impl PostgresStore {
-    /// A store at this address, as this user by this password, or as the address says. Nothing is
+    /// A store at this address, as this user by this password, or as the address states. Nothing is
     /// asked yet.
     ///
     /// # Errors
@@ -112,7 +112,7 @@ impl PostgresStore {
         store.send(&Batch::of_all(snapshot), next, Instant::now() + CREATE_TIMEOUT)
     }
 
-    /// From now on a commit waits so long for the database.
+    /// From now on a commit waits at most this long for the database.
     #[must_use]
     pub fn with_commit_timeout(self, commit_timeout: Duration) -> PostgresStore {
         PostgresStore { commit_timeout, ..self }

@@ -48,7 +48,7 @@ impl Authority {
     }
 
     /// The files of a holder with these names of the kind URI, who believes this authority. They
-    /// are good for so many days from now on.
+    /// are valid for this many days from now on.
     pub fn certify(&self, folder: &Path, names: &[&str], days: i64) -> Files {
         self.certify_for(self, folder, names, days)
     }

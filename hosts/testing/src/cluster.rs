@@ -16,7 +16,7 @@ pub struct Cluster {
     folder: PathBuf,
     endpoint: String,
     is_secure: bool,
-    /// Where it says by plain HTTP whether it is well.
+    /// Where it reports by plain HTTP whether it is well.
     health: String,
 }
 
@@ -78,7 +78,7 @@ impl Cluster {
         Some(Cluster { node, folder, endpoint, is_secure, health })
     }
 
-    /// Waits until the node answers. It says no if the node has ended.
+    /// Waits until the node answers. It returns false if the node has ended.
     fn answers(&mut self) -> bool {
         let end = Instant::now() + Duration::from_secs(60);
         let health = format!("http://{}/health", self.health);

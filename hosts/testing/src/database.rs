@@ -126,7 +126,7 @@ impl Database {
         Sql { client, runtime }
     }
 
-    /// Waits until so many statements wait for a lock, or more.
+    /// Waits until at least this many statements wait for a lock.
     pub fn wait_for_waiting(&self, count: i64) {
         self.connect().wait_until(WAITING, |found| found >= count);
     }

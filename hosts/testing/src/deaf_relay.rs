@@ -11,7 +11,7 @@ const LOSES_NEXT: u8 = 1;
 const LOSES_ALL: u8 = 2;
 const LOSES_TO_THE_END: u8 = 3;
 
-/// A server that has said nothing for so long has answered all that it was asked.
+/// A server that has sent nothing for this long has answered all that it was asked.
 const QUIET: Duration = Duration::from_millis(500);
 
 /// What connections share.

@@ -109,7 +109,7 @@ impl Gate {
     }
 }
 
-/// Starts to relay to one node, and says where.
+/// Starts to relay to one node, and returns where.
 fn listen(
     node: SocketAddr,
     gate: Arc<Gate>,

@@ -6,7 +6,7 @@
     clippy::missing_errors_doc,
     clippy::missing_panics_doc,
     clippy::must_use_candidate,
-    reason = "a test that can't go on panics"
+    reason = "a test that can't continue panics"
 )]
 pub mod authority;
 #[cfg(feature = "certificates")]

@@ -1,9 +1,9 @@
-//! Ports for servers that come up some time after they were told where.
+//! Ports for servers that come up some time after they were given one.
 use std::io::{Error, ErrorKind};
 use std::net::{SocketAddr, TcpListener};
 use std::sync::atomic::{AtomicU32, Ordering};
 
-/// The ports that are tried begin here, and so many of them are.
+/// The ports that are tried begin here, and there are this many.
 const FIRST: u32 = 10_000;
 const COUNT: u32 = 20_000;
 

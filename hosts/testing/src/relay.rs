@@ -10,7 +10,7 @@ use std::thread;
 /// What becomes of a connection as it comes.
 #[derive(Clone, Copy, Debug)]
 pub enum Plan {
-    /// It stays open, and nothing that either side says arrives.
+    /// It stays open, and nothing that either side sends arrives.
     Swallow,
     /// It hears these bytes, and ends. The server knows nothing of it.
     Answer(&'static [u8]),
@@ -75,7 +75,7 @@ impl Relay {
         });
     }
 
-    /// What the server says on the open connections is lost from now on.
+    /// What the server sends on the open connections is lost from now on.
     pub fn lose_answers(&self) {
         self.each(|route| route.loses_answers.store(true, Ordering::SeqCst));
     }
@@ -133,7 +133,7 @@ impl Route {
                 break;
             }
         }
-        // A relay that swallows tells neither side that the other one has gone.
+        // A relay that swallows lets neither side learn that the other one has gone.
         if !self.loses_requests.load(Ordering::SeqCst) {
             self.end();
         }

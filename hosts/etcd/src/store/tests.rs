@@ -210,7 +210,7 @@ fn rows_in(numbers: usize, salt: u64) -> std::collections::BTreeMap<u64, Value> 
     keys.map(|key| (key, Value::try_from([7u8; 32]).unwrap())).collect()
 }
 
-/// A store with so many buckets and these rows, as no transaction of today makes it.
+/// A store with this many buckets and these rows, as no transaction of today makes it.
 fn put_store(address: &EtcdAddress, count: usize, snapshot: &Snapshot) {
     let mut store = open(address);
     let fence = Fence { epoch: snapshot.epoch, owner: 1, ..Fence::default() };
