@@ -1,10 +1,10 @@
 #!/usr/bin/env python3
-"""Plays scripts to a client, as its server, and looks at what it says.
+"""Plays scripts to a client, as its server, and looks at what it sends.
 
     play.py COMMAND -- SCRIPT..        COMMAND is the client under test, without its words
 
 `README.md` has the words of a script, and those of a client. The status is 0 if the client has
-passed each script; else the last lines say at which step of which script it failed, and how.
+passed each script; otherwise the last lines show at which step of which script it failed, and how.
 """
 
 from __future__ import annotations
@@ -60,11 +60,11 @@ SIGN = ("client", "incarnation", "moment", "length", "older")
 NUMBERS = {"Shard": SHARD, "Terms": ("incarnation", "moment", "length"), "Ended": ("incarnation",)}
 """The numbers of eight bytes of which a frame of a server's host consists."""
 AT_ANY_TIME = ("Ack", "Sign")
-"""What a client may say at any time, and is passed over unless it is expected."""
+"""What a client may send at any time, and is passed over unless it is expected."""
 
 
 class Failed(Exception):
-    """The client does not do what the script says."""
+    """The client does not do what the script expects."""
 
 
 def fail(why: str) -> NoReturn:
@@ -89,7 +89,7 @@ def host_frame(said: dict[str, Any]) -> bytes:
 
 
 def read_frame(frame: bytes) -> dict[str, Any]:
-    """What a client says."""
+    """What a client sends."""
     if frame[:2] == b"\0\0":
         if len(frame) - 3 not in MARKS:
             fail(f"the client's Hello names no version: {frame.hex()}")
@@ -101,7 +101,7 @@ def read_frame(frame: bytes) -> dict[str, Any]:
     try:
         return decode(frame)
     except (ValueError, IndexError, KeyError) as error:
-        fail(f"the client says what is no message: {frame.hex()}: {error}")
+        fail(f"the client sends what is no message: {frame.hex()}: {error}")
 
 
 def name_of(said: dict[str, Any]) -> str:
@@ -124,7 +124,7 @@ class Peer:
             try:
                 part = self._stream.recv(count - len(came))
             except TimeoutError:
-                fail(f"the client says nothing for {PATIENCE} seconds")
+                fail(f"the client sends nothing for {PATIENCE} seconds")
             if not part:
                 raise EOFError
             came += part
@@ -136,8 +136,8 @@ class Peer:
         return self._receive(length)
 
     def next(self, wanted: str) -> dict[str, Any]:
-        """What the client says next, and has not said on this connection before. What it may say at
-        any time is passed over unless that is wanted."""
+        """What the client sends next, and has not sent on this connection before. What it may send
+        at any time is passed over unless that is wanted."""
         end = time.monotonic() + PATIENCE
         while time.monotonic() < end:
             frame = self.frame()
@@ -149,10 +149,10 @@ class Peer:
                 return said
             if name == "Sign":
                 self._grant_no_lease()
-        fail(f"the client says nothing new for {PATIENCE} seconds")
+        fail(f"the client sends nothing new for {PATIENCE} seconds")
 
     def repeats(self) -> Iterator[dict[str, Any]]:
-        """What the client says again, for a while."""
+        """What the client repeats, for a while."""
         end = time.monotonic() + PATIENCE
         while time.monotonic() < end:
             frame = self.frame()
@@ -162,7 +162,7 @@ class Peer:
 
     def _grant_no_lease(self) -> None:
         """A script that expects no Sign is that of a server without leases: a client with leases
-        goes on when it has heard so."""
+        continues when it has heard so."""
         if not self._has_greeted:
             self.send([host_frame({"host": "Hello"})])
 
@@ -250,15 +250,15 @@ class Play:
                 continue
             if self._fits(pattern, said):
                 return
-        fail(f"the client does not say it in {PATIENCE} seconds")
+        fail(f"the client does not send it in {PATIENCE} seconds")
 
     def _again(self, pattern: dict[str, Any]) -> None:
         if not any(self._fits(pattern, said) for said in self._connected.repeats()):
-            fail(f"the client does not say it again in {PATIENCE} seconds")
+            fail(f"the client does not repeat it in {PATIENCE} seconds")
 
     def _compare(self, pattern: dict[str, Any], said: dict[str, Any]) -> None:
         if not self._fits(pattern, said):
-            fail(f"the client says {json.dumps(said)}")
+            fail(f"the client sends {json.dumps(said)}")
 
     def _fits(self, pattern: dict[str, Any], said: dict[str, Any]) -> bool:
         if not all(key in said for key in pattern):
@@ -266,7 +266,7 @@ class Play:
         return all(said[key] == self._meant(word, said[key]) for key, word in pattern.items())
 
     def _meant(self, word: Any, said: Any) -> Any:
-        """What a word of a pattern stands for: a name that is new, for what is said here."""
+        """What a word of a pattern stands for: a name that is new, for what is sent here."""
         return self._names.setdefault(word[1:], said) if is_name(word) else word
 
     def _send(self, frames: list[dict[str, Any]]) -> None:

@@ -4,10 +4,10 @@
     vectors.py make         writes it again
     vectors.py compare      fails if it is not what would be written
 
-Each line is a JSON value. `to` says who reads the bytes, `server` or `client`. If they are a
-message, `message` has it, and its encoding is these bytes again; else `fault` has the first fault
-from the left, by the names of `docs/WIRE.md`. What is a message, and which fault is the first, the
-library says: its decoders are proved. `KRL_SHARED_LIBRARY` names its file, `libkrl.so` by default.
+Each line is a JSON value. `to` is who reads the bytes, `server` or `client`. If they are a
+message, `message` has it, and its encoding is these bytes again; otherwise `fault` has the first fault
+from the left, by the names of `docs/WIRE.md`. The library decides what is a message, and which fault is
+the first: its decoders are proved. `KRL_SHARED_LIBRARY` names its file, `libkrl.so` by default.
 """
 
 from __future__ import annotations
@@ -149,7 +149,7 @@ def decoder(to: str) -> Any:
 
 
 def fault_of(to: str, message: bytes) -> str | None:
-    """The first fault of the bytes, or `None` if they are a message. The library says it."""
+    """The first fault of the bytes, or `None` if they are a message. The library decides it."""
     room = ctypes.create_string_buffer(len(message))
     reply = decoder(to)(message, len(message), room, len(message))
     if reply.code == BAD_MESSAGE:

@@ -38,8 +38,8 @@ MOST = 32
 _TYPES: dict[str, Any] = {"-": None, "?": c_bool, "i": c_uint32, "n": c_size_t, "q": c_uint64}
 _TYPES |= {"s": c_char_p, "p": c_void_p}
 
-# The calls, with the types of their results and parameters. Those that wait for nobody keep the
-# interpreter's lock; while the others wait, other threads of the program go on.
+# The calls, with the types of their results and parameters. Those that wait for nobody keep the interpreter's lock;
+# while the others wait, other threads of the program continue.
 _AT_ONCE = """version:i is_unknown_outcome:?i number:ip joined:np status_at:ipnpp cached:ipqqp
     cached_row:ipqp pin_holds:ip rows_new:p rows_get:ppp rows_free:-p"""
 _WAITING = """join:ippp evict:ipp leave:ipqp free:-p reload_tls:ipp read:ipqqpqp forget:ipqqqp

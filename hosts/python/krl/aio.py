@@ -1,5 +1,5 @@
 """The client for ``asyncio``: calls of ``krl.Client`` and ``krl.Pin``, awaited if they may wait.
-A thread waits in place of the task. If a task is cancelled, its call goes on: a write may be
+A thread waits in place of the task. If a task is cancelled, its call continues: a write may be
 applied, and a pin that is taken is freed at once."""
 
 import asyncio

@@ -22,7 +22,7 @@ def rows_of(rows: list[krl.Row] | None) -> dict[str, Any]:
 
 
 class Answering:
-    """Does what it is told, a word at a time."""
+    """Obeys commands, a word at a time."""
 
     def __init__(self, client: krl.Client) -> None:
         self._client = client

@@ -200,7 +200,7 @@ def writer(node: Node) -> None:
 
 
 def main(join: Callable[[int, str, Path], DriveClient]) -> None:
-    """Does what the words of the program say, by clients that join so."""
+    """Does what the words of the program ask, by clients that join so."""
     role, text, servers, folder = sys.argv[1:]
     number, place = int(text), Path(folder)
     node = Node(number, place, join(number, servers, place / f"client-{number}.lock"))
