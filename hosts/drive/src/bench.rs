@@ -77,7 +77,7 @@ fn join(at: &Address, number: u8, folder: &Path) -> Result<Client, Box<dyn Error
     Ok(Client::join(at.clone(), number, folder.join(format!("bench-{number}.lock")))?)
 }
 
-/// The middle one of so many times.
+/// The middle one of these times.
 fn median(count: u64, mut what: impl FnMut(u64) -> Done) -> Result<Duration, Box<dyn Error>> {
     let mut times = Vec::new();
     for turn in 0..count {

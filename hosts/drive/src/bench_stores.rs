@@ -135,7 +135,7 @@ fn served(store: impl Store + 'static, folder: &Path, writers: u8) -> Result<u64
     Ok(count)
 }
 
-/// What so many threads come to, which do the same at once.
+/// What this many threads come to, which do the same at once.
 fn at_once(
     writers: u8,
     write: impl Fn(u8) -> Result<u64, Box<dyn Error>> + Sync,

@@ -36,13 +36,13 @@ const OPERATOR: u8 = 31;
 
 const LEASE: Duration = Duration::from_secs(2);
 
-/// A process may stand still for so long in a transaction: longer than its lease.
+/// A process may stand still for this long in a transaction: longer than its lease.
 const IDLE_IN_TRANSACTION: Duration = Duration::from_secs(4);
 
 /// How long calls of workers continue to try.
 const TIMEOUT: Duration = Duration::from_secs(8);
 
-/// At the end nothing more befalls the workers for so long: what is left undone is mended then.
+/// At the end nothing more befalls the workers for this long: what is left undone is mended then.
 const CALM: Duration = Duration::from_secs(6);
 
 /// The table, with some rows of before the caches, and the history of its changes.
@@ -125,7 +125,7 @@ struct Worker {
     goes_on: Option<Instant>,
 }
 
-/// Drives caches for so many seconds, and compares what they answered.
+/// Drives caches for this many seconds, and compares what they answered.
 pub fn run(folder: &Path, seconds: u64) -> Found {
     std::fs::create_dir_all(folder)?;
     let Some(mut drive) = Drive::start(folder)? else { return Ok(true) };
@@ -251,7 +251,7 @@ impl Drive {
             return Err("some process did not end".into());
         }
         if verdict.rows < 1000 || verdict.transactions < 20 {
-            return Err("too little was done to say anything".into());
+            return Err("too little was done to judge anything".into());
         }
         Ok(verdict.count_wrong() == 0)
     }

@@ -16,14 +16,14 @@ const DYING: [u8; 4] = [1, 0, 3, 2];
 /// How long the processes of a drive may take to start or to end.
 pub const ENDING: Duration = Duration::from_secs(60);
 
-/// What a drive has to come to at least, for each round: a run that does nothing says nothing.
+/// What a drive has to come to at least, for each round: a run that does nothing shows nothing.
 const LEAST_ANSWERED: u64 = 5;
 const LEAST_READS: u64 = 20;
 
-/// A busy machine may take so long for what a round has to come to.
+/// A busy machine may take this long for what a round has to come to.
 const ROUND: Duration = Duration::from_secs(10);
 
-/// Clients that have taken longer in so many rounds are not waited for any more: next to a wrong
+/// Clients that have taken longer in this many rounds are no longer waited for: next to a wrong
 /// server some may come to nothing.
 const MAX_IN_VAIN: u32 = 2;
 
@@ -245,7 +245,7 @@ impl Clients {
     }
 }
 
-/// Waits for the end of a client, and says what is wrong with it.
+/// Waits for the end of a client, and returns what is wrong with it.
 pub fn wait_for(client: &mut Process, end: Instant) -> Result<Option<String>, Box<dyn Error>> {
     while Instant::now() < end {
         if let Some(status) = client.ended()? {
@@ -268,14 +268,14 @@ fn command(program: PathBuf, words: &[&str], folder: &Path) -> Command {
     command
 }
 
-/// Whether all is well in a drive of so many rounds. One that did too little, or some of whose
-/// processes hung, says nothing.
+/// Whether all is well in a drive of this many rounds. One that did too little, or some of whose
+/// processes hung, shows nothing.
 pub fn judge(tally: &Tally, rounds: u64, hung: u64) -> crate::Found {
     let did_enough = tally.answered >= LEAST_ANSWERED * rounds
         && tally.reads >= LEAST_READS * rounds
         && tally.while_down > 0;
     match tally.wrong {
-        0 if !did_enough => Err("too little was done to say anything".into()),
+        0 if !did_enough => Err("too little was done to judge anything".into()),
         0 if hung > 0 => Err("some process did not end".into()),
         wrong => Ok(wrong == 0),
     }

@@ -1,5 +1,5 @@
 //! The client of the Rust host, as `hosts/conformance/README.md` wants a client: it does what each
-//! line of its input says, and prints a line for each.
+//! line of its input asks, and prints a line for each.
 use crate::Found;
 use krl::{Address, Client, Outcome, Row, Value};
 use std::error::Error;
@@ -11,7 +11,7 @@ use std::time::Duration;
 /// What is printed of a call.
 type Told = Result<String, krl::Error>;
 
-/// Joins, and does what the lines of standard input say until it is to leave.
+/// Joins, and does what the lines of standard input ask until it is to leave.
 pub fn run(address: &str, number: &str, lock_file: &str, seconds: &str) -> Found {
     let address: Address = address.parse()?;
     let timeout = Duration::from_secs_f64(seconds.parse()?);
@@ -24,7 +24,7 @@ pub fn run(address: &str, number: &str, lock_file: &str, seconds: &str) -> Found
     Ok(true)
 }
 
-/// Answers each line, and says whether one of them was to leave.
+/// Answers each line, and returns whether one of them was to leave.
 fn answer_lines(client: &Client) -> Result<bool, Box<dyn Error>> {
     let mut pins = Vec::new();
     for line in std::io::stdin().lock().lines() {
@@ -78,7 +78,7 @@ fn tell(told: Told) {
     print(&line);
 }
 
-/// Prints a line. A kit that has seen enough reads no more.
+/// Prints a line. A kit that has seen enough stops reading.
 fn print(line: &str) {
     let _ = writeln!(std::io::stdout(), "{line}");
 }

@@ -11,7 +11,8 @@ const GULP: usize = 1 << 16;
 /// What came, and when it is to leave.
 type Due = (Instant, Vec<u8>);
 
-/// Starts the network, and says where clients connect. All that is said takes so long each way.
+/// Starts the network, and returns where clients connect. Everything that is sent takes this long
+/// each way.
 pub fn start(server: SocketAddr, delay: Duration) -> io::Result<SocketAddr> {
     let listener = TcpListener::bind("127.0.0.1:0")?;
     let address = listener.local_addr()?;

@@ -3,7 +3,7 @@
 //! four clients read and write.
 //!
 //! A server that was frozen or cut off continues after another one that serves. If the servers are
-//! *heedless*, no lease and no timeout ends them: then only the store tells them apart.
+//! *heedless*, no lease and no timeout ends them: then only the store distinguishes them.
 use crate::Found;
 use crate::clients::{Clients, ENDING, judge};
 use crate::fault::Fault;
@@ -56,7 +56,7 @@ struct Drive {
     told: Vec<Told>,
 }
 
-/// Drives servers of this program for so many rounds. `faults` names the faults that take turns.
+/// Drives servers of this program for this many rounds. `faults` names the faults that take turns.
 pub fn run(
     folder: &Path,
     rounds: usize,
@@ -162,7 +162,7 @@ impl Drive {
         Ok(self.servers.start_again(place)?)
     }
 
-    /// Stops the server until another one has served for a while, and says which.
+    /// Stops the server until another one has served for a while, and returns which.
     fn freeze(&mut self, fault: Fault, old: usize) -> Result<usize, Box<dyn Error>> {
         self.servers.server(old).signal("-STOP")?;
         let from = now();
@@ -173,8 +173,8 @@ impl Drive {
         Ok(new)
     }
 
-    /// Parts a machine from others until another server has served for a while. On one machine
-    /// alone the server is parted from the store.
+    /// Parts a machine from others until another server has served for a while. On a single
+    /// machine the server is parted from the store.
     fn part(
         &mut self,
         fault: Fault,
@@ -234,7 +234,7 @@ impl Drive {
         Ok(self.servers.start_again(old)?)
     }
 
-    /// Waits until something is held of a server of these places, and says of which.
+    /// Waits until something is held of a server of these places, and returns of which.
     fn wait_until_held(&self, places: &[usize]) -> Result<usize, Box<dyn Error>> {
         const LOOK: Duration = Duration::from_millis(5);
         let looks = ASKED.as_millis() / LOOK.as_millis();

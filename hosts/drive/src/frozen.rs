@@ -29,7 +29,7 @@ pub fn run(folder: &Path, rounds: u64, program: &Path, site: Site) -> Found {
     reader.leave()?;
     times.sort_unstable();
     println!(
-        "a client that reads alone, {rounds} times a frozen server {}: answered by another one \
+        "a client that reads by itself, {rounds} times a frozen server {}: answered by another one \
          after {} ms in the middle and {} at worst; a lease is {} ms",
         servers.site,
         times[times.len() / 2].as_millis(),

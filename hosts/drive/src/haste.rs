@@ -10,7 +10,7 @@ use std::sync::atomic::{AtomicBool, AtomicU64, Ordering};
 use std::thread;
 use std::time::{Duration, Instant};
 
-/// Each message takes so long.
+/// Each message takes this long.
 const DELAY: Duration = Duration::from_millis(1);
 
 /// A range with one row or none, and the key of its row.

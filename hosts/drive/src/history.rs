@@ -116,7 +116,7 @@ impl History {
             if !self.allows(*key, value, u64::MAX, u64::MAX) {
                 tally.wrong += 1;
                 eprintln!(
-                    "LOST: {key} is {value:?} in the store, and an answered write says otherwise"
+                    "LOST: {key} is {value:?} in the store, and an answered write contradicts that"
                 );
             }
         }

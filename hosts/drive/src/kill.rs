@@ -42,17 +42,17 @@ const LONGER_BY_TLS: u32 = 3;
 /// And so much longer if messages are lost: a lost greeting is sent again after 200 milliseconds.
 const LONGER_BY_LOSS: u32 = 2;
 
-/// Each client of another program has to note so many lines: one that does nothing says nothing.
+/// Each client of another program has to note this many lines: one that does nothing shows nothing.
 const LEAST_BY_OTHERS: usize = 10;
 
-/// A reader and a writer are another program's, and all else is as in `run`.
+/// A reader and a writer are another program's, and everything else is as in `run`.
 pub fn beside(folder: &Path, rounds: u64, program: &Path, net: &str) -> Found {
     let others = [2, 3].map(|number| (number, program.to_path_buf()));
     drive(folder, rounds, "sqlite", net, others.into())
 }
 
 /// The clients 0 to 3 are those of four programs, in this order, of which `-` stands for this one,
-/// and all else is as in `run`.
+/// and everything else is as in `run`.
 pub fn among(folder: &Path, rounds: u64, net: &str, programs: [&str; 4]) -> Found {
     let others = (0..).zip(programs).filter(|(_, program)| *program != "-");
     let others = others.map(|(number, program)| (number, PathBuf::from(program)));
@@ -91,7 +91,7 @@ fn drive(folder: &Path, rounds: u64, store: &str, net: &str, others: Others) -> 
     );
     let least = drive.clients.least_noted_by_others()?;
     if least.is_some_and(|least| least < LEAST_BY_OTHERS) {
-        return Err("another program did too little to say anything".into());
+        return Err("another program did too little to judge anything".into());
     }
     judge(&tally, rounds, hung)
 }
@@ -108,7 +108,7 @@ impl Net {
         Ok(Net { carrier, is_lossy })
     }
 
-    /// Starts the network, and says where clients connect.
+    /// Starts the network, and returns where clients connect.
     fn start(self, server: SocketAddr) -> std::io::Result<SocketAddr> {
         if self.is_lossy { lossy::start(server, self.carrier) } else { Ok(server) }
     }
@@ -128,7 +128,7 @@ impl Net {
         }
     }
 
-    /// How much longer a round is than over TCP alone.
+    /// How much longer a round is than over plain TCP.
     fn longer(self) -> u32 {
         match (self.carrier, self.is_lossy) {
             (Carrier::Plain, _) => 1,
@@ -138,7 +138,7 @@ impl Net {
     }
 }
 
-/// Starts a server whose leases have so many milliseconds, or that has none: then it is 0.
+/// Starts a server whose leases have this many milliseconds, or that has none: then it is 0.
 pub fn start_server(
     folder: &Path,
     address: &str,

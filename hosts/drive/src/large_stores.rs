@@ -155,15 +155,15 @@ fn places(writer: u8) -> impl Iterator<Item = u64> {
 }
 
 fn write(at: &Address, writer: u8, lock_file: &Path, round: u64) -> Result<(), String> {
-    let says = |error: &dyn std::fmt::Display| error.to_string();
-    let client = Client::join(at.clone(), writer, lock_file).map_err(|error| says(&error))?;
+    let message_of = |error: &dyn std::fmt::Display| error.to_string();
+    let client = Client::join(at.clone(), writer, lock_file).map_err(|error| message_of(&error))?;
     for place in places(writer) {
         let put = client.put(STEP * place, value_of(place, u64::MAX - round));
-        if put.map_err(|error| says(&error))? != Outcome::Applied {
+        if put.map_err(|error| message_of(&error))? != Outcome::Applied {
             return Err(format!("the row at {place} is not there"));
         }
     }
-    client.leave().map_err(|error| says(&error))
+    client.leave().map_err(|error| message_of(&error))
 }
 
 fn expect_writes(expected: &mut Snapshot, round: u64) {

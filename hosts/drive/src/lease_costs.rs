@@ -60,7 +60,7 @@ fn filled(client: Client) -> Result<Client, Box<dyn Error>> {
     Ok(client)
 }
 
-/// The middle of the times of a scan of so many rows, for each client.
+/// The middle of the times of a scan of this many rows, for each client.
 fn scans(clients: &[Client; 2], count: u64) -> Result<[Duration; 2], Box<dyn Error>> {
     let mut times = [Vec::new(), Vec::new()];
     let mut rows: Vec<Row> = Vec::new();

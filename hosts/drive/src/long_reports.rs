@@ -46,7 +46,7 @@ fn beside_reports(folder: &Path) -> Found {
     for (name, order) in ORDERS {
         let waited = waits_for(order, &folder.join("reader.lock"))?;
         println!(
-            "beside a report of {RANGES} ranges {name} a read waits {} ms",
+            "during a report of {RANGES} ranges {name} a read waits {} ms",
             waited.as_millis()
         );
         if waited > SOON {

@@ -6,7 +6,7 @@ use std::net::{Shutdown, SocketAddr, TcpListener, TcpStream};
 use std::thread;
 use std::time::Duration;
 
-/// One message in so many is dropped, one repeated, and one sent after the next.
+/// One message in this many is dropped, one repeated, and one sent after the next.
 const ONE_IN: u64 = 10;
 
 /// The longest message that is passed on.
@@ -26,7 +26,7 @@ pub enum Carrier {
 /// Both ends of a client's connection. They are shut with it.
 struct Ends([TcpStream; 2]);
 
-/// Starts the network, and says where clients connect.
+/// Starts the network, and returns where clients connect.
 pub fn start(server: SocketAddr, carrier: Carrier) -> io::Result<SocketAddr> {
     let listener = TcpListener::bind("127.0.0.1:0")?;
     let address = listener.local_addr()?;
@@ -150,7 +150,7 @@ impl Draws {
         self.next() % limit
     }
 
-    /// A place in a list of so many.
+    /// A place in a list of this many.
     pub fn place(&mut self, count: usize) -> usize {
         usize::try_from(self.below(count as u64)).unwrap_or(0)
     }

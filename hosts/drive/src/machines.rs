@@ -98,7 +98,7 @@ impl Machines {
         ip(&["link", "set", &self.cable(place), "up"])
     }
 
-    /// What the other machines send to this one gets lost, or does so no more: then none of their
+    /// What the other machines send to this one gets lost, or no longer does: then none of their
     /// connections continues.
     fn routes(&self, place: usize, action: &str) -> Result<(), Box<dyn Error>> {
         let lost = self.address(place).to_string();

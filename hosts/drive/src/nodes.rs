@@ -18,7 +18,7 @@ use std::time::Duration;
 pub const READERS: [u8; 2] = [0, 2];
 pub const WRITERS: [u8; 2] = [1, 3];
 
-/// Each writer has so many keys, so far apart.
+/// Each writer has this many keys, this far apart.
 const KEYS: u64 = 10;
 const STEP: u64 = 10;
 
@@ -46,7 +46,7 @@ fn still_range_of(writer: u8) -> Range<u64> {
     start + 10_000..end + 10_000
 }
 
-/// A server whose leases have so many milliseconds, or that has none: then it is 0.
+/// A server whose leases have this many milliseconds, or that has none: then it is 0.
 pub fn server(address: &str, folder: &Path, store: &str, lease: u64) -> Found {
     let opened = SqliteStore::open(store_file(folder))?;
     let store: Box<dyn Store> = match store {

@@ -1,4 +1,4 @@
-//! One side of a connection by TLS, for a network that reads what is said over it: it shows each
+//! One side of a connection by TLS, for a network that reads what is sent over it: it shows each
 //! side the certificate of the other one.
 use crate::certificates;
 use krl::TlsSession;

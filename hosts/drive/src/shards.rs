@@ -31,7 +31,7 @@ const TIMEOUT: Duration = Duration::from_secs(3);
 /// The writer rests between two numbers, so that the caches know both rows now and then.
 const REST: Duration = Duration::from_millis(2);
 
-/// A run that does nothing says nothing.
+/// A run that does nothing shows nothing.
 const LEAST_WRITES: u64 = 50;
 const LEAST_SCANS: u64 = 1000;
 const LEAST_READS: u64 = 50;
@@ -214,7 +214,7 @@ impl Run {
         );
         let did_enough = written >= LEAST_WRITES && cached >= LEAST_SCANS && read >= LEAST_READS;
         if wrong == 0 && !did_enough {
-            return Err("too little was done to say anything".into());
+            return Err("too little was done to judge anything".into());
         }
         Ok(wrong == 0)
     }

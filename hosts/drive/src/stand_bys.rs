@@ -118,13 +118,13 @@ impl StandBys {
         Ok(())
     }
 
-    /// Waits until a server serves whose place is as asked, and says which.
+    /// Waits until a server serves whose place is as asked, and returns which.
     pub fn wait_for(&self, is_right: impl Fn(usize) -> bool) -> Result<usize, Box<dyn Error>> {
         self.wait_beside(NODES - 1, is_right)
     }
 
     /// Waits until another server serves than the one of this place, whose node may be out of
-    /// reach, and says which.
+    /// reach, and returns which.
     pub fn wait_for_another(&self, place: usize) -> Result<usize, Box<dyn Error>> {
         self.wait_beside(place, |other| other != place)
     }

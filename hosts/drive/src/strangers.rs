@@ -19,14 +19,14 @@ const HELLO: [u8; 26] =
 type Attack = fn(SocketAddr) -> Result<Vec<TcpStream>, Box<dyn Error>>;
 
 const ATTACKS: [(&str, Attack); 8] = [
-    ("one that says nothing", |at| Ok(vec![connect(at)?])),
-    ("one that says half a length", |at| says(at, &[18, 0, 0])),
-    ("one that says half a message", |at| says(at, &HELLO[..15])),
-    ("one that goes away within a message", |at| says(at, &HELLO[..15]).map(|_| Vec::new())),
+    ("one that sends nothing", |at| Ok(vec![connect(at)?])),
+    ("one that sends half a length", |at| send(at, &[18, 0, 0])),
+    ("one that sends half a message", |at| send(at, &HELLO[..15])),
+    ("one that goes away within a message", |at| send(at, &HELLO[..15]).map(|_| Vec::new())),
     ("a length of 2^60", |at| is_shut(at, &[0, 0, 0, 0, 0, 0, 0, 16])),
     ("a message that is none", |at| is_shut(at, &[3, 0, 0, 0, 0, 0, 0, 0, 1, 99, 0])),
     ("a hundred connections", |at| (0..100).map(|_| connect(at)).collect()),
-    ("one that says Hello for ever and hears nothing", stall),
+    ("one that sends Hello forever and hears nothing", stall),
 ];
 
 pub fn run() -> Found {
@@ -51,7 +51,7 @@ fn beside_strangers(folder: &std::path::Path) -> Found {
         let outcome = client.insert(key, Value::from(key))?;
         let rows = other.read(0..=key)?;
         if outcome != Outcome::Applied || rows.len() as u64 != key || begun.elapsed() > SOON {
-            println!("beside {name}: {outcome}, {} rows, {:?}", rows.len(), begun.elapsed());
+            println!("with {name}: {outcome}, {} rows, {:?}", rows.len(), begun.elapsed());
             return Ok(false);
         }
     }
@@ -72,7 +72,7 @@ fn connect(at: SocketAddr) -> Result<TcpStream, Box<dyn Error>> {
     Ok(stream)
 }
 
-fn says(at: SocketAddr, bytes: &[u8]) -> Result<Vec<TcpStream>, Box<dyn Error>> {
+fn send(at: SocketAddr, bytes: &[u8]) -> Result<Vec<TcpStream>, Box<dyn Error>> {
     let mut stream = connect(at)?;
     stream.write_all(bytes)?;
     Ok(vec![stream])
@@ -85,11 +85,11 @@ fn is_shut(at: SocketAddr, bytes: &[u8]) -> Result<Vec<TcpStream>, Box<dyn Error
     match stream.read(&mut [0; 8]) {
         Ok(0) => Ok(Vec::new()),
         Err(error) if error.kind() == ErrorKind::ConnectionReset => Ok(Vec::new()),
-        other => Err(format!("the server goes on to hear a stranger: {other:?}").into()),
+        other => Err(format!("the server continues to hear a stranger: {other:?}").into()),
     }
 }
 
-/// Asks again and again, and never takes an answer, until the server takes no more or has taken
+/// Asks again and again, and never takes an answer, until the server stops taking them or has taken
 /// many.
 fn stall(at: SocketAddr) -> Result<Vec<TcpStream>, Box<dyn Error>> {
     let mut stream = connect(at)?;

@@ -146,7 +146,7 @@ impl Table {
         }
     }
 
-    /// What a client and a server say to each other in a short life.
+    /// What a client and a server send each other in a short life.
     fn real_messages(&mut self) -> (Vec<Vec<u8>>, Vec<Vec<u8>>) {
         let (mut up, mut down) = (Vec::new(), Vec::new());
         let client: *mut ffi::Handle = &raw mut self.client;
@@ -177,7 +177,7 @@ impl Table {
         (up, down)
     }
 
-    /// Hands messages over until nobody has anything to say.
+    /// Hands messages over until nobody has one to send.
     fn settle(&mut self, up: &mut Vec<Vec<u8>>, down: &mut Vec<Vec<u8>>) {
         loop {
             let said = take(&mut self.client);
@@ -216,7 +216,7 @@ impl Table {
         let reply =
             unsafe { ffi::krl_client_step(&raw mut self.client, string.as_ptr(), string.len()) };
         self.judge(string, is_spelling, reply.code);
-        // What they say to it would pile up.
+        // What they send in answer would pile up.
         take(&mut self.server);
         take(&mut self.client);
     }
@@ -245,7 +245,7 @@ impl Table {
     }
 }
 
-/// The length that the library says. One beyond all memory is no length of anything.
+/// The length that the library reports. One beyond all memory is no length of anything.
 fn length_of(detail: u64) -> usize {
     usize::try_from(detail).unwrap_or(usize::MAX)
 }

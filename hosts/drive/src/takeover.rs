@@ -12,7 +12,7 @@ use std::path::Path;
 use std::process::{ChildStdout, Stdio};
 use std::time::{Duration, Instant};
 
-/// What a holder prints: that it holds the range, and what its cache says after a long stop.
+/// What a holder prints: that it holds the range, and what its cache answers after a long stop.
 const HOLDS: &str = "holds";
 const ANSWERS: &str = "answers";
 const REFUSES: &str = "refuses";
@@ -104,7 +104,7 @@ pub fn run(folder: &Path, rounds: u64) -> Found {
     let late = killed.iter().filter(|waited| **waited > BOUND).count();
     println!(
         "{rounds} holders with leases of {LEASE} ms, stopped: the other waited {}; {wrong} answered \
-         behind their leases; killed: the other waited {}; {late} times longer than {BOUND:?}",
+         after their leases; killed: the other waited {}; {late} times longer than {BOUND:?}",
         spread(&mut stopped),
         spread(&mut killed)
     );

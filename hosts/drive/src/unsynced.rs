@@ -1,4 +1,4 @@
-//! A store that is wrong: it says that changes are kept before they are on the disk. What it has
+//! A store that is wrong: it reports that changes are kept before they are on the disk. What it has
 //! not written yet is lost with its process, as a disk's own memory is with the power. Each drive
 //! over it has to find something wrong.
 use krl::{Change, Snapshot, SqliteStore, Store, StoreError};

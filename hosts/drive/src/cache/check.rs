@@ -23,7 +23,7 @@ pub struct Change {
     pub before: Option<u64>,
 }
 
-/// How a transaction ended, as far as its process was told.
+/// How a transaction ended, as far as its process knows.
 #[derive(Clone, Copy, Debug, PartialEq, Eq)]
 pub enum End {
     Done,
@@ -58,7 +58,7 @@ pub struct Verdict {
     /// Gaps that fit several times without a row: they are left out.
     pub unclear: u64,
     pub transactions: u64,
-    /// Those of processes that died or were not told the end.
+    /// Those of processes that died or did not learn the end.
     pub unanswered: u64,
     pub wrong: BTreeMap<&'static str, u64>,
     /// The first of each kind.
@@ -118,7 +118,7 @@ struct KeyHistory {
     events: Vec<Event>,
     /// How many changes there were when a row had this content.
     places: HashMap<u64, usize>,
-    /// When so many changes can have been made at the earliest, and the next one at the latest.
+    /// When this many changes can have been made at the earliest, and the next one at the latest.
     earliest: Vec<u64>,
     latest: Vec<u64>,
 }
@@ -184,7 +184,7 @@ pub fn check(changes: &[Change], told: &[Told], reads: &[Read]) -> Verdict {
 }
 
 impl Order {
-    /// Adds a node for each transaction that was committed. One whose end was not told was made
+    /// Adds a node for each transaction that was committed. One whose end was not reported was made
     /// when somebody had seen a row of it.
     fn add_transactions(
         &mut self,
@@ -204,7 +204,7 @@ impl Order {
             let end = told.and_then(|told| told.end);
             let answered = end.filter(|(_, end)| *end == End::Done).map(|(at, _)| at);
             self.verdict.transactions += 1;
-            // What was there before the caches was told by nobody.
+            // What was there before the caches was reported by nobody.
             self.verdict.unanswered += u64::from(told.is_some() && answered.is_none());
             let to = if told.is_none() { 0 } else { answered.unwrap_or(NEVER) };
             let to = to.min(seen.get(version).copied().unwrap_or(NEVER));
@@ -305,7 +305,7 @@ impl Order {
         }
     }
 
-    /// A read has seen so many changes of the key, and not the next one.
+    /// A read has seen this many changes of the key, and not the next one.
     fn add_edges(&mut self, key: u64, next: usize, read: usize) {
         let Some(KeyHistory { events, .. }) = self.keys.get(&key) else { return };
         if let Some(last) = next.checked_sub(1) {
@@ -393,7 +393,7 @@ mod tests {
         Read { from, to, keys: 1..3, rows: rows.to_vec() }
     }
 
-    /// The key 1 was written by `a` and `b`, and 2 by `b` alone.
+    /// The key 1 was written by `a` and `b`, and 2 only by `b`.
     fn written() -> ([Change; 3], [Told; 2]) {
         let changes = [
             change(1, "a", None, Some(10)),

@@ -16,7 +16,8 @@ use std::sync::atomic::{AtomicBool, Ordering};
 use std::thread;
 use std::time::Duration;
 
-/// Of so many steps of a write, the process ends after one, and its thread stands still after one.
+/// After one step of a write in this many the process ends, and after one in this many its thread
+/// stands still.
 const ENDS: u64 = 300;
 const STANDS_STILL: u64 = 400;
 
@@ -87,9 +88,9 @@ fn befall(step: Step, draws: &Mutex<Draws>) {
 impl Worker {
     /// Reads ranges by the cache, and now and then by a question to the database itself.
     fn read_on(&self, place: u64, is_over: &AtomicBool) -> Result<(), String> {
-        let says = |error: std::io::Error| error.to_string();
+        let text = |error: std::io::Error| error.to_string();
         let mut notes =
-            Notes::create(&self.folder, &format!("{}-{place}", self.name)).map_err(says)?;
+            Notes::create(&self.folder, &format!("{}-{place}", self.name)).map_err(text)?;
         let mut draws = Draws(self.first ^ place);
         while !is_over.load(Ordering::Relaxed) {
             let start = draws.below(KEYS);
@@ -101,7 +102,7 @@ impl Worker {
                 self.cache.range(keys.clone()).map(|rows| contents(&rows))
             };
             match read {
-                Ok(rows) => notes.read(&Read { from, to: now(), keys, rows }).map_err(says)?,
+                Ok(rows) => notes.read(&Read { from, to: now(), keys, rows }).map_err(text)?,
                 Err(_) => thread::sleep(Duration::from_millis(20)),
             }
             thread::sleep(Duration::from_micros(500 + draws.below(1000)));
@@ -133,9 +134,9 @@ impl Worker {
 
     /// Writes transactions of one key and of several.
     fn write_on(&self, is_over: &AtomicBool) -> Result<(), String> {
-        let says = |error: std::io::Error| error.to_string();
+        let text = |error: std::io::Error| error.to_string();
         let mut notes =
-            Notes::create(&self.folder, &format!("{}-writer", self.name)).map_err(says)?;
+            Notes::create(&self.folder, &format!("{}-writer", self.name)).map_err(text)?;
         let mut draws = Draws(self.first ^ now());
         let mut content = self.first.cast_signed();
         for count in 0_u64.. {
@@ -145,7 +146,7 @@ impl Worker {
             if draws.below(2) == 0 {
                 content += 1;
                 let item = |before| Item { content, before, padding: vec![7; 100] };
-                self.write_one(&mut notes, &mut draws, item).map_err(says)?;
+                self.write_one(&mut notes, &mut draws, item).map_err(text)?;
                 continue;
             }
             let name = format!("{}-{count}", self.name);
@@ -155,7 +156,7 @@ impl Worker {
             keys.dedup();
             let (is_delete, length) = (draws.below(4) == 0, draws.below(2000));
             let mut has_changed = false;
-            notes.begun(&name, now()).map_err(says)?;
+            notes.begun(&name, now()).map_err(text)?;
             let done = self.cache.transact(&keys, |rows| {
                 let named: [&(dyn ToSql + Sync); 1] = [&name];
                 rows.transaction().query("SELECT set_config('drive.name', $1, true)", &named)?;
@@ -167,7 +168,7 @@ impl Worker {
             });
             // No history shows one that has changed nothing.
             let end = if done.is_ok() && !has_changed { End::Unknown } else { end_of(&done) };
-            notes.ended(&name, now(), end).map_err(says)?;
+            notes.ended(&name, now(), end).map_err(text)?;
             thread::sleep(Duration::from_millis(3 + draws.below(20)));
         }
         Ok(())
@@ -198,7 +199,7 @@ fn change(
     }
 }
 
-/// How a transaction ended, as its process was told.
+/// How a transaction ended, as its process learned.
 fn end_of(done: &Result<(), CacheError>) -> End {
     match done {
         Ok(()) => End::Done,
