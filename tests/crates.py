@@ -1,4 +1,4 @@
-"""The crates of the repository: what each uses, its functions, and how the prover is told of its libraries."""
+"""The crates of the repository: what each uses, its functions, and how the prover gets its libraries."""
 import pathlib
 import re
 import subprocess

@@ -9,7 +9,7 @@ import textwrap
 
 USE = re.compile(r"(?m)^(?:ghost )?use Rattle\.([\w.]+?)(?:\.\{([^}]*)\}| as (\w+))?;?$")
 FIELD_TYPE = re.compile(r"(?:: |\(|<|\[|, )([A-Z]\w*)")
-# These are the same in definitions, or are said at the head of the page.
+# These are the same in definitions, or are stated at the head of the page.
 PLAIN = {"Option", "Vec", "Result"}
 WIDTH = 100
 
@@ -50,7 +50,7 @@ def joined(match):
 
 
 def compact(declaration):
-    """The declaration in few lines: in one if it fits, or else with one for each variant."""
+    """The declaration in few lines: in one if it fits, otherwise with one for each variant."""
     bare = re.sub(r"\{\n((?: {8}.*\n)+) {4}\},", joined, declaration)
     line = " ".join(bare.split()).replace(", }", " }")
     head, _, variants = bare.partition("{\n")

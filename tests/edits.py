@@ -8,8 +8,8 @@ from crates import functions_in, names_of
 HEAD = re.compile(r"\bfn \w+ *[<(]")
 CONSTANT = re.compile(r"(?m)^ *(?:pub(?:\([a-z]+\))? )?(?:const|static) (\w+):")
 
-# A wrong body: its changes, each a path in the crate, the old text and the new one, and the prover's names of
-# the functions that they change. `why` says what is wrong with the edit itself.
+# A wrong body: its changes, each a path in the crate, the old text and the new one, and the prover's names of the
+# functions that they change. `why` is what is wrong with the edit itself.
 Edit = namedtuple("Edit", "label changes functions why")
 # Edits of one crate that are tried in one check.
 Round = namedtuple("Round", "crate edits")

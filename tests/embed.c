@@ -204,7 +204,7 @@ static void lease_runs_from_the_sign(void) {
     want(lease.end == 3000 && lease.length == 2000 && lease.stamp == 1000, "terms that renew");
 }
 
-/* The server's side of such a lease, with a drift of 25 in a hundred. */
+/* The server's side of such a lease, with a drift of 25 percent. */
 static void evicts_behind_the_lease(void) {
     const krl_terms terms = {1000, 25}, endless = {KRL_FOR_EVER, 25};
     uint64_t until = krl_until_register(&terms, 7000);

@@ -1,4 +1,4 @@
-"""The checks of wrong bodies: the copy that each reads, how the prover is asked, and what it said."""
+"""The checks of wrong bodies: the copy that each reads, how the prover is asked, and what it printed."""
 import pathlib
 import re
 import shutil
@@ -11,7 +11,7 @@ from edits import edited
 # A line of a contract, whose braces are not those of a body.
 CLAUSE = re.compile(r" *(requires|ensures|ghost)\b")
 
-# What a proof says if it cites a name that is not there, or another proof that cites one.
+# What the prover reports if a proof cites a name that is not there, or another proof that cites one.
 NAME_GONE = re.compile(r"has no field|is not in scope|has no `|was not admitted")
 
 
@@ -63,7 +63,7 @@ def is_recursive(function, room):
 
 def make_hole(crate, function, room):
     """Puts a hole for the proof of the function. A closure keeps its proof, and so does a function that calls
-    itself: more is said there than the function's contract."""
+    itself: more is stated there than the function's contract."""
     path = function.split("::")[1:]
     folder = room.joinpath("proofs", *path)
     if "fn" in path or "+" in function or is_recursive(function, room):
@@ -89,8 +89,8 @@ def prover_words(crate, functions, kit, kept):
 
 
 def check(crate, edits, changed, kit, log, kept):
-    """Checks the functions of a copy of the crate with these edits, and returns what the prover said. Checks with one
-    folder `kept` share what no edit changes."""
+    """Checks the functions of a copy of the crate with these edits, and returns what the prover printed. Checks with
+    one folder `kept` share what no edit changes."""
     with tempfile.TemporaryDirectory(prefix="wrong-bodies-") as room:
         write_copy(crate, edits, changed, pathlib.Path(room))
         words = prover_words(crate, changed, kit, kept)
@@ -104,7 +104,7 @@ def check(crate, edits, changed, kit, log, kept):
     return said
 
 
-# ---- What the prover said
+# ---- What the prover printed
 
 
 def is_read(said):
@@ -113,16 +113,16 @@ def is_read(said):
 
 
 def first_error(said):
-    """The first line that may say why the prover did not read the crate."""
+    """The first line that may show why the prover did not read the crate."""
     lines = [it for it in said.split("\n") if "error" in it] or said.split("\n")
     return lines[0][:200]
 
 
 def verdict(function, said):
-    """What was said of the function: 'proved', 'open' if a goal of it is open, 'gone' if only names are
-    gone that its proof cites, or else the prover's own words."""
+    """What was reported of the function: 'proved', 'open' if a goal of it is open, 'gone' if only names are
+    gone that its proof cites, or the prover's own words."""
     found = re.search(rf"(?m)^fn {re.escape(function)}: (.*)$", said)
-    line = found[1] if found else "nothing was said of it"
+    line = found[1] if found else "nothing was reported of it"
     if re.match("no holes|depends on a hole", line):
         return "proved"
     if re.match("no proof: .*`search` did not prove", line):
@@ -136,7 +136,7 @@ def verdict(function, said):
 
 
 def judge(edit, said, is_control):
-    """Whether all is well with the edit, and the words that say so."""
+    """Whether all is well with the edit, and the words that report it."""
     found = {it: verdict(it, said) for it in sorted(edit.functions)}
     if is_control:
         well = all(it == "proved" for it in found.values())

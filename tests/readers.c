@@ -79,7 +79,7 @@ static bool same_rows(const krl_row *a, const krl_row *b, uint64_t count) {
     return true;
 }
 
-/* What the calls with the handle said before the threads began. */
+/* What the calls with the handle returned before the threads began. */
 static krl_row rows[ROOM];
 static krl_reply scanned, missed;
 static krl_held held;

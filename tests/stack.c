@@ -90,7 +90,7 @@ static size_t taken;
 static void confirm_all(void) { krl_confirm(asked, krl_confirm(asked, 0).detail); }
 static void take_all(void) { taken = krl_take(asked, bytes, sizeof bytes).detail; }
 
-/* Hands over all that the handle says. Nothing here has a disk: what was reported counts as kept. */
+/* Hands over all that the handle sends. Nothing here has a disk: what was reported counts as kept. */
 static void carry(krl_handle *from, void (*step)(void)) {
     asked = from;
     measure(confirm_all);

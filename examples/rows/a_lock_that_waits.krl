@@ -1,4 +1,4 @@
-# Client 0 may change the entry and pins it, so client 1 can't read it yet. Its lock prints nothing: `hold` says that
+# Client 0 may change the entry and pins it, so client 1 can't read it yet. Its lock prints nothing: `hold` shows that
 # nothing is held, and the client may ask for nothing else. It still scans its cache.
 seed 10=1 20=2
 client 0
@@ -22,7 +22,7 @@ hold 1 20
 scan 1 20 21
 scan 1 10 21
 scan 0 10 11
-# Client 2 asks for what is compatible with all that is held, and waits behind client 1.
+# Client 2 asks for what is compatible with all that is held, and waits after client 1.
 lock 2 5 RangeI-N
 settle
 hold 2 10

@@ -1,5 +1,5 @@
-# Two clients insert into one gap. One of them converts to RangeI-X on the entry; when the other asks to
-# read it, the first is called back to RangeI-U. Where there is no entry to update, the client is told so.
+# Two clients insert into one gap. One of them converts to RangeI-X on the entry; when the other asks to read it, the
+# first is called back to RangeI-U. Where there is no entry to update, the client learns that.
 seed 10=1
 client 0
 client 1

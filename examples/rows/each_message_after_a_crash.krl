@@ -1,6 +1,6 @@
-# What each message causes, one at a time: a delete that was applied before the server crashed is told
-# again, and then a lock that waited behind it is granted. A delivery of a number that was not sent yet
-# is refused, and so tells how many messages there are.
+# What each message causes, one at a time: a delete that was applied before the server crashed is told again, and then a
+# lock that waited after it is granted. A delivery of a number that was not sent yet is refused, and so shows how many
+# messages there are.
 seed 10=1 20=2
 client 0
 client 1

@@ -1,4 +1,4 @@
-# An insert of a key that is there is told Exists.
+# An insert of a key that is there is answered by Exists.
 seed 10=1 20=2
 client 0
 settle

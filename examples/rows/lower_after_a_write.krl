@@ -1,5 +1,5 @@
-# A client that has written gives back what it needed only for that. It goes on to read the row from its cache, and another
-# client reads it too without a callback. What a pin keeps can't be lowered.
+# A client that has written gives back what it needed only for that. It continues to read the row from its cache, and
+# another client reads it too without a callback. What a pin keeps can't be lowered.
 seed 10=1 20=2
 client 0
 client 1

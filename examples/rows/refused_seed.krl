@@ -1,4 +1,4 @@
-# A key stands twice: the world has no entries, and the script goes on.
+# A key stands twice: the world has no entries, and the script continues.
 seed 10=1 10=2
 client 0
 settle

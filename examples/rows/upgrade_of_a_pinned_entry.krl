@@ -1,6 +1,6 @@
-# Both read an entry, client 1 pins it, and both ask to change it. A client that holds something goes in front, so client
-# 0 stands first, is called back, and holds nothing any more. It waits for the pin, and client 1 waits behind it. Nudges
-# and ticks change nothing: only the unpin does.
+# Both read an entry, client 1 pins it, and both ask to change it. A client that holds something goes in front, so
+# client 0 stands first, is called back, and no longer holds anything. It waits for the pin, and client 1 waits after
+# it. Nudges and ticks change nothing: only the unpin does.
 seed 10=1 20=2
 client 0
 client 1
