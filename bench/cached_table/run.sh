@@ -1,6 +1,6 @@
 #!/bin/sh
 # PostgreSQL, Redis next to it, and krl-cache over it: the same reads and writes of one table, over TCP on this machine.
-# It prints tables for docs/BENCH_CACHE.md, which says what each figure is.
+# It prints tables for docs/BENCH_CACHE.md, which describes each figure.
 #
 #     bench/cached_table/run.sh [CASE..]
 #

@@ -4,10 +4,10 @@
 # table.
 #
 #   bench/failover/run.sh DRIVE [ROUNDS]    DRIVE is krl_drive, built by `cargo build --release -p krl_drive` in hosts/;
-#                                           seven rounds, of two seconds each, unless it is said
+#                                           seven rounds, of two seconds each, by default
 #
 # It takes etcd (Debian: etcd-server) and PostgreSQL (postgresql). The cluster has three nodes, and all of them and the
-# database use the disk of the folder for temporary files. Without PostgreSQL that part is told as not run.
+# database use the disk of the folder for temporary files. Without PostgreSQL that part is reported as not run.
 set -eu
 
 : "${1:?usage: bench/failover/run.sh DRIVE [ROUNDS]}"

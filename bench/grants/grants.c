@@ -1,7 +1,7 @@
 /* What grants of several slots cost, by the library only: a server and its clients in one process. Each message is
  * spelled and read, and handed over in memory.
  *
- *     grants reads REACH ROWS     a first scan of so many rows (lock, grant and acknowledgement, until the rows are
+ *     grants reads REACH ROWS     a first scan of this many rows (lock, grant and acknowledgement, until the rows are
  *                                 there), and giving them back: nanoseconds of the processor, the least and the middle
  *                                 one of the rounds
  *     grants waiters REACH        the memory of a server with 64 clients, of which 63 wait for 200 slots of the first

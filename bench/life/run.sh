@@ -9,7 +9,7 @@
 # After 100,000 steps, and after 900,000 more, or after the numbers of steps that are given, it prints, a line each:
 #
 #   steps, milliseconds, milliseconds of restarts    since the last look, in processor time; the restarts are a server's
-#   VmHWM, VmRSS               the most memory that the process had, and what it has, as /proc tells
+#   VmHWM, VmRSS               the most memory that the process had, and what it has, as /proc reports
 #   entries, pieces, waiters   of the index; of the 64 caches together; clients whose lock waits
 #   messages .. restarted      what was done since the beginning
 set -eu

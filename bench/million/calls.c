@@ -1,7 +1,7 @@
 /* What single messages cost a server that is full, at 1,024, 65,536 and 1,048,576 entries, with room for just as many.
- * A line gives the kind, the entries, the nanoseconds of processor time, and for how many messages. `run.sh` says what
- * the kinds are. twin.rs does the same with a server over maps of Rust's library. It stops if an answer is not as it
- * should be.
+ * A line gives the kind, the entries, the nanoseconds of processor time, and for how many messages. `run.sh` describes
+ * what the kinds are. twin.rs does the same with a server over maps of Rust's library. It stops if an answer is not as
+ * it should be.
  */
 #define _POSIX_C_SOURCE 199309L
 #include <inttypes.h>
@@ -87,7 +87,7 @@ static void end(struct message *message, const uint8_t *at)
     message->length = (size_t)(at - message->bytes);
 }
 
-/* A lock of the slots of so many entries, from this one on. It is granted by one push. */
+/* A lock of the slots of this many entries, from this one on. It is granted by one push. */
 static void spell_lock(struct message *message, struct sender *sender, uint64_t place, uint64_t slots, uint8_t mode)
 {
     uint8_t *at = spell_request(message, LOCK, sender);
@@ -124,7 +124,7 @@ static void spell_insert(struct message *message, struct sender *sender, uint64_
     sender->seen++;
 }
 
-/* Takes what the server has said since the last time: so many messages. */
+/* Takes what the server has sent since the last time: this many messages. */
 static void expect_answers(uint64_t count)
 {
     /* No disk is measured here: what was reported counts as kept. */
@@ -174,7 +174,7 @@ static void say_hello(const char *kind, const struct sender *sender)
     expect_answers(1);
 }
 
-/* A lock of one slot among the first so many, and its release: both count as one. */
+/* A lock of one slot among the first `among`, and its release: both count as one. */
 static void time_locks(const char *kind, struct sender *sender, uint64_t among)
 {
     for (uint64_t n = 0; n < BATCH; n++) {

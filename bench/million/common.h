@@ -10,7 +10,7 @@
 
 #include "krl.h"
 
-/* `krl_take` writes the length of each message in so many bytes before it. */
+/* `krl_take` writes the length of each message in this many bytes before it. */
 enum { PREFIX = 8 };
 
 /* Ends the program where something is not as it should be. */

@@ -17,7 +17,7 @@ enum { REPORT = 2, KIND_AT = 1 };
 static krl_handle server;
 static krl_handle clients[CLIENTS];
 static uint8_t letters[1 << 20];
-/* The clients that may have something to say: a bit for each. */
+/* The clients that may have something to send: a bit for each. */
 static uint64_t talkative;
 static uint64_t longest_report;
 
@@ -66,7 +66,7 @@ static uint64_t take(krl_handle *from)
     /* No disk is measured here: what was reported counts as kept. */
     krl_confirm(from, krl_confirm(from, 0).detail);
     krl_reply taken = krl_take(from, letters, sizeof letters);
-    expect(taken.code == KRL_DONE, "what was said is taken");
+    expect(taken.code == KRL_DONE, "what was sent is taken");
     return taken.detail;
 }
 
@@ -195,7 +195,7 @@ static void read_all(void)
     }
 }
 
-/* What a cache shows says nothing of the index of the server that has started again: each client reads it again. */
+/* What a cache shows is no evidence of the index of the server that has started again: each client reads it again. */
 static void read_anew(void)
 {
     for (uint64_t number = 0; number < CLIENTS; number++)
@@ -294,7 +294,7 @@ static void write_again(void)
         lock(part, part_begin(part), key_of(part * PART) + 1, KRL_RANGE_S_S);
 }
 
-/* What Linux says of this process under the name, in kilobytes. */
+/* What Linux reports of this process under the name, in kilobytes. */
 static uint64_t kilobytes(const char *name)
 {
     char line[256];

@@ -4,7 +4,7 @@
 #   bench/million/run.sh [LIBRARY [ROUNDS]]    needs cc, rustc, and rt on the path; minutes, and 1 GB of memory
 #
 # LIBRARY is a libkrl_embed.a; if none is given, that of crates/krl_embed/out, which `rt lib` makes there. There are
-# five rounds if nothing is said.
+# five rounds by default.
 #
 # The first table is of phases.c, one server and 64 clients in one process, which hand each message over in memory: the
 # least seconds of a phase, of processor time and on the wall, and the most memory at its end, in kilobytes.
@@ -21,7 +21,7 @@
 #   write-again        each client takes rows of another one's, puts one and inserts one; these are read again
 #   scan-last          as scan
 #
-# The second table is of calls.c, which tells a full server messages at places that no processor could guess, and of its
+# The second table is of calls.c, which sends a full server messages at places that no processor could guess, and of its
 # twin in Rust, by turns: the least nanoseconds of a message, and how much they grow from 65,536 entries on.
 #
 #   near, far          a lock of one of the first 100 slots, or of any slot, and its release
@@ -29,7 +29,7 @@
 #   report             the report of one client that holds all
 #   give-back          the Hello of its next incarnation, which gives all that back
 #   hello              the Hello of a client that is new
-#   start              the start on all entries; of the twin, its map of them alone
+#   start              the start on all entries; of the twin, only its map of them
 set -eu
 
 here=$(CDPATH='' cd -- "$(dirname -- "$0")" && pwd)

@@ -1,4 +1,5 @@
-// The twin in Rust of calls.c: a server over the maps of Rust's library, told the same, with the same lines.
+// The twin in Rust of calls.c: a server over the maps of Rust's library, sent the same, with the
+// same lines.
 //
 // Its messages are no bytes. Its start builds the map of the index. Its report has only the range, without a key part
 // for each row.
@@ -79,7 +80,7 @@ impl Bench {
         messages.iter().map(|message| black_box(self.server.step(black_box(message))).len() as u64).sum()
     }
 
-    // Tells the messages, which are answered by so many, and prints the time.
+    // Sends the messages, which are answered by this many, and prints the time.
     fn time(&mut self, kind: &str, messages: &[ToServer], count: u64, answered: u64) {
         let begun = now();
         let answers = self.tell(messages);

@@ -3,7 +3,7 @@
 # second: by the gate of the Rust host, and by a mutex around the same client. It prints the table of
 # docs/BENCH_HOSTS.md.
 #
-#   bench/readers/run.sh [ROUNDS]      100 rounds of 4 ms if nothing is said; for KRL_LIBRARY, KRL_KIT_C and
+#   bench/readers/run.sh [ROUNDS]      100 rounds of 4 ms by default; for KRL_LIBRARY, KRL_KIT_C and
 #                                      CARGO_TARGET_DIR see tests/hosts
 #
 # The server, both clients and their messages are in one process, without a network. The two worlds take turns, and

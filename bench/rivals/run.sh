@@ -1,10 +1,10 @@
 #!/bin/sh
 # krl next to Redis, etcd and PostgreSQL: the same work for each, over TCP on this machine and on the same disk. It
-# prints the first table of docs/BENCH_HOSTS.md, which says what each figure is.
+# prints the first table of docs/BENCH_HOSTS.md, which describes each figure.
 #
-#     bench/rivals/run.sh [OPTIONS] [ROUNDS]         7 rounds by default: three to four minutes, besides the build
-#     bench/rivals/run.sh [OPTIONS] reads [ROUNDS]   50 rounds by default: a minute, besides the build
-#     bench/rivals/run.sh [OPTIONS] writes [ROUNDS]  7 rounds by default: a minute and a half, besides the build
+#     bench/rivals/run.sh [OPTIONS] [ROUNDS]         7 rounds by default: three to four minutes, without the build
+#     bench/rivals/run.sh [OPTIONS] reads [ROUNDS]   50 rounds by default: a minute, without the build
+#     bench/rivals/run.sh [OPTIONS] writes [ROUNDS]  7 rounds by default: a minute and a half, without the build
 #     bench/rivals/run.sh [OPTIONS] load PLOT [SECONDS]  2 seconds by default for each system and number of clients
 #
 # OPTIONS: --rows N, 10000 to 1000000 rows (10000 by default), and --value N, values of 8 to 32 bytes (8 by default).

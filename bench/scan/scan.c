@@ -1,7 +1,7 @@
 /* What a scan of a client's own cache takes from C, only by the call of the library: a client holds a table of 10,000
- * rows with values of as many bytes as the first word says, and scans 100 of them at a time, at one place after
- * another. It prints the least and the middle one of 501 rounds, in nanoseconds of processor time for a scan, and those
- * of a scan of one row.
+ * rows with values of as many bytes as the first word is, and scans 100 of them at a time, at one place after another.
+ * It prints the least and the middle one of 501 rounds, in nanoseconds of processor time for a scan, and those of a
+ * scan of one row.
  */
 #define _POSIX_C_SOURCE 199309L
 #include <inttypes.h>
@@ -40,7 +40,7 @@ static krl_reply step(krl_handle *to, const uint8_t *message, uint64_t length)
     return to == &server ? krl_server_step(to, message, length).reply : krl_client_step(to, message, length);
 }
 
-/* Hands over all that `from` has to say, and answers how many bytes that was. */
+/* Hands over all that `from` has to send, and answers how many bytes that was. */
 static uint64_t hand_over(krl_handle *from, krl_handle *to)
 {
     /* No disk is measured here: what was reported counts as kept. */
@@ -95,7 +95,7 @@ static uint64_t nanos(void)
     return (uint64_t)now.tv_sec * 1000000000 + (uint64_t)now.tv_nsec;
 }
 
-/* One scan of so many rows; the ranges of two scans, one after the other, are no neighbours. */
+/* One scan of this many rows; the ranges of two scans, one after the other, are no neighbours. */
 static void scan(uint64_t turn, uint64_t count)
 {
     static krl_row rows[SCAN];

@@ -3,7 +3,7 @@
 #
 #   bench/server/run.sh         needs rt and rustc on the path; some minutes if krl_server is proved, else half an hour
 #
-# main.rt.txt, proved and built by rt, tells a server the same messages at places that no processor could guess:
+# main.rt.txt, proved and built by rt, sends a server the same messages at places that no processor could guess:
 #
 #   scan-by-101        the Locks of a client that locks the 101 slots of a scan of 100 rows one by one, all of them;
 #                      each is answered, and acknowledges the push before
@@ -16,7 +16,7 @@
 #   start              a start on what survives, which registers 64 clients
 #   report-of-1000     one of the 64 reports of 1,000 ranges each that follow
 #   report-ascending, report-descending, report-shuffled    a report of as many ranges as there are entries, side by
-#                      side, in this order; the twin does not tell these
+#                      side, in this order; the twin does not send these
 #   report-nested      the same with ranges of which each goes on to the end
 exec "$(dirname -- "$0")/../both_sizes" server krl_modes krl_messages krl_blocks krl_queue krl_durable krl_table \
     krl_server

@@ -10,6 +10,6 @@
 #                      left
 #   scan-by-13         the same slots by 13 requests, each of which gets up to eight slots
 #   row-by-101, row-by-13          a row of that scan, from the client's cache
-#   release-of-101, release-of-13  the client gives back what it holds, and says so
+#   release-of-101, release-of-13  the client gives back what it holds, and reports it
 exec "$(dirname -- "$0")/../both_sizes" session krl_modes krl_messages krl_blocks krl_queue krl_durable krl_table \
     krl_cache krl_client krl_server

@@ -14,6 +14,6 @@
 #   delete, insert     an entry and its slot go or come, with the question whether the client may write
 #
 # In the end it prints what memory the program takes while 30,000 entries, all of them locked, come and go: after 10,000
-# inserts and deletes, and after 990,000 more. ../both_sizes says what it prints before.
+# inserts and deletes, and after 990,000 more. ../both_sizes describes what it prints before.
 more='10000 990000' exec "$(dirname -- "$0")/../both_sizes" table krl_modes krl_messages krl_blocks krl_queue \
     krl_durable krl_table

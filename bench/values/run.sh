@@ -9,9 +9,9 @@
 # each, and the least processor time of each line counts. A line gives nanoseconds for each commit in turn, and for this
 # tree:
 #
-#   row      a row of a scan of 100 rows from a cache of so many entries, at places that no processor could guess
-#   write    a delete or an insert that is applied, by turns, at such places of an index of so many entries
-#   copy     the copy of a holding, of a list of so many
+#   row      a row of a scan of 100 rows from a cache of this many entries, at places that no processor could guess
+#   write    a delete or an insert that is applied, by turns, at such places of an index of this many entries
+#   copy     the copy of a holding, of a list of this many
 #
 # It stops if two runs do a different number of them.
 set -eu

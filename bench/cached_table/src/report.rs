@@ -4,7 +4,7 @@ use crate::steps::PARTS;
 use std::fmt::Write;
 use std::time::Duration;
 
-/// A table in Markdown. A turn took so long.
+/// A table in Markdown. A turn took this long.
 pub fn table(measured: &[Measured; METHODS.len()], time: Duration) -> String {
     let mut text = String::from(
         "| | calls a second (least, most) | read p50 | p99 | write p50 | p99 | rows read | stale |\n\
@@ -50,7 +50,7 @@ pub fn parts(measured: &[Measured; METHODS.len()]) -> String {
     text
 }
 
-/// The time below which so many percent of them are.
+/// The time below which this many percent of them are.
 fn part(times: &[Duration], percent: usize) -> String {
     let mut times = times.to_vec();
     times.sort_unstable();

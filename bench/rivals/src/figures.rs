@@ -16,7 +16,7 @@ pub enum What {
     FreshCalls,
     /// The middle one of the writes of one writer.
     Write,
-    /// Writes of so many writers.
+    /// Writes of this many writers.
     Writes(u8),
 }
 

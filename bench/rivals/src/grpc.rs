@@ -7,7 +7,7 @@ use std::io::{BufReader, Read, Write};
 use std::net::TcpStream;
 
 const PREFACE: &[u8] = b"PRI * HTTP/2.0\r\n\r\nSM\r\n\r\n";
-/// The server may send as much as it likes before it is told that there is more room.
+/// The server may send as much as it likes before it learns that there is more room.
 const WINDOW: u32 = (1 << 31) - 1;
 const FIRST_WINDOW: u32 = (1 << 16) - 1;
 const INITIAL_WINDOW_SIZE: u16 = 4;

@@ -129,7 +129,7 @@ impl Answer {
         let reply = self.reply();
         let elements = match reply.elements {
             0 => &[],
-            // SAFETY: a reply with elements has so many pointers to replies, which live as long.
+            // SAFETY: a reply with elements has that many pointers to replies, which live as long.
             count => unsafe { slice::from_raw_parts(reply.element, count) },
         };
         // SAFETY: as above: none of these pointers is null.
@@ -139,7 +139,7 @@ impl Answer {
 
 fn bytes(reply: &Reply) -> &[u8] {
     match reply.kind {
-        // SAFETY: the text of such a reply has so many bytes, and lives as long as the reply.
+        // SAFETY: the text of such a reply has that many bytes, and lives as long as the reply.
         TEXT | ERROR => unsafe { slice::from_raw_parts(reply.text.cast(), reply.length) },
         _ => &[],
     }

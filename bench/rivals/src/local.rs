@@ -37,7 +37,7 @@ impl Rows {
         keys.filter(|key| !self.by_key.contains_key(key)).collect()
     }
 
-    /// A row that the server told. It is kept unless a notice of its key came meanwhile.
+    /// A row that the server sent. It is kept unless a notice of its key came meanwhile.
     pub fn fill(&mut self, row: Row) {
         if !self.dropped.contains(&row.key) {
             self.by_key.insert(row.key, row.value);

@@ -27,7 +27,7 @@ use std::path::Path;
 use std::process::ExitCode;
 
 const USAGE: &str =
-    "usage: krl-rivals ports COUNT       so many ports of 127.0.0.1 that nobody listens at
+    "usage: krl-rivals ports COUNT       this many ports of 127.0.0.1 that nobody listens at
        krl-rivals has hiredis       whether it was built with hiredis
        krl-rivals serve ADDRESS FOLDER REACH TABLE    a server of krl over SQLite, with the rows
        krl-rivals measure FOLDER ROUNDS TABLE SYSTEM=ADDRESS..

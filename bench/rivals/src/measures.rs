@@ -20,7 +20,7 @@ pub const WARMED: u64 = 10_000;
 /// other work of the machine meets few of the batches.
 const BATCH: u32 = 200;
 
-/// How many writers write at once, besides only one.
+/// How many writers write at once, apart from only one.
 pub const WRITERS: [u8; 3] = [4, 8, 16];
 
 /// How long it is measured.
@@ -40,7 +40,7 @@ impl Plan {
         mixing: Duration::from_secs(1),
     };
 
-    /// The same, but the mix is measured for so many seconds.
+    /// The same, but the mix is measured for this many seconds.
     pub fn mixing_for(self, seconds: u32) -> Plan {
         Plan { mixing: Duration::from_secs(seconds.into()), ..self }
     }
@@ -155,7 +155,7 @@ fn expect_rows(keys: &Range<u64>, rows: &[Row]) -> Done {
     Err(format!("a read of the keys {keys:?} has {} rows, not these", rows.len()).into())
 }
 
-/// The seconds of a scan, of the middle one of so many batches; `None` if there is no cache.
+/// The seconds of a scan, of the middle one of this many batches; `None` if there is no cache.
 fn cached_scan(connection: &mut dyn Connection, batches: u32) -> Found<Option<f64>> {
     connection.fill(0..WARMED)?;
     let mut rows = Vec::new();

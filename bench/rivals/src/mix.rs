@@ -114,7 +114,7 @@ impl Acknowledged {
     }
 }
 
-/// A round of so many clients.
+/// A round of this many clients.
 pub fn of(system: &dyn System, clients: u8, caching: Caching, plan: &Plan) -> Found<Mix> {
     let mut connections = clients::connect(system, clients, caching)?;
     let first = connections.first_mut().ok_or("there is no client")?;

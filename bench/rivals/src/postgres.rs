@@ -110,7 +110,7 @@ impl Wire {
     }
 
     fn prepare(&mut self, name: &str, text: &str) -> Done {
-        // No type of a parameter is said: the server finds them.
+        // No type of a parameter is given: the server finds them.
         self.push(b'P', &[name.as_bytes(), b"\0", text.as_bytes(), b"\0", &[0, 0]]);
         self.push(b'S', &[]);
         self.finish(|_| Ok(()))
@@ -157,7 +157,7 @@ impl Wire {
                 b'Z' => break,
                 _ => {}
             }
-            // A server that refuses a connection says why, hangs up, and is never ready.
+            // A server that refuses a connection reports why, hangs up, and is never ready.
             if failed.as_deref().is_some_and(|why| why.contains("FATAL")) {
                 break;
             }

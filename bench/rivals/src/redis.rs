@@ -1,8 +1,8 @@
-//! Redis: RESP 3 over one connection, and what it tells of tracked keys over another.
+//! Redis: RESP 3 over one connection, and what it reports of tracked keys over another.
 //!
-//! A client keeps the rows that it reads until Redis says that their keys have changed (CLIENT TRACKING). The notices
-//! come to a connection of their own, which a thread reads: so a scan of the cache makes no system call, and an answer
-//! is read by the thread that waits for it.
+//! A client keeps the rows that it reads until Redis reports that their keys have changed (CLIENT
+//! TRACKING). The notices come to a connection of their own, which a thread reads: so a scan of the
+//! cache makes no system call, and an answer is read by the thread that waits for it.
 use crate::local::Local;
 use crate::system::{
     Caching, Connection, Done, Found, System, Table, number, row, tcp, until_ready,
@@ -84,7 +84,7 @@ impl Tracking {
     fn open(address: &str, table: Table) -> Found<Tracking> {
         let mut notices = Wire::open(address, table)?;
         let Reply::Number(id) = notices.call(&[b"CLIENT", b"ID"])? else {
-            return Err("Redis tells no CLIENT ID".into());
+            return Err("Redis reports no CLIENT ID".into());
         };
         let mut asked = Wire::open(address, table)?;
         asked.call(&[b"CLIENT", b"TRACKING", b"ON", b"REDIRECT", id.to_string().as_bytes()])?;

@@ -20,7 +20,7 @@ pub fn table(names: &[&str], figures: &[Figures]) -> String {
         }
         if what == What::Calls && figures.iter().any(|it| it.rows > 0) {
             let cells = figures.iter().map(|it| format!("{} of {}", it.stale, it.rows));
-            row(&mut text, "stale rows that those read, of so many", cells);
+            row(&mut text, "stale rows among all rows that those read", cells);
         }
     }
     text

@@ -10,7 +10,7 @@ use std::time::{Duration, Instant};
 pub type Found<T> = Result<T, Box<dyn Error + Send + Sync>>;
 pub type Done = Found<()>;
 
-/// The rows of each system: so many keys from 0 on, and values of so many bytes.
+/// The rows of each system: this many keys from 0 on, and values of this many bytes.
 #[derive(Clone, Copy, Debug)]
 pub struct Table {
     pub rows: u64,

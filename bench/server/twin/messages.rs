@@ -1,4 +1,4 @@
-// Modes and messages, as plain data: of a push that is told and not read, no field is read.
+// Modes and messages, as plain data: of a push that is sent and not read, no field is read.
 #![allow(dead_code)]
 
 pub const END: u64 = u64::MAX - 1;
