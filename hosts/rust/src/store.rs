@@ -114,10 +114,11 @@ pub trait Store: Send {
         Ok(None)
     }
 
-    /// The longest that a commit or a snapshot of this store may take, even if it then fails. The
-    /// server's loop waits for its store and serves nobody meanwhile. One that waits longer counts
-    /// as hung: see [`Monitor::liveness`](crate::Monitor::liveness). The server asks once, when it
-    /// starts. By default 30 seconds; `Duration::MAX` means that any time is in order.
+    /// The longest that a commit or a snapshot of this store may take, even if it then fails.
+    /// Meanwhile the server judges at most a few messages, sends nothing that rests on them, and
+    /// serves nobody. One whose store takes longer counts as hung: see
+    /// [`Monitor::liveness`](crate::Monitor::liveness). The server asks once, when it starts. By
+    /// default 30 seconds; `Duration::MAX` means that any time is in order.
     fn longest_wait(&self) -> Duration {
         Duration::from_secs(30)
     }

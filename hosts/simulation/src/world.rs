@@ -19,7 +19,7 @@ use krl::simulated::{Call, Client, Server};
 use std::cmp::{Ordering, Reverse};
 use std::collections::{BTreeMap, BTreeSet, BinaryHeap};
 use std::time::Duration;
-use store::{Commit, Does, Stored};
+use store::{Does, Stored};
 
 /// How soon each client has to be served after the last fault, and after all continue that stood
 /// still.
@@ -178,8 +178,8 @@ struct Serving {
     server: Server,
     start: u64,
     was_frozen: bool,
-    /// What is being committed.
-    commits: Option<Commit>,
+    /// It judges what comes while it commits.
+    judges_on: bool,
     timer: Timer,
     /// The connections by the numbers that it has given them.
     links: BTreeMap<u64, u64>,

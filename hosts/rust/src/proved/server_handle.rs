@@ -135,16 +135,17 @@ impl ServerHandle {
         change_of(&stepped.change)
     }
 
-    /// Confirms that these changes are on the disk, after all earlier ones: what rests on them may
-    /// be sent. They have to be all that the server has reported since.
+    /// Confirms that the changes of `kept` are on the disk, after all earlier ones: what rests on
+    /// them may be sent. Those of `gathered` are to be committed next. Together they have to be
+    /// all that the server has reported since.
     ///
     /// # Errors
     ///
     /// [`Code::Unkept`] if one is missing, and [`Code::NotTold`] if there are more.
-    pub fn confirm(&mut self, kept: &[Change]) -> Result<(), Code> {
-        self.confirmed += kept.iter().filter(|change| change.is_note()).count() as u64;
+    pub fn confirm(&mut self, kept: &[Change], gathered: &[Change]) -> Result<(), Code> {
+        self.confirmed += notes(kept);
         let reported = self.handle.confirm(self.confirmed)?;
-        if reported == self.confirmed { Ok(()) } else { Err(Code::Unkept) }
+        if reported == self.confirmed + notes(gathered) { Ok(()) } else { Err(Code::Unkept) }
     }
 
     pub fn nudge(&mut self, client: u8) -> Result<(), Code> {
@@ -237,6 +238,11 @@ impl Snapshot {
     pub fn judge(&self) -> Result<(), Code> {
         ServerHandle::open(self, Room::MAX, Reach::default()).map(drop)
     }
+}
+
+/// How many of the changes are notes of the library.
+fn notes(changes: &[Change]) -> u64 {
+    changes.iter().filter(|change| change.is_note()).count() as u64
 }
 
 /// The numbers of clients that a call wrote, if it did.

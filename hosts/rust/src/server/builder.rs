@@ -190,12 +190,12 @@ impl Server {
         let opened = decided.open(&mut store, &address, Arc::clone(&timings), Now::read)?;
         let Opened { events, epoch, room } = opened;
         let (sockets, waker) = Sockets::new(listener, max_connections, access)?;
-        let (requests, asked) = Requests::new(waker);
+        let (requests, asked) = Requests::new(Arc::clone(&waker));
         let status = Arc::new(Mutex::new(Status { epoch, room, reach, ..Status::default() }));
         let shown = Arc::clone(&status);
         let longest_store_wait = store.longest_wait();
         let store = TimedStore::new(store, Arc::clone(&timings));
-        let serving = ServerThread::new(events, store, sockets, asked);
+        let serving = ServerThread::new(events, store, sockets, waker, asked);
         let thread = thread::Builder::new().name("krl-server".into());
         let thread = thread.spawn(move || serving.run_to_the_end(&shown))?;
         let thread = Some(thread);

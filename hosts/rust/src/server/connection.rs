@@ -13,6 +13,7 @@ use crate::wire::frames::{Frames, GULP, HEAD};
 use crate::wire::host_frame::FromServer;
 use std::io::{self, ErrorKind, Read, Write};
 use std::time::{Duration, Instant};
+use told::Told;
 
 /// A connection on which nothing comes for so long is closed: clients tick more often.
 const SILENCE: Duration = Duration::from_secs(30);
@@ -74,8 +75,8 @@ pub(crate) struct Connection {
     heard: Instant,
     outgoing: Outgoing,
     batch: Batch,
-    /// What leaves with the next batch, before what the server says.
-    told: Vec<u8>,
+    /// What leaves before what the server says, as soon as it may.
+    told: Told,
     /// None if the peer has not said that it takes host frames.
     host: Option<Host>,
     /// Why nothing more is heard of it: then what waits is the last that is written.
@@ -97,7 +98,7 @@ impl Connection {
             heard: now,
             outgoing: Outgoing::default(),
             batch: Batch::NotBegun,
-            told: Vec::new(),
+            told: Told::default(),
             host: None,
             ends_for: None,
             is_let_in: false,
@@ -263,8 +264,8 @@ impl Connection {
         self.outgoing.waits()
     }
 
-    /// Hears nothing more of it, for this reason. It is over when all is written that leaves with
-    /// the next batch.
+    /// Hears nothing more of it, for this reason. It is over when nothing waits for a commit, and
+    /// all is written.
     pub fn end(&mut self, reason: CloseReason) {
         self.ends_for.get_or_insert(reason);
     }
@@ -284,7 +285,7 @@ impl Connection {
     }
 
     pub fn is_over(&self) -> bool {
-        self.ends_for.is_some() && self.outgoing.is_empty()
+        self.ends_for.is_some() && self.outgoing.is_empty() && !self.told.is_waiting()
     }
 
     /// Why the connection is closed now, if its peer is silent or takes nothing for too long.
@@ -315,13 +316,29 @@ impl Connection {
     pub fn refuse(&mut self, refusal: Refusal, now: Instant) {
         let Some(host) = &mut self.host else { return };
         if host.refusals[refusal.reason()].lets(now).is_some() {
-            self.told.extend_from_slice(&FromServer::Refused(refusal).frame());
+            self.told.put(&FromServer::Refused(refusal).frame());
         }
     }
 
-    /// Puts a frame into the next batch, before what the server says.
+    /// Takes a frame of the host, which leaves after the commit that begins next.
     pub fn tell(&mut self, frame: &[u8]) {
-        self.told.extend_from_slice(frame);
+        self.told.put(frame);
+    }
+
+    /// Something of the connection waits for the commit that begins next: what it is told, or its
+    /// end. It answers whether nothing did before.
+    pub fn waits_for_commit(&mut self) -> bool {
+        self.told.waits()
+    }
+
+    /// A commit begins: what the connection was told so far waits for it.
+    pub fn begin_commit(&mut self) {
+        self.told.begin_commit();
+    }
+
+    /// That commit is made: what waited for it leaves with the next batch.
+    pub fn end_commit(&mut self) {
+        self.told.end_commit();
     }
 
     /// Puts a frame of the server into the batch. So far has the store come.
@@ -332,7 +349,7 @@ impl Connection {
         }
     }
 
-    /// Ends the batch, which has what was told even if nothing was said.
+    /// Ends the batch, which has what was told and may leave, even if nothing was said.
     pub fn end_batch(&mut self, seen: Option<Seen>) {
         self.begin_batch(seen);
         self.batch = Batch::NotBegun;
@@ -358,12 +375,14 @@ impl Connection {
             }
         }
         if !is_lost {
-            first.append(&mut self.told);
+            first.append(self.told.free());
             self.put(&first);
         }
-        self.told.clear();
+        self.told.free().clear();
     }
 }
+
+mod told;
 
 #[cfg(test)]
 mod tests;

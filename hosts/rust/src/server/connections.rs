@@ -39,6 +39,10 @@ pub(crate) struct Connections {
     closings: Closings,
     /// Those that may have a frame, in the order of their turns. Each is there once.
     ready: VecDeque<u64>,
+    /// Those of which something waits for the commit that begins next, and for the one that is
+    /// under way. Each is there once.
+    waiting: Vec<u64>,
+    committing: Vec<u64>,
     /// Those that have something to send. Each is there once.
     sending: Vec<u64>,
     /// Those that have to be written, and those that were closed.
@@ -91,6 +95,8 @@ impl Connections {
             routes: Routes::default(),
             closings: Closings::default(),
             ready: VecDeque::new(),
+            waiting: Vec::new(),
+            committing: Vec::new(),
             sending: Vec::new(),
             to_write: VecDeque::new(),
             closed: VecDeque::new(),
@@ -112,6 +118,11 @@ impl Connections {
     /// Whether a connection may have something to be heard or read.
     pub fn are_busy(&self) -> bool {
         !self.ready.is_empty()
+    }
+
+    /// How many connections may have something to be heard or read.
+    pub fn count_ready(&self) -> usize {
+        self.ready.len()
     }
 
     /// The system has told what the socket of this connection is ready for.
@@ -220,34 +231,55 @@ impl Connections {
         self.routes.close(number);
     }
 
-    /// Hears nothing more of the connection, for this reason, and closes it when all is written
-    /// that leaves with the next batch.
+    /// Hears nothing more of the connection, for this reason, and closes it after the commit that
+    /// begins next, when all is written.
     pub fn end(&mut self, number: u64, reason: CloseReason) {
-        if let Some(peer) = self.in_sending(number) {
+        if let Some(peer) = self.in_waiting(number) {
             peer.end(reason);
         }
         self.routes.close(number);
     }
 
-    /// The host of this peer takes host frames, and its Hello is answered so.
+    /// The host of this peer takes host frames, and its Hello is answered so. The answer rests on
+    /// nothing that is not committed: it leaves with the next batch, before all else.
     pub fn greet(&mut self, number: u64, answer: FromServer) {
         if let Some(peer) = self.in_sending(number) {
             peer.greet(answer);
         }
     }
 
-    /// Reports to the peer's host why its client is not served.
+    /// Reports to the peer's host why its client is not served, after the commit that begins next.
     pub fn refuse(&mut self, number: u64, refusal: Refusal) {
         let now = self.now.monotonic;
-        if let Some(peer) = self.in_sending(number) {
+        if let Some(peer) = self.in_waiting(number) {
             peer.refuse(refusal, now);
         }
     }
 
-    /// Puts a frame into the next batch of the connection.
+    /// Sends a frame of the host on the connection, after the commit that begins next.
     pub fn tell(&mut self, number: u64, frame: &[u8]) {
-        if let Some(peer) = self.in_sending(number) {
+        if let Some(peer) = self.in_waiting(number) {
             peer.tell(frame);
+        }
+    }
+
+    /// A commit begins: what connections were told so far waits for it, and so do their ends.
+    pub fn begin_commit(&mut self) {
+        self.committing = std::mem::take(&mut self.waiting);
+        for number in &self.committing {
+            if let Some(peer) = self.open.get_mut(number) {
+                peer.connection.begin_commit();
+            }
+        }
+    }
+
+    /// That commit is made, or nothing had to be committed: what waited for it leaves with the next
+    /// batch.
+    pub fn end_commit(&mut self) {
+        for number in std::mem::take(&mut self.committing) {
+            if let Some(peer) = self.in_sending(number) {
+                peer.end_commit();
+            }
         }
     }
 
@@ -260,6 +292,15 @@ impl Connections {
 
     pub fn is_let_in(&self, number: u64) -> bool {
         self.open.get(&number).is_some_and(|peer| peer.connection.is_let_in())
+    }
+
+    /// A connection of which something waits for the commit that begins next.
+    fn in_waiting(&mut self, number: u64) -> Option<&mut Connection> {
+        let peer = self.open.get_mut(&number)?;
+        if peer.connection.waits_for_commit() {
+            self.waiting.push(number);
+        }
+        Some(&mut peer.connection)
     }
 
     /// A connection that has something to send.
@@ -309,8 +350,8 @@ impl Connections {
         self.open.len()
     }
 
-    /// Begins to send: what was told, and after it what the server says. So far has the store
-    /// come. Nothing that was not committed may be sent.
+    /// Begins to send: what was told and may leave, and after it what the server says. So far has
+    /// the store come. Nothing that was not committed may be sent.
     pub fn send(&mut self, seen: Option<Seen>) -> Sending<'_> {
         Sending { connections: self, seen }
     }
@@ -362,10 +403,9 @@ impl Connections {
 
     /// Hears nothing more of any connection: each is closed when all is written that was sent.
     pub fn end_all(&mut self) {
-        let numbers: Vec<u64> = self.open.keys().copied().collect();
-        for number in numbers {
-            self.end(number, CloseReason::Ended);
-            self.to_write.push_back(number);
+        for (number, peer) in &mut self.open {
+            peer.connection.end(CloseReason::Ended);
+            self.to_write.push_back(*number);
         }
     }
 }

@@ -24,7 +24,7 @@ use crate::wire::host_frame::FromClient;
 use crate::wire::incoming::Incoming;
 use crate::wire::message::{Head, Kind, Message};
 use commit_group::CommitGroup;
-use greeting::Doubt;
+use commits::Gathered;
 use std::sync::Arc;
 use std::time::{Duration, Instant};
 
@@ -41,22 +41,20 @@ const LAST_TURNS: Duration = Duration::from_millis(100);
 /// How old what others see of a server may be while it is busy.
 const SHOWN_FOR: Duration = Duration::from_millis(5);
 
-/// What a server decides. It makes turns: each begins by [`EventLoop::begin`], takes what has come
-/// by [`EventLoop::hear_next`], and what time brings by [`EventLoop::nudge`]. What
-/// [`EventLoop::take_commit`] says is committed then, and [`EventLoop::committed`] is told so. Only
-/// after that [`EventLoop::send`] gives the connections what leaves.
+/// What a server decides. It makes turns: each takes what has come by [`EventLoop::hear_next`], and
+/// what time brings by [`EventLoop::nudge`]. What [`EventLoop::take_commit`] answers is committed
+/// then, at once or while more turns are made, and [`EventLoop::committed`] takes it back. Only
+/// after that [`EventLoop::send`] gives the connections what waited for it.
 pub(crate) struct EventLoop {
     server: ServerHandle,
     history: Option<History>,
     connections: Connections,
     held_back: HeldBack,
     leases: LeaseTable,
-    /// What this turn has changed.
-    changes: Vec<Change>,
-    /// Signs were answered in this turn.
-    owes_terms: bool,
-    /// The connections of this turn whose clients have seen what the store lacks.
-    doubts: Vec<Doubt>,
+    /// What the next commit has to make.
+    gathered: Gathered,
+    /// A commit is under way.
+    is_committing: bool,
     watch: Watch,
     last_heard: LastHeard,
     status: Status,
@@ -113,9 +111,8 @@ impl EventLoop {
             connections,
             held_back: HeldBack::new(),
             leases,
-            changes: Vec::new(),
-            owes_terms: false,
-            doubts: Vec::new(),
+            gathered: Gathered::default(),
+            is_committing: false,
             watch: Watch::default(),
             last_heard: LastHeard::new(),
             status: Status { epoch, ..Status::default() },
@@ -153,7 +150,9 @@ impl EventLoop {
     /// Whether to make another turn after one that began then and judged so much. What came before
     /// the stop is seen by the turn after it.
     pub fn goes_on(&self, was_to_end: bool, began: Now, judged: usize) -> bool {
-        self.until.is_none_or(|until| !was_to_end || judged > 0 && began.monotonic < until)
+        let is_over =
+            |until| was_to_end && !self.is_committing && (judged == 0 || began.monotonic >= until);
+        !self.until.is_some_and(is_over)
     }
 
     /// Why it has ended, if nobody has told it to. It is reported once.
@@ -163,13 +162,13 @@ impl EventLoop {
 
     /// How long to wait for the next turn if nothing comes.
     pub fn longest_wait(&self) -> Duration {
-        match (self.until, self.is_stale) {
-            (Some(_), _) => Duration::ZERO,
-            (None, true) => {
-                SHOWN_FOR.saturating_sub(self.turned.saturating_duration_since(self.shown))
-            }
-            (None, false) => NUDGE,
+        if self.until.is_some() || self.has_to_commit() {
+            return Duration::ZERO;
         }
+        if self.is_stale {
+            return SHOWN_FOR.saturating_sub(self.turned.saturating_duration_since(self.shown));
+        }
+        NUDGE
     }
 
     /// The turn that began then has ended.
@@ -285,7 +284,7 @@ impl EventLoop {
                 self.connections.route(client, connection);
             }
             // The frame leaves after the change is on the disk, and tells the client that it need
-            // not say Bye again.
+            // not send Bye again.
             (Sender::Left, Kind::Bye) => self.connections.tell(connection, &frames::EMPTY),
             (Sender::Left, _) => {}
             (Sender::Stranger, _) => {
@@ -310,12 +309,6 @@ impl EventLoop {
         }
     }
 
-    /// Whether what is to be committed waits for writers that are about to write again, if it has
-    /// waited so long.
-    pub fn waits_for_writers(&self, waited: Duration) -> bool {
-        self.group.waits(&self.changes, waited)
-    }
-
     /// Sends again what clients may have missed, closes dead connections and evicts, if that is
     /// due. It answers whether it was.
     pub fn nudge(&mut self, now: Now) -> Result<bool, ServeError> {
@@ -333,50 +326,14 @@ impl EventLoop {
         Ok(true)
     }
 
-    /// Takes what has to be committed before anything leaves, if anything has: nothing leaves if
-    /// that fails.
-    ///
-    /// Nothing changed is committed too, if the store has to be asked whether it is still this
-    /// server's: before terms leave, before a store is called an older one, and now and then. A
-    /// server after which another one has started would find that at its next commit, and its
-    /// clients might wait for it until then.
-    pub fn take_commit(&mut self, now: Now) -> Option<Vec<Change>> {
-        let since_asked = now.monotonic.saturating_duration_since(self.asked_store);
-        let asks = self.owes_terms || !self.doubts.is_empty() || since_asked >= ASKS_STORE;
-        let changes = std::mem::take(&mut self.changes);
-        (asks || !changes.is_empty()).then_some(changes)
-    }
-
-    /// The store has made this commit, which began then.
-    pub fn committed(
-        &mut self,
-        changes: &[Change],
-        began: Instant,
-        now: Now,
-    ) -> Result<(), ServeError> {
-        self.server.confirm(changes).map_err(ServeError::Refused)?;
-        self.asked_store = began;
-        self.owes_terms = false;
-        if !changes.is_empty() {
-            if let Some(history) = &mut self.history {
-                history.commit();
-            }
-            let time = now.monotonic.saturating_duration_since(began);
-            self.timings.committed(changes.len(), time);
-            self.group.committed(changes, time);
-            self.log.committed(changes, |client| self.connections.at_of(client));
-            self.count(changes);
-            self.see_members(changes);
-        }
-        for doubt in std::mem::take(&mut self.doubts) {
-            self.alarm_older_store(&doubt, now);
-        }
-        Ok(())
-    }
-
     /// Gives the connections what leaves.
     pub fn send(&mut self, now: Now) -> Result<(), ServeError> {
-        let length = self.server.take(&mut self.frames).map_err(ServeError::Refused)?;
+        let length = match self.server.take(&mut self.frames) {
+            Ok(length) => length,
+            // All that waits rests on changes that are not on the disk.
+            Err(Code::Unkept) if self.has_uncommitted() => 0,
+            Err(code) => return Err(ServeError::Refused(code)),
+        };
         let mut sending = self.connections.send(self.history.as_ref().and_then(History::seen));
         for (message, frame) in frames::split(&self.frames[..length]) {
             let message = Message::read(message);
@@ -397,11 +354,14 @@ impl EventLoop {
     }
 }
 
+pub(crate) mod commits;
 pub(crate) mod thread;
 
 mod clients;
 mod commit_group;
+mod committer;
 mod greeting;
+mod hand_over;
 mod leases;
 mod long_frames;
 mod looks;

@@ -10,6 +10,7 @@ use crate::net::address::Address;
 use crate::net::poller::Readiness;
 use crate::net::stream::PeerAddress;
 use crate::server::error::ServeError;
+use crate::server::event_loop::commits::Commit;
 use crate::server::event_loop::{EventLoop, Heard};
 use crate::server::opening::{Decided, Opened};
 use crate::server::shown::timings::Timings;
@@ -53,6 +54,8 @@ pub struct Server {
     events: EventLoop,
     unread: BTreeMap<u64, Unread>,
     turn: Turn,
+    /// The commit that is under way, and when it began.
+    commit: Option<(Commit, Now)>,
 }
 
 /// The turn that is made, or was made last.
@@ -93,7 +96,7 @@ impl Server {
         let began = Now::simulated(time);
         let Opened { events, .. } = decided.open(store, &address, timings, || began)?;
         let turn = Turn { was_to_end: false, began, judged: 0 };
-        Ok(Server { events, unread: BTreeMap::new(), turn })
+        Ok(Server { events, unread: BTreeMap::new(), turn, commit: None })
     }
 
     fn at(&mut self, time: Duration) -> Now {
@@ -138,8 +141,21 @@ impl Server {
         self.events.stop(now);
     }
 
-    /// Judges what has come, and what time brings. It answers what has to be committed before
-    /// anything leaves, if anything has.
+    /// Whether it may make a turn now: always if no commit is under way, and during one unless it
+    /// is to end.
+    #[must_use]
+    pub fn may_turn(&self) -> bool {
+        self.commit.is_none() || !self.events.is_to_end()
+    }
+
+    /// Whether a commit is under way.
+    #[must_use]
+    pub fn is_committing(&self) -> bool {
+        self.commit.is_some()
+    }
+
+    /// Judges what has come, and what time brings. It answers the changes of the commit that begins
+    /// now, if one does: none begins while one is under way.
     ///
     /// # Errors
     ///
@@ -154,7 +170,12 @@ impl Server {
             self.events.count_next();
         }
         self.events.see_phase();
-        Ok(self.events.take_commit(now))
+        let commit = self.events.take_commit(now);
+        let changes = commit.as_ref().map(|commit| commit.changes().to_vec());
+        if let Some(commit) = commit {
+            self.commit = Some((commit, now));
+        }
+        Ok(changes)
     }
 
     /// Hears the connection whose turn it is, and answers whether there was one.
@@ -175,22 +196,19 @@ impl Server {
         self.events.take(turn)
     }
 
-    /// The store has made this commit, which began then.
+    /// The store has made the commit that was under way.
     ///
     /// # Errors
     ///
     /// The server has failed.
-    pub fn committed(
-        &mut self,
-        changes: &[Change],
-        began: Duration,
-        time: Duration,
-    ) -> Result<(), ServeError> {
+    pub fn committed(&mut self, time: Duration) -> Result<(), ServeError> {
         let now = self.at(time);
-        self.events.committed(changes, Now::simulated(began).monotonic, now)
+        let Some((commit, began)) = self.commit.take() else { return Ok(()) };
+        let took = now.monotonic.saturating_duration_since(began.monotonic);
+        self.events.committed(&commit, took, now)
     }
 
-    /// What leaves, after all that was to be committed is.
+    /// What leaves: nothing that rests on what is not committed.
     ///
     /// # Errors
     ///

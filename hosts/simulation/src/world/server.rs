@@ -1,10 +1,10 @@
 //! What happens at the servers.
-use super::store::{Commit, Stored};
+use super::store::Stored;
 use super::{Event, Serving, World};
 use crate::network::Side;
 use crate::record::Node;
 use crate::timer::Timer;
-use crate::weather::{self, Terms};
+use crate::weather::{self, Terms, WhileCommitting};
 use krl::simulated::{FrameKind, Said, Server, Start};
 use krl::{Leases, Room, ServeError};
 use std::collections::BTreeMap;
@@ -46,7 +46,7 @@ impl World {
             server,
             start,
             was_frozen: false,
-            commits: None,
+            judges_on: self.weather.while_committing == WhileCommitting::Judge,
             timer: Timer::IDLE,
             links: BTreeMap::new(),
         };
@@ -102,15 +102,16 @@ impl World {
     pub(super) fn turn(&mut self, site: usize, start: u64) {
         let time = self.sites[site].clock.at(self.now);
         let serving = self.sites[site].serving.as_mut().filter(|it| it.start == start);
-        let Some(serving) = serving.filter(|it| it.commits.is_none()) else { return };
+        let Some(serving) = serving.filter(|it| it.may_turn()) else { return };
         self.happened += 1;
         match serving.server.turn(time) {
             Ok(None) => self.send(site),
             Ok(Some(changes)) => {
                 self.judge_incarnations(site, &changes);
                 self.ask_store(start, &changes);
-                if let Some(serving) = &mut self.sites[site].serving {
-                    serving.commits = Some(Commit { changes, began: time });
+                let serving = self.sites[site].serving.as_ref();
+                if serving.is_some_and(Serving::may_turn) {
+                    self.send(site);
                 }
             }
             Err(error) => self.fail(site, &error),
@@ -127,9 +128,8 @@ impl World {
             Stored::Failed => return self.end_server(site, "its store has failed"),
             Stored::Deposed => return self.end_server(site, "another server has its store"),
         }
-        let Some(Commit { changes, began }) = serving.commits.take() else { return };
         self.happened += 1;
-        match serving.server.committed(&changes, began, time) {
+        match serving.server.committed(time) {
             Ok(()) => self.send(site),
             Err(error) => self.fail(site, &error),
         }
@@ -204,7 +204,7 @@ impl World {
         let Some(serving) = &mut self.sites[site].serving else { return };
         self.happened += 1;
         serving.server.deliver(connection, bytes, time);
-        if serving.commits.is_none() {
+        if serving.may_turn() {
             self.turn_in(site, Duration::ZERO);
         }
     }
@@ -216,9 +216,16 @@ impl World {
         serving.links.remove(&connection);
         self.happened += 1;
         serving.server.hang_up(connection, time);
-        if serving.commits.is_none() {
+        if serving.may_turn() {
             self.turn_in(site, Duration::ZERO);
         }
+    }
+}
+
+impl Serving {
+    /// Whether the server makes a turn if something comes.
+    fn may_turn(&self) -> bool {
+        !self.server.is_committing() || self.judges_on && self.server.may_turn()
     }
 }
 

@@ -1,19 +1,12 @@
 //! What the store does with the commits of servers.
 use super::{Event, World};
 use crate::record::Happened;
+use crate::weather::WhileCommitting;
 use krl::{Change, Outcome};
 use std::time::Duration;
 
 /// A server's clock may be behind an incarnation by so much.
 const FAR_AHEAD: Duration = Duration::from_secs(24 * 3600);
-
-/// What a server commits.
-#[derive(Debug)]
-pub(super) struct Commit {
-    pub changes: Vec<Change>,
-    /// By the clock of the server.
-    pub began: Duration,
-}
 
 /// What the store does with a commit.
 #[derive(Clone, Copy, Debug, PartialEq, Eq)]
@@ -70,12 +63,21 @@ impl World {
         let (_, changes, does) = self.asked.remove(place);
         let stored =
             if self.disk.owner() == start { self.keep(&changes, does) } else { Stored::Deposed };
-        let answers = self.dice.time(10..300);
+        let answers = self.draw_answer();
         let is_here = |serving: &super::Serving| serving.start == start;
         let site = self.sites.iter().position(|site| site.serving.as_ref().is_some_and(is_here));
         if let Some(site) = site {
             self.after(answers, Event::Stored { site, start, stored });
         }
+    }
+
+    /// How long the store's answer is on its way. A server that judges meanwhile may learn of a
+    /// commit when another server has had the store for long.
+    fn draw_answer(&mut self) -> Duration {
+        let hangs = self.weather.store_hangs;
+        let judges_on = self.weather.while_committing == WhileCommitting::Judge;
+        let is_late = judges_on && self.dice.among(0..10_000) < hangs;
+        self.dice.time(if is_late { 10_000..3_000_000 } else { 10..300 })
     }
 
     fn keep(&mut self, changes: &[Change], does: Does) -> Stored {

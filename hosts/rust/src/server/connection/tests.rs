@@ -52,7 +52,10 @@ fn connection() -> (Wired, UnixStream) {
     (Wired { connection, stream }, theirs)
 }
 
+/// Sends a batch after a commit, which what was told has waited for.
 fn send(connection: &mut Wired, frame: &[u8], seen: Option<Seen>) {
+    connection.begin_commit();
+    connection.end_commit();
     connection.say(frame, seen);
     connection.end_batch(seen);
     connection.write();

@@ -46,8 +46,10 @@ impl Rig {
         self.sockets.settle(&mut self.connections);
     }
 
-    /// Sends a batch with what was told, and nothing else.
+    /// Sends a batch with what was told, and nothing else, as if nothing had to be committed.
     fn flush(&mut self) {
+        self.connections.begin_commit();
+        self.connections.end_commit();
         self.connections.send(None).end();
         self.settle();
     }

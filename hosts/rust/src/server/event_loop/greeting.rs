@@ -50,11 +50,12 @@ impl EventLoop {
     }
 
     /// The store lacks what the client has seen, and is asked whether it is still this server's: a
-    /// server after which another one has started lacks it too, and ends then. It is asked once in
-    /// a turn, however many clients report it. Nothing more is heard of the connection: its client
-    /// knows what is not so, and what it sends is lost as if it had crashed.
+    /// server after which another one has started lacks it too, and ends then. The commit that
+    /// begins next asks it, once for all clients that report it by then. Nothing more is heard of
+    /// the connection: its client knows what is not so, and what it sends is lost as if it had
+    /// crashed.
     fn doubt(&mut self, connection: u64, lacked: Mark) {
-        self.doubts.push(Doubt { connection, lacked });
+        self.gathered.doubts.push(Doubt { connection, lacked });
         self.connections.end(connection, CloseReason::OlderStore);
     }
 

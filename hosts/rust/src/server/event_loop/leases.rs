@@ -11,8 +11,9 @@ use crate::server::error::ServeError;
 use crate::wire::message::{self, Head, Kind};
 
 impl EventLoop {
-    /// Takes a sign, which has come by now. The answer leaves with the batch of this turn, so after its
-    /// commit. The host of an incarnation that has ended learns why.
+    /// Takes a sign, which has come by now. The answer leaves after the commit that begins next: by
+    /// that the store has answered that it is still this server's. The host of an incarnation that
+    /// has ended learns why.
     pub(super) fn hear_sign(
         &mut self,
         connection: u64,
@@ -26,7 +27,7 @@ impl EventLoop {
             self.connections.refuse(connection, Refusal::Incarnation { client, registered });
         }
         self.connections.tell(connection, &answer.frame());
-        self.owes_terms = true;
+        self.gathered.owes_terms = true;
         Ok(())
     }
 
@@ -66,7 +67,7 @@ impl EventLoop {
             && self.connections.speaks_elsewhere(client, connection)
     }
 
-    /// Takes a change into those that this turn commits.
+    /// Takes a change into those of the next commit.
     ///
     /// What is stored of leases comes before the registration that rests on it: after an error a
     /// first part of the changes may be kept.
@@ -76,13 +77,13 @@ impl EventLoop {
                 let before = self.leases.record();
                 let record = self.leases.register(client, incarnation, boot(now)?);
                 if record != before {
-                    self.changes.push(Change::Leased(record));
+                    self.gathered.changes.push(Change::Leased(record));
                 }
             }
             Change::Left { client } => self.leases.leave(client),
             _ => {}
         }
-        self.changes.push(change);
+        self.gathered.changes.push(change);
         Ok(())
     }
 
@@ -92,7 +93,7 @@ impl EventLoop {
             self.evict(client, incarnation, now)?;
         }
         let revised = self.leases.revise(boot(now)?);
-        self.changes.extend(revised.map(Change::Leased));
+        self.gathered.changes.extend(revised.map(Change::Leased));
         Ok(())
     }
 

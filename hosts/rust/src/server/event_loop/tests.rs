@@ -63,22 +63,32 @@ impl Store for Watching {
 
 /// A loop, its peer, and how much the peer had heard at each commit.
 fn event_loop() -> (ServerThread<Watching>, TcpStream, Arc<Mutex<Vec<usize>>>) {
+    let heard = Arc::default();
+    let shared = Arc::clone(&heard);
+    let (serving, peer) = event_loop_over(|store, peer| {
+        let (batches, is_deposed) = Default::default();
+        Watching { store, peer: peer.try_clone().unwrap(), heard: shared, batches, is_deposed }
+    });
+    (serving, peer, heard)
+}
+
+/// A loop over a store that is made of this one, and its peer.
+fn event_loop_over<S: Store + 'static>(
+    store_of: impl FnOnce(MemoryStore, &TcpStream) -> S,
+) -> (ServerThread<S>, TcpStream) {
     let listener = TcpListener::bind("127.0.0.1:0").unwrap();
     let peer = TcpStream::connect(listener.local_addr().unwrap()).unwrap();
     peer.set_nonblocking(true).unwrap();
-    let heard = Arc::default();
     let mut store = MemoryStore::default();
     let snapshot = store.load().unwrap();
     let (mut server, epoch) =
         ServerHandle::open(&snapshot, Room::default(), Reach::default()).unwrap();
     store.commit(&[Change::Started { epoch }]).unwrap();
-    server.confirm(&[Change::Started { epoch }]).unwrap();
-    let (batches, is_deposed) = Default::default();
-    let (own, shared) = (peer.try_clone().unwrap(), Arc::clone(&heard));
-    let store = Watching { store, peer: own, heard: shared, batches, is_deposed };
+    server.confirm(&[Change::Started { epoch }], &[]).unwrap();
+    let store = store_of(store, &peer);
     let (sockets, waker) = Sockets::new(listener.into(), 4, Access::new()).unwrap();
     let connections = Connections::new(4, Room::default(), Now::read());
-    let (_, asked) = Requests::new(waker);
+    let (_, asked) = Requests::new(Arc::clone(&waker));
     let log = EventLog::started(epoch, &Address::Unix("nowhere".into()), 0, &[]);
     let now = Moment::now().unwrap();
     let terms = Leases::of(Duration::from_millis(LEASE)).unwrap().with_drift(0).unwrap();
@@ -87,7 +97,7 @@ fn event_loop() -> (ServerThread<Watching>, TcpStream, Arc<Mutex<Vec<usize>>>) {
     let history = None;
     let started = Started { server, epoch, history, leases, connections, timings, log };
     let events = EventLoop::new(started);
-    (ServerThread::new(events, store, sockets, asked), peer, heard)
+    (ServerThread::new(events, store, sockets, waker, asked), peer)
 }
 
 #[test]
@@ -193,9 +203,14 @@ fn sign() -> Vec<u8> {
     sign_of(1)
 }
 
+/// What was committed, batch by batch.
+fn batches(serving: &mut ServerThread<Watching>) -> Vec<Vec<Change>> {
+    serving.committer.store().unwrap().batches.lock().unwrap().clone()
+}
+
 /// Takes turns until the store was asked so often.
 fn turns_until(serving: &mut ServerThread<Watching>, asked: usize) -> Result<(), ServeError> {
-    let heard = Arc::clone(&serving.store.heard);
+    let heard = Arc::clone(&serving.committer.store().unwrap().heard);
     while heard.lock().unwrap().len() < asked {
         serving.turn()?;
     }
@@ -217,7 +232,7 @@ fn terms_leave_when_the_store_was_asked() {
 #[test]
 fn a_server_behind_which_another_one_started_grants_nothing() {
     let (mut serving, mut peer, _) = event_loop();
-    serving.store.is_deposed.store(true, Ordering::SeqCst);
+    serving.committer.store().unwrap().is_deposed.store(true, Ordering::SeqCst);
     peer.write_all(&sign()).unwrap();
     let ended = turns_until(&mut serving, 2).unwrap_err();
     assert!(matches!(ended, ServeError::Store(StoreError::Deposed(_))), "{ended}");
@@ -232,13 +247,13 @@ fn what_is_stored_of_leases_comes_before_the_registration() {
     turns_until(&mut serving, 1).unwrap();
     let unleased = LeaseRecord { unleased: [50].into_iter().collect(), ..KEPT };
     let registered = Change::Registered { client: 50, incarnation: 1 };
-    let batches = serving.store.batches.lock().unwrap().clone();
+    let batches = batches(&mut serving);
     assert_eq!(batches, [vec![Change::Leased(unleased), registered]]);
 }
 
 #[test]
 fn an_eviction_is_committed_with_its_turn() {
-    let (mut serving, mut peer, _) = event_loop();
+    let (mut serving, mut peer, heard) = event_loop();
     peer.write_all(&[sign(), HELLO.to_vec()].concat()).unwrap();
     turns_until(&mut serving, 1).unwrap();
     let begun = Instant::now();
@@ -246,14 +261,14 @@ fn an_eviction_is_committed_with_its_turn() {
         serving.turn().unwrap();
     }
     assert!(begun.elapsed() >= Duration::from_millis(LEASE - 50), "{:?}", begun.elapsed());
-    let batches = serving.store.batches.lock().unwrap().clone();
+    let batches = batches(&mut serving);
     let successor = Change::Registered { client: 50, incarnation: 2 };
     assert_eq!(batches.last().unwrap()[..2], [successor, Change::Left { client: 50 }]);
     // Its sign is answered by the word that it has ended.
     let mut told = [0; 1024];
     let _ = peer.read(&mut told);
     peer.write_all(&sign()).unwrap();
-    let asked = serving.store.heard.lock().unwrap().len();
+    let asked = heard.lock().unwrap().len();
     turns_until(&mut serving, asked + 1).unwrap();
     let length = peer.read(&mut told).unwrap();
     let ended = frames::split(&told[..length]).find_map(|(frame, _)| Answer::read(frame));
@@ -267,9 +282,9 @@ fn the_greatest_incarnation_is_not_evicted_and_ends_no_server() {
     let hello = [&HELLO[8..18], &GREATEST.to_le_bytes()].concat();
     // An older server has registered it: this one would not.
     let registered = serving.events.server.step(&hello).unwrap().unwrap();
-    serving.events.server.confirm(&[registered]).unwrap();
+    serving.events.server.confirm(&[registered], &[]).unwrap();
     serving.events.keep(registered, Now::read()).unwrap();
-    serving.events.changes.clear();
+    serving.events.gathered.changes.clear();
     peer.write_all(&sign_of(GREATEST)).unwrap();
     turns_until(&mut serving, 1).unwrap();
     let end = Instant::now() + Duration::from_millis(2 * LEASE);
@@ -302,3 +317,5 @@ fn an_idle_client_is_counted_once() {
         assert!(!serving.events.count_next(), "it is counted again");
     }
 }
+
+mod during_commits;
