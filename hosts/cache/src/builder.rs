@@ -2,6 +2,7 @@
 use crate::bodies::Bodies;
 use crate::cache::Cache;
 use crate::error::CacheError;
+use crate::filling::EarlierServer;
 use crate::origin::Origin;
 use crate::statistics::Counters;
 use crate::steps::Step;
@@ -27,12 +28,14 @@ pub struct Builder<O> {
     origin: O,
     memory: usize,
     timeout: Duration,
+    earlier_server: EarlierServer,
     on_step: Option<OnStep>,
 }
 
 impl<O: Origin> Builder<O> {
     pub(crate) fn new(reader: Client, writer: Client, origin: O) -> Builder<O> {
-        Builder { reader, writer, origin, memory: MEMORY, timeout: TIMEOUT, on_step: None }
+        let (memory, timeout, earlier_server) = (MEMORY, TIMEOUT, EarlierServer::default());
+        Builder { reader, writer, origin, memory, timeout, earlier_server, on_step: None }
     }
 
     /// About how many bytes of bodies are kept in memory: 64 MiB by default.
@@ -46,6 +49,15 @@ impl<O: Origin> Builder<O> {
         Builder { timeout, ..self }
     }
 
+    /// For [`Builder::fill_and_open`] and [`Cache::fill`]: what an operator states of the server of
+    /// krl that has the current filling of the table. By default a server that is not that one is
+    /// refused.
+    ///
+    /// **If a process still uses that server, its reads become stale.**
+    pub fn earlier_server(self, earlier_server: EarlierServer) -> Builder<O> {
+        Builder { earlier_server, ..self }
+    }
+
     /// For tests: calls this after each step of a write or a repair.
     #[doc(hidden)]
     pub fn on_step(self, on_step: impl Fn(Step) + Send + Sync + 'static) -> Builder<O> {
@@ -56,7 +68,8 @@ impl<O: Origin> Builder<O> {
     ///
     /// # Errors
     ///
-    /// `NotFilled` if krl does not have the versions of this database; `Krl`; `Origin`.
+    /// `NotFilled` if krl does not have the versions of this database; `OtherServer` if another
+    /// server of krl has them; `Krl`; `Origin`.
     pub fn open(self) -> Result<Cache<O>, CacheError> {
         let cache = self.open_unfilled()?;
         cache.confirm()?;
@@ -86,7 +99,8 @@ impl<O: Origin> Builder<O> {
     ///
     /// # Errors
     ///
-    /// `NotFilled` if krl was never filled, or a filling did not come to its end; `Krl`; `Origin`.
+    /// `NotFilled` if krl was never filled, or a filling did not come to its end; `OtherServer` if
+    /// the database has another filling than krl's server, and so lacks something; `Krl`; `Origin`.
     pub fn accept_and_open(self) -> Result<Cache<O>, CacheError> {
         let cache = self.open_unfilled()?;
         cache.accept()?;
@@ -94,7 +108,7 @@ impl<O: Origin> Builder<O> {
     }
 
     fn open_unfilled(self) -> Result<Cache<O>, CacheError> {
-        let Builder { reader, writer, origin, memory, timeout, on_step } = self;
+        let Builder { reader, writer, origin, memory, timeout, earlier_server, on_step } = self;
         let identity = origin.identity()?;
         Ok(Cache {
             reader,
@@ -105,6 +119,7 @@ impl<O: Origin> Builder<O> {
             counters: Counters::default(),
             identity,
             filling: AtomicU64::new(0),
+            earlier_server,
             timeout,
             on_step,
         })

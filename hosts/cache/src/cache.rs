@@ -2,6 +2,7 @@
 use crate::bodies::Bodies;
 use crate::builder::{Builder, OnStep};
 use crate::error::CacheError;
+use crate::filling::EarlierServer;
 use crate::origin::{Origin, OriginIdentity};
 use crate::statistics::{Counters, Statistics};
 use crate::steps::Step;
@@ -26,6 +27,7 @@ pub struct Cache<O: Origin> {
     pub(crate) identity: OriginIdentity,
     /// The number of the filling that this process has seen to be in force, or 0.
     pub(crate) filling: AtomicU64,
+    pub(crate) earlier_server: EarlierServer,
     pub(crate) timeout: Duration,
     pub(crate) on_step: Option<OnStep>,
 }
@@ -74,8 +76,14 @@ impl<O: Origin> Cache<O> {
         Ok(self.reader.leave()?)
     }
 
-    /// Waits until no other thread of this process writes.
+    /// Waits until no other thread of this process writes, and confirms the filling.
     pub(crate) fn turn(&self) -> Result<Writing<'_>, CacheError> {
+        self.confirm_for_write()?;
+        self.operators_turn()
+    }
+
+    /// The same for an operator, who makes another mark.
+    pub(crate) fn operators_turn(&self) -> Result<Writing<'_>, CacheError> {
         let turn = self.turns.take(self.end_of_call()).ok_or(CacheError::TimedOut)?;
         Ok(Writing::new(&self.writer, turn))
     }

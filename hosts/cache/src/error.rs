@@ -1,4 +1,5 @@
 //! Why a call of the cache failed.
+use crate::filling::FillingNumber;
 use crate::origin::OriginError;
 use std::error::Error;
 use std::fmt;
@@ -28,6 +29,15 @@ pub enum CacheError {
     /// krl holds the rows of another database, or of this one before it was restored, or was never
     /// filled. An operator calls [`Cache::fill`](crate::Cache::fill).
     NotFilled,
+    /// The table's current filling is not that of this server of krl: another server was filled from
+    /// the table since, or the database or krl's store was restored. Use the server that was filled,
+    /// or fill this one once no process uses the other one any more: [`EarlierServer::IsUnused`].
+    ///
+    /// [`EarlierServer::IsUnused`]: crate::EarlierServer::IsUnused
+    OtherServer {
+        /// The current filling as the database has it.
+        current: FillingNumber,
+    },
 }
 
 /// A key that the transaction did not name when it began.
@@ -53,7 +63,14 @@ impl fmt::Display for CacheError {
             ),
             CacheError::TimedOut => f.write_str("the call was not finished in time"),
             CacheError::NotFilled => f.write_str(
-                "krl does not have the versions of this database: an operator has to fill it",
+                "krl does not have the versions of this database's rows: run krl-cache fill",
+            ),
+            CacheError::OtherServer { current } => write!(
+                f,
+                "this krl server does not have the current filling of the table ({current}): \
+                 another server was filled since, or the database or krl's store was restored. \
+                 Use the server that has it; or, if no process uses that one any more, run \
+                 krl-cache fill with --replaces-server"
             ),
         }
     }

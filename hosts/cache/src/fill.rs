@@ -1,11 +1,11 @@
 //! Filling krl with the versions of the database.
 use crate::cache::Cache;
 use crate::error::CacheError;
-use crate::mark::{GUARD, MARK, fresh_filling, mark_of};
+use crate::mark::{GUARD, MARK, mark_of};
 use crate::origin::{Filling, Origin};
 use crate::steps::Step;
 use crate::version::Version;
-use krl::{Outcome, Pin, Value};
+use krl::{Error, Outcome, Pin, Value};
 use std::collections::BTreeMap;
 use std::iter;
 use std::ops::Range;
@@ -62,17 +62,24 @@ impl<O: Origin> Cache<O> {
     /// read, and the table cannot be changed. What is in the memory of any process from before is
     /// never answered again.
     ///
+    /// A server that has not the table's current filling is refused: it is not the one that caches
+    /// the table, unless one of the two was restored. [`Builder::earlier_server`] states that no
+    /// process uses the other one any more.
+    ///
     /// `progress` gets the number of rows that were compared, now and then, and the number of all.
     ///
     /// # Errors
     ///
-    /// `Krl`, `Origin`, `Full`, `TimedOut`: then no process answers a read until it is called again
-    /// and succeeds.
+    /// `OtherServer`: nothing has changed. `Krl`, `Origin`, `Full`, `TimedOut`: then no process
+    /// answers a read until it is called again and succeeds.
+    ///
+    /// [`Builder::earlier_server`]: crate::Builder::earlier_server
     pub fn fill(&self, mut progress: impl FnMut(usize, usize)) -> Result<usize, CacheError> {
-        let writing = self.turn()?;
+        let writing = self.operators_turn()?;
         // Each write is bound to this pin. So of two operators one waits, and none writes after its
         // lease has ended and another one has begun.
-        let (_, pin) = writing.pin_for_update(MARK..MARK + 1)?;
+        let (marks, pin) = writing.pin_for_update(MARK..MARK + 1)?;
+        let renewal = self.begin_renewal(marks.first(), &pin)?;
         // From here on nobody answers anything.
         let unmarked = pin.delete(MARK)?;
         debug_assert!(matches!(unmarked, Outcome::Applied | Outcome::Absent), "{unmarked}");
@@ -85,10 +92,15 @@ impl<O: Origin> Cache<O> {
             done += rows.len();
             progress(done, all);
         }
-        insert(&pin, GUARD, Value::default())?;
-        filling.confirm()?;
-        insert(&pin, MARK, mark_of(&self.identity, fresh_filling()))?;
-        drop((filling, pin, writing));
+        if !pin.holds() {
+            return Err(Error::PinIsVoid.into());
+        }
+        // Before the mark: nobody names a filling that the database does not have. Who names an
+        // earlier one is refused from now on, and nobody reads before the mark is set.
+        filling.make_current(renewal.from, renewal.to)?;
+        self.step(Step::FillingCommitted);
+        insert(&pin, MARK, mark_of(&self.identity, renewal.to))?;
+        drop((pin, writing));
         self.confirm()?;
         Ok(all)
     }

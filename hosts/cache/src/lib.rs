@@ -51,6 +51,7 @@ mod cache;
 mod changes;
 mod error;
 mod fill;
+mod filling;
 mod mark;
 mod memory;
 mod one_row;
@@ -80,6 +81,7 @@ pub use builder::Builder;
 pub use cache::Cache;
 pub use changes::Changes;
 pub use error::{CacheError, OtherKey};
+pub use filling::{BadFillingNumber, EarlierServer, FillingNumber};
 pub use mark::LAST_KEY;
 pub use memory::{MemoryOrigin, MemoryTransaction};
 pub use origin::{

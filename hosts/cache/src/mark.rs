@@ -1,6 +1,7 @@
 //! The keys of krl's rows, and the row that marks krl as filled from a database.
 use crate::cache::Cache;
 use crate::error::CacheError;
+use crate::filling::FillingNumber;
 use crate::origin::{Origin, OriginIdentity};
 use krl::{END, Value};
 use std::ops::{Bound, Range, RangeBounds};
@@ -10,34 +11,41 @@ use std::sync::atomic::Ordering;
 pub(crate) const MARK: u64 = END - 1;
 
 /// A row below the mark: whoever inserts after the last row of the table takes the gap below this
-/// one, and not that of the mark.
+/// one, and not that of the mark. It has the numbers of the fillings that this server began last.
 pub(crate) const GUARD: u64 = END - 2;
 
 /// The greatest key of a row: 2^63 - 4.
 pub const LAST_KEY: u64 = END - 3;
 
-/// The bytes of a filling's number in the mark.
-const NUMBER: usize = 8;
-
 /// The value of the mark of this filling.
-pub(crate) fn mark_of(identity: &OriginIdentity, filling: u64) -> Value {
-    let bytes = [identity.as_bytes(), &filling.to_be_bytes()].concat();
+pub(crate) fn mark_of(identity: &OriginIdentity, filling: FillingNumber) -> Value {
+    let bytes = [identity.as_bytes(), &filling.to_bytes()].concat();
     Value::try_from(&bytes[..]).expect("a value has room for an identity and a number")
 }
 
-/// The number of a new filling: no two have the same.
-pub(crate) fn fresh_filling() -> u64 {
-    let mut bytes = [0; NUMBER];
-    getrandom::getrandom(&mut bytes).expect("the system has random bytes");
-    u64::from_be_bytes(bytes)
+/// The number of the filling that set this mark, of whatever database.
+pub(crate) fn number_of(mark: &krl::Row) -> Option<FillingNumber> {
+    parts_of(mark).map(|(_, number)| number)
 }
 
 /// The number of the filling that set this mark, or `None` if the mark is that of another database.
-fn filling_of(mark: &krl::Row, identity: &OriginIdentity) -> Option<u64> {
-    let bytes = mark.value.as_bytes();
-    let (name, number) = bytes.split_at_checked(bytes.len().checked_sub(NUMBER)?)?;
-    let number = u64::from_be_bytes(number.try_into().ok()?);
+fn filling_of(mark: &krl::Row, identity: &OriginIdentity) -> Option<FillingNumber> {
+    let (name, number) = parts_of(mark)?;
     (name == identity.as_bytes()).then_some(number)
+}
+
+/// The identity of the database and the number of the filling.
+fn parts_of(mark: &krl::Row) -> Option<(&[u8], FillingNumber)> {
+    let bytes = mark.value.as_bytes();
+    let end = bytes.len().checked_sub(FillingNumber::BYTES)?;
+    let (name, number) = bytes.split_at_checked(end)?;
+    Some((name, FillingNumber::from_bytes(number)?))
+}
+
+/// Whether the filling of krl's mark is the one that the database has. If it is not, another server
+/// of krl was filled since, or the database or krl's store was restored.
+fn is_current(marked: FillingNumber, stored: Option<FillingNumber>) -> bool {
+    stored == Some(marked)
 }
 
 /// The keys of a range of rows.
@@ -67,15 +75,41 @@ impl<O: Origin> Cache<O> {
     pub(crate) fn is_filled(&self, filling: u64) -> bool {
         let mut marked = None;
         let find = |row: &krl::Row| marked = filling_of(row, &self.identity);
-        self.reader.for_each_cached(MARK..=MARK, find) == Ok(true) && marked == Some(filling)
+        self.reader.for_each_cached(MARK..=MARK, find) == Ok(true)
+            && marked == Some(FillingNumber::of(filling))
     }
 
-    /// Reads the mark from krl.
+    /// Reads the mark from krl, and confirms that its filling is the one that the database has. From
+    /// then on this process answers reads, and its transactions name this filling.
     pub(crate) fn confirm(&self) -> Result<(), CacheError> {
+        let mut marked = self.marked_filling()?;
+        loop {
+            let stored = self.origin.filling()?;
+            if is_current(marked, stored) {
+                self.origin.name_filling(marked);
+                self.filling.store(marked.get(), Ordering::SeqCst);
+                return Ok(());
+            }
+            // This server may have been filled again between the two questions.
+            let again = self.marked_filling()?;
+            if again == marked {
+                return Err(stored
+                    .map_or(CacheError::NotFilled, |current| CacheError::OtherServer { current }));
+            }
+            marked = again;
+        }
+    }
+
+    fn marked_filling(&self) -> Result<FillingNumber, CacheError> {
         let marks = self.reader.read(MARK..=MARK)?;
         let filling = marks.first().and_then(|mark| filling_of(mark, &self.identity));
-        self.filling.store(filling.ok_or(CacheError::NotFilled)?, Ordering::SeqCst);
-        Ok(())
+        filling.ok_or(CacheError::NotFilled)
+    }
+
+    /// Confirms the filling unless this process holds its mark: a transaction names it.
+    pub(crate) fn confirm_for_write(&self) -> Result<(), CacheError> {
+        let is_confirmed = self.is_filled(self.filling.load(Ordering::SeqCst));
+        if is_confirmed { Ok(()) } else { self.confirm() }
     }
 }
 
@@ -90,8 +124,10 @@ mod tests {
     #[test]
     fn a_mark_is_read_by_its_own_database_only() {
         for name in ["", "shop", "a name of 24 bytes, full"] {
-            let mark = krl::Row { key: MARK, value: mark_of(&identity(name), 7) };
-            assert_eq!(filling_of(&mark, &identity(name)), Some(7));
+            let filling = FillingNumber::of(7);
+            let mark = krl::Row { key: MARK, value: mark_of(&identity(name), filling) };
+            assert_eq!(filling_of(&mark, &identity(name)), Some(filling));
+            assert_eq!(number_of(&mark), Some(filling));
             assert_eq!(filling_of(&mark, &identity("other")), None);
         }
         let short = krl::Row { key: MARK, value: Value::try_from("short").unwrap() };

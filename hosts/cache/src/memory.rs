@@ -1,6 +1,8 @@
 //! A table in memory, for tests.
+use crate::filling::FillingNumber;
 use crate::origin::{
-    Change, CommitError, Filling, Origin, OriginError, OriginIdentity, Stored, Transaction,
+    Change, CommitError, Filling, OF_ANOTHER_FILLING, Origin, OriginError, OriginIdentity, Stored,
+    Transaction, filled_meanwhile,
 };
 use crate::version::Version;
 use std::collections::{BTreeMap, BTreeSet};
@@ -14,6 +16,8 @@ const TIMEOUT: Duration = Duration::from_secs(30);
 /// A table in memory with locks of keys, for tests of applications. Its clones are the same table.
 pub struct MemoryOrigin<B> {
     shared: Arc<Shared<B>>,
+    /// The filling that its transactions name. Each clone has its own.
+    named: Mutex<Option<FillingNumber>>,
 }
 
 struct Shared<B> {
@@ -25,6 +29,8 @@ struct State<B> {
     rows: BTreeMap<u64, Stored<B>>,
     locked: BTreeSet<u64>,
     is_filling: bool,
+    /// The current filling.
+    filling: Option<FillingNumber>,
     /// How many times all transactions were ended.
     ended: u64,
 }
@@ -35,6 +41,8 @@ pub struct MemoryTransaction<B> {
     locked: Locked,
     /// The count of ended transactions when this one began.
     ended: u64,
+    /// The filling that it names.
+    named: Option<FillingNumber>,
     rows: Vec<Stored<B>>,
     changes: BTreeMap<u64, Option<Stored<B>>>,
 }
@@ -50,8 +58,16 @@ impl<B> MemoryOrigin<B> {
     #[must_use]
     pub fn new() -> MemoryOrigin<B> {
         let (rows, locked) = (BTreeMap::new(), BTreeSet::new());
-        let state = Mutex::new(State { rows, locked, is_filling: false, ended: 0 });
-        MemoryOrigin { shared: Arc::new(Shared { state, changed: Condvar::new() }) }
+        let state = State { rows, locked, is_filling: false, filling: None, ended: 0 };
+        MemoryOrigin::of(Arc::new(Shared { state: Mutex::new(state), changed: Condvar::new() }))
+    }
+
+    fn of(shared: Arc<Shared<B>>) -> MemoryOrigin<B> {
+        MemoryOrigin { shared, named: Mutex::default() }
+    }
+
+    fn named(&self) -> MutexGuard<'_, Option<FillingNumber>> {
+        self.named.lock().unwrap_or_else(PoisonError::into_inner)
     }
 
     /// Changes a row as a program does that knows nothing of the cache. The row keeps its version
@@ -99,8 +115,8 @@ impl<B> MemoryOrigin<B> {
             }
             Locked::Table => state.is_filling = true,
         }
-        let (shared, ended) = (Arc::clone(&self.shared), state.ended);
-        Ok(MemoryTransaction { shared, locked, ended, rows, changes: BTreeMap::new() })
+        let (shared, ended, named) = (Arc::clone(&self.shared), state.ended, *self.named());
+        Ok(MemoryTransaction { shared, locked, ended, named, rows, changes: BTreeMap::new() })
     }
 }
 
@@ -117,6 +133,14 @@ impl<B: Send + Sync + 'static> Origin for MemoryOrigin<B> {
 
     fn identity(&self) -> Result<OriginIdentity, OriginError> {
         OriginIdentity::new("memory").ok_or_else(|| OriginError::new("the identity is too long"))
+    }
+
+    fn filling(&self) -> Result<Option<FillingNumber>, OriginError> {
+        Ok(self.shared.state().filling)
+    }
+
+    fn name_filling(&self, filling: FillingNumber) {
+        *self.named() = Some(filling);
     }
 
     fn load(&self, keys: &[u64]) -> Result<Vec<Stored<B>>, OriginError> {
@@ -153,6 +177,9 @@ impl<B> Transaction for MemoryTransaction<B> {
     }
 
     fn apply(&mut self, version: Version, changes: &[(u64, Change<B>)]) -> Result<(), OriginError> {
+        if self.shared.state().filling != self.named {
+            return Err(OriginError::new(OF_ANOTHER_FILLING));
+        }
         for (key, change) in changes {
             let stored = |body: &Arc<B>| Stored { key: *key, version, body: Arc::clone(body) };
             let stored = match change {
@@ -185,9 +212,20 @@ impl<B> Filling for MemoryTransaction<B> {
         Ok(self.shared.state().rows.values().map(|row| (row.key, row.version)).collect())
     }
 
-    fn confirm(&mut self) -> Result<(), OriginError> {
-        let is_lost = self.shared.state().ended != self.ended;
-        if is_lost { Err(OriginError::new("it has started again")) } else { Ok(()) }
+    fn make_current(
+        self,
+        from: Option<FillingNumber>,
+        to: FillingNumber,
+    ) -> Result<(), OriginError> {
+        let mut state = self.shared.state();
+        if state.ended != self.ended {
+            return Err(OriginError::new("it has started again"));
+        }
+        if state.filling != from {
+            return Err(filled_meanwhile());
+        }
+        state.filling = Some(to);
+        Ok(())
     }
 }
 
@@ -208,7 +246,7 @@ impl<B> Drop for MemoryTransaction<B> {
 
 impl<B> Clone for MemoryOrigin<B> {
     fn clone(&self) -> MemoryOrigin<B> {
-        MemoryOrigin { shared: Arc::clone(&self.shared) }
+        MemoryOrigin::of(Arc::clone(&self.shared))
     }
 }
 

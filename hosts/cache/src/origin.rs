@@ -1,4 +1,5 @@
 //! The database whose rows are cached.
+use crate::filling::FillingNumber;
 use crate::version::Version;
 use std::error::Error;
 use std::fmt;
@@ -127,6 +128,17 @@ pub trait Origin: Send + Sync {
     /// If the database does not answer.
     fn identity(&self) -> Result<OriginIdentity, OriginError>;
 
+    /// The current filling of the table, or `None` if it was never filled.
+    ///
+    /// # Errors
+    ///
+    /// If the database does not answer.
+    fn filling(&self) -> Result<Option<FillingNumber>, OriginError>;
+
+    /// Has each transaction of this process name this filling from now on. The database refuses each
+    /// change of the table by a transaction that does not name the current one.
+    fn name_filling(&self, filling: FillingNumber);
+
     /// The committed rows of these keys, as they are at one moment of the call.
     ///
     /// # Errors
@@ -220,8 +232,8 @@ pub trait Transaction {
     ///
     /// # Errors
     ///
-    /// If the database refuses a change or does not answer. The transaction cannot be committed
-    /// then.
+    /// If the database refuses a change or does not answer, or the transaction does not name the
+    /// current filling. The transaction cannot be committed then.
     fn apply(
         &mut self,
         version: Version,
@@ -280,13 +292,28 @@ pub trait Filling {
     /// If the database does not answer, or a row has a key or a version that the cache cannot have.
     fn versions(&mut self) -> Result<Vec<(u64, Version)>, OriginError>;
 
-    /// Confirms that nobody has changed the table since it was locked.
+    /// Makes `to` the current filling, and commits. It does so only if `from` is the current one, and
+    /// if nobody has changed the table since it was locked.
     ///
     /// # Errors
     ///
-    /// If the lock may have been lost.
-    fn confirm(&mut self) -> Result<(), OriginError>;
+    /// If another filling is the current one, the lock may have been lost, or the database does not
+    /// answer. `to` may be the current filling all the same.
+    fn make_current(
+        self,
+        from: Option<FillingNumber>,
+        to: FillingNumber,
+    ) -> Result<(), OriginError>;
 }
+
+/// Why a filling is not committed.
+pub(crate) fn filled_meanwhile() -> OriginError {
+    OriginError::new("another krl server was filled from the table meanwhile")
+}
+
+/// Why a change is refused that is made by a writer of another filling.
+pub(crate) const OF_ANOTHER_FILLING: &str = "the rows of this table are cached by another krl server: use the one that was filled last, or \
+     fill this one by krl-cache fill";
 
 /// Why the database did not do what it was asked to do.
 #[derive(Debug)]

@@ -32,4 +32,6 @@ pub enum Step {
     Repaired,
     /// A filling has taken the mark away.
     Unmarked,
+    /// The database has committed the number of a filling, whose mark is not set yet.
+    FillingCommitted,
 }

@@ -1,6 +1,7 @@
 //! Filling a new store of krl that no server serves yet.
 use crate::error::CacheError;
-use crate::mark::{GUARD, MARK, fresh_filling, mark_of};
+use crate::filling::{EarlierServer, Renewal, begun};
+use crate::mark::{GUARD, MARK, mark_of};
 use crate::origin::{Filling, Origin};
 use crate::version::Version;
 use krl::Value;
@@ -19,23 +20,29 @@ use std::fmt;
 pub struct StoreFilling<'t, O: Origin + 't> {
     filling: O::Filling<'t>,
     rows: BTreeMap<u64, Value>,
+    renewal: Renewal,
 }
 
 impl<'t, O: Origin> StoreFilling<'t, O> {
     /// Locks the table, and reads the versions of all of its rows.
     ///
+    /// If the table was filled before, the store takes the place of that server's: `earlier` states
+    /// that no process uses it any more.
+    ///
     /// # Errors
     ///
-    /// If the database does not answer, or does not grant the lock in time.
-    pub fn begin(table: &'t O) -> Result<StoreFilling<'t, O>, CacheError> {
+    /// `OtherServer` if the table was filled before, and that is not stated; `Origin` if the
+    /// database does not answer, or does not grant the lock in time.
+    pub fn begin(table: &'t O, earlier: EarlierServer) -> Result<StoreFilling<'t, O>, CacheError> {
         let identity = table.identity()?;
+        let renewal = Renewal::of(table.filling()?, &[], earlier)?;
         let mut filling = table.begin_filling()?;
         let versions = filling.versions()?;
         let value = |(key, version): (u64, Version)| (key, version.value());
         let mut rows: BTreeMap<u64, Value> = versions.into_iter().map(value).collect();
-        rows.insert(GUARD, Value::default());
-        rows.insert(MARK, mark_of(&identity, fresh_filling()));
-        Ok(StoreFilling { filling, rows })
+        rows.insert(GUARD, begun(&[], renewal.to));
+        rows.insert(MARK, mark_of(&identity, renewal.to));
+        Ok(StoreFilling { filling, rows, renewal })
     }
 
     /// The rows of the store: one for each row of the table, and two of the cache's own.
@@ -44,14 +51,15 @@ impl<'t, O: Origin> StoreFilling<'t, O> {
         &self.rows
     }
 
-    /// Confirms that nobody has changed the table since it was locked, and answers how many rows it
-    /// has.
+    /// Makes this filling the table's current one, if nobody has changed the table since it was
+    /// locked, and answers how many rows it has.
     ///
     /// # Errors
     ///
-    /// If the lock may have been lost: the store is of no use then.
-    pub fn confirm(mut self) -> Result<usize, CacheError> {
-        self.filling.confirm()?;
+    /// If the lock may have been lost, or another server was filled meanwhile: the store is of no
+    /// use then. The table may have this filling as its current one all the same.
+    pub fn confirm(self) -> Result<usize, CacheError> {
+        self.filling.make_current(self.renewal.from, self.renewal.to)?;
         Ok(self.rows.len() - 2)
     }
 }

@@ -1,4 +1,7 @@
 //! The names of a table and of its columns, and what a table may lack.
+use crate::mark::LAST_KEY;
+use crate::origin::OriginError;
+use crate::version::Version;
 use std::fmt;
 
 /// A table that is cached: its name, and the names of two of its columns.
@@ -57,10 +60,28 @@ impl Table {
         format!("{}_krl_guard_{}", self.name, kind.to_lowercase())
     }
 
+    /// The table's name as an operator writes it.
+    pub(crate) fn shown(&self) -> String {
+        let schema = self.schema.as_ref().map(|schema| format!("{schema}."));
+        schema.unwrap_or_default() + &self.name
+    }
+
     /// The name of the function that guards the table, in a statement.
     #[cfg(feature = "postgres")]
     pub(crate) fn quoted_guard(&self) -> String {
         self.in_schema(&format!("{}_krl_guard", self.name))
+    }
+
+    /// The name of the table that has the current filling, in a statement.
+    #[cfg(feature = "postgres")]
+    pub(crate) fn quoted_fillings(&self) -> String {
+        self.in_schema(&self.fillings_name())
+    }
+
+    /// The same without its schema.
+    #[cfg(feature = "postgres")]
+    pub(crate) fn fillings_name(&self) -> String {
+        format!("{}_krl_filling", self.name)
     }
 
     pub(crate) fn quoted_key(&self) -> String {
@@ -92,15 +113,42 @@ pub enum TableFault {
     NoTable,
     /// It is a view, a partitioned table or a partition, or takes part in inheritance.
     NotOrdinary,
-    /// The column of the key is missing, has another type, or is not unique by itself.
-    Key(String),
+    /// There is no column of this name, which is that of the key.
+    NoKey(String),
+    /// The key has a type that cannot be cached.
+    KeyType {
+        /// The column of the key.
+        key: String,
+        /// Its type.
+        found: String,
+        /// The type that it has to have.
+        expected: &'static str,
+        /// What gives it that type.
+        remedy: String,
+    },
+    /// The key is not unique by itself.
+    KeyNotUnique {
+        /// The column of the key.
+        key: String,
+        /// What makes it unique.
+        remedy: String,
+    },
+    /// Some rows have a key that cannot be cached.
+    BadKeys {
+        /// The least one of them.
+        least: String,
+        /// How many there are.
+        count: i64,
+    },
+    /// The table that has the number of the current filling is missing, or has other columns.
+    Fillings(String),
     /// The column of the version is missing, has another type, or may be null.
     Version(String),
     /// This trigger is missing, is not always enabled, or has another function than this version of
     /// krl-cache makes.
     Trigger(String),
-    /// So many rows have a key below 0 or above 2^63 - 4, or a version that has not 16 bytes.
-    Rows(i64),
+    /// So many rows have a version that has not 16 bytes.
+    BadVersions(i64),
     /// By this setting of the database, a crash may take back what was committed.
     Setting(String),
     /// The database is a replica.
@@ -109,7 +157,7 @@ pub enum TableFault {
     Right {
         /// The role.
         role: String,
-        /// The right, as `SELECT`; or `BYPASSRLS`, if a policy of row security may hide rows.
+        /// The right, as `SELECT ON item`; or `BYPASSRLS`, if a policy of row security may hide rows.
         right: String,
     },
 }
@@ -121,23 +169,42 @@ impl fmt::Display for TableFault {
             TableFault::NotOrdinary => f.write_str(
                 "it is not an ordinary table: views, partitions and inheritance cannot be cached",
             ),
-            TableFault::Key(name) => {
-                write!(f, "the column {name} is not a number that is unique by itself")
+            TableFault::NoKey(key) => write!(
+                f,
+                "there is no column \"{key}\" to be the key: name the column of the key by --key \
+                 (in a program by Table::key)"
+            ),
+            TableFault::KeyType { key, found, expected, remedy } => {
+                write!(f, "the key \"{key}\" is {found}, and has to be {expected}: {remedy}")
+            }
+            TableFault::KeyNotUnique { key, remedy } => {
+                write!(f, "the key \"{key}\" is not unique by itself: {remedy}")
+            }
+            TableFault::BadKeys { least, count } => {
+                bad_key(least).fmt(f)?;
+                if *count > 1 { write!(f, " ({count} rows have such keys)") } else { Ok(()) }
             }
             TableFault::Version(name) => {
-                write!(f, "the column {name} is not as the migration makes it")
+                write!(f, "the column {name} is missing, or not as the migration makes it")
             }
-            TableFault::Trigger(name) => {
-                write!(f, "the trigger {name} is not as the migration makes it")
+            TableFault::Fillings(name) => {
+                write!(f, "the table {name} is missing, or not as the migration makes it")
             }
-            TableFault::Rows(count) => write!(
+            TableFault::Trigger(name) => write!(
                 f,
-                "{count} rows have a key below 0 or above 2^63 - 4, or a version without 16 bytes"
+                "the trigger {name} is missing, disabled, or not as this version of krl-cache \
+                 makes it"
             ),
-            TableFault::Setting(name) => {
-                write!(f, "the setting {name} lets a crash take back what was committed")
+            TableFault::BadVersions(count) => {
+                write!(f, "{count} rows have a version that has not 16 bytes: draw new ones")
             }
-            TableFault::Replica => f.write_str("the database is a replica"),
+            TableFault::Setting(name) => write!(
+                f,
+                "the setting {name} of the database lets a crash take back what was committed"
+            ),
+            TableFault::Replica => {
+                f.write_str("the database is a replica: name the primary, which takes writes")
+            }
             TableFault::Right { role, right } => {
                 write!(f, "the role {role} lacks the right {right}")
             }
@@ -152,10 +219,52 @@ impl TableFault {
             self,
             TableFault::NoTable
                 | TableFault::NotOrdinary
-                | TableFault::Key(_)
+                | TableFault::NoKey(_)
+                | TableFault::KeyType { .. }
+                | TableFault::KeyNotUnique { .. }
                 | TableFault::Version(_)
         )
     }
+
+    /// Whether the table cannot be prepared because of it: `set_up` and the migration change nothing.
+    #[must_use]
+    pub fn prevents_set_up(&self) -> bool {
+        matches!(
+            self,
+            TableFault::NoTable
+                | TableFault::NotOrdinary
+                | TableFault::NoKey(_)
+                | TableFault::KeyType { .. }
+                | TableFault::KeyNotUnique { .. }
+                | TableFault::BadKeys { .. }
+                | TableFault::Replica
+        )
+    }
+}
+
+/// Faults of a table as one reason.
+pub(crate) fn reason(table: &Table, faults: &[TableFault]) -> OriginError {
+    let faults: Vec<String> = faults.iter().map(TableFault::to_string).collect();
+    OriginError::new(format!("{}: {}", table.shown(), faults.join("; ")))
+}
+
+/// Why a row with this key cannot be cached.
+fn bad_key(key: &str) -> String {
+    format!("the key {key} can't be cached: a key has to be from 0 to {LAST_KEY}")
+}
+
+/// The key of a row as the database has it, and its version.
+pub(crate) fn checked(key: i64, version: &[u8]) -> Result<(u64, Version), OriginError> {
+    let number = u64::try_from(key).ok().filter(|key| *key <= LAST_KEY);
+    let number = number.ok_or_else(|| OriginError::new(bad_key(&key.to_string())))?;
+    let version = Version::from_bytes(version).ok_or_else(|| {
+        OriginError::new(format!(
+            "the row of key {key} has a version of {} bytes: a version has 16 bytes, which \
+             krl-cache draws",
+            version.len()
+        ))
+    })?;
+    Ok((number, version))
 }
 
 /// A name as it stands in a statement.
@@ -166,6 +275,22 @@ pub(crate) fn quoted(name: &str) -> String {
 #[cfg(test)]
 mod tests {
     use super::*;
+
+    #[test]
+    fn a_row_is_cached_by_a_key_of_the_range_and_sixteen_bytes() {
+        let version = Version::fresh();
+        for key in [0, 15, LAST_KEY] {
+            let checked = checked(key.cast_signed(), version.as_bytes());
+            assert_eq!(checked.unwrap(), (key, version));
+        }
+        for key in [-3, LAST_KEY.cast_signed() + 1, i64::MAX] {
+            let refused = checked(key, version.as_bytes()).unwrap_err().to_string();
+            let expected = format!("the key {key} can't be cached: a key has to be from 0 to");
+            assert!(refused.contains(&expected), "{refused}");
+        }
+        let refused = checked(15, b"short").unwrap_err().to_string();
+        assert!(refused.contains("the row of key 15 has a version of 5 bytes"), "{refused}");
+    }
 
     #[test]
     fn names_are_quoted() {

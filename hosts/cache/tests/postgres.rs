@@ -4,7 +4,7 @@ mod site;
 use krl_cache::tokio_postgres::types::ToSql;
 use krl_cache::tokio_postgres::{Error, Row};
 use krl_cache::{Cache, CacheError, PostgresAddress, PostgresOrigin, PostgresRow, Table};
-use krl_cache::{Origin, Step, TableFault};
+use krl_cache::{EarlierServer, Origin, Step, TableFault};
 use krl_testing::database::{Database, address_at};
 use krl_testing::deaf_relay::DeafRelay;
 use site::{Krl, LONG, ends_after};
@@ -154,12 +154,11 @@ fn what_a_table_lacks_is_named() {
     assert_eq!(table.check().unwrap(), [TableFault::NoTable]);
     sql.run(TABLE);
     let version = TableFault::Version("krl_version".to_string());
-    assert_eq!(
-        table.check().unwrap(),
-        [version, lacks("krl_guard_rows"), lacks("krl_guard_truncate")]
-    );
+    let fillings = TableFault::Fillings("item_krl_filling".to_string());
+    let triggers = [lacks("krl_guard_rows"), lacks("krl_guard_truncate")];
+    assert_eq!(table.check().unwrap(), [&[version, fillings], &triggers[..]].concat());
     let unguarded = Krl::start().cache_of(items(&database.address()), 0).open().unwrap_err();
-    assert!(unguarded.to_string().contains("is not as the migration makes it"), "{unguarded}");
+    assert!(unguarded.to_string().contains("not as the migration makes it"), "{unguarded}");
     table.set_up().unwrap();
     assert_eq!(table.check().unwrap(), []);
     table.set_up().unwrap();
@@ -168,10 +167,99 @@ fn what_a_table_lacks_is_named() {
     assert_eq!(table.check().unwrap(), [lacks("krl_guard_rows")]);
     sql.run("INSERT INTO item (number, \"the name\") VALUES (-1, 'none')");
     sql.run("ALTER TABLE item ENABLE ALWAYS TRIGGER krl_guard_rows");
-    assert_eq!(table.check().unwrap(), [TableFault::Rows(1)]);
+    let bad_key = TableFault::BadKeys { least: "-1".to_string(), count: 1 };
+    assert_eq!(table.check().unwrap(), [bad_key]);
+    let refused = Krl::start().cache_of(items(&database.address()), 0).fill_and_open(|_, _| ());
+    let refused = refused.unwrap_err().to_string();
+    assert!(refused.contains("the key -1 can't be cached: a key has to be from 0"), "{refused}");
     sql.run("ALTER TABLE item DROP CONSTRAINT item_pkey");
-    let key = TableFault::Key("number".to_string());
-    assert_eq!(table.check().unwrap(), [key]);
+    let faults = table.check().unwrap();
+    assert!(matches!(&faults[..], [TableFault::KeyNotUnique { .. }]), "{faults:?}");
+}
+
+/// What a table has of the cache: its version column, its triggers and the table of fillings.
+const PARTS: &str = "
+    SELECT (SELECT count(*) FROM pg_attribute WHERE attname = 'krl_version')
+        + (SELECT count(*) FROM pg_trigger WHERE tgname LIKE 'krl%')
+        + (SELECT count(*) FROM pg_class WHERE relname = 'item_krl_filling')";
+
+#[test]
+fn a_table_that_cannot_be_cached_is_left_as_it_is() {
+    let Some(database) = Database::start() else { return };
+    let sql = database.connect();
+    let tables = [
+        ("SELECT", "item: there is no such table"),
+        ("CREATE VIEW item AS SELECT 1::bigint AS id", "item: it is not an ordinary table"),
+        (
+            "CREATE TABLE item (number bigint PRIMARY KEY)",
+            "item: there is no column \"id\" to be the key: name the column of the key by --key",
+        ),
+        (
+            "CREATE TABLE item (id integer PRIMARY KEY)",
+            "item: the key \"id\" is integer, and has to be bigint: ALTER TABLE \"item\" ALTER \
+             COLUMN \"id\" TYPE bigint",
+        ),
+        (
+            "CREATE TABLE item (id bigint NOT NULL, other bigint, PRIMARY KEY (id, other))",
+            "item: the key \"id\" is not unique by itself: ALTER TABLE \"item\" ADD UNIQUE (\"id\")",
+        ),
+        (
+            "CREATE TABLE item (id bigint PRIMARY KEY); INSERT INTO item VALUES (-3), (-2), (5)",
+            "item: the key -3 can't be cached: a key has to be from 0 to 9223372036854775804",
+        ),
+        (
+            "CREATE TABLE item (id bigint UNIQUE); INSERT INTO item VALUES (5), (NULL)",
+            "item: the key NULL can't be cached",
+        ),
+    ];
+    let table =
+        || PostgresOrigin::<()>::new(&database.address(), None, Table::new("item")).unwrap();
+    for (made, expected) in tables {
+        sql.run(made);
+        let refused = table().set_up().unwrap_err().to_string();
+        assert!(refused.contains(expected), "{made}: {refused}");
+        let refused = sql.try_run(&table().migration()).unwrap_err();
+        assert!(refused.contains(expected), "{made}: {refused}");
+        sql.run("ROLLBACK");
+        sql.wait_until(PARTS, |count| count == 0);
+        sql.run("DROP SCHEMA public CASCADE; CREATE SCHEMA public");
+    }
+}
+
+/// Two servers of krl are filled from one table.
+#[test]
+fn writers_of_another_krl_server_are_refused() {
+    let Some((database, krl)) = filled() else { return };
+    let sql = database.connect();
+    // The rights on the table are enough to write it.
+    sql.run(
+        "CREATE ROLE application LOGIN; GRANT SELECT, INSERT, UPDATE, DELETE ON item TO application",
+    );
+    let at = database.address::<String>().replace("krl@", "application@").parse().unwrap();
+    let first = krl.cache_of(items(&at), 0).open().unwrap();
+    assert_eq!(rows(&first).len(), 2);
+    let other = Krl::start();
+    let refused = other.cache_of(items(&database.address()), 0).fill_and_open(|_, _| ());
+    assert!(matches!(refused, Err(CacheError::OtherServer { .. })), "{refused:?}");
+    assert!(first.update(12, |shade| Some(Item { price: Some(8), ..shade.clone() })).unwrap());
+    // An operator states that nobody uses the first one, which is not so.
+    let builder = other.cache_of(items(&database.address()), 1);
+    let builder = builder.earlier_server(EarlierServer::IsUnused);
+    let second = builder.fill_and_open(|_, _| ()).unwrap();
+    let writes: [&dyn Fn() -> Result<bool, CacheError>; 4] = [
+        &|| first.update(10, |lamp| Some(Item { price: Some(31), ..lamp.clone() })),
+        &|| first.update(12, |shade| Some(Item { price: Some(9), ..shade.clone() })),
+        &|| first.insert(11, item("bulb", 5)),
+        &|| first.delete(10),
+    ];
+    for write in writes {
+        let refused = write().unwrap_err().to_string();
+        assert!(refused.contains("are cached by another krl server (filling "), "{refused}");
+    }
+    assert!(second.update(10, |lamp| Some(Item { price: Some(32), ..lamp.clone() })).unwrap());
+    assert_eq!(rows(&second), [(10, item("lamp", 32)), (12, item("shade", 8))]);
+    let refused = krl.cache_of(items(&at), 2).open();
+    assert!(matches!(refused, Err(CacheError::OtherServer { .. })), "{refused:?}");
 }
 
 #[test]

@@ -160,10 +160,11 @@ fn what_a_table_lacks_is_named() {
     let table = file.items();
     let lacks = |kind: &str| TableFault::Trigger(format!("item_krl_guard_{kind}"));
     let version = TableFault::Version("krl_version".to_string());
-    let all = [version, lacks("insert"), lacks("update"), lacks("delete")];
+    let fillings = TableFault::Fillings("krl_cache_filling".to_string());
+    let all = [version, fillings, lacks("insert"), lacks("update"), lacks("delete")];
     assert_eq!(table.check().unwrap(), all);
     let unguarded = Krl::start().cache_of(file.items(), 0).open().unwrap_err();
-    assert!(unguarded.to_string().contains("is not as the migration makes it"), "{unguarded}");
+    assert!(unguarded.to_string().contains("not as the migration makes it"), "{unguarded}");
     for _ in 0..2 {
         table.set_up().unwrap();
         assert_eq!(table.check().unwrap(), []);
@@ -174,9 +175,28 @@ fn what_a_table_lacks_is_named() {
     assert!(file.open().execute_batch(bad).is_err());
     assert_eq!(table.check().unwrap(), [lacks("insert")]);
     file.open().execute_batch(&format!("DROP TRIGGER trim_name; {}", &bad[35..])).unwrap();
-    assert_eq!(table.check().unwrap(), [lacks("insert"), TableFault::Rows(1)]);
-    let name = SqliteOrigin::<Item>::new(&file.0, Table::new("item").key("the name"));
-    assert_eq!(name.check().unwrap()[0], TableFault::Key("the name".to_string()));
+    let bad_key = TableFault::BadKeys { least: "-1".to_string(), count: 1 };
+    assert_eq!(table.check().unwrap(), [lacks("insert"), bad_key]);
+}
+
+#[test]
+fn a_table_that_cannot_be_cached_is_left_as_it_is() {
+    let file = File::new();
+    let parts = || file.count("sqlite_schema WHERE sql LIKE '%krl%'");
+    let refused = |table: Table, expected: &str| {
+        let refused = SqliteOrigin::<()>::new(&file.0, table).set_up().unwrap_err().to_string();
+        assert!(refused.contains(expected), "{refused}");
+        assert_eq!(parts(), 0, "{expected}");
+    };
+    refused(Table::new("none"), "none: there is no such table");
+    refused(Table::new("item"), "item: there is no column \"id\" to be the key");
+    let named = Table::new("item").key("the name");
+    refused(named, "the key \"the name\" is TEXT, and has to be INTEGER");
+    let sold = Table::new("sale").key("item");
+    refused(sold, "sale: the key \"item\" is not unique by itself");
+    file.open().execute("INSERT INTO item (number, \"the name\") VALUES (-3, '')", []).unwrap();
+    let numbered = Table::new("item").key("number");
+    refused(numbered, "the key -3 can't be cached: a key has to be from 0 to 9223372036854775804");
 }
 
 #[test]

@@ -7,20 +7,44 @@ use krl_cache::Table;
 use std::path::PathBuf;
 
 const HELP: &str = "\
-A DATABASE is postgres://USER@HOST:PORT/NAME, as PostgreSQL's own programs take
-it, or a file of SQLite. A password is no part of it: KRL_STORE_USER and
-KRL_STORE_PASSWORD have the user and the password of PostgreSQL.
+A DATABASE is postgres://USER@HOST:PORT/NAME, as for PostgreSQL's own programs,
+or a file of SQLite. A URL has no password: set KRL_STORE_USER and
+KRL_STORE_PASSWORD to the user and the password of PostgreSQL.
 
 Exit status:
   0    it is done; check: nothing is missing
-  1    check: something is missing
-  2    a word cannot be understood, or the command could not be carried out
+  1    it failed, and standard error has the reason; check: something is missing
+  2    the command line or the environment is wrong
 
 Examples:
   krl-cache migration item | psql shop
   krl-cache check postgres://dba@127.0.0.1/shop item --role shop
   krl-cache fill postgres://dba@127.0.0.1/shop item --krl 127.0.0.1:7400
   krl-cache fill postgres://dba@127.0.0.1/shop item --store krl.db --clients-are-stopped";
+
+const MIGRATION: &str = "\
+Example:
+  krl-cache migration item --key number | psql shop";
+
+const SET_UP: &str = "\
+Example:
+  krl-cache set-up shop.db item";
+
+const CHECK: &str = "\
+Example:
+  krl-cache check postgres://dba@127.0.0.1/shop item --role shop";
+
+const FILL: &str = "\
+Example:
+  krl-cache fill postgres://dba@127.0.0.1/shop item --krl 127.0.0.1:7400";
+
+const ACCEPT: &str = "\
+Example:
+  krl-cache accept postgres://dba@127.0.0.1/shop item --krl 127.0.0.1:7400 --nothing-is-lost";
+
+const COMPLETION: &str = "\
+Example:
+  krl-cache completion bash > /etc/bash_completion.d/krl-cache";
 
 /// Check, prepare and fill tables that krl-cache caches.
 #[derive(Debug, Parser)]
@@ -32,12 +56,16 @@ pub struct Arguments {
 
 #[derive(Debug, Subcommand)]
 pub enum Command {
-    /// Print the SQL that prepares a table of PostgreSQL, as one transaction
+    /// Print the SQL that prepares a table of PostgreSQL, as one transaction. It changes nothing if the
+    /// table cannot be cached
+    #[command(after_help = MIGRATION)]
     Migration {
         #[command(flatten)]
         table: TableWords,
     },
-    /// Prepare a table: add the version column and the triggers
+    /// Prepare a table: add the version column, the triggers and the table of the current filling. It
+    /// changes nothing if the table cannot be cached
+    #[command(after_help = SET_UP)]
     SetUp {
         /// The database
         database: Database,
@@ -45,17 +73,19 @@ pub enum Command {
         table: TableWords,
     },
     /// Report what a table lacks before it can be cached. It reads all rows
+    #[command(after_help = CHECK)]
     Check {
         /// The database
         database: Database,
         #[command(flatten)]
         table: TableWords,
-        /// PostgreSQL: the role of the application, whose rights are checked. By default the user
-        /// who connects
+        /// PostgreSQL: check the rights of this role, which the application has. By default those of
+        /// the user who connects
         #[arg(long, value_name = "ROLE")]
         role: Option<String>,
     },
-    /// Copy the versions of all rows to krl. Caches are opened after it
+    /// Copy the versions of all rows to krl. A cache of the table can be opened afterwards
+    #[command(after_help = FILL)]
     Fill {
         /// The database
         database: Database,
@@ -64,8 +94,9 @@ pub enum Command {
         #[command(flatten)]
         to: Destination,
     },
-    /// Go on with a database that has another identity and lacks no commit that was answered, as a
-    /// replica that was promoted. Start the processes of the application again afterwards
+    /// Continue with a database that has another identity and has every commit that was
+    /// acknowledged, such as a promoted replica. Restart the processes of the application afterwards
+    #[command(after_help = ACCEPT)]
     Accept {
         /// The database
         database: Database,
@@ -74,13 +105,14 @@ pub enum Command {
         /// The krl server, as 127.0.0.1:7400
         #[arg(long, value_name = "ADDRESS")]
         krl: Servers,
-        /// The database has each commit that was answered. Fill krl otherwise
+        /// State that the database has every commit that was acknowledged. Otherwise use fill
         #[arg(long, required = true)]
         nothing_is_lost: bool,
         #[command(flatten)]
         clients: Clients,
     },
-    /// Print a script by which a shell completes the words of this program
+    /// Print a completion script for a shell
+    #[command(after_help = COMPLETION)]
     Completion {
         /// The shell
         #[arg(value_enum)]
@@ -91,10 +123,10 @@ pub enum Command {
 /// A table.
 #[derive(Debug, Args)]
 pub struct TableWords {
-    /// The table, as item or shop.item
+    /// The table, such as item or shop.item
     #[arg(value_name = "TABLE")]
     pub name: String,
-    /// The column of the key
+    /// The column of the key: a bigint (SQLite: INTEGER) that is unique by itself
     #[arg(long, value_name = "COLUMN", default_value = "id")]
     key: String,
     /// The column of the version, which krl-cache adds
@@ -103,6 +135,16 @@ pub struct TableWords {
 }
 
 impl TableWords {
+    /// The words by which another command names the same table.
+    pub fn shown(&self) -> String {
+        let column = |word: &str, name: &str, default: &str| {
+            if name == default { String::new() } else { format!(" {word} {name}") }
+        };
+        let key = column("--key", &self.key, "id");
+        let version = column("--version-column", &self.version_column, "krl_version");
+        format!("{}{key}{version}", self.name)
+    }
+
     pub fn table(&self) -> Table {
         Table::new(&self.name).key(&self.key).version(&self.version_column)
     }
@@ -111,15 +153,20 @@ impl TableWords {
 /// Where krl's rows are written.
 #[derive(Debug, Args)]
 pub struct Destination {
-    /// A krl server that runs, as 127.0.0.1:7400: it is filled row by row
+    /// Fill a running krl server, such as 127.0.0.1:7400, row by row
     #[arg(long, value_name = "ADDRESS", required_unless_present = "store")]
     pub krl: Option<Servers>,
-    /// A new store, which is filled at once. Start krl-server over it afterwards
+    /// Write a new store at once. Start krl-server with it afterwards
     #[arg(long, value_name = "FILE", conflicts_with = "krl", requires = "clients_are_stopped")]
     pub store: Option<PathBuf>,
-    /// No process of the application runs: one that does would continue to answer from its memory
+    /// State that no process of the application runs. One that does would continue to answer from its
+    /// memory
     #[arg(long, requires = "store")]
     pub clients_are_stopped: bool,
+    /// State that no process uses the krl server any more that the table was filled into before. By
+    /// default a table is filled only into the server that has its current filling
+    #[arg(long)]
+    pub replaces_server: bool,
     #[command(flatten)]
     pub clients: Clients,
 }

@@ -26,17 +26,17 @@ pub fn check(
     for fault in &faults {
         let _ = writeln!(text, "{name}: {fault}");
     }
-    if faults.iter().any(is_mended_by_migration) {
+    if is_mended_by_migration(&faults) {
+        let words = words.shown();
         let _ = match database {
             Database::Postgres(_) => {
                 writeln!(
                     text,
-                    "krl-cache migration {name} prints the SQL that adds what is missing"
+                    "krl-cache migration {words} prints the SQL that adds what is missing"
                 )
             }
             Database::Sqlite(file) => {
-                let file = file.display();
-                writeln!(text, "krl-cache set-up {file} {name} adds what is missing")
+                writeln!(text, "krl-cache set-up {} {words} adds what is missing", file.display())
             }
         };
     }
@@ -44,7 +44,10 @@ pub fn check(
     Ok(ExitCode::from(MISSING))
 }
 
-/// Whether the migration mends the fault.
-fn is_mended_by_migration(fault: &TableFault) -> bool {
-    matches!(fault, TableFault::Version(_) | TableFault::Trigger(_))
+/// Whether the migration mends one of the faults.
+fn is_mended_by_migration(faults: &[TableFault]) -> bool {
+    let is_mended = |fault: &TableFault| {
+        matches!(fault, TableFault::Version(_) | TableFault::Trigger(_) | TableFault::Fillings(_))
+    };
+    faults.iter().any(is_mended) && !faults.iter().any(TableFault::prevents_set_up)
 }

@@ -38,7 +38,7 @@ fn lock_folder() -> Result<PathBuf, Failure> {
         .ok_or_else(|| {
             let why = "there is no folder for lock files: set HOME or XDG_STATE_HOME to an \
                        absolute path";
-            Failure::NotDone(why.to_string())
+            Failure::Words(why.to_string())
         })?;
     let folder = state.join("krl");
     fs::create_dir_all(&folder).map_err(|error| {

@@ -2,8 +2,10 @@
 use crate::failure::Failure;
 use crate::fill::{self, Filled};
 use krl::Client;
-use krl_cache::{Cache, OriginError, PostgresAddress, PostgresOrigin, SqliteOrigin, StoreFilling};
-use krl_cache::{Table, TableFault};
+use krl_cache::{
+    Cache, EarlierServer, OriginError, PostgresAddress, PostgresOrigin, SqliteOrigin, StoreFilling,
+    Table, TableFault,
+};
 use std::path::{Path, PathBuf};
 use std::str::FromStr;
 
@@ -50,7 +52,7 @@ fn user() -> Result<Option<(String, String)>, Failure> {
     let [user, password] =
         ["KRL_STORE_USER", "KRL_STORE_PASSWORD"].map(|name| std::env::var(name).ok());
     match (user, password) {
-        (None, Some(_)) => Err(Failure::NotDone(
+        (None, Some(_)) => Err(Failure::Words(
             "KRL_STORE_PASSWORD is set, and KRL_STORE_USER is not: set it to the user whose \
              password that is"
                 .to_string(),
@@ -61,20 +63,25 @@ fn user() -> Result<Option<(String, String)>, Failure> {
 
 /// A table, of whatever database.
 pub trait CachedTable {
-    /// Adds the version column and the triggers.
+    /// Adds the version column, the triggers and the table of the current filling.
     fn set_up(&self) -> Result<(), OriginError>;
 
     /// What the table lacks, and which rights the role lacks.
     fn faults(&self, role: Option<&str>) -> Result<Vec<TableFault>, OriginError>;
 
     /// Fills a server that these two clients have joined.
-    fn fill_server(self: Box<Self>, reader: Client, writer: Client) -> Result<Filled, Failure>;
+    fn fill_server(
+        self: Box<Self>,
+        reader: Client,
+        writer: Client,
+        earlier: EarlierServer,
+    ) -> Result<Filled, Failure>;
 
     /// Continues with a database that has another identity and lacks nothing.
     fn accept(self: Box<Self>, reader: Client, writer: Client) -> Result<(), Failure>;
 
     /// Writes a new store.
-    fn fill_store(&self, path: &Path) -> Result<Filled, Failure>;
+    fn fill_store(&self, path: &Path, earlier: EarlierServer) -> Result<Filled, Failure>;
 }
 
 impl CachedTable for PostgresOrigin<()> {
@@ -90,16 +97,21 @@ impl CachedTable for PostgresOrigin<()> {
         Ok(faults)
     }
 
-    fn fill_server(self: Box<Self>, reader: Client, writer: Client) -> Result<Filled, Failure> {
-        fill::server(*self, reader, writer)
+    fn fill_server(
+        self: Box<Self>,
+        reader: Client,
+        writer: Client,
+        earlier: EarlierServer,
+    ) -> Result<Filled, Failure> {
+        fill::server(*self, reader, writer, earlier)
     }
 
     fn accept(self: Box<Self>, reader: Client, writer: Client) -> Result<(), Failure> {
         Ok(Cache::builder(reader, writer, *self).accept_and_open()?.close()?)
     }
 
-    fn fill_store(&self, path: &Path) -> Result<Filled, Failure> {
-        fill::store(StoreFilling::begin(self)?, path)
+    fn fill_store(&self, path: &Path, earlier: EarlierServer) -> Result<Filled, Failure> {
+        fill::store(StoreFilling::begin(self, earlier)?, path)
     }
 }
 
@@ -112,16 +124,21 @@ impl CachedTable for SqliteOrigin<()> {
         self.check()
     }
 
-    fn fill_server(self: Box<Self>, reader: Client, writer: Client) -> Result<Filled, Failure> {
-        fill::server(*self, reader, writer)
+    fn fill_server(
+        self: Box<Self>,
+        reader: Client,
+        writer: Client,
+        earlier: EarlierServer,
+    ) -> Result<Filled, Failure> {
+        fill::server(*self, reader, writer, earlier)
     }
 
     fn accept(self: Box<Self>, reader: Client, writer: Client) -> Result<(), Failure> {
         Ok(Cache::builder(reader, writer, *self).accept_and_open()?.close()?)
     }
 
-    fn fill_store(&self, path: &Path) -> Result<Filled, Failure> {
-        fill::store(StoreFilling::begin(self)?, path)
+    fn fill_store(&self, path: &Path, earlier: EarlierServer) -> Result<Filled, Failure> {
+        fill::store(StoreFilling::begin(self, earlier)?, path)
     }
 }
 

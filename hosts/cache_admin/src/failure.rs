@@ -9,13 +9,18 @@ use std::process::ExitCode;
 const BROKEN_PIPE: u8 = 128 + 13;
 
 /// The exit status of a command that could not do what it was asked to do.
-const NOT_DONE: u8 = 2;
+const NOT_DONE: u8 = 1;
+
+/// The exit status if the command line or the environment is wrong.
+const WORDS: u8 = 2;
 
 /// A command that failed.
 #[derive(Debug)]
 pub enum Failure {
     /// It could not be done.
     NotDone(String),
+    /// The command line or the environment is wrong.
+    Words(String),
     /// The output cannot be written.
     Output(io::Error),
 }
@@ -23,7 +28,11 @@ pub enum Failure {
 impl Failure {
     /// The exit status.
     pub fn status(&self) -> ExitCode {
-        ExitCode::from(if self.is_broken_pipe() { BROKEN_PIPE } else { NOT_DONE })
+        ExitCode::from(match self {
+            Failure::Words(_) => WORDS,
+            _ if self.is_broken_pipe() => BROKEN_PIPE,
+            _ => NOT_DONE,
+        })
     }
 
     /// Reports the failure on standard error. That nobody reads the output is no news.
@@ -42,7 +51,7 @@ impl Failure {
 impl fmt::Display for Failure {
     fn fmt(&self, f: &mut fmt::Formatter<'_>) -> fmt::Result {
         match self {
-            Failure::NotDone(why) => f.write_str(why),
+            Failure::NotDone(why) | Failure::Words(why) => f.write_str(why),
             Failure::Output(error) => write!(f, "standard output cannot be written: {error}"),
         }
     }

@@ -3,7 +3,7 @@ use crate::arguments::{Destination, TableWords};
 use crate::database::Database;
 use crate::failure::{Failure, not_done};
 use krl::{Client, Room, Snapshot, SqliteStore};
-use krl_cache::{Cache, Origin, StoreFilling};
+use krl_cache::{Cache, EarlierServer, Origin, StoreFilling};
 use krl_rows::Progress;
 use std::fmt;
 use std::fs;
@@ -23,7 +23,8 @@ pub struct Filled {
 
 impl fmt::Display for Filled {
     fn fmt(&self, f: &mut fmt::Formatter<'_>) -> fmt::Result {
-        write!(f, "krl has the versions of {} rows", self.rows)?;
+        let rows = if self.rows == 1 { "row" } else { "rows" };
+        write!(f, "krl has the versions of {} {rows}", self.rows)?;
         self.room.iter().try_for_each(|room| write!(f, ", and room for {room}"))
     }
 }
@@ -37,25 +38,33 @@ fn room_for(rows: usize) -> Room {
 /// Fills krl.
 pub fn fill(database: &Database, words: &TableWords, to: &Destination) -> Result<Filled, Failure> {
     let table = database.open(words.table())?;
+    let earlier =
+        if to.replaces_server { EarlierServer::IsUnused } else { EarlierServer::IsFilledAgain };
     match (&to.krl, &to.store) {
-        (_, Some(path)) => table.fill_store(path),
+        (_, Some(path)) => table.fill_store(path, earlier),
         (Some(servers), None) => {
             let (reader, writer) = to.clients.join(servers.clone())?;
-            table.fill_server(reader, writer)
+            table.fill_server(reader, writer, earlier)
         }
-        (None, None) => Err(Failure::NotDone("give --krl ADDRESS or --store FILE".to_string())),
+        (None, None) => Err(Failure::Words("give --krl ADDRESS or --store FILE".to_string())),
     }
 }
 
 /// Fills a server, and reports how far it has come.
-pub fn server<O: Origin>(table: O, reader: Client, writer: Client) -> Result<Filled, Failure> {
+pub fn server<O: Origin>(
+    table: O,
+    reader: Client,
+    writer: Client,
+    earlier: EarlierServer,
+) -> Result<Filled, Failure> {
     let (mut progress, mut filled) = (None, 0);
     let report = |count: usize, all: usize| {
         let bar = progress.get_or_insert_with(|| Progress::new("filling", Some(all as u64)));
         (filled..count).for_each(|_| bar.step());
         filled = count;
     };
-    let cache = Cache::builder(reader, writer, table).fill_and_open(report)?;
+    let builder = Cache::builder(reader, writer, table).earlier_server(earlier);
+    let cache = builder.fill_and_open(report)?;
     cache.close()?;
     Ok(Filled { rows: filled, room: None })
 }
@@ -67,7 +76,10 @@ pub fn server<O: Origin>(table: O, reader: Client, writer: Client) -> Result<Fil
 pub fn store<O: Origin>(filling: StoreFilling<'_, O>, path: &Path) -> Result<Filled, Failure> {
     let progress = Progress::new("writing the store", None);
     if path.symlink_metadata().is_ok() {
-        return Err(Failure::NotDone(format!("there is a file {} already", path.display())));
+        return Err(Failure::NotDone(format!(
+            "the file {} exists already: name a new one, or move it away",
+            path.display()
+        )));
     }
     let rows = filling.rows().clone();
     let room = room_for(rows.len());

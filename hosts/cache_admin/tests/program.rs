@@ -79,9 +79,12 @@ fn a_table_is_checked_prepared_and_filled() {
     let (status, missing) = ended(folder, &["check", &at, "item", "--role", "shop"]);
     assert_eq!(status, 1);
     let expected_lines = [
-        "item: the column krl_version is not as the migration makes it",
-        "item: the trigger krl_guard_rows is not as the migration makes it",
-        "item: the trigger krl_guard_truncate is not as the migration makes it",
+        "item: the column krl_version is missing, or not as the migration makes it",
+        "item: the table item_krl_filling is missing, or not as the migration makes it",
+        "item: the trigger krl_guard_rows is missing, disabled, or not as this version of krl-cache \
+         makes it",
+        "item: the trigger krl_guard_truncate is missing, disabled, or not as this version of \
+         krl-cache makes it",
         "item: the role shop lacks the right UPDATE",
         "item: the role shop lacks the right DELETE",
         "krl-cache migration item prints the SQL that adds what is missing",
@@ -94,7 +97,7 @@ fn a_table_is_checked_prepared_and_filled() {
     let (status, text) = ended(folder, &["check", &at, "item", "--role", "shop"]);
     assert_eq!((status, text.as_str()), (0, "item: nothing is missing\n"));
     let (status, text) = ended(folder, &["check", &at, "item", "--role", "nobody"]);
-    assert_eq!(status, 2, "{text}");
+    assert_eq!(status, 1, "{text}");
     assert!(text.contains("nobody"), "{text}");
 
     let store = folder.join("krl.db");
@@ -104,6 +107,104 @@ fn a_table_is_checked_prepared_and_filled() {
     let filled = ended(folder, &["fill", &at, "item", "--krl", &krl]);
     assert_eq!(filled, (0, "item: krl has the versions of 2 rows\n".to_string()));
     assert_eq!(names(folder, &database, &server), expected());
+    // As an older krl-cache has prepared it.
+    sql.run("CREATE OR REPLACE FUNCTION item_krl_guard() RETURNS trigger LANGUAGE plpgsql AS 'BEGIN END'");
+    sql.run("DROP TABLE item_krl_filling");
+    let (status, text) = ended(folder, &["check", &at, "item"]);
+    assert_eq!(status, 1);
+    let lines: Vec<_> = text.lines().collect();
+    assert_eq!(
+        [lines[0], lines[1], lines[3]],
+        [expected_lines[1], expected_lines[2], expected_lines[6]]
+    );
+}
+
+/// A server of krl with an empty store of this name.
+fn serve_new(folder: &Path, store: &str) -> Server {
+    let store = folder.join(store);
+    SqliteStore::open(&store).unwrap();
+    serve(&store)
+}
+
+#[test]
+fn a_table_is_filled_into_one_server() {
+    let folder = TempDir::new().unwrap();
+    let folder = folder.path();
+    let connection = krl_cache::rusqlite::Connection::open(folder.join("shop.db")).unwrap();
+    let table =
+        "CREATE TABLE item (id INTEGER PRIMARY KEY, name TEXT); INSERT INTO item VALUES (1, '')";
+    connection.execute_batch(table).unwrap();
+    assert_eq!(ended(folder, &["set-up", "shop.db", "item"]).0, 0);
+    let servers = ["one.db", "other.db"].map(|store| serve_new(folder, store));
+    let [one, other] = servers.each_ref().map(|server| server.address().to_string());
+    let into = |words: &[&str]| ended(folder, &[&["fill", "shop.db", "item"], words].concat());
+    let done = (0, "item: krl has the versions of 1 row\n".to_string());
+    assert_eq!(into(&["--krl", &one]), done);
+    assert_eq!(into(&["--krl", &one]), done);
+    for words in [&["--krl", &other][..], &["--store", "krl.db", "--clients-are-stopped"]] {
+        let (status, text) = into(words);
+        assert_eq!(status, 1, "{text}");
+        assert!(text.contains("does not have the current filling of the table ("), "{text}");
+        assert!(text.contains("run krl-cache fill with --replaces-server"), "{text}");
+    }
+    assert!(!folder.join("krl.db").exists());
+    assert_eq!(into(&["--krl", &other, "--replaces-server"]), done);
+    assert_eq!(into(&["--krl", &other]), done);
+    assert_eq!(into(&["--krl", &one]).0, 1);
+    let words = ["--store", "krl.db", "--clients-are-stopped", "--replaces-server"];
+    assert_eq!(into(&words).0, 0);
+    assert_eq!(into(&["--krl", &other]).0, 1);
+    let new = serve(&folder.join("krl.db"));
+    assert_eq!(into(&["--krl", &new.address().to_string()]), done);
+}
+
+/// What a first user does wrong is named, and nothing is changed.
+#[test]
+fn a_table_that_cannot_be_cached_is_refused_by_each_command() {
+    let folder = TempDir::new().unwrap();
+    let folder = folder.path();
+    let connection = krl_cache::rusqlite::Connection::open(folder.join("shop.db")).unwrap();
+    let tables = "CREATE TABLE item (number INTEGER PRIMARY KEY, name TEXT);
+        CREATE TABLE sale (id INTEGER, name TEXT); INSERT INTO item VALUES (-3, '');";
+    connection.execute_batch(tables).unwrap();
+    let cases = [
+        (
+            &["item"][..],
+            "item: there is no column \"id\" to be the key: name the column of the key by --key",
+        ),
+        (&["item", "--key", "name"], "item: the key \"name\" is TEXT, and has to be INTEGER"),
+        (&["sale"], "sale: the key \"id\" is not unique by itself"),
+    ];
+    let fill = ["--store", "krl.db", "--clients-are-stopped"];
+    for (table, expected) in cases {
+        for (command, more) in [("set-up", &[][..]), ("check", &[]), ("fill", &fill)] {
+            let (status, text) = ended(folder, &[&[command, "shop.db"], table, more].concat());
+            assert_eq!(status, 1, "{command}: {text}");
+            assert!(text.contains(expected), "{command}: {text}");
+            assert!(!text.contains("adds what is missing"), "{command}: {text}");
+        }
+    }
+    let (status, text) = ended(folder, &["set-up", "shop.db", "item", "--key", "number"]);
+    assert_eq!(status, 1);
+    let expected = "the key -3 can't be cached: a key has to be from 0 to 9223372036854775804";
+    assert!(text.contains(expected), "{text}");
+    let made = "SELECT count(*) FROM sqlite_schema WHERE sql LIKE '%krl%'";
+    assert_eq!(connection.query_row(made, [], |row| row.get::<_, i64>(0)).unwrap(), 0);
+    connection.execute("UPDATE item SET number = 3", []).unwrap();
+    let (_, text) = ended(folder, &["check", "shop.db", "item", "--key", "number"]);
+    let last = text.lines().last();
+    assert_eq!(last, Some("krl-cache set-up shop.db item --key number adds what is missing"));
+}
+
+#[test]
+fn each_command_has_an_example() {
+    let folder = TempDir::new().unwrap();
+    for command in ["migration", "set-up", "check", "fill", "accept", "completion"] {
+        let (status, text) = ended(folder.path(), &[command, "--help"]);
+        assert_eq!(status, 0);
+        let example = format!("Example:\n  krl-cache {command} ");
+        assert!(text.contains(&example), "{text}");
+    }
 }
 
 #[test]
@@ -124,7 +225,11 @@ fn a_new_store_is_filled_at_once() {
     let files: Vec<_> = std::fs::read_dir(folder).unwrap().flatten().collect();
     assert_eq!(files.len(), 1, "{files:?}");
     let (status, text) = ended(folder, &words);
-    assert_eq!((status, text.as_str()), (2, "krl-cache: there is a file krl.db already\n"));
+    assert_eq!(status, 1);
+    assert!(text.contains("does not have the current filling of the table"), "{text}");
+    let (status, text) = ended(folder, &[&words[..], &["--replaces-server"]].concat());
+    let told = "krl-cache: the file krl.db exists already: name a new one, or move it away\n";
+    assert_eq!((status, text.as_str()), (1, told));
     let server = serve(&folder.join("krl.db"));
     assert_eq!(names(folder, &database, &server), expected());
 }
@@ -151,7 +256,7 @@ fn a_file_of_sqlite_is_checked_and_prepared() {
     let folder = TempDir::new().unwrap();
     let folder = folder.path();
     let (status, text) = ended(folder, &["check", "shop.db", "item"]);
-    assert_eq!((status, text.as_str()), (2, "krl-cache: there is no file shop.db\n"));
+    assert_eq!((status, text.as_str()), (1, "krl-cache: there is no file shop.db\n"));
     let connection = krl_cache::rusqlite::Connection::open(folder.join("shop.db")).unwrap();
     connection.execute_batch("CREATE TABLE item (id INTEGER PRIMARY KEY, name TEXT)").unwrap();
     let (status, text) = ended(folder, &["check", "shop.db", "item"]);
@@ -175,7 +280,7 @@ fn a_password_that_is_missing_is_named() {
     loop {
         let (status, text) = ended(folder, &["check", &at, "item"]);
         if text.contains("password missing: set KRL_STORE_USER and KRL_STORE_PASSWORD") {
-            assert_eq!(status, 2);
+            assert_eq!(status, 1);
             break;
         }
         assert!(Instant::now() < end, "{text}");

@@ -3,9 +3,10 @@ use super::check;
 use super::row::PostgresRow;
 use super::session::{CacheSession, Session, Timeouts, reported, signed, stored};
 use super::sql;
-use super::transaction::{PostgresFilling, PostgresTransaction, begin_while};
+use super::transaction::{PostgresFilling, PostgresTransaction, begin_while, current_filling};
+use crate::filling::FillingNumber;
 use crate::origin::{Needed, Origin, OriginError, OriginIdentity, Replacement, Stored};
-use crate::table::{Table, TableFault};
+use crate::table::{Table, TableFault, reason};
 use krl_postgres::{Connector, PostgresAddress};
 use std::fmt;
 use std::marker::PhantomData;
@@ -91,6 +92,8 @@ pub(super) struct Pool {
     timeouts: Timeouts,
     /// As the first connection found it.
     identity: Mutex<Option<OriginIdentity>>,
+    /// The filling that transactions name.
+    named: Mutex<Option<FillingNumber>>,
 }
 
 impl<T: PostgresRow> PostgresOrigin<T> {
@@ -106,9 +109,9 @@ impl<T: PostgresRow> PostgresOrigin<T> {
         table: Table,
     ) -> Result<PostgresOrigin<T>, OriginError> {
         let connector = Connector::new(address, user).map_err(OriginError::new)?;
-        let (idle, identity) = (Mutex::default(), Mutex::default());
+        let (idle, identity, named) = (Mutex::default(), Mutex::default(), Mutex::default());
         let timeouts = timeouts(IDLE_IN_TRANSACTION);
-        let pool = Pool { connector, idle, timeouts, identity };
+        let pool = Pool { connector, idle, timeouts, identity, named };
         Ok(PostgresOrigin { table, pool, rows: PhantomData })
     }
 
@@ -139,10 +142,12 @@ impl<T: PostgresRow> PostgresOrigin<T> {
     ///
     /// # Errors
     ///
-    /// If the database refuses it or does not answer in time.
+    /// If the table's key cannot be cached, or the database refuses it or does not answer in time.
+    /// Nothing has changed then.
     pub fn set_up(&self) -> Result<(), OriginError> {
         let migration = self.migration();
         let session = Session::connect(&self.pool.connector, self.pool.timeouts)?.patient();
+        check::refuse_set_up(&session, &self.table)?;
         Ok(session.ask(async |client| client.batch_execute(&migration).await)?)
     }
 
@@ -185,8 +190,7 @@ impl<T: PostgresRow> PostgresOrigin<T> {
         let session = Session::connect(&self.pool.connector, self.pool.timeouts)?;
         let faults = check::faults(&session, &self.table)?;
         if !faults.is_empty() {
-            let faults: Vec<String> = faults.iter().map(TableFault::to_string).collect();
-            return Err(OriginError::new(faults.join("; ")));
+            return Err(reason(&self.table, &faults));
         }
         let name = self.table.quoted();
         let row = session.ask(async |client| client.query_one(sql::IDENTITY, &[&name]).await)?;
@@ -234,6 +238,11 @@ impl Pool {
         self.idle.lock().unwrap_or_else(PoisonError::into_inner)
     }
 
+    /// The filling that transactions name, if one is confirmed.
+    pub fn named(&self) -> MutexGuard<'_, Option<FillingNumber>> {
+        self.named.lock().unwrap_or_else(PoisonError::into_inner)
+    }
+
     /// Keeps a connection on which no transaction is open.
     pub fn give_back(&self, session: CacheSession) {
         let mut idle = self.idle();
@@ -263,6 +272,16 @@ impl<T: PostgresRow> Origin for PostgresOrigin<T> {
         self.pool.give_back(session);
         let known = self.pool.identity.lock().unwrap_or_else(PoisonError::into_inner);
         known.clone().ok_or_else(|| OriginError::new("it has no identity"))
+    }
+
+    fn filling(&self) -> Result<Option<FillingNumber>, OriginError> {
+        let (filling, used) = self.ask(|used| current_filling(&used.session, &self.table))?;
+        self.pool.give_back(used);
+        Ok(filling)
+    }
+
+    fn name_filling(&self, filling: FillingNumber) {
+        *self.pool.named() = Some(filling);
     }
 
     fn load(&self, keys: &[u64]) -> Result<Vec<Stored<T>>, OriginError> {

@@ -2,7 +2,7 @@
 use super::sql::{self, Keys};
 use crate::origin::{Needed, OriginError, Stored};
 use crate::postgres::row::PostgresRow;
-use crate::table::Table;
+use crate::table::{Table, checked};
 use crate::version::Version;
 use futures_util::future::try_join;
 use krl_postgres::{Carrier, Connector};
@@ -204,10 +204,7 @@ pub(super) fn stored<T: PostgresRow>(rows: &[Row]) -> Result<Vec<Stored<T>>, Ori
 /// The key and the version of a row, which are its first two columns.
 pub(super) fn key_and_version(row: &Row) -> Result<(u64, Version), OriginError> {
     let key: i64 = row.try_get(0).map_err(reported)?;
-    let version: &[u8] = row.try_get(1).map_err(reported)?;
-    let bad = || OriginError::new(format!("the row {key} has a key or a version that is none"));
-    let version = Version::from_bytes(version).ok_or_else(bad)?;
-    Ok((u64::try_from(key).map_err(|_| bad())?, version))
+    checked(key, row.try_get(1).map_err(reported)?)
 }
 
 /// An error, with what the database itself reports.

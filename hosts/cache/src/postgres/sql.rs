@@ -1,6 +1,7 @@
 //! What PostgreSQL is asked.
+use super::check::{key_not_unique, key_type, no_key};
 use crate::mark::LAST_KEY;
-use crate::table::{Table, quoted};
+use crate::table::{Table, TableFault, quoted};
 use std::fmt::Write;
 use std::time::Duration;
 
@@ -44,16 +45,27 @@ pub(super) const IDENTITY: &str = "
 /// The body of the function that guards the table.
 pub(super) fn guard(table: &Table) -> String {
     let (key, version) = (table.quoted_key(), table.quoted_version());
+    let fillings = table.quoted_fillings();
     format!(
         "
 DECLARE
     version text := coalesce(current_setting('krl_cache.version', true), '');
+    named text := coalesce(current_setting('krl_cache.filling', true), '');
+    current text;
     keys text := coalesce(nullif(current_setting('krl_cache.keys', true), ''), '{{}}');
 BEGIN
     IF version = '' OR TG_OP = 'TRUNCATE' THEN
         RAISE EXCEPTION 'the rows of % are cached: change them through krl-cache', TG_TABLE_NAME
             USING ERRCODE = 'insufficient_privilege',
             HINT = 'After a change with disabled triggers, krl has to be filled again.';
+    END IF;
+    SELECT filling INTO current FROM {fillings} WHERE cached_table = TG_RELID;
+    IF named IS DISTINCT FROM current THEN
+        RAISE EXCEPTION 'the rows of % are cached by another krl server (filling %)',
+            TG_TABLE_NAME, coalesce(current, 'none')
+            USING ERRCODE = 'object_not_in_prerequisite_state',
+            DETAIL = format('The writer names filling %s.', named),
+            HINT = 'Use the krl server that was filled last, or fill this one by krl-cache fill.';
     END IF;
     IF TG_OP <> 'INSERT' AND OLD.{key} <> ALL (keys::bigint[])
         OR TG_OP <> 'DELETE' AND NEW.{key} <> ALL (keys::bigint[]) THEN
@@ -73,15 +85,27 @@ END
 /// What gives a table its version column and its guard.
 pub(super) fn migration(table: &Table) -> String {
     let (name, function, version) = (table.quoted(), table.quoted_guard(), table.quoted_version());
+    let fillings = table.quoted_fillings();
     let guard = guard(table);
+    let refusals = refusals(table);
     format!(
         "BEGIN;
 SET LOCAL client_min_messages = warning;
 
+-- Changes nothing if the table cannot be cached.
+{refusals}
 -- The version of each row: its first one is drawn here, and each change through krl-cache gives the
 -- row another one. The table is written anew.
 ALTER TABLE {name} ADD COLUMN IF NOT EXISTS {version} bytea
     NOT NULL DEFAULT uuid_send(gen_random_uuid());
+
+-- The number of the filling that is current: krl-cache fill writes it. Whoever writes the table reads
+-- it, so that a writer is refused that uses another krl server.
+CREATE TABLE IF NOT EXISTS {fillings} (
+    cached_table regclass PRIMARY KEY,
+    filling text NOT NULL
+);
+GRANT SELECT ON {fillings} TO PUBLIC;
 
 -- Refuses each change that does not come through krl-cache, and sets the version.
 CREATE OR REPLACE FUNCTION {function}() RETURNS trigger LANGUAGE plpgsql AS $guard${guard}$guard$;
@@ -100,6 +124,68 @@ ALTER TABLE {name} ENABLE ALWAYS TRIGGER {TRUNCATE_TRIGGER};
 COMMIT;
 "
     )
+}
+
+/// What raises an error if the table cannot be cached, by the reasons that a check has.
+fn refusals(table: &Table) -> String {
+    let (name, key) = (table.quoted(), table.quoted_key());
+    let (shown, column) = (literal(&name), literal(table.column_names().0));
+    let raise = |fault: &TableFault| raise(table, fault);
+    let (missing, other) = (raise(&TableFault::NoTable), raise(&TableFault::NotOrdinary));
+    let (no_key, not_unique) = (raise(&no_key(table)), raise(&key_not_unique(table)));
+    let other_type = raise(&key_type(table, SEEN.to_string()));
+    let bad_key = raise(&TableFault::BadKeys { least: SEEN.to_string(), count: 1 });
+    format!(
+        "DO $check$
+DECLARE
+    cached oid := to_regclass({shown});
+    seen text;
+BEGIN
+    IF cached IS NULL THEN
+        {missing};
+    END IF;
+    IF NOT EXISTS (SELECT FROM pg_class WHERE oid = cached AND relkind = 'r' AND NOT relispartition)
+        OR EXISTS (SELECT FROM pg_inherits WHERE cached IN (inhrelid, inhparent)) THEN
+        {other};
+    END IF;
+    seen := (SELECT format_type(atttypid, NULL) FROM pg_attribute
+        WHERE attrelid = cached AND attname = {column});
+    IF seen IS NULL THEN
+        {no_key};
+    ELSIF seen <> '{KEY_TYPE}' THEN
+        {other_type};
+    END IF;
+    IF NOT EXISTS (SELECT FROM pg_attribute JOIN pg_index ON indrelid = attrelid
+        WHERE attrelid = cached AND attname = {column} AND indisunique AND indisvalid
+            AND indimmediate AND indpred IS NULL AND indnkeyatts = 1 AND indkey[0] = attnum) THEN
+        {not_unique};
+    END IF;
+    LOCK TABLE {name} IN ACCESS EXCLUSIVE MODE;
+    SELECT coalesce(min({key})::text, 'NULL') INTO seen FROM ONLY {name}
+        WHERE ({key} BETWEEN 0 AND {LAST_KEY}) IS NOT TRUE HAVING count(*) > 0;
+    IF FOUND THEN
+        {bad_key};
+    END IF;
+END
+$check$;
+"
+    )
+}
+
+/// Stands for what the database has seen in a sentence.
+const SEEN: &str = "\u{1a}";
+
+/// The statement that raises a fault as an error.
+fn raise(table: &Table, fault: &TableFault) -> String {
+    let sentence = format!("{}: {fault}", table.shown()).replace('%', "%%");
+    let seen = if sentence.contains(SEEN) { ", seen" } else { "" };
+    let sentence = literal(&sentence.replace(SEEN, "%"));
+    format!("RAISE EXCEPTION {sentence}{seen} USING ERRCODE = 'object_not_in_prerequisite_state'")
+}
+
+/// A text as it stands in a statement.
+fn literal(text: &str) -> String {
+    format!("'{}'", text.replace('\'', "''"))
 }
 
 /// How many keys a statement is for. Its first value is an array of them in either case.
@@ -132,9 +218,11 @@ pub(super) fn lock_keys(keys: Keys) -> &'static str {
     }
 }
 
-/// Lets the transaction change these keys, and give them this version, until it ends.
+/// Lets the transaction change these keys, and give them this version, until it ends. It names a
+/// filling, which has to be the current one.
 pub(super) const ADMIT: &str = "
-    SELECT set_config('krl_cache.version', $1, true), set_config('krl_cache.keys', $2, true)";
+    SELECT set_config('krl_cache.version', $1, true), set_config('krl_cache.keys', $2, true),
+        set_config('krl_cache.filling', $3, true)";
 
 pub(super) const COMMIT: &str = "COMMIT";
 
@@ -218,29 +306,58 @@ pub(super) fn begin_filling(table: &Table) -> String {
     )
 }
 
+/// The current filling of the table that is named by the first value.
+pub(super) fn filling(table: &Table) -> String {
+    format!(
+        "SELECT filling FROM {} WHERE cached_table = to_regclass($1::text)",
+        table.quoted_fillings()
+    )
+}
+
+/// Makes the second value the current filling.
+pub(super) fn make_current(table: &Table) -> String {
+    format!(
+        "INSERT INTO {} (cached_table, filling) VALUES ($1::text::regclass, $2)
+         ON CONFLICT (cached_table) DO UPDATE SET filling = EXCLUDED.filling",
+        table.quoted_fillings()
+    )
+}
+
 pub(super) fn versions(table: &Table) -> String {
     let (key, version) = (table.quoted_key(), table.quoted_version());
     format!("SELECT {key}, {version} FROM ONLY {} ORDER BY {key}", table.quoted())
 }
 
-/// How many rows have a key or a version that the cache cannot have.
-pub(super) fn bad_rows(table: &Table) -> String {
-    let (key, version) = (table.quoted_key(), table.quoted_version());
+/// How many rows have a key that the cache cannot have, and the least of those keys.
+pub(super) fn bad_keys(table: &Table) -> String {
+    let (name, key) = (table.quoted(), table.quoted_key());
     format!(
-        "SELECT count(*) FROM ONLY {}
-         WHERE {key} NOT BETWEEN 0 AND {LAST_KEY} OR octet_length({version}) <> 16",
-        table.quoted()
+        "SELECT count(*), min({key})::text FROM ONLY {name}
+         WHERE ({key} BETWEEN 0 AND {LAST_KEY}) IS NOT TRUE"
     )
 }
 
-/// What the catalog has of the table, the key and the version.
+/// How many rows have a version that the cache cannot have.
+pub(super) fn bad_versions(table: &Table) -> String {
+    let (name, version) = (table.quoted(), table.quoted_version());
+    format!("SELECT count(*) FROM ONLY {name} WHERE octet_length({version}) <> 16")
+}
+
+/// The type of a key, as `format_type` has it.
+pub(super) const KEY_TYPE: &str = "bigint";
+
+/// What the catalog has of the table, the key, the version and the table of fillings.
 pub(super) const CATALOG: &str = "
     SELECT class.relkind = 'r' AND NOT class.relispartition AND NOT EXISTS (
             SELECT FROM pg_inherits WHERE class.oid IN (inhrelid, inhparent)) AS is_ordinary,
-        (SELECT atttypid = 'bigint'::regtype AND EXISTS (
-                SELECT FROM pg_index WHERE indrelid = class.oid AND indisunique AND indisvalid
-                    AND indimmediate AND indpred IS NULL AND indnkeyatts = 1 AND indkey[0] = attnum)
-            FROM pg_attribute WHERE attrelid = class.oid AND attname = $2) AS is_key,
+        (SELECT format_type(atttypid, NULL) FROM pg_attribute
+            WHERE attrelid = class.oid AND attname = $2) AS key_type,
+        EXISTS (SELECT FROM pg_attribute JOIN pg_index ON indrelid = attrelid
+            WHERE attrelid = class.oid AND attname = $2 AND indisunique AND indisvalid
+                AND indimmediate AND indpred IS NULL AND indnkeyatts = 1
+                AND indkey[0] = attnum) AS is_unique,
+        EXISTS (SELECT FROM pg_attribute WHERE attrelid = to_regclass($4::text)
+            AND attname = 'filling' AND atttypid = 'text'::regtype) AS has_fillings,
         (SELECT atttypid = 'bytea'::regtype AND attnotnull
             FROM pg_attribute WHERE attrelid = class.oid AND attname = $3) AS is_version
     FROM pg_class AS class WHERE class.oid = to_regclass($1::text)";
@@ -257,6 +374,9 @@ pub(super) const RIGHTS: &str = "
     SELECT role.name::text, rights.name FROM role, (
         VALUES ('SELECT'), ('INSERT'), ('UPDATE'), ('DELETE')) AS rights (name)
     WHERE NOT has_table_privilege(role.name, to_regclass($1::text)::oid, rights.name)
+    UNION ALL
+    SELECT role.name::text, 'SELECT ON ' || $3::text FROM role
+    WHERE NOT has_table_privilege(role.name, to_regclass($3::text)::oid, 'SELECT')
     UNION ALL
     SELECT role.name::text, 'BYPASSRLS'
     FROM role, pg_class AS class, pg_roles

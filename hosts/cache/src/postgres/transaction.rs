@@ -5,9 +5,10 @@ use super::session::{
     AskError, CacheSession, Session, Statements, key_and_version, reported, signed, stored,
 };
 use super::sql;
+use crate::filling::FillingNumber;
 use crate::origin::{
     Change, CommitError, Filling, Needed, OriginError, Replacement, Stored, Transaction,
-    not_replaced,
+    filled_meanwhile, not_replaced,
 };
 use crate::table::Table;
 use crate::version::Version;
@@ -87,7 +88,7 @@ impl<'o, T: PostgresRow> PostgresTransaction<'o, T> {
     ) -> Result<(), OriginError> {
         let CacheSession { session, statements, seed } = self.session()?;
         let Replacement { key, from, to, body } = replacement;
-        let (locks, admitted) = (locks_of(&[*key], *seed), Admitted::of(*to, &[*key]));
+        let (locks, admitted) = (locks_of(&[*key], *seed), Admitted::of(*to, &[*key], self.pool));
         let (from, to) = (from.as_bytes().as_slice(), to.as_bytes().as_slice());
         let key = key.cast_signed();
         let mut values = values(&key, &to, &**body);
@@ -171,7 +172,7 @@ impl<T: PostgresRow> Transaction for PostgresTransaction<'_, T> {
     ) -> Result<(), OriginError> {
         self.is_sound = false;
         let CacheSession { session, statements, .. } = self.session()?;
-        let admitted = Admitted::of(version, &self.keys);
+        let admitted = Admitted::of(version, &self.keys, self.pool);
         let (keys, version) = (changed_keys(changes), version.as_bytes().as_slice());
         let made = statements.of_changes(&keys, &version, changes);
         let admit = admitted.values();
@@ -199,7 +200,7 @@ impl<T: PostgresRow> Transaction for PostgresTransaction<'_, T> {
         let Some(CacheSession { session, statements, seed }) = self.session.take() else {
             return Err(CommitError::NotDone(OriginError::new("the transaction has ended")));
         };
-        let admitted = Admitted::of(version, &self.keys);
+        let admitted = Admitted::of(version, &self.keys, self.pool);
         let (keys, version) = (changed_keys(changes), version.as_bytes().as_slice());
         let made = statements.of_changes(&keys, &version, changes);
         let count = changes.iter().filter(|(_, change)| !matches!(change, Change::Delete)).count();
@@ -260,16 +261,18 @@ impl<T: PostgresRow> Transaction for PostgresTransaction<'_, T> {
 struct Admitted {
     version: String,
     keys: String,
+    filling: String,
 }
 
 impl Admitted {
-    fn of(version: Version, keys: &[u64]) -> Admitted {
+    fn of(version: Version, keys: &[u64], pool: &Pool) -> Admitted {
         let keys: Vec<String> = keys.iter().map(u64::to_string).collect();
-        Admitted { version: version.to_string(), keys: format!("{{{}}}", keys.join(",")) }
+        let filling = pool.named().as_ref().map(FillingNumber::to_string).unwrap_or_default();
+        Admitted { version: version.to_string(), keys: format!("{{{}}}", keys.join(",")), filling }
     }
 
-    fn values(&self) -> [&(dyn ToSql + Sync); 2] {
-        [&self.version, &self.keys]
+    fn values(&self) -> [&(dyn ToSql + Sync); 3] {
+        [&self.version, &self.keys, &self.filling]
     }
 }
 
@@ -352,6 +355,20 @@ impl PostgresFilling {
     }
 }
 
+/// The current filling of the table.
+pub(super) fn current_filling(
+    session: &Session,
+    table: &Table,
+) -> Result<Option<FillingNumber>, OriginError> {
+    let (name, asked) = (table.quoted(), sql::filling(table));
+    let row = session.ask(async |client| client.query_opt(&asked, &[&name]).await)?;
+    let number = |row: Row| {
+        let text: &str = row.try_get(0).map_err(reported)?;
+        text.parse().map_err(OriginError::new)
+    };
+    row.map(number).transpose()
+}
+
 impl Filling for PostgresFilling {
     fn versions(&mut self) -> Result<Vec<(u64, Version)>, OriginError> {
         let asked = sql::versions(&self.table);
@@ -368,8 +385,21 @@ impl Filling for PostgresFilling {
         versions.into_iter().collect()
     }
 
-    fn confirm(&mut self) -> Result<(), OriginError> {
-        Ok(self.session.ask(async |client| client.batch_execute("SELECT 1").await)?)
+    fn make_current(
+        self,
+        from: Option<FillingNumber>,
+        to: FillingNumber,
+    ) -> Result<(), OriginError> {
+        let name = self.table.quoted();
+        if current_filling(&self.session, &self.table)? != from {
+            return Err(filled_meanwhile());
+        }
+        let (make_current, to) = (sql::make_current(&self.table), to.to_string());
+        self.session.ask(async |client| {
+            client.execute(&make_current, &[&name, &to]).await?;
+            client.batch_execute(sql::COMMIT).await
+        })?;
+        Ok(())
     }
 }
 

@@ -1,11 +1,12 @@
 //! What a table lacks before it can be cached.
 use super::sql;
-use crate::table::{Table, TableFault};
+use crate::origin::OriginError;
+use crate::table::{Table, TableFault, reason};
 use rusqlite::{Connection, OptionalExtension, Result, params};
 
 /// What can be seen without reading the rows.
 pub(super) fn faults(connection: &Connection, table: &Table) -> Result<Vec<TableFault>> {
-    let (key, version) = table.column_names();
+    let (_, version) = table.column_names();
     let is = |asked: &str, values: &[&str]| {
         let values = rusqlite::params_from_iter(values);
         let found = connection.query_row(asked, values, |row| row.get::<_, Option<bool>>(0));
@@ -24,11 +25,12 @@ pub(super) fn faults(connection: &Connection, table: &Table) -> Result<Vec<Table
             return Ok(faults);
         }
     }
-    if is(sql::KEY, &[table.name(), key])? != Some(true) {
-        faults.push(TableFault::Key(key.to_string()));
-    }
+    faults.extend(fault_of_key(connection, table)?);
     if is(sql::VERSION, &[table.name(), version])? != Some(true) {
         faults.push(TableFault::Version(version.to_string()));
+    }
+    if is(sql::TABLE, &[sql::FILLINGS_NAME])? != Some(true) {
+        faults.push(TableFault::Fillings(sql::FILLINGS_NAME.to_string()));
     }
     for (name, made) in sql::triggers(table) {
         let found: Option<String> =
@@ -40,8 +42,57 @@ pub(super) fn faults(connection: &Connection, table: &Table) -> Result<Vec<Table
     Ok(faults)
 }
 
+/// Why the key cannot be cached, if it cannot.
+fn fault_of_key(connection: &Connection, table: &Table) -> Result<Option<TableFault>> {
+    let (key, _) = table.column_names();
+    let found = connection.query_row(sql::KEY, params![table.name(), key], |row| {
+        Ok((row.get::<_, String>(0)?, row.get::<_, bool>(1)?, row.get::<_, bool>(2)?))
+    });
+    let key = key.to_string();
+    Ok(match found.optional()? {
+        None => Some(TableFault::NoKey(key)),
+        Some((found, false, _)) => Some(TableFault::KeyType {
+            key,
+            found: if found.is_empty() { "of no type".to_string() } else { found },
+            expected: "INTEGER",
+            remedy: "copy the rows to a table whose key is INTEGER".to_string(),
+        }),
+        Some((_, _, false)) => Some(TableFault::KeyNotUnique {
+            key,
+            remedy: "it has to be the only column of the INTEGER PRIMARY KEY, or NOT NULL with a \
+                     unique index of its own"
+                .to_string(),
+        }),
+        Some((_, true, true)) => None,
+    })
+}
+
+/// Refuses to prepare a table that cannot be cached, of which these faults are known.
+pub(super) fn refuse_set_up(
+    connection: &Connection,
+    table: &Table,
+    faults: &[TableFault],
+) -> std::result::Result<(), OriginError> {
+    let mut faults: Vec<TableFault> =
+        faults.iter().filter(|fault| fault.prevents_set_up()).cloned().collect();
+    if faults.is_empty() {
+        faults.extend(bad_keys(connection, table)?);
+    }
+    if faults.is_empty() { Ok(()) } else { Err(reason(table, &faults)) }
+}
+
 /// Whether all rows have a key and a version that the cache can have.
-pub(super) fn bad_rows(connection: &Connection, table: &Table) -> Result<Option<TableFault>> {
-    let count: i64 = connection.query_row(&sql::bad_rows(table), [], |row| row.get(0))?;
-    Ok((count > 0).then_some(TableFault::Rows(count)))
+pub(super) fn bad_rows(connection: &Connection, table: &Table) -> Result<Vec<TableFault>> {
+    let versions: i64 = connection.query_row(&sql::bad_versions(table), [], |row| row.get(0))?;
+    let versions = (versions > 0).then_some(TableFault::BadVersions(versions));
+    Ok(bad_keys(connection, table)?.into_iter().chain(versions).collect())
+}
+
+/// Whether all rows have a key that the cache can have.
+fn bad_keys(connection: &Connection, table: &Table) -> Result<Option<TableFault>> {
+    connection.query_row(&sql::bad_keys(table), [], |row| {
+        let (count, least): (i64, Option<String>) = (row.get(0)?, row.get(1)?);
+        let least = least.unwrap_or_else(|| "NULL".to_string());
+        Ok((count > 0).then_some(TableFault::BadKeys { least, count }))
+    })
 }

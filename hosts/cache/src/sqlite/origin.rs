@@ -4,8 +4,9 @@ use super::guard::Guard;
 use super::row::SqliteRow;
 use super::sql;
 use super::transaction::{SqliteFilling, SqliteTransaction};
+use crate::filling::FillingNumber;
 use crate::origin::{Origin, OriginError, OriginIdentity, Stored};
-use crate::table::{Table, TableFault};
+use crate::table::{Table, TableFault, checked, reason};
 use crate::version::Version;
 use rusqlite::{Connection, Error, OpenFlags, OptionalExtension, Row, TransactionBehavior, params};
 use std::fmt;
@@ -36,6 +37,8 @@ pub(super) struct Pool {
     pub table: Table,
     timeout: Duration,
     idle: Mutex<Vec<Session>>,
+    /// The filling that transactions name.
+    named: Mutex<Option<FillingNumber>>,
 }
 
 /// A connection, and what its transaction may change.
@@ -48,8 +51,9 @@ impl<T: SqliteRow> SqliteOrigin<T> {
     /// The table in this file. Nothing is opened yet.
     #[must_use]
     pub fn new(path: impl AsRef<Path>, table: Table) -> SqliteOrigin<T> {
-        let (path, idle) = (path.as_ref().to_path_buf(), Mutex::default());
-        let pool = Pool { path, table, timeout: TIMEOUT, idle };
+        let path = path.as_ref().to_path_buf();
+        let (idle, named) = (Mutex::default(), Mutex::default());
+        let pool = Pool { path, table, timeout: TIMEOUT, idle, named };
         SqliteOrigin { pool, rows: PhantomData }
     }
 
@@ -61,19 +65,21 @@ impl<T: SqliteRow> SqliteOrigin<T> {
 
     /// Gives the table its version column and its guard, in one transaction: an operator's call,
     /// which may be repeated. It also draws an identity for the table, in a table
-    /// `krl_cache_identity`.
+    /// `krl_cache_identity`, and makes a table `krl_cache_filling` for the current filling.
     ///
     /// # Errors
     ///
-    /// If there is no such table, or SQLite cannot write it.
+    /// If there is no such table, its key cannot be cached, or SQLite cannot write it. Nothing has
+    /// changed then.
     pub fn set_up(&self) -> Result<(), OriginError> {
         let mut connection = self.pool.open()?.connection;
         let table = &self.pool.table;
         let changes = connection.transaction_with_behavior(TransactionBehavior::Immediate)?;
+        let faults = check::faults(&changes, table)?;
+        check::refuse_set_up(&changes, table, &faults)?;
         for (name, _) in sql::triggers(table) {
             changes.execute_batch(&sql::drop_trigger(&name))?;
         }
-        let faults = check::faults(&changes, table)?;
         if faults.iter().any(|fault| matches!(fault, TableFault::Version(_))) {
             changes.execute_batch(&sql::add_version(table))?;
         }
@@ -81,6 +87,7 @@ impl<T: SqliteRow> SqliteOrigin<T> {
         for (_, made) in sql::triggers(table) {
             changes.execute_batch(&made)?;
         }
+        changes.execute_batch(sql::FILLINGS)?;
         changes.execute_batch(sql::IDENTITIES)?;
         changes.execute(sql::DRAW_IDENTITY, params![table.name()])?;
         Ok(changes.commit()?)
@@ -111,11 +118,7 @@ impl Pool {
     fn connect(&self) -> Result<Session, OriginError> {
         let session = self.open()?;
         let faults = check::faults(&session.connection, &self.table)?;
-        if faults.is_empty() {
-            return Ok(session);
-        }
-        let faults: Vec<String> = faults.iter().map(TableFault::to_string).collect();
-        Err(OriginError::new(faults.join("; ")))
+        if faults.is_empty() { Ok(session) } else { Err(reason(&self.table, &faults)) }
     }
 
     fn open(&self) -> Result<Session, OriginError> {
@@ -136,6 +139,11 @@ impl Pool {
         }
     }
 
+    /// The filling that transactions name, if one is confirmed.
+    pub fn named(&self) -> MutexGuard<'_, Option<FillingNumber>> {
+        self.named.lock().unwrap_or_else(PoisonError::into_inner)
+    }
+
     fn idle(&self) -> MutexGuard<'_, Vec<Session>> {
         self.idle.lock().unwrap_or_else(PoisonError::into_inner)
     }
@@ -152,6 +160,17 @@ impl<T: SqliteRow> Origin for SqliteOrigin<T> {
         let bits = session.connection.query_row(sql::IDENTITY, name, |row| row.get(0)).optional();
         let identity = bits?.and_then(|bits: Vec<u8>| OriginIdentity::new(bits));
         identity.ok_or_else(|| OriginError::new("the table has no identity: set it up"))
+    }
+
+    fn filling(&self) -> Result<Option<FillingNumber>, OriginError> {
+        let session = self.pool.session()?;
+        let filling = current_filling(&session.connection, &self.pool.table)?;
+        self.pool.give_back(session);
+        Ok(filling)
+    }
+
+    fn name_filling(&self, filling: FillingNumber) {
+        *self.pool.named() = Some(filling);
     }
 
     fn load(&self, keys: &[u64]) -> Result<Vec<Stored<T>>, OriginError> {
@@ -172,6 +191,17 @@ impl<T: SqliteRow> Origin for SqliteOrigin<T> {
     fn size_of(&self, body: &T) -> usize {
         body.size()
     }
+}
+
+/// The current filling of the table.
+pub(super) fn current_filling(
+    connection: &Connection,
+    table: &Table,
+) -> Result<Option<FillingNumber>, OriginError> {
+    let name = params![table.name()];
+    let found = connection.query_row(sql::FILLING, name, |row| row.get(0)).optional()?;
+    let number = |text: String| text.parse().map_err(OriginError::new);
+    found.map(number).transpose()
 }
 
 /// The rows of these keys.
@@ -195,9 +225,7 @@ pub(super) fn stored<T: SqliteRow>(
 /// The key and the version of a row, which are its first two columns.
 pub(super) fn key_and_version(row: &Row<'_>) -> Result<(u64, Version), OriginError> {
     let (key, version): (i64, Vec<u8>) = (row.get(0)?, row.get(1)?);
-    let bad = || OriginError::new(format!("the row {key} has a key or a version that is none"));
-    let version = Version::from_bytes(&version).ok_or_else(bad)?;
-    Ok((u64::try_from(key).map_err(|_| bad())?, version))
+    checked(key, &version)
 }
 
 pub(super) fn reported(error: Error) -> OriginError {

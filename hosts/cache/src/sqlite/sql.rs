@@ -20,6 +20,16 @@ pub(super) const DRAW_IDENTITY: &str =
 
 pub(super) const IDENTITY: &str = "SELECT bits FROM krl_cache_identity WHERE name = ?1";
 
+/// The table that has the current fillings of cached tables.
+pub(super) const FILLINGS_NAME: &str = "krl_cache_filling";
+
+pub(super) const FILLINGS: &str = "
+    CREATE TABLE IF NOT EXISTS krl_cache_filling (name TEXT PRIMARY KEY, filling TEXT NOT NULL)";
+
+pub(super) const FILLING: &str = "SELECT filling FROM krl_cache_filling WHERE name = ?1";
+
+pub(super) const MAKE_CURRENT: &str = "INSERT OR REPLACE INTO krl_cache_filling VALUES (?1, ?2)";
+
 /// Adds the version column.
 pub(super) fn add_version(table: &Table) -> String {
     let (name, version) = (table.quoted(), table.quoted_version());
@@ -35,7 +45,12 @@ pub(super) fn draw_versions(table: &Table) -> String {
 /// The names of the guard's triggers, with the statements that make them.
 pub(super) fn triggers(table: &Table) -> [(String, String); 3] {
     let (name, key, version) = (table.quoted(), table.quoted_key(), table.quoted_version());
-    let (old, new) = (format!("OLD.{key}, NULL"), format!("NEW.{key}, NEW.{version}"));
+    let filling = format!(
+        "(SELECT filling FROM krl_cache_filling WHERE name = '{}')",
+        table.name().replace('\'', "''")
+    );
+    let old = format!("OLD.{key}, NULL, {filling}");
+    let new = format!("NEW.{key}, NEW.{version}, {filling}");
     let made = |kind: &str, calls: &[&str]| {
         let trigger = table.trigger(kind);
         let call = |values: &&str| format!("SELECT {GUARD_FUNCTION}({values});");
@@ -59,9 +74,10 @@ pub(super) const TRIGGER: &str =
 pub(super) const TABLE: &str =
     "SELECT sql NOT LIKE 'CREATE VIRTUAL%' FROM sqlite_schema WHERE type = 'table' AND name = ?1";
 
-/// Whether the column is an integer that is unique by itself.
+/// The type of a column, whether it is a type of integers, and whether the column is unique by
+/// itself.
 pub(super) const KEY: &str = "
-    SELECT upper(type) LIKE '%INT%' AND (
+    SELECT type, upper(type) LIKE '%INT%', (
         pk = 1 AND upper(type) = 'INTEGER'
             AND (SELECT count(*) FROM pragma_table_info(?1) WHERE pk > 0) = 1
         OR \"notnull\" AND EXISTS (
@@ -107,13 +123,20 @@ pub(super) fn versions(table: &Table) -> String {
     format!("SELECT {key}, {version} FROM {name} ORDER BY {key}")
 }
 
-/// How many rows have a key or a version that the cache cannot have.
-pub(super) fn bad_rows(table: &Table) -> String {
-    let (name, key, version) = (table.quoted(), table.quoted_key(), table.quoted_version());
+/// How many rows have a key that the cache cannot have, and the least of those keys.
+pub(super) fn bad_keys(table: &Table) -> String {
+    let (name, key) = (table.quoted(), table.quoted_key());
     format!(
-        "SELECT count(*) FROM {name} WHERE typeof({key}) <> 'integer'
-            OR {key} NOT BETWEEN 0 AND {LAST_KEY}
-            OR typeof({version}) <> 'blob' OR length({version}) <> 16"
+        "SELECT count(*), CAST(min({key}) AS TEXT) FROM {name}
+            WHERE typeof({key}) <> 'integer' OR {key} NOT BETWEEN 0 AND {LAST_KEY}"
+    )
+}
+
+/// How many rows have a version that the cache cannot have.
+pub(super) fn bad_versions(table: &Table) -> String {
+    let (name, version) = (table.quoted(), table.quoted_version());
+    format!(
+        "SELECT count(*) FROM {name} WHERE typeof({version}) <> 'blob' OR length({version}) <> 16"
     )
 }
 

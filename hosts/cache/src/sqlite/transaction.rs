@@ -1,11 +1,14 @@
 //! Transactions of SQLite.
-use super::origin::{Pool, Session, key_and_version, reported, stored};
+use super::origin::{Pool, Session, current_filling, key_and_version, reported, stored};
 use super::row::SqliteRow;
 use super::sql;
-use crate::origin::{Change, CommitError, Filling, OriginError, Stored, Transaction};
+use crate::filling::FillingNumber;
+use crate::origin::{
+    Change, CommitError, Filling, OriginError, Stored, Transaction, filled_meanwhile,
+};
 use crate::table::Table;
 use crate::version::Version;
-use rusqlite::{Error, ErrorCode, ToSql, params_from_iter};
+use rusqlite::{Error, ErrorCode, ToSql, params, params_from_iter};
 use std::fmt;
 
 /// A transaction of SQLite, which has locked the whole file for writing.
@@ -85,7 +88,7 @@ impl<T: SqliteRow> Transaction for SqliteTransaction<'_, T> {
 
     fn apply(&mut self, version: Version, changes: &[(u64, Change<T>)]) -> Result<(), OriginError> {
         let keys = self.keys.iter().map(|key| key.cast_signed()).collect();
-        self.session()?.guard.admit(keys, version);
+        self.session()?.guard.admit(keys, version, *self.pool.named());
         let made = changes.iter().try_for_each(|(key, change)| {
             // An error of an earlier statement may have ended the transaction.
             self.make(self.session()?, version, *key, change)
@@ -160,11 +163,20 @@ impl Filling for SqliteFilling {
         Ok(versions)
     }
 
-    fn confirm(&mut self) -> Result<(), OriginError> {
-        if self.session.connection.is_autocommit() {
+    fn make_current(
+        self,
+        from: Option<FillingNumber>,
+        to: FillingNumber,
+    ) -> Result<(), OriginError> {
+        let connection = &self.session.connection;
+        if connection.is_autocommit() {
             return Err(OriginError::new("the transaction has ended"));
         }
-        Ok(())
+        if current_filling(connection, &self.table)? != from {
+            return Err(filled_meanwhile());
+        }
+        connection.execute(sql::MAKE_CURRENT, params![self.table.name(), to.to_string()])?;
+        Ok(connection.execute_batch("COMMIT")?)
     }
 }
 

@@ -1,6 +1,7 @@
 //! A table in memory, of which something is otherwise.
 use krl_cache::{
-    MemoryOrigin, MemoryTransaction, Needed, Origin, OriginError, OriginIdentity, Stored,
+    FillingNumber, MemoryOrigin, MemoryTransaction, Needed, Origin, OriginError, OriginIdentity,
+    Stored,
 };
 use std::sync::Mutex;
 
@@ -32,6 +33,14 @@ impl Origin for Wrapped {
     fn identity(&self) -> Result<OriginIdentity, OriginError> {
         self.identity
             .map_or_else(|| self.table.identity(), |name| Ok(OriginIdentity::new(name).unwrap()))
+    }
+
+    fn filling(&self) -> Result<Option<FillingNumber>, OriginError> {
+        self.table.filling()
+    }
+
+    fn name_filling(&self, filling: FillingNumber) {
+        self.table.name_filling(filling);
     }
 
     fn load(&self, keys: &[u64]) -> Result<Vec<Stored<String>>, OriginError> {
