@@ -70,8 +70,9 @@ impl<B> Bodies<B> {
         Finder { bodies: self, locked: None }
     }
 
-    /// Keeps a committed body of this size, which was read or written in this filling.
-    pub fn keep(&self, stored: Stored<B>, size: usize, filling: u64) {
+    /// Keeps a committed body of this size, which was read in this filling. It answers whether the
+    /// one before had another version, or there was none.
+    pub fn keep(&self, stored: Stored<B>, size: usize, filling: u64) -> bool {
         let Stored { key, version, body } = stored;
         let bytes = size + OVERHEAD;
         let mut shard = self.write(self.place(key));
@@ -80,13 +81,27 @@ impl<B> Bodies<B> {
         let was_used = AtomicBool::new(false);
         let kept = Body { version, content: body, bytes, filling, stamp, was_used };
         shard.bytes += bytes;
-        match shard.bodies.insert(key, kept) {
+        let older = shard.bodies.insert(key, kept);
+        match &older {
             Some(older) => shard.bytes -= older.bytes,
             None => shard.queue.push_back(key),
         }
         shard.make_room(self.room);
         // A sum that wraps twice is right again.
         self.bytes.fetch_add(shard.bytes.wrapping_sub(before), Ordering::Relaxed);
+        older.is_none_or(|older| older.version != version)
+    }
+
+    /// Whether there is a body of the key, whatever its version.
+    pub fn has(&self, key: u64) -> bool {
+        self.read(self.place(key)).bodies.contains_key(&key)
+    }
+
+    /// About how many bytes the body of the key takes, if it was read since it was kept.
+    pub fn size_if_used(&self, key: u64) -> Option<usize> {
+        let shard = self.read(self.place(key));
+        let body = shard.bodies.get(&key)?;
+        body.was_used.load(Ordering::Relaxed).then_some(body.bytes)
     }
 
     pub fn count(&self) -> usize {

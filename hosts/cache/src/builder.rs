@@ -3,6 +3,7 @@ use crate::bodies::Bodies;
 use crate::cache::Cache;
 use crate::error::CacheError;
 use crate::filling::EarlierServer;
+use crate::lost::Lost;
 use crate::origin::Origin;
 use crate::statistics::Counters;
 use crate::steps::Step;
@@ -115,6 +116,7 @@ impl<O: Origin> Builder<O> {
             writer,
             origin,
             bodies: Bodies::new(memory),
+            lost: Lost::default(),
             turns: Turns::default(),
             counters: Counters::default(),
             identity,

@@ -3,6 +3,7 @@ use crate::bodies::Bodies;
 use crate::builder::{Builder, OnStep};
 use crate::error::CacheError;
 use crate::filling::EarlierServer;
+use crate::lost::Lost;
 use crate::origin::{Origin, OriginIdentity};
 use crate::statistics::{Counters, Statistics};
 use crate::steps::Step;
@@ -22,6 +23,7 @@ pub struct Cache<O: Origin> {
     pub(crate) writer: Client,
     pub(crate) origin: O,
     pub(crate) bodies: Bodies<O::Body>,
+    pub(crate) lost: Lost,
     pub(crate) turns: Turns,
     pub(crate) counters: Counters,
     pub(crate) identity: OriginIdentity,

@@ -52,6 +52,7 @@ mod changes;
 mod error;
 mod fill;
 mod filling;
+mod lost;
 mod mark;
 mod memory;
 mod one_row;

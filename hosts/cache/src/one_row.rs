@@ -80,9 +80,23 @@ impl<O: Origin> Cache<O> {
     }
 
     fn pin_one(&self, writing: &Writing<'_>, key: u64) -> Result<Pinned, CacheError> {
+        self.give_way(key);
         let pinned = Pinned::for_write(writing, key)?;
         self.step(Step::Pinned);
         Ok(pinned)
+    }
+
+    /// Gives back what this process reads of a row that it is about to write. Otherwise the server
+    /// would call it back.
+    ///
+    /// A slot is given back only whole. If the key before has a row too, the slot is just this key.
+    fn give_way(&self, key: u64) {
+        let with_key_before = key.saturating_sub(1)..=key;
+        let (mut rows, points) = (0, key.min(1) + 1);
+        let is_known = self.reader.for_each_cached(with_key_before, |_| rows += 1) == Ok(true);
+        if is_known && rows == points && self.reader.forget(key..=key).is_ok() {
+            self.lost.note([key]);
+        }
     }
 
     /// Changes one row. If krl has what the write expects, the announcement is made while the

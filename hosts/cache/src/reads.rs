@@ -182,12 +182,12 @@ impl<O: Origin> Cache<O> {
         by: Moment,
         ahead: &mut Ahead<O::Body>,
     ) -> Result<Vec<krl::Row>, CacheError> {
-        let unknown = self.unknown(keys);
-        if unknown.is_empty() {
+        let to_load = self.to_load(keys);
+        if to_load.is_empty() {
             return Ok(self.reader.read(keys.clone())?);
         }
         let mut read = None;
-        let found = self.origin.load_while(&unknown, || {
+        let found = self.origin.load_while(&to_load, || {
             let rows = read.insert(self.reader.read(keys.clone()));
             let is_missing = |rows: &Vec<krl::Row>| {
                 !matches!(self.with_bodies(rows, by, loaded), Scanned::All(_))
@@ -203,13 +203,19 @@ impl<O: Origin> Cache<O> {
         Ok(read.unwrap_or_else(|| self.reader.read(keys.clone()))?)
     }
 
-    /// The keys that krl's client does not know, if the range has few keys.
-    fn unknown(&self, keys: &Range<u64>) -> Vec<u64> {
+    /// The rows to load while krl is asked for a range, if that has few keys: those of keys that
+    /// krl's client does not know, and others that were lost.
+    fn to_load(&self, keys: &Range<u64>) -> Vec<u64> {
         if keys.end - keys.start > FEW {
             return Vec::new();
         }
-        let is_known = |key: u64| self.reader.for_each_cached(key..=key, |_| ()) == Ok(true);
-        keys.clone().filter(|key| !is_known(*key)).collect()
+        let is_unknown = |key: &u64| self.reader.for_each_cached(*key..=*key, |_| ()) != Ok(true);
+        // The row of a span is at its end.
+        let taken = self.reader.take_called_back().into_iter();
+        let taken = taken.map(|span| span.end.saturating_sub(1));
+        self.lost.note(taken.filter(|key| *key <= LAST_KEY && is_unknown(key)));
+        let unknown: Vec<u64> = keys.clone().filter(is_unknown).collect();
+        if unknown.is_empty() { unknown } else { self.lost.to_load(&unknown, &self.bodies) }
     }
 
     fn with_bodies(
@@ -306,8 +312,10 @@ impl<O: Origin> Cache<O> {
 
     /// Keeps a committed body in memory.
     pub(crate) fn keep(&self, stored: Stored<O::Body>, filling: u64) {
-        let size = self.origin.size_of(&stored.body);
-        self.bodies.keep(stored, size, filling);
+        let (key, size) = (stored.key, self.origin.size_of(&stored.body));
+        if self.bodies.keep(stored, size, filling) {
+            self.lost.has_changed(key);
+        }
     }
 }
 

@@ -107,6 +107,33 @@ fn what_is_in_memory_needs_no_message() {
     assert_eq!(two.statistics().loaded, after.loaded + 1, "the other bodies stayed");
 }
 
+#[test]
+fn rows_that_others_have_changed_are_loaded_by_one_question() {
+    let site = Site::new();
+    let (one, two) = (site.cache(0), site.cache(1));
+    (0..20).for_each(|key| assert!(persist(|| one.insert(key, "old".to_string()))));
+    persist(|| two.range(0..20));
+    for key in [3, 9, 17] {
+        assert!(persist(|| one.update(key, |_| Some(key.to_string()))));
+    }
+    let before = two.statistics();
+    for key in [9, 17, 3] {
+        assert_eq!(text(&two, key), Some(key.to_string()));
+    }
+    let after = two.statistics();
+    assert_eq!((after.loads, after.loaded), (before.loads + 1, before.loaded + 3));
+    // 17 is loaded with 3, and nobody reads it: so it is not loaded ahead the next time.
+    for _ in 0..2 {
+        for key in [3, 17] {
+            assert!(persist(|| one.update(key, |_| Some("new".to_string()))));
+        }
+        assert_eq!(text(&two, 3).unwrap(), "new");
+    }
+    assert_eq!(two.statistics().loaded, after.loaded + 3);
+    assert_eq!(text(&two, 17).unwrap(), "new");
+    assert_eq!(two.statistics().loads, after.loads + 3);
+}
+
 /// How often a row was counted up.
 fn count(text: &str) -> u32 {
     text.parse().unwrap()

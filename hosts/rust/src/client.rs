@@ -461,6 +461,15 @@ impl Client {
         self.within(self.timeout()).forget(keys)
     }
 
+    /// The spans of keys that the server has called back from the client since the last call of
+    /// this, the oldest first and each once: other clients wanted to change something there, or to
+    /// read what this one has written. It is a hint for whoever reads ahead. The last 256 spans are
+    /// kept.
+    #[must_use]
+    pub fn take_called_back(&self) -> Vec<Range<u64>> {
+        self.link().with_jobs(Jobs::take_called_back)
+    }
+
     /// Gives back all that the client holds, and waits until the server has kept that it left. From
     /// then on the calls of all clones are refused, and another process may take the number.
     ///

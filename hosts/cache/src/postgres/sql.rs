@@ -224,6 +224,11 @@ pub(super) const ADMIT: &str = "
     SELECT set_config('krl_cache.version', $1, true), set_config('krl_cache.keys', $2, true),
         set_config('krl_cache.filling', $3, true)";
 
+/// Locks one key, as [`lock_keys`] does, and lets the transaction change it, as [`ADMIT`] does.
+pub(super) const LOCK_TO_CHANGE: &str = "
+    SELECT pg_advisory_xact_lock($1), set_config('krl_cache.version', $2, true),
+        set_config('krl_cache.keys', $3, true), set_config('krl_cache.filling', $4, true)";
+
 pub(super) const COMMIT: &str = "COMMIT";
 
 /// A transaction that has failed is not committed, and PostgreSQL reports no error for that: the

@@ -13,7 +13,7 @@ use crate::origin::{
 use crate::table::Table;
 use crate::version::Version;
 use futures_util::Stream;
-use futures_util::future::{join3, try_join, try_join_all};
+use futures_util::future::{join3, try_join, try_join_all, try_join3};
 use std::fmt;
 use std::future::poll_fn;
 use std::pin::pin;
@@ -88,17 +88,18 @@ impl<'o, T: PostgresRow> PostgresTransaction<'o, T> {
     ) -> Result<(), OriginError> {
         let CacheSession { session, statements, seed } = self.session()?;
         let Replacement { key, from, to, body } = replacement;
-        let (locks, admitted) = (locks_of(&[*key], *seed), Admitted::of(*to, &[*key], self.pool));
+        let (lock, admitted) = (lock_of(*key, *seed), Admitted::of(*to, &[*key], self.pool));
         let (from, to) = (from.as_bytes().as_slice(), to.as_bytes().as_slice());
         let key = key.cast_signed();
         let mut values = values(&key, &to, &**body);
         values.push(&from);
-        let admit = admitted.values();
+        let [version, keys, filling] = admitted.values();
+        let locking: [&(dyn ToSql + Sync); 4] = [&lock, version, keys, filling];
         let asked = async |client: &Client| {
-            let admitted = client.query(&statements.admit, &admit);
-            let admitted = try_join(begun(client, statements, &locks), admitted);
+            let begun = client.execute(&statements.begin, &[]);
+            let locked = client.execute(&statements.lock_to_change, &locking);
             let replaced = client.execute(&statements.replace, &values);
-            Ok(try_join(admitted, replaced).await?.1)
+            Ok(try_join3(begun, locked, replaced).await?.2)
         };
         let count = session.ask_while(asked, || {
             meanwhile();
@@ -150,7 +151,11 @@ async fn begun(client: &Client, statements: &Statements, locks: &[i64]) -> Resul
 
 /// The numbers of the locks of these keys.
 fn locks_of(keys: &[u64], seed: u64) -> Vec<i64> {
-    keys.iter().map(|key| key.wrapping_add(seed).cast_signed()).collect()
+    keys.iter().map(|key| lock_of(*key, seed)).collect()
+}
+
+fn lock_of(key: u64, seed: u64) -> i64 {
+    key.wrapping_add(seed).cast_signed()
 }
 
 impl<T: PostgresRow> Transaction for PostgresTransaction<'_, T> {

@@ -2,6 +2,7 @@
 mod anew;
 mod batch;
 mod bound;
+mod called_back;
 mod contended;
 mod crossed;
 mod hold;
@@ -32,6 +33,7 @@ use std::time::{Duration, Instant};
 pub(crate) use anew::Dropped;
 use batch::Report;
 use bound::{Bound, Wanted};
+use called_back::CalledBack;
 use contended::Contended;
 use crossed::Crossed;
 use hold::Taking;
@@ -154,6 +156,7 @@ pub(crate) struct Jobs {
     shared: SharedRows,
     crossed: Crossed,
     contended: Contended,
+    called_back: CalledBack,
     asking: Asking,
     room: Vec<Row>,
     /// None if a tick is due.
@@ -198,6 +201,7 @@ impl Jobs {
             shared: SharedRows::default(),
             crossed: Crossed::default(),
             contended: Contended::default(),
+            called_back: CalledBack::default(),
             asking: Asking::Allowed,
             room: Vec::with_capacity(64),
             ticked: None,
@@ -392,6 +396,7 @@ impl Jobs {
             if let Some(span) = message.called_back() {
                 self.pins.note(&span);
                 self.note_shared(&span);
+                self.called_back.note(&span);
                 self.note_contended(span);
             }
             self.step(message)?;
