@@ -15,9 +15,17 @@ pub(crate) struct Answering<T>(Arc<Place<T>>);
 
 #[derive(Debug)]
 struct Place<T> {
-    state: Mutex<State<T>>,
+    kept: Mutex<Kept<T>>,
     changed: Condvar,
     wakes: Wakes,
+}
+
+#[derive(Debug)]
+struct Kept<T> {
+    state: State<T>,
+    /// A caller waits for `changed`, or has waited for it. If none does, the system need not be
+    /// asked to wake one.
+    is_waited_for: bool,
 }
 
 #[derive(Debug)]
@@ -32,8 +40,8 @@ enum State<T> {
 
 /// A place for one answer. A task that waits for it is woken with `wakes`.
 pub(crate) fn place<T>(wakes: &Wakes) -> (Answering<T>, Answer<T>) {
-    let (state, changed) = (Mutex::new(State::Open(None)), Condvar::new());
-    let place = Arc::new(Place { state, changed, wakes: wakes.clone() });
+    let kept = Mutex::new(Kept { state: State::Open(None), is_waited_for: false });
+    let place = Arc::new(Place { kept, changed: Condvar::new(), wakes: wakes.clone() });
     (Answering(Arc::clone(&place)), Answer(place))
 }
 
@@ -57,7 +65,7 @@ impl<T> Answer<T> {
     ///
     /// `Empty` if it has not come; `Disconnected` if it was taken, or none comes any more.
     pub fn try_recv(&self) -> Result<T, TryRecvError> {
-        self.0.lock().take().map_err(|is_over| match is_over {
+        self.0.lock().state.take().map_err(|is_over| match is_over {
             IsOver::Yes => TryRecvError::Disconnected,
             IsOver::No => TryRecvError::Empty,
         })
@@ -69,10 +77,12 @@ impl<T> Answer<T> {
     ///
     /// `Timeout` if it has not come; `Disconnected` if it was taken, or none comes any more.
     pub fn recv_timeout(&self, timeout: Duration) -> Result<T, RecvTimeoutError> {
-        let is_open = |state: &mut State<T>| matches!(state, State::Open(_));
-        let waited = self.0.changed.wait_timeout_while(self.0.lock(), timeout, is_open);
-        let (mut state, _) = waited.unwrap_or_else(PoisonError::into_inner);
-        state.take().map_err(|is_over| match is_over {
+        let mut kept = self.0.lock();
+        kept.is_waited_for = true;
+        let is_open = |kept: &mut Kept<T>| matches!(kept.state, State::Open(_));
+        let waited = self.0.changed.wait_timeout_while(kept, timeout, is_open);
+        let (mut kept, _) = waited.unwrap_or_else(PoisonError::into_inner);
+        kept.state.take().map_err(|is_over| match is_over {
             IsOver::Yes => RecvTimeoutError::Disconnected,
             IsOver::No => RecvTimeoutError::Timeout,
         })
@@ -81,15 +91,15 @@ impl<T> Answer<T> {
     /// The answer, or nothing if none comes any more. Until then the task is woken when it has
     /// something to see here.
     pub fn poll(&self, context: &Context<'_>) -> Poll<Option<T>> {
-        let mut state = self.0.lock();
-        if let State::Open(waker) = &mut *state {
+        let mut kept = self.0.lock();
+        if let State::Open(waker) = &mut kept.state {
             let known = waker.replace(context.waker().clone());
             // It may be the last of a task, whose own calls end then.
-            drop(state);
+            drop(kept);
             drop(known);
             return Poll::Pending;
         }
-        Poll::Ready(state.take().ok())
+        Poll::Ready(kept.state.take().ok())
     }
 }
 
@@ -113,18 +123,21 @@ impl<T> State<T> {
 }
 
 impl<T> Place<T> {
-    fn lock(&self) -> MutexGuard<'_, State<T>> {
-        self.state.lock().unwrap_or_else(PoisonError::into_inner)
+    fn lock(&self) -> MutexGuard<'_, Kept<T>> {
+        self.kept.lock().unwrap_or_else(PoisonError::into_inner)
     }
 
     /// Ends in this state, if it has not ended before.
     fn end(&self, end: State<T>) {
-        let mut state = self.lock();
-        let State::Open(waker) = &mut *state else { return };
+        let mut kept = self.lock();
+        let State::Open(waker) = &mut kept.state else { return };
         let waker = waker.take();
-        *state = end;
-        drop(state);
-        self.changed.notify_all();
+        kept.state = end;
+        let is_waited_for = kept.is_waited_for;
+        drop(kept);
+        if is_waited_for {
+            self.changed.notify_all();
+        }
         if let Some(task) = waker {
             self.wakes.add(task);
         }
