@@ -1,5 +1,6 @@
 //! Why a call of the cache failed.
 use crate::filling::FillingNumber;
+use crate::mark::LAST_KEY;
 use crate::origin::OriginError;
 use std::error::Error;
 use std::fmt;
@@ -56,12 +57,17 @@ impl fmt::Display for CacheError {
             CacheError::Unknown(error) => {
                 write!(f, "it is unknown whether the write was committed: {error}")
             }
-            CacheError::Full => f.write_str("krl has no room for another row"),
-            CacheError::BadKey => f.write_str(
-                "a key is 0 to 2^63 - 4, a range ends at its start or above, and a transaction \
-                 has at least one key",
+            CacheError::Full => f.write_str(
+                "krl's server has no room for another row: start it with a greater --room",
             ),
-            CacheError::TimedOut => f.write_str("the call was not finished in time"),
+            CacheError::BadKey => write!(
+                f,
+                "a key has to be from 0 to {LAST_KEY}, a range must not end below its start, and a \
+                 transaction has to name at least one key"
+            ),
+            CacheError::TimedOut => {
+                f.write_str("the call did not finish within the timeout of the cache")
+            }
             CacheError::NotFilled => f.write_str(
                 "krl does not have the versions of this database's rows: run krl-cache fill",
             ),
@@ -101,7 +107,11 @@ impl From<OriginError> for CacheError {
 
 impl fmt::Display for OtherKey {
     fn fmt(&self, f: &mut fmt::Formatter<'_>) -> fmt::Result {
-        write!(f, "the transaction did not name the key {} when it began", self.key)
+        write!(
+            f,
+            "the transaction did not name the key {} when it began: name all of its keys",
+            self.key
+        )
     }
 }
 

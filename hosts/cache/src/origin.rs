@@ -312,8 +312,9 @@ pub(crate) fn filled_meanwhile() -> OriginError {
 }
 
 /// Why a change is refused that is made by a writer of another filling.
-pub(crate) const OF_ANOTHER_FILLING: &str = "the rows of this table are cached by another krl \
-    server: use the one that was filled last, or fill this one by krl-cache fill";
+pub(crate) const OF_ANOTHER_FILLING: &str = "\
+    the rows of this table are cached by another krl server: use the one that was filled last; or, \
+    if no process uses that one any more, run krl-cache fill with --replaces-server";
 
 /// Why the database did not do what it was asked to do.
 #[derive(Debug)]

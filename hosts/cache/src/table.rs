@@ -226,6 +226,18 @@ impl TableFault {
         )
     }
 
+    /// Whether `set_up` or the migration mends some of these faults.
+    #[must_use]
+    pub fn are_mended_by_migration(faults: &[TableFault]) -> bool {
+        let is_mended = |fault: &TableFault| {
+            matches!(
+                fault,
+                TableFault::Version(_) | TableFault::Trigger(_) | TableFault::Fillings(_)
+            )
+        };
+        faults.iter().any(is_mended) && !faults.iter().any(TableFault::prevents_set_up)
+    }
+
     /// Whether the table cannot be prepared because of it: `set_up` and the migration change nothing.
     #[must_use]
     pub fn prevents_set_up(&self) -> bool {
@@ -242,10 +254,15 @@ impl TableFault {
     }
 }
 
-/// Faults of a table as one reason.
+/// Faults of a table as one reason, with what to do.
 pub(crate) fn reason(table: &Table, faults: &[TableFault]) -> OriginError {
-    let faults: Vec<String> = faults.iter().map(TableFault::to_string).collect();
-    OriginError::new(format!("{}: {}", table.shown(), faults.join("; ")))
+    let shown: Vec<String> = faults.iter().map(TableFault::to_string).collect();
+    let remedy = if TableFault::are_mended_by_migration(faults) {
+        "; krl-cache migration (for SQLite set-up) adds what is missing"
+    } else {
+        ""
+    };
+    OriginError::new(format!("{}: {}{remedy}", table.shown(), shown.join("; ")))
 }
 
 /// Why a row with this key cannot be cached.

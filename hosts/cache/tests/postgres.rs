@@ -254,7 +254,11 @@ fn writers_of_another_krl_server_are_refused() {
     ];
     for write in writes {
         let refused = write().unwrap_err().to_string();
-        assert!(refused.contains("are cached by another krl server (filling "), "{refused}");
+        assert!(
+            refused.contains("of item are cached by another krl server (filling "),
+            "{refused}"
+        );
+        assert!(refused.contains("run krl-cache fill with --replaces-server"), "{refused}");
     }
     assert!(second.update(10, |lamp| Some(Item { price: Some(32), ..lamp.clone() })).unwrap());
     assert_eq!(rows(&second), [(10, item("lamp", 32)), (12, item("shade", 8))]);

@@ -26,7 +26,7 @@ pub fn check(
     for fault in &faults {
         let _ = writeln!(text, "{name}: {fault}");
     }
-    if is_mended_by_migration(&faults) {
+    if TableFault::are_mended_by_migration(&faults) {
         let words = words.shown();
         let _ = match database {
             Database::Postgres(_) => {
@@ -42,12 +42,4 @@ pub fn check(
     }
     output::print(&text)?;
     Ok(ExitCode::from(MISSING))
-}
-
-/// Whether the migration mends one of the faults.
-fn is_mended_by_migration(faults: &[TableFault]) -> bool {
-    let is_mended = |fault: &TableFault| {
-        matches!(fault, TableFault::Version(_) | TableFault::Trigger(_) | TableFault::Fillings(_))
-    };
-    faults.iter().any(is_mended) && !faults.iter().any(TableFault::prevents_set_up)
 }

@@ -257,7 +257,10 @@ impl Pool {
         if known.get_or_insert_with(|| identity.clone()) == identity {
             Ok(())
         } else {
-            Err(OriginError::new("it is another database than before, or was restored"))
+            Err(OriginError::new(
+                "it is another database than when the cache was opened, or was restored or \
+                 promoted: run krl-cache fill or accept, and open the cache again",
+            ))
         }
     }
 }

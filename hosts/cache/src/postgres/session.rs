@@ -209,12 +209,11 @@ pub(super) fn key_and_version(row: &Row) -> Result<(u64, Version), OriginError> 
     checked(key, row.try_get(1).map_err(reported)?)
 }
 
-/// An error, with what the database itself reports.
+/// An error, with what the database itself reports, and what it says to do.
 pub(super) fn reported(error: Error) -> OriginError {
-    match error.as_db_error() {
-        Some(told) => OriginError::new(format!("{} ({})", told.message(), told.code().code())),
-        None => OriginError::new(error),
-    }
+    let Some(reported) = error.as_db_error() else { return OriginError::new(error) };
+    let hint = reported.hint().map(|hint| format!(". {hint}")).unwrap_or_default();
+    OriginError::new(format!("{} ({}){hint}", reported.message(), reported.code().code()))
 }
 
 fn late() -> OriginError {

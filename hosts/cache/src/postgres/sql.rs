@@ -65,7 +65,8 @@ BEGIN
             TG_TABLE_NAME, coalesce(current, 'none')
             USING ERRCODE = 'object_not_in_prerequisite_state',
             DETAIL = format('The writer names filling %s.', named),
-            HINT = 'Use the krl server that was filled last, or fill this one by krl-cache fill.';
+            HINT = 'Use the krl server that was filled last; or, if no process uses that one any '
+                'more, run krl-cache fill with --replaces-server.';
     END IF;
     IF TG_OP <> 'INSERT' AND OLD.{key} <> ALL (keys::bigint[])
         OR TG_OP <> 'DELETE' AND NEW.{key} <> ALL (keys::bigint[]) THEN

@@ -159,7 +159,7 @@ impl<T: SqliteRow> Origin for SqliteOrigin<T> {
         let name = params![self.pool.table.name()];
         let bits = session.connection.query_row(sql::IDENTITY, name, |row| row.get(0)).optional();
         let identity = bits?.and_then(|bits: Vec<u8>| OriginIdentity::new(bits));
-        identity.ok_or_else(|| OriginError::new("the table has no identity: set it up"))
+        identity.ok_or_else(|| OriginError::new("the table has no identity: run krl-cache set-up"))
     }
 
     fn filling(&self) -> Result<Option<FillingNumber>, OriginError> {
