@@ -25,8 +25,10 @@ use std::time::Duration;
 /// A store in one file of SQLite, in WAL mode with synchronous=FULL: `commit` returns once the
 /// changes are on the disk. A write's row and its client's record change in one transaction.
 ///
-/// One process at a time has the file open. If another one changed it all the same, since the
-/// system or the network's disk does not keep that lock, each commit finds it and is refused.
+/// One process at a time has the file open, by a lock of the file. **The file has to be on a disk
+/// that keeps locks**: a disk of this machine does, and some network file systems do not. There two
+/// servers could open one file, and neither would notice: while it has the lock, SQLite does not
+/// look for the changes of others.
 #[derive(Debug)]
 pub struct SqliteStore {
     connection: Connection,
