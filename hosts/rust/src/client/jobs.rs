@@ -1,4 +1,5 @@
 //! What a client has been asked to do, as far as it has come.
+mod acknowledging;
 mod anew;
 mod batch;
 mod bound;
@@ -30,6 +31,7 @@ use std::ops::Range;
 use std::sync::mpsc::SyncSender;
 use std::time::{Duration, Instant};
 
+use acknowledging::Acknowledging;
 pub(crate) use anew::Dropped;
 use batch::Report;
 use bound::{Bound, Wanted};
@@ -48,6 +50,9 @@ use yielding::Narrowed;
 /// How often a client sends again what is not answered, and how often it says that it is there.
 pub(crate) const BUSY_TICK: Duration = Duration::from_millis(20);
 pub(crate) const IDLE_TICK: Duration = Duration::from_millis(250);
+
+/// A read of so many keys at most asks only for those that the client does not know.
+const FEW: u64 = 64;
 
 /// The name of a job.
 pub(crate) type JobId = u64;
@@ -157,6 +162,7 @@ pub(crate) struct Jobs {
     crossed: Crossed,
     contended: Contended,
     called_back: CalledBack,
+    acknowledging: Acknowledging,
     asking: Asking,
     room: Vec<Row>,
     /// None if a tick is due.
@@ -202,6 +208,7 @@ impl Jobs {
             crossed: Crossed::default(),
             contended: Contended::default(),
             called_back: CalledBack::default(),
+            acknowledging: Acknowledging::AtOnce,
             asking: Asking::Allowed,
             room: Vec::with_capacity(64),
             ticked: None,
@@ -502,12 +509,32 @@ impl Jobs {
         let mut room = std::mem::take(&mut self.room);
         let rows = match self.client.scan(keys, &mut room, self.now) {
             Ok(Scan::Rows) => copied(&mut room).map(Some),
-            Ok(Scan::Miss(point)) => self.ask_to_read(id, point..keys.end).map(|_| None),
+            Ok(Scan::Miss(point)) => {
+                let unknown = point..self.end_of_unknown(&(point..keys.end), &mut room);
+                self.ask_to_read(id, unknown).map(|_| None)
+            }
             Ok(Scan::Pending | Scan::Ended) => Ok(None),
             Err(code) => Err(code),
         };
         self.room = kept(room);
         rows
+    }
+
+    /// Where the last of these points that the client does not know ends, if they are few: a grant
+    /// brings each row anew for which it is asked. The client does not know the first of them.
+    fn end_of_unknown(&self, points: &Range<u64>, room: &mut Vec<Row>) -> u64 {
+        let Range { start: mut unknown, end: mut known } = *points;
+        if known - unknown > FEW {
+            return known;
+        }
+        while known - unknown > 1 {
+            let middle = u64::midpoint(unknown, known);
+            match self.client.known(&(middle..points.end), room) {
+                Ok(Scan::Rows) => known = middle,
+                _ => unknown = middle,
+            }
+        }
+        known
     }
 
     /// Asks for a lock, if the client may ask just now. It answers whether it has.

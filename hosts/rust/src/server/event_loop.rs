@@ -25,6 +25,7 @@ use crate::wire::incoming::Incoming;
 use crate::wire::message::{Head, Kind, Message};
 use commit_group::CommitGroup;
 use commits::Gathered;
+use std::mem;
 use std::sync::Arc;
 use std::time::{Duration, Instant};
 
@@ -65,6 +66,8 @@ pub(crate) struct EventLoop {
     /// There were turns since it was shown.
     is_stale: bool,
     nudged: Instant,
+    /// A release was judged since a push left last.
+    was_released: bool,
     /// When the store was asked last.
     asked_store: Instant,
     group: CommitGroup,
@@ -101,6 +104,13 @@ pub(crate) enum Heard {
     Unread(u64),
 }
 
+/// Whether a push has left.
+#[derive(Clone, Copy, Debug, PartialEq, Eq)]
+enum Pushed {
+    Nothing,
+    Some,
+}
+
 impl EventLoop {
     pub fn new(started: Started) -> EventLoop {
         let Started { server, history, connections, leases, timings, epoch, log } = started;
@@ -120,6 +130,7 @@ impl EventLoop {
             shown: now,
             is_stale: false,
             nudged: now,
+            was_released: false,
             asked_store: now,
             group: CommitGroup::default(),
             until: None,
@@ -262,6 +273,7 @@ impl EventLoop {
             Err(code) => return Err(ServeError::Refused(code)),
         };
         self.status.taken += 1;
+        self.was_released |= message.kind() == Kind::Release;
         self.route(connection, message)?;
         Ok(change)
     }
@@ -328,6 +340,28 @@ impl EventLoop {
 
     /// Gives the connections what leaves.
     pub fn send(&mut self, now: Now) -> Result<(), ServeError> {
+        if self.send_said(now)? == Pushed::Some && mem::take(&mut self.was_released) {
+            self.call_back_for_waiters();
+            self.send_said(now)?;
+        }
+        Ok(())
+    }
+
+    /// Has those called back who hold what others wait for.
+    ///
+    /// The library calls nobody back after a release. If the release has let it grant something
+    /// that somebody else waits for, it would do so after the next message that acts. A client
+    /// need not acknowledge the grant by a message of its own, so that message may come late.
+    fn call_back_for_waiters(&mut self) {
+        for client in self.open.waiting() {
+            // A nudge for which there is no memory is a message that is lost.
+            let _ = self.server.nudge(client);
+        }
+    }
+
+    /// Gives the connections what the server says.
+    fn send_said(&mut self, now: Now) -> Result<Pushed, ServeError> {
+        let mut pushed = Pushed::Nothing;
         let length = match self.server.take(&mut self.frames) {
             Ok(length) => length,
             // All that waits rests on changes that are not on the disk.
@@ -344,13 +378,14 @@ impl EventLoop {
             }
             self.open.said(client, message, now.monotonic, &self.timings);
             if is_push {
+                pushed = Pushed::Some;
                 self.watch.may_change(client);
             }
             sending.put(client, frame);
             self.status.sent += 1;
         }
         sending.end();
-        Ok(())
+        Ok(pushed)
     }
 }
 

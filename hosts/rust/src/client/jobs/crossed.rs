@@ -60,7 +60,9 @@ impl Jobs {
             return self.give_callback(&span, message.bytes());
         }
         let was_waiting = self.shows(|shown| shown.is_waiting);
+        let awaited = self.shows(Shown::awaits_a_push);
         give(&mut self.client, message.bytes())?;
+        self.has_heard(message.kind(), awaited);
         if !message.kind().is_push() {
             return Ok(());
         }

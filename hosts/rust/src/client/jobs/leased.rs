@@ -119,6 +119,7 @@ impl Jobs {
             frames.truncate(before);
             return;
         }
+        self.leave_out_acknowledgement(frames, before);
         let is_alone = frames.len() == before;
         let company = if is_alone { Company::Nothing } else { Company::Messages };
         let now = self.now.boot().ok();

@@ -2,6 +2,7 @@ use super::world::{World, pass, row};
 use super::*;
 use crate::lease::boot_clock::Moment;
 use crate::model::error::Unsent;
+use crate::wire::message::kind::LOCK;
 
 #[test]
 fn each_job_has_its_answer() {
@@ -305,4 +306,23 @@ fn a_client_that_leaves_and_drops_all_has_left_when_the_new_bye_is_kept() {
         world.clients[0].hear(&[]).unwrap();
         assert_eq!(left.answer.try_recv(), Ok(Ok(())));
     }
+}
+
+#[test]
+fn a_read_asks_for_what_the_client_does_not_know() {
+    let mut world = World::new();
+    for key in 10..15 {
+        assert_eq!(world.write(1, Write::Insert(row(key, 1))), Outcome::Applied);
+    }
+    world.read(0, 10..15);
+    assert_eq!(world.write(1, Write::Put(row(12, 2))), Outcome::Applied);
+    let read = world.clients[0].read(10..15);
+    let asked = world.said(0);
+    let locks: Vec<_> = asked.iter().filter(|message| message[1] == LOCK).collect();
+    assert_eq!(locks.len(), 1);
+    assert_eq!(locks[0][42..58], [12u64.to_le_bytes(), 13u64.to_le_bytes()].concat());
+    world.tell_server(&asked);
+    world.settle();
+    let rows: Vec<_> = (10..15).map(|key| row(key, if key == 12 { 2 } else { 1 })).collect();
+    assert_eq!(read.answer.try_recv(), Ok(Ok(rows)));
 }

@@ -1,3 +1,5 @@
+mod waiting;
+
 use super::thread::{MAX_AT_ONCE, ServerThread};
 use super::*;
 use crate::access::Access;

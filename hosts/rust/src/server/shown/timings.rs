@@ -231,12 +231,20 @@ impl Open {
                     timings.grants.add_time(now.saturating_duration_since(asked.since));
                 }
             }
+            // It answers the request that waits.
+            (Kind::Absent, _) => self.asked[place] = None,
             // A callback that is sent again is as old as it was.
             (Kind::Callback, _) => {
                 self.called_back[place].get_or_insert(now);
             }
             _ => {}
         }
+    }
+
+    /// The clients whose last request for a lock is not answered.
+    pub fn waiting(&self) -> impl Iterator<Item = u8> {
+        let asked = ClientNumber::all().zip(&self.asked);
+        asked.filter_map(|(client, asked)| asked.map(|_| client))
     }
 
     fn forget(&mut self, place: usize) {

@@ -1,0 +1,128 @@
+//! Clients that wait for what a release has given to another one.
+use crate::access::Entry;
+use crate::access::identity::Identity;
+use crate::client::jobs::world::{messages, row};
+use crate::client::jobs::{Asked, Asking, Held, Jobs, Purpose};
+use crate::lease::clocks::Now;
+use crate::model::change::{Outcome, Write};
+use crate::model::reach::Reach;
+use crate::net::address::Address;
+use crate::net::stream::PeerAddress;
+use crate::proved::client_handle::ClientHandle;
+use crate::server::event_loop::EventLoop;
+use crate::server::opening::Decided;
+use crate::server::shown::timings::Timings;
+use crate::store::MemoryStore;
+use crate::wire::frames::split;
+use crate::wire::host_frame;
+use std::sync::Arc;
+use std::time::Duration;
+
+/// A server and its clients, which hand over at once what they say. No time passes: so the server
+/// nudges nobody, and no client ticks.
+struct World {
+    events: EventLoop,
+    now: Now,
+    clients: Vec<Jobs>,
+    /// The connection of each client.
+    connections: Vec<u64>,
+}
+
+impl World {
+    fn of(clients: u8) -> World {
+        let (now, address) = (Now::read(), Address::Unix("nowhere".into()));
+        let max_connections = usize::from(clients);
+        let decided = Decided {
+            leases: None,
+            shard: None,
+            room: None,
+            reach: Reach::default(),
+            max_connections,
+        };
+        let timings = Arc::new(Timings::new());
+        let opened = decided.open(&mut MemoryStore::default(), &address, timings, || now).unwrap();
+        let mut events = opened.events;
+        let mut connect = |_| {
+            let entry = Entry::Known(Identity::everybody());
+            events.connections().enter(entry, PeerAddress::Gone)
+        };
+        let connections = (0..clients).map(&mut connect).collect();
+        let open = |number| Jobs::new(ClientHandle::open(number, 1).unwrap(), now);
+        let mut world =
+            World { events, now, clients: (0..clients).map(open).collect(), connections };
+        world.settle();
+        world
+    }
+
+    /// Hands messages over until nobody says anything.
+    fn settle(&mut self) {
+        while self.hear_clients() | self.tell_clients() {}
+    }
+
+    /// The server hears what each client says. It answers whether one has said anything.
+    fn hear_clients(&mut self) -> bool {
+        let mut has_heard = false;
+        for (jobs, connection) in self.clients.iter_mut().zip(&self.connections) {
+            for message in messages(|frames| jobs.take(frames)) {
+                self.events.hear(*connection, &message, self.now).unwrap();
+                has_heard = true;
+            }
+        }
+        has_heard
+    }
+
+    /// The clients hear what the server says. It answers whether it has said anything.
+    fn tell_clients(&mut self) -> bool {
+        if let Some(changes) = self.events.take_commit(self.now) {
+            self.events.committed(&changes, Duration::ZERO, self.now).unwrap();
+        }
+        self.events.send(self.now).unwrap();
+        let mut has_told = false;
+        while let Some(connection) = self.events.connections().next_to_write() {
+            let mut bytes = Vec::new();
+            self.events.connections().write(connection, &mut bytes);
+            self.tell(connection, &bytes);
+            has_told |= !bytes.is_empty();
+        }
+        has_told
+    }
+
+    fn tell(&mut self, connection: u64, bytes: &[u8]) {
+        let place = self.connections.iter().position(|it| *it == connection).unwrap();
+        let jobs = &mut self.clients[place];
+        for (message, _) in split(bytes).filter(|(message, _)| !host_frame::is_of_host(message)) {
+            jobs.hear(message).unwrap();
+        }
+        jobs.advance(Asking::Allowed);
+    }
+
+    fn ask<T>(&mut self, client: usize, ask: impl FnOnce(&mut Jobs) -> Asked<T>) -> Asked<T> {
+        let asked = ask(&mut self.clients[client]);
+        self.settle();
+        asked
+    }
+
+    fn unpin(&mut self, client: usize, pin: u64) {
+        self.clients[client].unpin(pin);
+        self.settle();
+    }
+}
+
+#[test]
+fn what_a_release_has_granted_is_called_back_for_who_waits_for_it() {
+    let (writer, reader, next) = (0, 1, 2);
+    let mut world = World::of(3);
+    let inserted = world.ask(reader, |jobs| jobs.write(Write::Insert(row(10, 1))));
+    assert_eq!(inserted.answer.try_recv(), Ok(Ok(Outcome::Applied)));
+    let held = world.ask(reader, |jobs| jobs.hold(0..20, Purpose::Read));
+    let Held { pin, .. } = held.answer.try_recv().unwrap().unwrap();
+    let writing = world.ask(writer, |jobs| jobs.hold(10..11, Purpose::Write));
+    let reading = world.ask(next, |jobs| jobs.read(0..11));
+    assert!(writing.answer.try_recv().is_err() && reading.answer.try_recv().is_err());
+    world.unpin(reader, pin);
+    // The writer has all that it has asked for, and need not say that.
+    let Held { pin, .. } = writing.answer.try_recv().unwrap().unwrap();
+    assert!(reading.answer.try_recv().is_err(), "the writer has pinned it");
+    world.unpin(writer, pin);
+    assert_eq!(reading.answer.try_recv(), Ok(Ok(vec![row(10, 1)])));
+}
