@@ -41,13 +41,30 @@ pub fn fill(database: &Database, words: &TableWords, to: &Destination) -> Result
     let earlier =
         if to.replaces_server { EarlierServer::IsUnused } else { EarlierServer::IsFilledAgain };
     match (&to.krl, &to.store) {
-        (_, Some(path)) => table.fill_store(path, earlier),
+        (_, Some(path)) => {
+            is_new(path)?;
+            table.fill_store(path, earlier)
+        }
         (Some(servers), None) => {
             let (reader, writer) = to.clients.join(servers.clone())?;
             table.fill_server(reader, writer, earlier)
         }
         (None, None) => Err(Failure::Words("give --krl ADDRESS or --store FILE".to_string())),
     }
+}
+
+/// Refuses a store that exists already. It may be that of the table's server, so this comes before
+/// the question whether another server is replaced.
+fn is_new(path: &Path) -> Result<(), Failure> {
+    if path.symlink_metadata().is_err() {
+        return Ok(());
+    }
+    Err(Failure::NotDone(format!(
+        "the file {} exists already. To fill a running server again, give its address by --krl in \
+         place of --store; to begin again with a new store, stop all programs and the server, move \
+         the file away, and add --replaces-server",
+        path.display()
+    )))
 }
 
 /// Fills a server, and reports how far it has come.
@@ -75,12 +92,6 @@ pub fn server<O: Origin>(
 /// over a store that may lack a change.
 pub fn store<O: Origin>(filling: StoreFilling<'_, O>, path: &Path) -> Result<Filled, Failure> {
     let progress = Progress::new("writing the store", None);
-    if path.symlink_metadata().is_ok() {
-        return Err(Failure::NotDone(format!(
-            "the file {} exists already: name a new one, or move it away",
-            path.display()
-        )));
-    }
     let rows = filling.rows().clone();
     let room = room_for(rows.len());
     let snapshot = Snapshot { rows, room: Some(room), ..Snapshot::default() };

@@ -224,12 +224,17 @@ fn a_new_store_is_filled_at_once() {
     assert_eq!(filled, (0, told));
     let files: Vec<_> = std::fs::read_dir(folder).unwrap().flatten().collect();
     assert_eq!(files.len(), 1, "{files:?}");
+    let told = "krl-cache: the file krl.db exists already. To fill a running server again, give its \
+                address by --krl in place of --store; to begin again with a new store, stop all \
+                programs and the server, move the file away, and add --replaces-server\n";
+    for more in [&[][..], &["--replaces-server"]] {
+        let (status, text) = ended(folder, &[&words[..], more].concat());
+        assert_eq!((status, text.as_str()), (1, told));
+    }
+    let words = ["fill", &at, "item", "--store", "other.db", "--clients-are-stopped"];
     let (status, text) = ended(folder, &words);
     assert_eq!(status, 1);
     assert!(text.contains("does not have the current filling of the table"), "{text}");
-    let (status, text) = ended(folder, &[&words[..], &["--replaces-server"]].concat());
-    let told = "krl-cache: the file krl.db exists already: name a new one, or move it away\n";
-    assert_eq!((status, text.as_str()), (1, told));
     let server = serve(&folder.join("krl.db"));
     assert_eq!(names(folder, &database, &server), expected());
 }
