@@ -70,7 +70,7 @@ fn wait_until(is_so: impl Fn() -> bool) -> bool {
     is_so()
 }
 
-/// Looks into the cache again and again until it is told to end, and sends what it found there, one
+/// Looks into the cache again and again until it is stopped, and returns what it found there, one
 /// after another.
 fn looked_up(client: &Client, ends: &AtomicBool) -> Vec<Option<Vec<Row>>> {
     let mut found = Vec::new();

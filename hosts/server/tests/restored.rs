@@ -13,7 +13,7 @@ fn row(key: u64, number: u64) -> Row {
     Row { key, value: Value::from(number) }
 }
 
-/// What the client finds in its cache, one after another, until it is told to end.
+/// What the client finds in its cache, one after another, until it is stopped.
 fn looked_up(client: &Client, ends: &AtomicBool) -> Vec<Option<Vec<Row>>> {
     let mut found = Vec::new();
     while !ends.load(Ordering::Relaxed) {

@@ -96,7 +96,7 @@ SET LOCAL client_min_messages = warning;
 -- Changes nothing if the table cannot be cached.
 {refusals}
 -- The version of each row: its first one is drawn here, and each change through krl-cache gives the
--- row another one. The table is written anew.
+-- row another one. The table is rewritten.
 ALTER TABLE {name} ADD COLUMN IF NOT EXISTS {version} bytea
     NOT NULL DEFAULT uuid_send(gen_random_uuid());
 

@@ -521,7 +521,8 @@ impl Jobs {
     }
 
     /// Where the last of these points that the client does not know ends, if they are few: a grant
-    /// brings each row anew for which it is asked. The client does not know the first of them.
+    /// brings each row that is asked for, also one that the client has. The client does not know
+    /// the first of them.
     fn end_of_unknown(&self, points: &Range<u64>, room: &mut Vec<Row>) -> u64 {
         let Range { start: mut unknown, end: mut known } = *points;
         if known - unknown > FEW {

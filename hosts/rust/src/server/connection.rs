@@ -325,8 +325,8 @@ impl Connection {
         self.told.put(frame);
     }
 
-    /// Something of the connection waits for the commit that begins next: what it is told, or its
-    /// end. It answers whether nothing did before.
+    /// Something of the connection waits for the commit that begins next: a frame of the host, or
+    /// the end of the connection. It answers whether nothing did before.
     pub fn waits_for_commit(&mut self) -> bool {
         self.told.waits()
     }

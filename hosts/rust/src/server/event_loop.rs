@@ -359,7 +359,7 @@ impl EventLoop {
         }
     }
 
-    /// Gives the connections what the server says.
+    /// Gives the connections what the server sends.
     fn send_said(&mut self, now: Now) -> Result<Pushed, ServeError> {
         let mut pushed = Pushed::Nothing;
         let length = match self.server.take(&mut self.frames) {

@@ -23,13 +23,13 @@ pub(super) enum Acknowledging {
 }
 
 impl Jobs {
-    /// The client has heard a message of this kind. `awaited` says whether it waited for a push.
+    /// The client has heard a message of this kind. `awaited` is whether it waited for a push.
     pub(super) fn has_heard(&mut self, kind: Kind, awaited: bool) {
         let is_last = kind.is_push() && awaited && !self.shows(Shown::awaits_a_push);
         self.acknowledging = if is_last { Acknowledging::Later } else { Acknowledging::AtOnce };
     }
 
-    /// Leaves out what the client says from this place on, if that is one acknowledgement that can
+    /// Leaves out what the client sends from this place on, if that is one acknowledgement that can
     /// wait.
     pub(super) fn leave_out_acknowledgement(&mut self, frames: &mut Vec<u8>, from: usize) {
         let how = std::mem::replace(&mut self.acknowledging, Acknowledging::AtOnce);
@@ -50,7 +50,7 @@ mod tests {
     use crate::model::change::{Outcome, Write};
     use crate::wire::message::kind::ACK;
 
-    /// The kinds of what the client says.
+    /// The kinds of what the client sends.
     fn said(world: &mut World, client: usize) -> Vec<u8> {
         world.said(client).iter().map(|message| message[1]).collect()
     }

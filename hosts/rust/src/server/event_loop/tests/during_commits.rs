@@ -12,7 +12,7 @@ enum Verdict {
     Panic,
 }
 
-/// A store that says when a commit has begun, and ends it as it is told.
+/// A store that reports when a commit has begun, and ends it as the test decides.
 struct Gated {
     begun: Sender<Vec<Change>>,
     verdicts: Receiver<Verdict>,
@@ -28,7 +28,7 @@ impl Store for Gated {
         match self.verdicts.recv().unwrap() {
             Verdict::Keep => Ok(()),
             Verdict::Depose => Err(StoreError::Deposed("another one".into())),
-            Verdict::Panic => panic!("as it is told"),
+            Verdict::Panic => panic!("as the test decides"),
         }
     }
 

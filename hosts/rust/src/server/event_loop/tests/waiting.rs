@@ -54,12 +54,12 @@ impl World {
         world
     }
 
-    /// Hands messages over until nobody says anything.
+    /// Hands messages over until nobody sends anything.
     fn settle(&mut self) {
         while self.hear_clients() | self.tell_clients() {}
     }
 
-    /// The server hears what each client says. It answers whether one has said anything.
+    /// The server hears what each client sends. It answers whether one has sent anything.
     fn hear_clients(&mut self) -> bool {
         let mut has_heard = false;
         for (jobs, connection) in self.clients.iter_mut().zip(&self.connections) {
@@ -71,7 +71,7 @@ impl World {
         has_heard
     }
 
-    /// The clients hear what the server says. It answers whether it has said anything.
+    /// The clients hear what the server sends. It answers whether it has sent anything.
     fn tell_clients(&mut self) -> bool {
         if let Some(changes) = self.events.take_commit(self.now) {
             self.events.committed(&changes, Duration::ZERO, self.now).unwrap();
@@ -120,7 +120,7 @@ fn what_a_release_has_granted_is_called_back_for_who_waits_for_it() {
     let reading = world.ask(next, |jobs| jobs.read(0..11));
     assert!(writing.answer.try_recv().is_err() && reading.answer.try_recv().is_err());
     world.unpin(reader, pin);
-    // The writer has all that it has asked for, and need not say that.
+    // The writer has all that it has asked for, and need not acknowledge it.
     let Held { pin, .. } = writing.answer.try_recv().unwrap().unwrap();
     assert!(reading.answer.try_recv().is_err(), "the writer has pinned it");
     world.unpin(writer, pin);
