@@ -177,6 +177,37 @@ fn what_a_table_lacks_is_named() {
     assert!(matches!(&faults[..], [TableFault::KeyNotUnique { .. }]), "{faults:?}");
 }
 
+/// A type that does not fit its column.
+struct Narrow(#[expect(dead_code)] i32);
+
+impl PostgresRow for Narrow {
+    const COLUMNS: &'static [&'static str] = &["the name", "price"];
+
+    fn from_row(row: &Row) -> Result<Narrow, Error> {
+        Ok(Narrow(row.try_get("price")?))
+    }
+
+    fn values(&self) -> Vec<&(dyn ToSql + Sync)> {
+        Vec::new()
+    }
+}
+
+#[test]
+fn a_column_that_does_not_fit_its_type_is_named() {
+    let Some((database, krl)) = filled() else { return };
+    let table = Table::new("item").key("number");
+    let table = PostgresOrigin::<Narrow>::new(&database.address(), None, table).unwrap();
+    let cache = krl.cache_of(table, 0).open().unwrap();
+    let expected = [
+        (10, "the column \"price\" (int8) does not fit its type in the program: cannot convert"),
+        (12, "the column \"price\" (int8) does not fit its type in the program"),
+    ];
+    for (key, expected) in expected {
+        let refused = cache.get(key).err().expect("it is no i32").to_string();
+        assert!(refused.contains(expected), "{refused}");
+    }
+}
+
 /// What a table has of the cache: its version column, its triggers and the table of fillings.
 const PARTS: &str = "
     SELECT (SELECT count(*) FROM pg_attribute WHERE attname = 'krl_version')

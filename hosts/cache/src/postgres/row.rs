@@ -1,7 +1,10 @@
 //! The application's columns of a row.
+use super::session::reported;
+use crate::origin::OriginError;
+use std::error::Error as _;
 use std::mem::size_of;
 use tokio_postgres::types::ToSql;
-use tokio_postgres::{Error, Row};
+use tokio_postgres::{Column, Error, Row};
 
 /// The application's columns of a row in PostgreSQL, without the key and the version.
 ///
@@ -50,6 +53,27 @@ pub trait PostgresRow: Sized + Send + Sync + 'static {
     fn size(&self) -> usize {
         size_of::<Self>()
     }
+}
+
+/// The application's columns of a row, or which of them cannot be read.
+pub(super) fn read<T: PostgresRow>(row: &Row) -> Result<T, OriginError> {
+    T::from_row(row).map_err(|error| match (unreadable(row, &error), error.source()) {
+        (Some(column), Some(why)) => OriginError::new(format!(
+            "the column \"{}\" ({}) does not fit its type in the program: {why}",
+            column.name(),
+            column.type_()
+        )),
+        _ => reported(error),
+    })
+}
+
+/// The column of the row that an error is about. The driver has its place among all columns, which
+/// are also those of the cache, and gives it only in a sentence.
+fn unreadable<'r>(row: &'r Row, error: &Error) -> Option<&'r Column> {
+    let sentence = error.to_string();
+    let (_, place) = sentence.split_once("error deserializing column ")?;
+    let end = place.find(|next: char| !next.is_ascii_digit()).unwrap_or(place.len());
+    row.columns().get(place[..end].parse::<usize>().ok()?)
 }
 
 /// No column: for an operator, who fills krl and reads no rows.

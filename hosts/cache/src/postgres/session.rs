@@ -1,7 +1,7 @@
 //! A connection to the database, with the statements that are used often.
 use super::sql::{self, Keys};
 use crate::origin::{Needed, OriginError, Stored};
-use crate::postgres::row::PostgresRow;
+use crate::postgres::row::{PostgresRow, read};
 use crate::table::{Table, checked};
 use crate::version::Version;
 use futures_util::future::try_join;
@@ -198,7 +198,7 @@ pub(super) fn signed(keys: &[u64]) -> Vec<i64> {
 pub(super) fn stored<T: PostgresRow>(rows: &[Row]) -> Result<Vec<Stored<T>>, OriginError> {
     let stored = |row: &Row| {
         let (key, version) = key_and_version(row)?;
-        Ok(Stored { key, version, body: Arc::new(T::from_row(row).map_err(reported)?) })
+        Ok(Stored { key, version, body: Arc::new(read(row)?) })
     };
     rows.iter().map(stored).collect()
 }
