@@ -52,6 +52,8 @@ mod changes;
 mod error;
 mod fill;
 mod filling;
+#[cfg(any(feature = "postgres", feature = "sqlite"))]
+mod guard;
 mod lost;
 mod mark;
 mod memory;

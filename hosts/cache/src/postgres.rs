@@ -1,5 +1,6 @@
 //! A table of PostgreSQL.
 mod check;
+mod guard;
 mod origin;
 mod row;
 mod session;

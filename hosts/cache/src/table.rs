@@ -66,6 +66,12 @@ impl Table {
         schema.unwrap_or_default() + &self.name
     }
 
+    /// The function that guards the table, with its arguments.
+    #[cfg(feature = "postgres")]
+    pub(crate) fn guard(&self) -> String {
+        format!("{}()", self.quoted_guard())
+    }
+
     /// The name of the function that guards the table, in a statement.
     #[cfg(feature = "postgres")]
     pub(crate) fn quoted_guard(&self) -> String {
@@ -144,9 +150,25 @@ pub enum TableFault {
     Fillings(String),
     /// The column of the version is missing, has another type, or may be null.
     Version(String),
-    /// This trigger is missing, is not always enabled, or has another function than this version of
-    /// krl-cache makes.
+    /// This trigger is missing, or is not always enabled.
     Trigger(String),
+    /// The guard, which is what the triggers do, has another revision than that of this build of
+    /// krl-cache. The revision changes only when what the guard does changes.
+    GuardRevision {
+        /// The revision of the table's guard: none if a build made it that gave it none, or if
+        /// krl-cache has not made it.
+        found: Option<u32>,
+        /// The revision of this build.
+        expected: u32,
+    },
+    /// The guard has the revision of this build and does something else: it was changed by hand, or
+    /// made for other columns than these.
+    GuardStatements {
+        /// The column of the key, as this program names it.
+        key: String,
+        /// The column of the version, as this program names it.
+        version: String,
+    },
     /// So many rows have a version that has not 16 bytes.
     BadVersions(i64),
     /// By this setting of the database, a crash may take back what was committed.
@@ -190,10 +212,32 @@ impl fmt::Display for TableFault {
             TableFault::Fillings(name) => {
                 write!(f, "the table {name} is missing, or not as the migration makes it")
             }
-            TableFault::Trigger(name) => write!(
+            TableFault::Trigger(name) => {
+                write!(
+                    f,
+                    "the trigger {name} is missing, disabled, or not as the migration makes it"
+                )
+            }
+            TableFault::GuardRevision { found, expected } => match found {
+                Some(found) if found > expected => {
+                    newer_guard(&found.to_string(), *expected).fmt(f)
+                }
+                Some(found) => write!(
+                    f,
+                    "the guard has revision {found}, and this build of krl-cache needs revision \
+                     {expected}: stop the programs of the earlier build, and prepare the table \
+                     again"
+                ),
+                None => write!(
+                    f,
+                    "the guard has no revision, and this build of krl-cache needs revision \
+                     {expected}: prepare the table again"
+                ),
+            },
+            TableFault::GuardStatements { key, version } => write!(
                 f,
-                "the trigger {name} is missing, disabled, or not as this version of krl-cache \
-                 makes it"
+                "the guard was changed by hand, or was not made for the key \"{key}\" and the \
+                 version \"{version}\""
             ),
             TableFault::BadVersions(count) => {
                 write!(f, "{count} rows have a version that has not 16 bytes: draw new ones")
@@ -232,7 +276,11 @@ impl TableFault {
         let is_mended = |fault: &TableFault| {
             matches!(
                 fault,
-                TableFault::Version(_) | TableFault::Trigger(_) | TableFault::Fillings(_)
+                TableFault::Version(_)
+                    | TableFault::Trigger(_)
+                    | TableFault::GuardRevision { .. }
+                    | TableFault::GuardStatements { .. }
+                    | TableFault::Fillings(_)
             )
         };
         faults.iter().any(is_mended) && !faults.iter().any(TableFault::prevents_set_up)
@@ -241,6 +289,9 @@ impl TableFault {
     /// Whether the table cannot be prepared because of it: `set_up` and the migration change nothing.
     #[must_use]
     pub fn prevents_set_up(&self) -> bool {
+        if let TableFault::GuardRevision { found, expected } = self {
+            return found.is_some_and(|found| found > *expected);
+        }
         matches!(
             self,
             TableFault::NoTable
@@ -263,6 +314,14 @@ pub(crate) fn reason(table: &Table, faults: &[TableFault]) -> OriginError {
         ""
     };
     OriginError::new(format!("{}: {}{remedy}", table.shown(), shown.join("; ")))
+}
+
+/// Why a table whose guard has this revision is not prepared by a build of this other one.
+pub(crate) fn newer_guard(found: &str, expected: u32) -> String {
+    format!(
+        "the guard has revision {found}, and this build of krl-cache knows revision {expected}: use \
+         the build that has made the guard, or a later one"
+    )
 }
 
 /// Why a row with this key cannot be cached.

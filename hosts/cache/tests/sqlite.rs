@@ -179,6 +179,77 @@ fn what_a_table_lacks_is_named() {
     assert_eq!(table.check().unwrap(), [lacks("insert"), bad_key]);
 }
 
+/// The revision of the guard that this build makes.
+const REVISION: u32 = 1;
+
+#[test]
+fn only_a_guard_of_this_revision_is_accepted() {
+    let (file, krl) = filled();
+    let (table, mark) = (file.items(), format!("krl-cache guard {REVISION}"));
+    let made: String = file
+        .open()
+        .query_row(
+            "SELECT sql FROM sqlite_schema WHERE name = 'item_krl_guard_update'",
+            [],
+            |row| row.get(0),
+        )
+        .unwrap();
+    let edit = |from: &str, to: &str| {
+        assert!(made.contains(from), "{made}");
+        let edited = made.replacen(from, to, 1);
+        let edit = format!("DROP TRIGGER item_krl_guard_update; {edited}");
+        file.open().execute_batch(&edit).unwrap();
+    };
+    let revision = |found| TableFault::GuardRevision { found, expected: REVISION };
+    let (key, version) = ("number".to_string(), "krl_version".to_string());
+    let statements = TableFault::GuardStatements { key, version };
+    let cases = [
+        (&*mark, "krl-cache guard 2", revision(Some(2)), "has revision 2, and this build"),
+        (&*mark, "krl-cache guard 0", revision(Some(0)), "has revision 0, and this build"),
+        (&*mark, "a guard", revision(None), "has no revision, and this build"),
+        ("OLD.", "NEW.", statements, "was changed by hand, or was not made for the key \"number\""),
+    ];
+    for (from, to, fault, sentence) in cases {
+        edit(from, to);
+        assert_eq!(table.check().unwrap(), std::slice::from_ref(&fault));
+        let refused = krl.cache_of(file.items(), 0).open().unwrap_err().to_string();
+        assert!(refused.contains(sentence), "{refused}");
+        let again = table.set_up();
+        assert_eq!(again.is_err(), fault.prevents_set_up(), "{again:?}");
+        if let Err(refused) = again {
+            assert!(refused.to_string().contains("knows revision 1: use the build"), "{refused}");
+            edit("", "");
+        }
+        assert_eq!(table.check().unwrap(), []);
+    }
+}
+
+#[test]
+fn a_key_of_another_name_is_the_only_fault() {
+    let (file, _krl) = filled();
+    let faults = |table| SqliteOrigin::<()>::new(&file.0, table).check().unwrap();
+    assert_eq!(faults(Table::new("item")), [TableFault::NoKey("id".to_string())]);
+    assert_eq!(faults(Table::new("item").key("number")), []);
+}
+
+/// A table whose key is no number gets a column by the advice of the refusal.
+#[test]
+fn a_table_is_numbered_by_a_further_column() {
+    let (file, krl) = (File::new(), Krl::start());
+    let named = SqliteOrigin::<Item>::new(&file.0, Table::new("item").key("the name"));
+    let refused = named.set_up().unwrap_err().to_string();
+    let (_, advice) = refused.split_once("Table::key): ").expect("it has an advice");
+    file.open().execute_batch(advice).unwrap();
+    let table = || SqliteOrigin::<Item>::new(&file.0, Table::new("item").key("cache_key"));
+    table().set_up().unwrap();
+    assert_eq!(table().check().unwrap(), []);
+    let cache = krl.cache_of(table(), 0).fill_and_open(|_, _| ()).unwrap();
+    assert!(cache.update(10, |lamp| Some(Item { price: Some(8), ..lamp.clone() })).unwrap());
+    assert!(cache.insert(13, item("bulb", 5)).unwrap());
+    let expected = [(10, item("lamp", 8)), (12, item("shade", None)), (13, item("bulb", 5))];
+    assert_eq!(rows(&cache), expected);
+}
+
 #[test]
 fn a_table_that_cannot_be_cached_is_left_as_it_is() {
     let file = File::new();

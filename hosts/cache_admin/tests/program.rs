@@ -81,10 +81,8 @@ fn a_table_is_checked_prepared_and_filled() {
     let expected_lines = [
         "item: the column krl_version is missing, or not as the migration makes it",
         "item: the table item_krl_filling is missing, or not as the migration makes it",
-        "item: the trigger krl_guard_rows is missing, disabled, or not as this version of krl-cache \
-         makes it",
-        "item: the trigger krl_guard_truncate is missing, disabled, or not as this version of \
-         krl-cache makes it",
+        "item: the trigger krl_guard_rows is missing, disabled, or not as the migration makes it",
+        "item: the trigger krl_guard_truncate is missing, disabled, or not as the migration makes it",
         "item: the role shop lacks the right UPDATE",
         "item: the role shop lacks the right DELETE",
         "krl-cache migration item prints the SQL that adds what is missing",
@@ -107,16 +105,26 @@ fn a_table_is_checked_prepared_and_filled() {
     let filled = ended(folder, &["fill", &at, "item", "--krl", &krl]);
     assert_eq!(filled, (0, "item: krl has the versions of 2 rows\n".to_string()));
     assert_eq!(names(folder, &database, &server), expected());
-    // As an older krl-cache has prepared it.
+    // As an early krl-cache has prepared it.
     sql.run("CREATE OR REPLACE FUNCTION item_krl_guard() RETURNS trigger LANGUAGE plpgsql AS 'BEGIN END'");
     sql.run("DROP TABLE item_krl_filling");
     let (status, text) = ended(folder, &["check", &at, "item"]);
     assert_eq!(status, 1);
+    let no_revision = "item: the guard has no revision, and this build of krl-cache needs revision 1: \
+                       prepare the table again";
     let lines: Vec<_> = text.lines().collect();
-    assert_eq!(
-        [lines[0], lines[1], lines[3]],
-        [expected_lines[1], expected_lines[2], expected_lines[6]]
-    );
+    assert_eq!(lines, [expected_lines[1], no_revision, expected_lines[6]]);
+    // As a later one has.
+    assert_eq!(ended(folder, &["set-up", &at, "item"]).0, 0);
+    let shown = "SELECT pg_get_functiondef('item_krl_guard'::regproc)";
+    let guard: String = sql.query(shown)[0].get(0);
+    sql.run(&guard.replace("krl-cache guard 1", "krl-cache guard 2"));
+    let later = "the guard has revision 2, and this build of krl-cache knows revision 1: use the build \
+                 that has made the guard, or a later one";
+    let (status, text) = ended(folder, &["check", &at, "item"]);
+    assert_eq!((status, text), (1, format!("item: {later}\n")));
+    let (status, text) = ended(folder, &["set-up", &at, "item"]);
+    assert_eq!((status, text), (1, format!("krl-cache: the database: item: {later}\n")));
 }
 
 /// A server of krl with an empty store of this name.

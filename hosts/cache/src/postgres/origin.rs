@@ -125,7 +125,7 @@ impl<T: PostgresRow> PostgresOrigin<T> {
     }
 
     /// The statements that give the table its version column and its guard, in one transaction, for
-    /// whoever applies migrations. They may be run again.
+    /// whoever applies migrations. They may be run again, also while programs use the table.
     #[must_use]
     pub fn migration(&self) -> String {
         PostgresOrigin::<T>::migration_of(&self.table)
@@ -142,8 +142,8 @@ impl<T: PostgresRow> PostgresOrigin<T> {
     ///
     /// # Errors
     ///
-    /// If the table's key cannot be cached, or the database refuses it or does not answer in time.
-    /// Nothing has changed then.
+    /// If the table's key cannot be cached, the table's guard has a later revision than that of this
+    /// build, or the database refuses it or does not answer in time. Nothing has changed then.
     pub fn set_up(&self) -> Result<(), OriginError> {
         let migration = self.migration();
         let session = Session::connect(&self.pool.connector, self.pool.timeouts)?.patient();

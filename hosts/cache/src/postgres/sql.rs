@@ -1,8 +1,10 @@
 //! What PostgreSQL is asked.
-use super::check::{key_not_unique, key_type, no_key};
+use super::check::{further_key, key_not_unique, no_key, wider_key};
+use super::guard;
+use crate::guard::pattern;
 use crate::mark::LAST_KEY;
-use crate::table::{Table, TableFault, quoted};
-use std::fmt::Write;
+use crate::table::{Table, TableFault, newer_guard, quoted};
+use std::fmt::{Display, Write};
 use std::time::Duration;
 
 /// How much longer than a transaction may stand still another one waits for its locks.
@@ -42,52 +44,11 @@ pub(super) const IDENTITY: &str = "
         database.oid, $1::text::regclass::oid
     FROM pg_control_system(), pg_database AS database WHERE datname = current_database()";
 
-/// The body of the function that guards the table.
-pub(super) fn guard(table: &Table) -> String {
-    let (key, version) = (table.quoted_key(), table.quoted_version());
-    let fillings = table.quoted_fillings();
-    format!(
-        "
-DECLARE
-    version text := coalesce(current_setting('krl_cache.version', true), '');
-    named text := coalesce(current_setting('krl_cache.filling', true), '');
-    current text;
-    keys text := coalesce(nullif(current_setting('krl_cache.keys', true), ''), '{{}}');
-BEGIN
-    IF version = '' OR TG_OP = 'TRUNCATE' THEN
-        RAISE EXCEPTION 'the rows of % are cached: change them through krl-cache', TG_TABLE_NAME
-            USING ERRCODE = 'insufficient_privilege',
-            HINT = 'After a change with disabled triggers, krl has to be filled again.';
-    END IF;
-    SELECT filling INTO current FROM {fillings} WHERE cached_table = TG_RELID;
-    IF named IS DISTINCT FROM current THEN
-        RAISE EXCEPTION 'the rows of % are cached by another krl server (filling %)',
-            TG_TABLE_NAME, coalesce(current, 'none')
-            USING ERRCODE = 'object_not_in_prerequisite_state',
-            DETAIL = format('The writer names filling %s.', named),
-            HINT = 'Use the krl server that was filled last; or, if no process uses that one any '
-                'more, run krl-cache fill with --replaces-server.';
-    END IF;
-    IF TG_OP <> 'INSERT' AND OLD.{key} <> ALL (keys::bigint[])
-        OR TG_OP <> 'DELETE' AND NEW.{key} <> ALL (keys::bigint[]) THEN
-        RAISE EXCEPTION 'the transaction did not name this key of %', TG_TABLE_NAME
-            USING ERRCODE = 'insufficient_privilege';
-    END IF;
-    IF TG_OP = 'DELETE' THEN
-        RETURN OLD;
-    END IF;
-    NEW.{version} := decode(version, 'hex');
-    RETURN NEW;
-END
-"
-    )
-}
-
 /// What gives a table its version column and its guard.
 pub(super) fn migration(table: &Table) -> String {
     let (name, function, version) = (table.quoted(), table.quoted_guard(), table.quoted_version());
     let fillings = table.quoted_fillings();
-    let guard = guard(table);
+    let guard = guard::body(table);
     let refusals = refusals(table);
     format!(
         "BEGIN;
@@ -131,10 +92,14 @@ COMMIT;
 fn refusals(table: &Table) -> String {
     let (name, key) = (table.quoted(), table.quoted_key());
     let (shown, column) = (literal(&name), literal(table.column_names().0));
-    let raise = |fault: &TableFault| raise(table, fault);
+    let (guard, revision, pattern) = (literal(&table.guard()), guard::REVISION.0, pattern());
+    let raise = |why: &dyn Display| raise(table, why);
     let (missing, other) = (raise(&TableFault::NoTable), raise(&TableFault::NotOrdinary));
+    let newer = raise(&newer_guard(SEEN, revision));
     let (no_key, not_unique) = (raise(&no_key(table)), raise(&key_not_unique(table)));
-    let other_type = raise(&key_type(table, SEEN.to_string()));
+    let narrow_types = NARROW_KEY_TYPES.map(literal).join(", ");
+    let narrow = raise(&wider_key(table, SEEN.to_string()));
+    let other_type = raise(&further_key(table, SEEN.to_string()));
     let bad_key = raise(&TableFault::BadKeys { least: SEEN.to_string(), count: 1 });
     format!(
         "DO $check$
@@ -149,10 +114,17 @@ BEGIN
         OR EXISTS (SELECT FROM pg_inherits WHERE cached IN (inhrelid, inhparent)) THEN
         {other};
     END IF;
+    seen := (SELECT substring(prosrc FROM '{pattern}') FROM pg_proc
+        WHERE oid = to_regprocedure({guard}));
+    IF seen::numeric > {revision} THEN
+        {newer};
+    END IF;
     seen := (SELECT format_type(atttypid, NULL) FROM pg_attribute
         WHERE attrelid = cached AND attname = {column});
     IF seen IS NULL THEN
         {no_key};
+    ELSIF seen IN ({narrow_types}) THEN
+        {narrow};
     ELSIF seen <> '{KEY_TYPE}' THEN
         {other_type};
     END IF;
@@ -176,16 +148,16 @@ $check$;
 /// Stands for what the database has seen in a sentence.
 const SEEN: &str = "\u{1a}";
 
-/// The statement that raises a fault as an error.
-fn raise(table: &Table, fault: &TableFault) -> String {
-    let sentence = format!("{}: {fault}", table.shown()).replace('%', "%%");
+/// The statement that raises as an error why a table cannot be cached.
+fn raise(table: &Table, why: &dyn Display) -> String {
+    let sentence = format!("{}: {why}", table.shown()).replace('%', "%%");
     let seen = if sentence.contains(SEEN) { ", seen" } else { "" };
     let sentence = literal(&sentence.replace(SEEN, "%"));
     format!("RAISE EXCEPTION {sentence}{seen} USING ERRCODE = 'object_not_in_prerequisite_state'")
 }
 
 /// A text as it stands in a statement.
-fn literal(text: &str) -> String {
+pub(super) fn literal(text: &str) -> String {
     format!("'{}'", text.replace('\'', "''"))
 }
 
@@ -351,6 +323,9 @@ pub(super) fn bad_versions(table: &Table) -> String {
 
 /// The type of a key, as `format_type` has it.
 pub(super) const KEY_TYPE: &str = "bigint";
+
+/// The types of whole numbers that can be widened to [`KEY_TYPE`].
+pub(super) const NARROW_KEY_TYPES: [&str; 2] = ["smallint", "integer"];
 
 /// What the catalog has of the table, the key, the version and the table of fillings.
 pub(super) const CATALOG: &str = "

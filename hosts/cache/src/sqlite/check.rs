@@ -1,5 +1,6 @@
 //! What a table lacks before it can be cached.
 use super::sql;
+use crate::guard::{fault, without_consequences};
 use crate::origin::OriginError;
 use crate::table::{Table, TableFault, reason};
 use rusqlite::{Connection, OptionalExtension, Result, params};
@@ -32,12 +33,21 @@ pub(super) fn faults(connection: &Connection, table: &Table) -> Result<Vec<Table
     if is(sql::TABLE, &[sql::FILLINGS_NAME])? != Some(true) {
         faults.push(TableFault::Fillings(sql::FILLINGS_NAME.to_string()));
     }
+    faults.extend(faults_of_guard(connection, table)?);
+    Ok(without_consequences(faults))
+}
+
+/// What is wrong with the guard's triggers.
+fn faults_of_guard(connection: &Connection, table: &Table) -> Result<Vec<TableFault>> {
+    let mut faults = Vec::new();
     for (name, made) in sql::triggers(table) {
         let found: Option<String> =
             connection.query_row(sql::TRIGGER, params![name], |row| row.get(0)).optional()?;
-        if found != Some(made) {
-            faults.push(TableFault::Trigger(name));
-        }
+        let fault = match found {
+            Some(found) => fault(table, &found, sql::GUARD_REVISION, |found| found == made),
+            None => Some(TableFault::Trigger(name)),
+        };
+        faults.extend(fault.filter(|fault| !faults.contains(fault)));
     }
     Ok(faults)
 }
@@ -55,7 +65,11 @@ fn fault_of_key(connection: &Connection, table: &Table) -> Result<Option<TableFa
             key,
             found: if found.is_empty() { "of no type".to_string() } else { found },
             expected: "INTEGER",
-            remedy: "copy the rows to a table whose key is INTEGER".to_string(),
+            remedy: format!(
+                "number the rows by a further column and name it by --key (in a program by \
+                 Table::key): {}",
+                sql::add_key(table)
+            ),
         }),
         Some((_, _, false)) => Some(TableFault::KeyNotUnique {
             key,

@@ -69,8 +69,8 @@ impl<T: SqliteRow> SqliteOrigin<T> {
     ///
     /// # Errors
     ///
-    /// If there is no such table, its key cannot be cached, or SQLite cannot write it. Nothing has
-    /// changed then.
+    /// If there is no such table, its key cannot be cached, its guard has a later revision than that
+    /// of this build, or SQLite cannot write it. Nothing has changed then.
     pub fn set_up(&self) -> Result<(), OriginError> {
         let mut connection = self.pool.open()?.connection;
         let table = &self.pool.table;

@@ -1,4 +1,5 @@
 //! What SQLite is asked.
+use crate::guard::Revision;
 use crate::mark::LAST_KEY;
 use crate::table::{Table, quoted};
 
@@ -30,6 +31,15 @@ pub(super) const FILLING: &str = "SELECT filling FROM krl_cache_filling WHERE na
 
 pub(super) const MAKE_CURRENT: &str = "INSERT OR REPLACE INTO krl_cache_filling VALUES (?1, ?2)";
 
+/// Adds a key to a table that has rows.
+pub(super) fn add_key(table: &Table) -> String {
+    let (name, index) = (table.quoted(), quoted(&format!("{}_cache_key", table.name())));
+    format!(
+        "ALTER TABLE {name} ADD COLUMN cache_key INTEGER NOT NULL DEFAULT 0; \
+         UPDATE {name} SET cache_key = rowid; CREATE UNIQUE INDEX {index} ON {name} (cache_key)"
+    )
+}
+
 /// Adds the version column.
 pub(super) fn add_version(table: &Table) -> String {
     let (name, version) = (table.quoted(), table.quoted_version());
@@ -41,6 +51,10 @@ pub(super) fn draw_versions(table: &Table) -> String {
     let (name, version) = (table.quoted(), table.quoted_version());
     format!("UPDATE {name} SET {version} = randomblob(16) WHERE length({version}) <> 16")
 }
+
+/// The revision of the guard. Each change of the triggers, and of what the function refuses, needs the
+/// next number.
+pub(super) const GUARD_REVISION: Revision = Revision(1);
 
 /// The names of the guard's triggers, with the statements that make them.
 pub(super) fn triggers(table: &Table) -> [(String, String); 3] {
@@ -55,8 +69,10 @@ pub(super) fn triggers(table: &Table) -> [(String, String); 3] {
         let trigger = table.trigger(kind);
         let call = |values: &&str| format!("SELECT {GUARD_FUNCTION}({values});");
         let calls: Vec<String> = calls.iter().map(call).collect();
-        let (shown, calls) = (quoted(&trigger), calls.join(" "));
-        let made = format!("CREATE TRIGGER {shown} BEFORE {kind} ON {name} BEGIN {calls} END");
+        let (shown, calls, mark) = (quoted(&trigger), calls.join(" "), GUARD_REVISION.mark());
+        let made = format!(
+            "CREATE TRIGGER {shown} /* {mark} */ BEFORE {kind} ON {name} BEGIN {calls} END"
+        );
         (trigger, made)
     };
     [made("INSERT", &[&new]), made("UPDATE", &[&old, &new]), made("DELETE", &[&old])]
