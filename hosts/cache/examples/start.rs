@@ -23,7 +23,7 @@ impl PostgresRow for Item {
     }
 }
 
-fn main() -> Result<(), Box<dyn std::error::Error>> {
+fn run() -> Result<(), Box<dyn std::error::Error>> {
     let database = "postgres://postgres@127.0.0.1/shop".parse()?;
     let table = PostgresOrigin::<Item>::new(&database, None, Table::new("item"))?;
     let krl: krl::Address = "127.0.0.1:7400".parse()?;
@@ -38,4 +38,11 @@ fn main() -> Result<(), Box<dyn std::error::Error>> {
     println!("{:?}", cache.statistics());
     cache.close()?;
     Ok(())
+}
+
+fn main() {
+    if let Err(error) = run() {
+        eprintln!("shop: {error}");
+        std::process::exit(1);
+    }
 }

@@ -27,9 +27,13 @@ pub enum CacheError {
     BadKey,
     /// The call was not finished within the cache's timeout.
     TimedOut,
-    /// krl holds the rows of another database, or of this one before it was restored, or was never
-    /// filled. An operator calls [`Cache::fill`](crate::Cache::fill).
+    /// krl was never filled, a filling did not come to its end, or the database was restored or
+    /// promoted since. An operator calls [`Cache::fill`](crate::Cache::fill).
     NotFilled,
+    /// krl holds the rows of another table or database, or of this one before it was restored. Use
+    /// the server that was filled from this table. After a restore, an operator calls
+    /// [`Cache::fill`](crate::Cache::fill).
+    OtherTable,
     /// The table's current filling is not that of this server of krl: another server was filled from
     /// the table since, or the database or krl's store was restored. Use the server that was filled,
     /// or fill this one once no process uses the other one any more: [`EarlierServer::IsUnused`].
@@ -70,6 +74,11 @@ impl fmt::Display for CacheError {
             }
             CacheError::NotFilled => f.write_str(
                 "krl does not have the versions of this database's rows: run krl-cache fill",
+            ),
+            CacheError::OtherTable => f.write_str(
+                "this krl server holds the rows of another table or database: give the address of \
+                 the server that was filled from this table. If the database was restored, run \
+                 krl-cache fill",
             ),
             CacheError::OtherServer { current } => write!(
                 f,

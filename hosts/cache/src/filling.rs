@@ -12,7 +12,7 @@ use std::str::FromStr;
 /// The database keeps the number of the filling that is current. The server of krl that was filled
 /// has it in its mark, and a transaction that changes the table names it. So a database with a
 /// second server refuses the writers of the first one.
-#[derive(Clone, Copy, Debug, PartialEq, Eq, Hash)]
+#[derive(Clone, Copy, PartialEq, Eq, Hash)]
 pub struct FillingNumber(u64);
 
 impl FillingNumber {
@@ -29,6 +29,16 @@ impl FillingNumber {
         let mut bytes = [0; FillingNumber::BYTES];
         getrandom::getrandom(&mut bytes).expect("the system has random bytes");
         FillingNumber(u64::from_be_bytes(bytes))
+    }
+
+    /// The filling that a server of krl has, as this client of it reads. `None` if the server was
+    /// never filled, or its last filling did not come to its end.
+    ///
+    /// # Errors
+    ///
+    /// Those of [`krl::Client::read`].
+    pub fn of_server(client: &krl::Client) -> Result<Option<FillingNumber>, krl::Error> {
+        Ok(client.read(MARK..=MARK)?.first().and_then(number_of))
     }
 
     pub(crate) fn of(number: u64) -> FillingNumber {
@@ -52,6 +62,13 @@ impl FillingNumber {
 impl fmt::Display for FillingNumber {
     fn fmt(&self, f: &mut fmt::Formatter<'_>) -> fmt::Result {
         write!(f, "{:016x}", self.0)
+    }
+}
+
+/// The same digits, as an operator finds them in the database.
+impl fmt::Debug for FillingNumber {
+    fn fmt(&self, f: &mut fmt::Formatter<'_>) -> fmt::Result {
+        write!(f, "FillingNumber({self})")
     }
 }
 
@@ -168,6 +185,7 @@ mod tests {
         for number in [0, 7, u64::MAX, FillingNumber::fresh().get()].map(FillingNumber::of) {
             assert_eq!(number.to_string().parse(), Ok(number));
             assert_eq!(FillingNumber::from_bytes(&number.to_bytes()), Some(number));
+            assert_eq!(format!("{number:?}"), format!("FillingNumber({number})"));
         }
         for text in ["", "7", "000000000000000g", "+000000000000007", "00000000000000007"] {
             assert_eq!(text.parse::<FillingNumber>(), Err(BadFillingNumber), "{text}");

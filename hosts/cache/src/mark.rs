@@ -48,6 +48,23 @@ fn is_current(marked: FillingNumber, stored: Option<FillingNumber>) -> bool {
     stored == Some(marked)
 }
 
+/// The filling of this mark of krl, if the table is the one that krl was filled from, and that is its
+/// current filling as the database has it.
+fn judge(
+    mark: &krl::Row,
+    identity: &OriginIdentity,
+    stored: Option<FillingNumber>,
+) -> Result<FillingNumber, CacheError> {
+    let (name, marked) = parts_of(mark).ok_or(CacheError::NotFilled)?;
+    match (name == identity.as_bytes(), is_current(marked, stored), stored) {
+        (true, true, _) => Ok(marked),
+        // A replica that was promoted, or a copy that was brought back: an operator knows which.
+        (false, true, _) | (true, false, None) => Err(CacheError::NotFilled),
+        (true, false, Some(current)) => Err(CacheError::OtherServer { current }),
+        (false, false, _) => Err(CacheError::OtherTable),
+    }
+}
+
 /// The keys of a range of rows.
 pub(crate) fn keys_of(keys: &impl RangeBounds<u64>) -> Result<Range<u64>, CacheError> {
     let start = match keys.start_bound() {
@@ -82,28 +99,26 @@ impl<O: Origin> Cache<O> {
     /// Reads the mark from krl, and confirms that its filling is the one that the database has. From
     /// then on this process answers reads, and its transactions name this filling.
     pub(crate) fn confirm(&self) -> Result<(), CacheError> {
-        let mut marked = self.marked_filling()?;
+        let mut mark = self.mark()?;
         loop {
-            let stored = self.origin.filling()?;
-            if is_current(marked, stored) {
-                self.origin.name_filling(marked);
-                self.filling.store(marked.get(), Ordering::SeqCst);
+            let judged = judge(&mark, &self.identity, self.origin.filling()?);
+            if let Ok(filling) = judged {
+                self.origin.name_filling(filling);
+                self.filling.store(filling.get(), Ordering::SeqCst);
                 return Ok(());
             }
             // This server may have been filled again between the two questions.
-            let again = self.marked_filling()?;
-            if again == marked {
-                return Err(stored
-                    .map_or(CacheError::NotFilled, |current| CacheError::OtherServer { current }));
+            let again = self.mark()?;
+            if again == mark {
+                return judged.map(drop);
             }
-            marked = again;
+            mark = again;
         }
     }
 
-    fn marked_filling(&self) -> Result<FillingNumber, CacheError> {
+    fn mark(&self) -> Result<krl::Row, CacheError> {
         let marks = self.reader.read(MARK..=MARK)?;
-        let filling = marks.first().and_then(|mark| filling_of(mark, &self.identity));
-        filling.ok_or(CacheError::NotFilled)
+        marks.into_iter().next().ok_or(CacheError::NotFilled)
     }
 
     /// Confirms the filling unless this process holds its mark: a transaction names it.
@@ -133,6 +148,24 @@ mod tests {
         let short = krl::Row { key: MARK, value: Value::try_from("short").unwrap() };
         assert_eq!(filling_of(&short, &identity("")), None);
         assert!(OriginIdentity::new([0; 25]).is_none());
+    }
+
+    #[test]
+    fn a_mark_is_that_of_the_table_of_another_server_or_of_another_table() {
+        let [filling, other] = [7, 8].map(FillingNumber::of);
+        let mark = krl::Row { key: MARK, value: mark_of(&identity("item"), filling) };
+        let judged = |name, stored| judge(&mark, &identity(name), stored);
+        assert_eq!(judged("item", Some(filling)).unwrap(), filling);
+        assert!(matches!(
+            judged("item", Some(other)),
+            Err(CacheError::OtherServer { current }) if current == other
+        ));
+        for (name, stored) in [("item", None), ("promoted", Some(filling))] {
+            assert!(matches!(judged(name, stored), Err(CacheError::NotFilled)), "{name}");
+        }
+        for stored in [None, Some(other)] {
+            assert!(matches!(judged("sale", stored), Err(CacheError::OtherTable)), "{stored:?}");
+        }
     }
 
     #[test]

@@ -130,6 +130,20 @@ fn a_second_server_is_refused() {
 }
 
 #[test]
+fn the_server_of_another_table_is_named_as_such() {
+    let (tables, [first, second]) = ([File::new(), File::new()], [Krl::start(), Krl::start()]);
+    fill_again(&first, &tables[0]).unwrap();
+    let opened_before = open(&first, &tables[1], 0);
+    assert!(matches!(opened_before, Err(CacheError::OtherTable)), "{opened_before:?}");
+    fill_again(&second, &tables[1]).unwrap();
+    let opened_after = open(&first, &tables[1], 1);
+    assert!(matches!(opened_after, Err(CacheError::OtherTable)), "{opened_after:?}");
+    assert!(is_other_server(&fill_again(&first, &tables[1])));
+    open(&first, &tables[0], 2).unwrap().close().unwrap();
+    open(&second, &tables[1], 0).unwrap().close().unwrap();
+}
+
+#[test]
 fn a_server_that_was_replaced_caches_the_table_no_more() {
     let (file, [first, second]) = (File::new(), [Krl::start(), Krl::start()]);
     fill_again(&first, &file).unwrap();

@@ -1,6 +1,6 @@
 //! The words of the command line.
 use crate::database::Database;
-use clap::{Args, Parser, Subcommand};
+use clap::{ArgGroup, Args, Parser, Subcommand};
 use clap_complete::Shell;
 use krl::Servers;
 use krl_cache::Table;
@@ -17,14 +17,14 @@ Exit status:
   2    the command line or the environment is wrong
 
 Examples:
-  krl-cache migration item | psql shop
+  krl-cache migration item | psql -v ON_ERROR_STOP=1 shop
   krl-cache check postgres://dba@127.0.0.1/shop item --role shop
   krl-cache fill postgres://dba@127.0.0.1/shop item --krl 127.0.0.1:7400
   krl-cache fill postgres://dba@127.0.0.1/shop item --store krl.db --clients-are-stopped";
 
 const MIGRATION: &str = "\
 Example:
-  krl-cache migration item --key number | psql shop";
+  krl-cache migration item --key number | psql -v ON_ERROR_STOP=1 shop";
 
 const SET_UP: &str = "\
 Example:
@@ -37,6 +37,10 @@ Example:
 const FILL: &str = "\
 Example:
   krl-cache fill postgres://dba@127.0.0.1/shop item --krl 127.0.0.1:7400";
+
+const FILLING: &str = "\
+Example:
+  krl-cache filling --krl 127.0.0.1:7400";
 
 const ACCEPT: &str = "\
 Example:
@@ -94,6 +98,16 @@ pub enum Command {
         #[command(flatten)]
         to: Destination,
     },
+    /// Print the number of the filling that a krl server has. The table's database has that of the
+    /// current one
+    #[command(after_help = FILLING)]
+    Filling {
+        /// The krl server, as 127.0.0.1:7400
+        #[arg(long, value_name = "ADDRESS")]
+        krl: Servers,
+        #[command(flatten)]
+        clients: Clients,
+    },
     /// Continue with a database that has another identity and has every commit that was
     /// acknowledged, such as a promoted replica. Restart the processes of the application afterwards
     #[command(after_help = ACCEPT)]
@@ -150,14 +164,15 @@ impl TableWords {
     }
 }
 
-/// Where krl's rows are written.
+/// Where krl's rows are written: to one of these.
 #[derive(Debug, Args)]
+#[command(group = ArgGroup::new("destination").args(["krl", "store"]).required(true))]
 pub struct Destination {
     /// Fill a running krl server, such as 127.0.0.1:7400, row by row
-    #[arg(long, value_name = "ADDRESS", required_unless_present = "store")]
+    #[arg(long, value_name = "ADDRESS")]
     pub krl: Option<Servers>,
     /// Write a new store at once. Start krl-server with it afterwards
-    #[arg(long, value_name = "FILE", conflicts_with = "krl", requires = "clients_are_stopped")]
+    #[arg(long, value_name = "FILE", requires = "clients_are_stopped")]
     pub store: Option<PathBuf>,
     /// State that no process of the application runs. One that does would continue to answer from its
     /// memory

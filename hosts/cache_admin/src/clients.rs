@@ -3,17 +3,18 @@ use crate::arguments::Clients;
 use crate::failure::{Failure, not_done};
 use krl::{Client, Servers, TlsConfig};
 use std::fs;
-use std::path::PathBuf;
+use std::path::{Path, PathBuf};
 
 impl Clients {
     /// Joins as a client that reads and one that writes.
     pub fn join(&self, servers: Servers) -> Result<(Client, Client), Failure> {
         let (servers, folder) = (self.with_tls(servers)?, lock_folder()?);
-        let join = |number: u8| {
-            let builder = Client::builder_with_numbers(servers.clone(), [number], &folder);
-            builder.join().map_err(|error| not_done(&error))
-        };
-        Ok((join(self.number)?, join(self.number + 1)?))
+        Ok((join(&servers, self.number, &folder)?, join(&servers, self.number + 1, &folder)?))
+    }
+
+    /// Joins as a client that only reads.
+    pub fn join_to_read(&self, servers: Servers) -> Result<Client, Failure> {
+        join(&self.with_tls(servers)?, self.number, &lock_folder()?)
     }
 
     fn with_tls(&self, servers: Servers) -> Result<Servers, Failure> {
@@ -25,6 +26,11 @@ impl Clients {
         let config = TlsConfig::from_files(authority, certificate, key);
         Ok(servers.with_tls(config.map_err(|error| not_done(&error))?))
     }
+}
+
+fn join(servers: &Servers, number: u8, folder: &Path) -> Result<Client, Failure> {
+    let joined = Client::builder_with_numbers(servers, [number], folder).join();
+    joined.map_err(|error| not_done(&error))
 }
 
 /// The folder of lock files of krl's clients, as `krl-client` has it.

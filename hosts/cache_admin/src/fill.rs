@@ -3,7 +3,7 @@ use crate::arguments::{Destination, TableWords};
 use crate::database::Database;
 use crate::failure::{Failure, not_done};
 use krl::{Client, Room, Snapshot, SqliteStore};
-use krl_cache::{Cache, EarlierServer, Origin, StoreFilling};
+use krl_cache::{Cache, CacheError, EarlierServer, Origin, StoreFilling};
 use krl_rows::Progress;
 use std::fmt;
 use std::fs;
@@ -86,11 +86,12 @@ pub fn server<O: Origin>(
     Ok(Filled { rows: filled, room: None })
 }
 
-/// Writes a new store of a table that is locked.
+/// Writes a new store of a table, which is locked meanwhile.
 ///
 /// It has another name until the table is known to have been locked all the time: no server starts
 /// over a store that may lack a change.
-pub fn store<O: Origin>(filling: StoreFilling<'_, O>, path: &Path) -> Result<Filled, Failure> {
+pub fn store<O: Origin>(table: &O, path: &Path, earlier: EarlierServer) -> Result<Filled, Failure> {
+    let filling = StoreFilling::begin(table, earlier).map_err(|error| not_begun(error, path))?;
     let progress = Progress::new("writing the store", None);
     let rows = filling.rows().clone();
     let room = room_for(rows.len());
@@ -105,6 +106,19 @@ pub fn store<O: Origin>(filling: StoreFilling<'_, O>, path: &Path) -> Result<Fil
     drop((unconfirmed, progress));
     sync_folder_of(path).map_err(|error| not_done(&error))?;
     Ok(Filled { rows, room: Some(room) })
+}
+
+/// Why a new store is not filled.
+fn not_begun(error: CacheError, path: &Path) -> Failure {
+    match error {
+        CacheError::OtherServer { current } => Failure::NotDone(format!(
+            "the new store {} would take the place of the krl server that has the current filling \
+             of the table ({current}). To fill that server again, give its address by --krl in \
+             place of --store; if no process uses it any more, add --replaces-server",
+            path.display()
+        )),
+        error => error.into(),
+    }
 }
 
 /// A store that has not its own name yet. It is removed when this is dropped.

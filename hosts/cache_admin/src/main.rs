@@ -5,6 +5,7 @@ mod clients;
 mod database;
 mod failure;
 mod fill;
+mod filling;
 mod output;
 
 use arguments::{Arguments, Command};
@@ -36,6 +37,10 @@ fn run(command: Command) -> Result<ExitCode, Failure> {
         }
         Command::Check { database, table, role } => {
             return check::check(&database, &table, role.as_deref());
+        }
+        Command::Filling { krl, clients } => {
+            let shown = filling::of_server(&krl, &clients)?;
+            output::print(&format!("{shown}\n"))?;
         }
         Command::Accept { database, table, krl, nothing_is_lost: _, clients } => {
             let (reader, writer) = clients.join(krl)?;

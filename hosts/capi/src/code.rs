@@ -133,11 +133,11 @@ impl From<&Error> for Code {
 impl From<&JoinError> for Code {
     fn from(error: &JoinError) -> Code {
         match error {
-            JoinError::LockFile(LockFileError::Taken) => Code::LockFileTaken,
-            JoinError::LockFile(_) => Code::LockFile,
+            JoinError::LockFile { error: LockFileError::Taken, .. } => Code::LockFileTaken,
+            JoinError::LockFile { .. } => Code::LockFile,
             JoinError::BadNumber => Code::BadNumber,
             JoinError::Incomplete(_) => Code::Misuse,
-            JoinError::NoAnswer(_) => Code::TimedOut,
+            JoinError::NoAnswer { .. } => Code::TimedOut,
             JoinError::Unserved(_) => Code::Unserved,
             JoinError::TurnedAway(_) => Code::TurnedAway,
             JoinError::OtherShard(_) => Code::OtherShard,

@@ -169,10 +169,10 @@ impl Failure {
     /// A client that did not join under this number.
     pub fn of_join(error: JoinError, number: u8, server: &krl::Servers) -> Failure {
         match error {
-            JoinError::NoAnswer(Some(fault)) => {
+            JoinError::NoAnswer { fault: Some(fault), .. } => {
                 Failure::NoAnswer(format!("the server at {server} can't be reached: {fault}"))
             }
-            JoinError::NoAnswer(None) => Failure::NoAnswer(format!(
+            JoinError::NoAnswer { fault: None, .. } => Failure::NoAnswer(format!(
                 "the server at {server} did not answer in time: it may wait for clients that it \
                  misses after a restart, which its status page shows, or know a later client of \
                  number {number}"
@@ -184,7 +184,7 @@ impl Failure {
                  is gone. Told by the server: {why}"
             )),
             JoinError::Unserved(why) => Failure::NoAnswer(why.to_string()),
-            JoinError::LockFile(LockFileError::Taken) => Failure::NotJoined(format!(
+            JoinError::LockFile { error: LockFileError::Taken, .. } => Failure::NotJoined(format!(
                 "another process is the client of number {number}: give this one another --number"
             )),
             error => {
@@ -227,14 +227,16 @@ mod tests {
         assert_eq!(Failure::from(Error::TimedOut).status(), 3);
         assert_eq!(of_kind(io::ErrorKind::BrokenPipe), 141);
         assert_eq!(of_kind(io::ErrorKind::StorageFull), 1);
-        let server = "127.0.0.1:1".parse().unwrap();
-        assert_eq!(Failure::of_join(JoinError::NoAnswer(None), 1, &server).status(), 3);
+        let server: krl::Servers = "127.0.0.1:1".parse().unwrap();
+        let silent = JoinError::NoAnswer { servers: Box::new(server.clone()), fault: None };
+        assert_eq!(Failure::of_join(silent, 1, &server).status(), 3);
         let full = Refusal::Full { connections: 256 };
         let refused = Failure::of_join(JoinError::Unserved(full), 1, &server);
         assert_eq!((refused.status(), refused.to_string()), (3, full.to_string()));
         assert_eq!(Failure::from(Error::Unserved(full)).status(), 3);
         assert_eq!(Failure::of_join(JoinError::BadNumber, 64, &server).status(), 4);
-        let taken = JoinError::LockFile(LockFileError::Taken);
+        let error = LockFileError::Taken;
+        let taken = JoinError::LockFile { path: "client-1.lock".into(), error };
         assert_eq!(Failure::of_join(taken, 1, &server).status(), 4);
     }
 

@@ -118,9 +118,10 @@ fn try_number(
     }
     match join_table(options, place, number, files, IN_USE) {
         Ok(session) => Ok(Tried::Joined(session)),
-        Err(ShardJoinError { error: JoinError::LockFile(LockFileError::Taken), .. }) => {
-            Ok(Tried::Taken)
-        }
+        Err(ShardJoinError {
+            error: JoinError::LockFile { error: LockFileError::Taken, .. },
+            ..
+        }) => Ok(Tried::Taken),
         Err(ShardJoinError {
             error: JoinError::Unserved(Refusal::LeaseRuns { .. } | Refusal::Incarnation { .. }),
             ..

@@ -8,6 +8,8 @@ use tokio_postgres::{Client, Config, Error, NoTls};
 /// Connects to the database of an address, by TLS if the address asks for it.
 #[derive(Clone)]
 pub struct Connector {
+    /// The address as it may be shown.
+    address: String,
     config: Config,
     tls: Option<Tls>,
 }
@@ -32,13 +34,20 @@ impl Connector {
         address: &PostgresAddress,
         user: Option<&(String, String)>,
     ) -> Result<Connector, String> {
-        Ok(Connector { config: address.config(user), tls: address.security().tls()? })
+        let (config, tls) = (address.config(user), address.security().tls()?);
+        Ok(Connector { address: address.to_string(), config, tls })
+    }
+
+    /// Where the database is.
+    #[must_use]
+    pub fn address(&self) -> &str {
+        &self.address
     }
 
     /// One that connects to nothing.
     #[cfg(test)]
     pub(crate) fn to_nothing() -> Connector {
-        Connector { config: Config::new(), tls: None }
+        Connector { address: String::new(), config: Config::new(), tls: None }
     }
 
     /// Connects. The connection belongs to the runtime of tokio that runs this.

@@ -18,5 +18,7 @@ mod store;
 pub use address::{BadPostgresAddress, PostgresAddress};
 // For the crates of this workspace.
 #[doc(hidden)]
+pub use address::without_password;
+#[doc(hidden)]
 pub use connector::{Carrier, Connector};
 pub use store::PostgresStore;

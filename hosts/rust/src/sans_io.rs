@@ -96,7 +96,8 @@ impl Client {
         if ClientNumber::of(number).is_none() {
             return Err(JoinError::BadNumber);
         }
-        let (lock_file, incarnation) = LockFile::take(lock_file, number)?;
+        let taken = LockFile::take(lock_file, number);
+        let (lock_file, incarnation) = taken.map_err(JoinError::of_lock_file(lock_file))?;
         let handle = ClientHandle::open_behind(number, incarnation, lock_file.older());
         let jobs = Jobs::new(handle.map_err(Error::from)?, Now::of_host(now));
         let session = Session::new(unnamed(servers, shard), jobs, seed);

@@ -72,7 +72,7 @@ fn bad_answers_alone_reject_nobody() {
     relay.plan(vec![UNAVAILABLE; 1000]);
     let builder = builder(&relay, setup.config(&["krl:client:5"]), &setup);
     let error = builder.timeout(Duration::from_secs(1)).join().unwrap_err();
-    assert!(matches!(error, JoinError::NoAnswer(Some(_))), "{error:?}");
+    assert!(matches!(error, JoinError::NoAnswer { fault: Some(_), .. }), "{error:?}");
 }
 
 #[test]

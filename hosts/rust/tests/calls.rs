@@ -163,7 +163,12 @@ fn the_first_free_number_of_several_is_taken() {
     let (first, second) = (join().unwrap(), join().unwrap());
     assert_eq!((first.number(), second.number()), (3, 4));
     let refused = join().unwrap_err();
-    assert!(matches!(refused, JoinError::LockFile(LockFileError::Taken)), "{refused}");
+    let shown = format!(
+        "the lock file {}: another process is the client of this number",
+        folder.lock(4).display()
+    );
+    assert_eq!(refused.to_string(), shown);
+    assert!(matches!(refused, JoinError::LockFile { error: LockFileError::Taken, .. }));
     first.leave().unwrap();
     assert_eq!(join().unwrap().number(), 3);
     // Another machine has other lock files: the server reports that the number is in use.
@@ -223,9 +228,9 @@ fn what_is_refused() {
         Client::builder(server.address(), number, lock).timeout(wait).join().err()
     };
     let taken = join(1, &folder.lock(1));
-    assert!(matches!(taken, Some(JoinError::LockFile(LockFileError::Taken))));
+    assert!(matches!(taken, Some(JoinError::LockFile { error: LockFileError::Taken, .. })));
     let strange = join(2, &folder.0.join("none").join("lock"));
-    assert!(matches!(strange, Some(JoinError::LockFile(LockFileError::File(_)))));
+    assert!(matches!(strange, Some(JoinError::LockFile { error: LockFileError::File(_), .. })));
     assert!(matches!(join(64, &folder.lock(2)), Some(JoinError::BadNumber)));
     let pins: Vec<_> = (0..8).map(|lo| client.pin(lo..=lo).unwrap()).collect();
     assert_eq!(client.pin(0..1).err(), Some(Error::TooManyPins));
@@ -245,7 +250,10 @@ fn a_server_that_does_not_run_answers_nobody() {
     let wait = Duration::from_millis(200);
     let client = Client::builder(address, 1, folder.lock(1));
     let joined = client.timeout(wait).join();
-    assert!(matches!(joined.err(), Some(JoinError::NoAnswer(Some(_)))));
+    let error = joined.unwrap_err();
+    assert!(matches!(error, JoinError::NoAnswer { fault: Some(_), .. }), "{error:?}");
+    let shown = error.to_string();
+    assert!(shown.starts_with("the server at 127.0.0.1:1 did not answer in time: "), "{shown}");
 }
 
 #[test]

@@ -81,7 +81,8 @@ fn a_pin_outlives_the_handle_that_made_it() {
         task
     });
     let task = task.join().unwrap();
-    assert!(matches!(world.try_join(1), Err(JoinError::LockFile(LockFileError::Taken))));
+    let joined = world.try_join(1);
+    assert!(matches!(joined, Err(JoinError::LockFile { error: LockFileError::Taken, .. })));
     drop(task);
     assert_eq!(writer.join().unwrap(), Ok(Outcome::Applied));
     world.join(1).leave().unwrap();

@@ -158,7 +158,8 @@ fn a_number_that_is_taken_at_one_shard_is_not_joined() {
     let first = world.join(1);
     let error = ShardedClient::join(world.map.clone(), 1, &world.folder).unwrap_err();
     assert_eq!(error.shard, Some(0));
-    assert!(matches!(error.error, JoinError::LockFile(LockFileError::Taken)), "{error:?}");
+    let is_taken = matches!(error.error, JoinError::LockFile { error: LockFileError::Taken, .. });
+    assert!(is_taken, "{error:?}");
     first.leave().unwrap();
     world.join(1).leave().unwrap();
     let none = ShardedClient::builder_with_numbers(world.map.clone(), [], &world.folder);

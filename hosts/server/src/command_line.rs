@@ -158,7 +158,7 @@ the epoch is 4294967296 greater than in the backup, so that no client has seen i
         /// The new store: a file, a place in a cluster as <etcd://10.0.0.1:2379/krl/orders>, or a
         /// database as <postgres://krl@10.0.0.1/orders?sslmode=verify-full>. What exists is never
         /// replaced
-        #[arg(long, value_name = "NEW", value_parser = StorePlace::parse)]
+        #[arg(long, value_name = "NEW")]
         store: StorePlace,
         /// Every client's process has ended
         #[arg(long)]
@@ -214,7 +214,7 @@ While a server serves the store, krl-client import does the same, row by row.")]
         /// The store: a file of SQLite, which is made if there is none; or a new place in a
         /// cluster, as <etcd://10.0.0.1:2379/krl/orders>, or a database that has no table yet, as
         /// <postgres://krl@10.0.0.1/orders?sslmode=verify-full>
-        #[arg(long, value_name = "STORE", value_parser = StorePlace::parse)]
+        #[arg(long, value_name = "STORE")]
         store: StorePlace,
         /// What is done with a row whose key has a row in the store
         #[arg(long, value_enum, default_value = "refuse")]

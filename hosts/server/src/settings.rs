@@ -1,6 +1,7 @@
 //! The settings of a server, and where each comes from.
 mod access;
 pub mod key;
+mod store_word;
 mod value;
 
 pub use access::AccessSettings;
@@ -14,6 +15,7 @@ use crate::http::StatusPort;
 use clap::ArgMatches;
 use clap::parser::ValueSource;
 use krl::{Address, Reach, Room, ShardBounds};
+use krl_postgres::without_password;
 use serde::Deserialize;
 use std::fmt;
 use std::path::{Path, PathBuf};
@@ -227,7 +229,8 @@ impl Given<'_> {
         };
         let Some(value) = parse(&text) else {
             let Key { name, expected, .. } = key;
-            let reason = format!("{name} is '{text}' ({source}), and has to be {expected}");
+            let shown = without_password(&text);
+            let reason = format!("{name} is '{shown}' ({source}), and has to be {expected}");
             return Err(BadSetting(reason));
         };
         Ok(Setting { value, source })

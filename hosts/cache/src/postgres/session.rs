@@ -6,6 +6,7 @@ use crate::table::{Table, checked};
 use crate::version::Version;
 use futures_util::future::try_join;
 use krl_postgres::{Carrier, Connector};
+use std::error::Error as _;
 use std::future::poll_fn;
 use std::pin::{Pin, pin};
 use std::sync::Arc;
@@ -87,7 +88,9 @@ impl Session {
         };
         let timeout = timeouts.answer;
         let connected = runtime.block_on(async { tokio::time::timeout(timeout, connecting).await });
-        let (client, carrier) = connected.map_err(|_| late())?.map_err(reported)?;
+        let connected = connected.map_err(|_| LATE.to_string());
+        let connected = connected.and_then(|ended| ended.map_err(|error| words_of(&error)));
+        let (client, carrier) = connected.map_err(|why| not_connected(connector, &why))?;
         Ok(Session { runtime, client, _carrier: carrier, timeout })
     }
 
@@ -211,11 +214,29 @@ pub(super) fn key_and_version(row: &Row) -> Result<(u64, Version), OriginError> 
 
 /// An error, with what the database itself reports, and what it says to do.
 pub(super) fn reported(error: Error) -> OriginError {
-    let Some(reported) = error.as_db_error() else { return OriginError::new(error) };
-    let hint = reported.hint().map(|hint| format!(". {hint}")).unwrap_or_default();
-    OriginError::new(format!("{} ({}){hint}", reported.message(), reported.code().code()))
+    if error.as_db_error().is_some() {
+        OriginError::new(words_of(&error))
+    } else {
+        OriginError::new(error)
+    }
 }
 
+/// The same in words: what the database itself reports, or the cause of what the driver reports.
+fn words_of(error: &Error) -> String {
+    let Some(reported) = error.as_db_error() else {
+        return error.source().map_or_else(|| error.to_string(), ToString::to_string);
+    };
+    let hint = reported.hint().map(|hint| format!(". {hint}")).unwrap_or_default();
+    format!("{} ({}){hint}", reported.message(), reported.code().code())
+}
+
+fn not_connected(connector: &Connector, why: &str) -> OriginError {
+    OriginError::new(format!("cannot connect to {}: {why}", connector.address()))
+}
+
+/// Why a question has no answer.
+const LATE: &str = "no answer came in time";
+
 fn late() -> OriginError {
-    OriginError::new("no answer came in time")
+    OriginError::new(LATE)
 }

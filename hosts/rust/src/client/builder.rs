@@ -1,7 +1,6 @@
 //! What a client is given before it joins.
 use crate::client::Client;
 use crate::client::joining::{self, Errand, Waits};
-use crate::client::lock_file::LockFileError;
 use crate::client::numbers;
 use crate::model::error::JoinError;
 use crate::net::servers::Servers;
@@ -78,11 +77,10 @@ impl ClientBuilder {
         let join =
             |number, waits| join(number, waits, &folder.join(format!("client-{number}.lock")));
         match numbers[..] {
-            [] => Err(JoinError::Incomplete("a number")),
             [number] => join(number, waits),
             ref numbers => {
                 let joined = numbers::join_first(numbers, waits, join, |error| error);
-                joined.unwrap_or(Err(JoinError::LockFile(LockFileError::Taken)))
+                joined.unwrap_or(Err(JoinError::Incomplete("a number")))
             }
         }
     }

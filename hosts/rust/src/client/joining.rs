@@ -80,7 +80,8 @@ fn start(
     if ClientNumber::of(number).is_none() {
         return Err(JoinError::BadNumber);
     }
-    let (mut lock_file, incarnation) = LockFile::take(lock_file, number)?;
+    let taken = LockFile::take(lock_file, number);
+    let (mut lock_file, incarnation) = taken.map_err(JoinError::of_lock_file(lock_file))?;
     let (incarnation, older) = match errand {
         Errand::Work => (incarnation, lock_file.older()),
         Errand::Evict { above } => (lock_file.rise_above(above), Older::Vouched),
@@ -98,7 +99,9 @@ fn not_joined(shared: &Shared, refused: Error) -> JoinError {
     let rejection = shared.link().rejection();
     shared.end_by(Instant::now());
     match refused {
-        Error::TimedOut => JoinError::NoAnswer(fault),
+        Error::TimedOut => {
+            JoinError::NoAnswer { servers: Box::new(shared.link().servers().clone()), fault }
+        }
         Error::Unserved(refusal) => JoinError::Unserved(refusal),
         Error::OtherShard(other) => JoinError::OtherShard(other),
         Error::TurnedAway => JoinError::TurnedAway(match rejection {

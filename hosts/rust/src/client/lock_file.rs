@@ -144,8 +144,8 @@ impl fmt::Display for LockFileError {
     fn fmt(&self, f: &mut fmt::Formatter<'_>) -> fmt::Result {
         match self {
             LockFileError::Taken => f.write_str("another process is the client of this number"),
-            LockFileError::Strange => f.write_str("the file is no lock file of this client number"),
-            LockFileError::File(error) => write!(f, "the lock file can't be used: {error}"),
+            LockFileError::Strange => f.write_str("it is no lock file of this client number"),
+            LockFileError::File(error) => write!(f, "it can't be used: {error}"),
         }
     }
 }

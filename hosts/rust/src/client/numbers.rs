@@ -10,8 +10,8 @@ const IN_USE: Duration = Duration::from_secs(1);
 
 /// Joins by the first of these numbers that is free. A number whose lock file another process has
 /// is left for the next one at once, and one of which the server reports that it is in use after a
-/// moment. If no other one is free, the first of the latter is waited for. The answer is `None` if
-/// other processes have the lock files of all.
+/// moment. If no other one is free, the first of the latter is waited for. If other processes have
+/// the lock files of all, the error is that of the last number. `None` if there are no numbers.
 pub(crate) fn join_first<C, E>(
     numbers: &[u8],
     waits: Waits,
@@ -19,21 +19,21 @@ pub(crate) fn join_first<C, E>(
     why: impl Fn(&E) -> &JoinError,
 ) -> Option<Result<C, E>> {
     let short = Waits { if_in_use: waits.if_in_use.min(IN_USE), ..waits };
-    let mut in_use = None;
+    let (mut in_use, mut taken) = (None, None);
     for &number in numbers {
         let error = match join(number, short) {
             Ok(client) => return Some(Ok(client)),
             Err(error) => error,
         };
         match why(&error) {
-            JoinError::LockFile(LockFileError::Taken) => {}
+            JoinError::LockFile { error: LockFileError::Taken, .. } => taken = Some(Err(error)),
             JoinError::Unserved(Refusal::LeaseRuns { .. } | Refusal::Incarnation { .. }) => {
                 in_use.get_or_insert(number);
             }
             _ => return Some(Err(error)),
         }
     }
-    in_use.map(|number| join(number, waits))
+    in_use.map(|number| join(number, waits)).or(taken)
 }
 
 #[cfg(test)]
@@ -53,7 +53,7 @@ mod tests {
         let join = |number: u8, waits: Waits| {
             tried.borrow_mut().push((number, waits.if_in_use == WAITS.if_in_use));
             match numbers.iter().find(|(other, _)| *other == number).unwrap().1 {
-                'l' => Err(JoinError::LockFile(LockFileError::Taken)),
+                'l' => Err(taken(number)),
                 'u' => Err(JoinError::Unserved(Refusal::Incarnation { client: 1, registered: 2 })),
                 'f' => Err(JoinError::BadNumber),
                 _ => Ok(number),
@@ -62,6 +62,10 @@ mod tests {
         let all: Vec<u8> = numbers.iter().map(|(number, _)| *number).collect();
         let joined = join_first(&all, WAITS, join, |error| error);
         (joined, tried.into_inner())
+    }
+
+    fn taken(number: u8) -> JoinError {
+        JoinError::LockFile { path: number.to_string().into(), error: LockFileError::Taken }
     }
 
     #[test]
@@ -76,7 +80,13 @@ mod tests {
         let (joined, tried) = run(&[(3, 'u'), (4, 'l'), (5, 'u')]);
         assert!(matches!(joined, Some(Err(JoinError::Unserved(_)))));
         assert_eq!(tried, [(3, false), (4, false), (5, false), (3, true)]);
-        assert!(run(&[(3, 'l'), (4, 'l')]).0.is_none());
+    }
+
+    #[test]
+    fn a_lock_file_is_named_if_all_are_taken() {
+        let (joined, _) = run(&[(3, 'l'), (4, 'l')]);
+        assert_eq!(joined.unwrap().unwrap_err().to_string(), taken(4).to_string());
+        assert!(run(&[]).0.is_none());
     }
 
     #[test]

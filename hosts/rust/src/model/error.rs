@@ -3,8 +3,10 @@ use crate::client::lock_file::LockFileError;
 use crate::model::code::Code;
 use crate::model::refusal::Refusal;
 use crate::model::shard_fence::OtherShard;
+use crate::net::servers::Servers;
 use std::fmt;
 use std::io;
+use std::path::{Path, PathBuf};
 
 /// Why a call of a client did not do what it should.
 #[derive(Clone, Copy, Debug, PartialEq, Eq)]
@@ -82,15 +84,24 @@ pub enum Unsent {
 #[non_exhaustive]
 pub enum JoinError {
     /// The lock file was not taken.
-    LockFile(LockFileError),
+    LockFile {
+        /// The file.
+        path: PathBuf,
+        /// Why it was not taken.
+        error: LockFileError,
+    },
     /// A number above 63.
     BadNumber,
     /// What a builder was given has none of this: a number, or keys of a shard.
     Incomplete(&'static str),
-    /// The server did not answer within the client's timeout. With it comes how the last connection
-    /// ended, or why none was made, unless the server took the client on a later one. Without it
-    /// the server recovers, or is silent.
-    NoAnswer(Option<io::Error>),
+    /// The server did not answer within the client's timeout.
+    NoAnswer {
+        /// The servers that the client tried.
+        servers: Box<Servers>,
+        /// How the last connection ended, or why none was made, unless the server took the client
+        /// on a later one. If it is `None`, the server recovers, or is silent.
+        fault: Option<io::Error>,
+    },
     /// The server has reported why it does not serve the client, and within the client's timeout it
     /// did not answer.
     Unserved(Refusal),
@@ -166,6 +177,14 @@ impl Error {
             Error::Stopped => Error::NotSent(Unsent::Stopped),
             other => other,
         }
+    }
+}
+
+impl JoinError {
+    /// Makes an error of this lock file.
+    pub(crate) fn of_lock_file(path: &Path) -> impl FnOnce(LockFileError) -> JoinError {
+        let path = path.to_path_buf();
+        move |error| JoinError::LockFile { path, error }
     }
 }
 
@@ -249,12 +268,14 @@ impl fmt::Display for Unsent {
 impl fmt::Display for JoinError {
     fn fmt(&self, f: &mut fmt::Formatter<'_>) -> fmt::Result {
         match self {
-            JoinError::LockFile(error) => error.fmt(f),
+            JoinError::LockFile { path, error } => {
+                write!(f, "the lock file {}: {error}", path.display())
+            }
             JoinError::BadNumber => f.write_str("a client's number is 0 to 63"),
             JoinError::Incomplete(what) => write!(f, "a client can't join without {what}"),
-            JoinError::NoAnswer(None) => f.write_str("the server did not answer in time"),
-            JoinError::NoAnswer(Some(error)) => {
-                write!(f, "the server did not answer in time: {error}")
+            JoinError::NoAnswer { servers, fault } => {
+                write!(f, "the server at {servers} did not answer in time")?;
+                fault.iter().try_for_each(|fault| write!(f, ": {fault}"))
             }
             JoinError::Unserved(refusal) => refusal.fmt(f),
             JoinError::TurnedAway(why) => write!(f, "the connection was turned away: {why}"),
@@ -278,8 +299,8 @@ impl std::error::Error for Error {
 impl std::error::Error for JoinError {
     fn source(&self) -> Option<&(dyn std::error::Error + 'static)> {
         match self {
-            JoinError::LockFile(error) => Some(error),
-            JoinError::NoAnswer(error) => error.as_ref().map(|error| error as _),
+            JoinError::LockFile { error, .. } => Some(error),
+            JoinError::NoAnswer { fault, .. } => fault.as_ref().map(|fault| fault as _),
             JoinError::NoThread(error) => Some(error),
             JoinError::Refused(refused) => Some(refused),
             JoinError::OtherShard(other) => Some(other),
@@ -294,12 +315,6 @@ impl std::error::Error for JoinError {
 impl From<Error> for JoinError {
     fn from(refused: Error) -> JoinError {
         JoinError::Refused(refused)
-    }
-}
-
-impl From<LockFileError> for JoinError {
-    fn from(error: LockFileError) -> JoinError {
-        JoinError::LockFile(error)
     }
 }
 

@@ -1,7 +1,6 @@
 //! What a sharded client is given before it joins, and how it joins.
 use crate::client::Client;
 use crate::client::joining::{self, Errand, Waits};
-use crate::client::lock_file::LockFileError;
 use crate::client::numbers;
 use crate::model::error::JoinError;
 use crate::model::row::END;
@@ -67,11 +66,10 @@ impl ShardedBuilder {
         let places = self.places().ok_or(of_none(JoinError::Incomplete("keys of a shard")))?;
         let join = |number, waits| self.join_as(number, waits, places.clone());
         match self.numbers[..] {
-            [] => Err(of_none(JoinError::Incomplete("a number"))),
             [number] => join(number, self.waits),
             ref numbers => {
                 let joined = numbers::join_first(numbers, self.waits, join, |failed| &failed.error);
-                joined.unwrap_or(Err(of_none(JoinError::LockFile(LockFileError::Taken))))
+                joined.unwrap_or(Err(of_none(JoinError::Incomplete("a number"))))
             }
         }
     }
