@@ -134,8 +134,9 @@ pub enum Command {
     },
 }
 
-/// A table.
+/// A table. It is no group: clap would show one in place of its words, and before the database.
 #[derive(Debug, Args)]
+#[group(skip)]
 pub struct TableWords {
     /// The table, such as item or shop.item
     #[arg(value_name = "TABLE")]

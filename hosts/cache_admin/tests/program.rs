@@ -343,5 +343,7 @@ fn a_wrong_word_is_named() {
     assert!(status == 1 && text.starts_with(&refused), "{text}");
     let (status, text) = ended(folder.path(), &["fill", "shop.db", "item"]);
     assert!(status == 2 && text.contains("--krl <ADDRESS>|--store <FILE>"), "{text}");
+    let (status, text) = ended(folder.path(), &["check", "shop.db", "item", "--kee", "number"]);
+    assert!(status == 2 && text.contains(" <DATABASE> <TABLE>\n"), "{text}");
     assert_eq!(ended(folder.path(), &["chekc", "shop.db", "item"]).0, 2);
 }
