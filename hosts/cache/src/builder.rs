@@ -69,8 +69,8 @@ impl<O: Origin> Builder<O> {
     ///
     /// # Errors
     ///
-    /// `NotFilled` if krl does not have the versions of this database; `OtherServer` if another
-    /// server of krl has them; `Krl`; `Origin`.
+    /// `NotFilled` if krl does not have the versions of this database; `OtherTable` if it has those
+    /// of another table; `OtherServer` if another server of krl has them; `Krl`; `Origin`.
     pub fn open(self) -> Result<Cache<O>, CacheError> {
         let cache = self.open_unfilled()?;
         cache.confirm()?;

@@ -50,11 +50,11 @@ impl Lost {
         for key in &keys {
             lost.remove(key);
         }
-        let mut bytes = 0;
-        for (key, attempts) in lost.iter_mut().take(MAX_AHEAD) {
+        let (most, mut bytes) = (keys.len() + MAX_AHEAD, 0);
+        for (key, attempts) in lost.iter_mut() {
             let Some(size) = bodies.size_if_used(*key) else { continue };
             bytes += size;
-            if bytes > MAX_BYTES {
+            if bytes > MAX_BYTES || keys.len() == most {
                 break;
             }
             *attempts += 1;
@@ -107,6 +107,13 @@ mod tests {
         lost.note([3, 4, 50]);
         assert_eq!(lost.to_load(&[5, 60], &bodies), [4, 60]);
         assert_eq!(lost.to_load(&[3], &bodies), [3, 4], "it is asked for");
+    }
+
+    #[test]
+    fn rows_that_nobody_has_read_keep_none_from_being_loaded_ahead() {
+        let (lost, bodies) = (Lost::default(), read_bodies(100..101, 1));
+        lost.note(0..101);
+        assert_eq!(lost.to_load(&[200], &bodies), [100, 200]);
     }
 
     #[test]
