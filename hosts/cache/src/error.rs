@@ -31,8 +31,11 @@ pub enum CacheError {
     /// promoted since. An operator calls [`Cache::fill`](crate::Cache::fill).
     NotFilled,
     /// krl holds the rows of another table or database, or of this one before it was restored. Use
-    /// the server that was filled from this table. After a restore, an operator calls
-    /// [`Cache::fill`](crate::Cache::fill).
+    /// the server that was filled from this table, or fill one of its own. If no process uses this
+    /// server for other rows any more, an operator calls [`Cache::fill`](crate::Cache::fill) with
+    /// [`EarlierServer::IsUnused`].
+    ///
+    /// [`EarlierServer::IsUnused`]: crate::EarlierServer::IsUnused
     OtherTable,
     /// The table's current filling is not that of this server of krl: another server was filled from
     /// the table since, or the database or krl's store was restored. Use the server that was filled,
@@ -77,8 +80,9 @@ impl fmt::Display for CacheError {
             ),
             CacheError::OtherTable => f.write_str(
                 "this krl server holds the rows of another table or database: give the address of \
-                 the server that was filled from this table. If the database was restored, run \
-                 krl-cache fill",
+                 the server that was filled from this table, or fill one of its own. If no process \
+                 uses this server for the other rows any more, as after a restore of the database, \
+                 run krl-cache fill with --replaces-server",
             ),
             CacheError::OtherServer { current } => write!(
                 f,

@@ -63,14 +63,15 @@ impl<O: Origin> Cache<O> {
     /// never answered again.
     ///
     /// A server that has not the table's current filling is refused: it is not the one that caches
-    /// the table, unless one of the two was restored. [`Builder::earlier_server`] states that no
-    /// process uses the other one any more.
+    /// the table, unless one of the two was restored. So is one that holds the rows of another table,
+    /// if this one was never filled. [`Builder::earlier_server`] states that no process uses the
+    /// other server any more, nor this one for another table.
     ///
     /// `progress` gets the number of rows that were compared, now and then, and the number of all.
     ///
     /// # Errors
     ///
-    /// `OtherServer`: nothing has changed. `Krl`, `Origin`, `Full`, `TimedOut`: then no process
+    /// `OtherServer`, `OtherTable`: nothing has changed. `Krl`, `Origin`, `Full`, `TimedOut`: then no process
     /// answers a read until it is called again and succeeds.
     ///
     /// [`Builder::earlier_server`]: crate::Builder::earlier_server

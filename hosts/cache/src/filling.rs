@@ -1,7 +1,7 @@
 //! Which filling of a table is current, and which server of krl has it.
 use crate::cache::Cache;
 use crate::error::CacheError;
-use crate::mark::{GUARD, MARK, number_of};
+use crate::mark::{GUARD, MARK, filling_of, number_of};
 use crate::origin::Origin;
 use krl::{Outcome, Pin, Row, Value};
 use std::fmt;
@@ -100,8 +100,18 @@ pub enum EarlierServer {
     /// It is the one that is filled. The filling is refused if it is another one.
     #[default]
     IsFilledAgain,
-    /// It may be another one. An operator states that no process uses that one any more.
+    /// It may be another one. An operator states that no process uses that one any more, nor the one
+    /// that is filled for another table.
     IsUnused,
+}
+
+/// What a server of krl holds before it is filled.
+#[derive(Clone, Copy, Debug, PartialEq, Eq)]
+pub(crate) enum Holds {
+    /// Rows of this table, or nothing.
+    NothingOfOthers,
+    /// Rows of another table or database, or of somebody who is no cache.
+    RowsOfOthers,
 }
 
 /// A filling that takes the place of the current one.
@@ -113,22 +123,26 @@ pub(crate) struct Renewal {
 }
 
 impl Renewal {
-    /// A renewal by a server that has had these fillings.
+    /// A renewal by a server that has had these fillings, and holds this.
     ///
     /// A second server knows nothing of the copies that the first one has granted. So only the
-    /// server of the current filling may be filled, unless no process uses that one any more.
+    /// server of the current filling may be filled, unless no process uses that one any more. And a
+    /// filling takes away what a server holds: so a table that was never filled gets no server that
+    /// somebody else may use.
     pub fn of(
         current: Option<FillingNumber>,
         own: &[FillingNumber],
+        holds: Holds,
         earlier: EarlierServer,
     ) -> Result<Renewal, CacheError> {
-        let renewal = Renewal { from: current, to: FillingNumber::fresh() };
-        match current {
-            Some(current) if !own.contains(&current) && earlier == EarlierServer::IsFilledAgain => {
-                Err(CacheError::OtherServer { current })
-            }
-            _ => Ok(renewal),
+        match (current, earlier) {
+            (_, EarlierServer::IsUnused) => {}
+            (Some(current), _) if own.contains(&current) => {}
+            (Some(current), _) => return Err(CacheError::OtherServer { current }),
+            (None, _) if holds == Holds::RowsOfOthers => return Err(CacheError::OtherTable),
+            (None, _) => {}
         }
+        Ok(Renewal { from: current, to: FillingNumber::fresh() })
     }
 }
 
@@ -165,12 +179,24 @@ impl<O: Origin> Cache<O> {
         debug_assert!(mark.is_none_or(|mark| mark.key == MARK), "{mark:?}");
         let guard = self.writer.read(GUARD..=GUARD)?;
         let own = fillings_of(mark, guard.first());
-        let renewal = Renewal::of(self.origin.filling()?, &own, self.earlier_server)?;
+        let holds = self.holds(mark, guard.first())?;
+        let renewal = Renewal::of(self.origin.filling()?, &own, holds, self.earlier_server)?;
         match pin.set(GUARD, begun(&own, renewal.to))? {
             Outcome::Applied => Ok(renewal),
             Outcome::Full => Err(CacheError::Full),
             _ => Err(CacheError::NotFilled),
         }
+    }
+
+    /// What the server holds that has this mark, and this row below it. Each filling leaves the one
+    /// or the other.
+    fn holds(&self, mark: Option<&Row>, guard: Option<&Row>) -> Result<Holds, CacheError> {
+        let is_of_others = match (mark, guard) {
+            (Some(mark), _) => filling_of(mark, &self.identity).is_none(),
+            (None, Some(_)) => false,
+            (None, None) => !self.writer.read(0..GUARD)?.is_empty(),
+        };
+        Ok(if is_of_others { Holds::RowsOfOthers } else { Holds::NothingOfOthers })
     }
 }
 
@@ -211,7 +237,9 @@ mod tests {
     #[test]
     fn only_the_server_of_the_current_filling_is_filled_again() {
         let [one, two] = [1, 2].map(FillingNumber::of);
-        let renewal = |current, own: &[_], earlier| Renewal::of(current, own, earlier);
+        let renewal = |current, own: &[_], earlier| {
+            Renewal::of(current, own, Holds::NothingOfOthers, earlier)
+        };
         for earlier in [EarlierServer::IsFilledAgain, EarlierServer::IsUnused] {
             assert_eq!(renewal(None, &[one], earlier).unwrap().from, None);
             assert_eq!(renewal(Some(one), &[two, one], earlier).unwrap().from, Some(one));
@@ -221,5 +249,18 @@ mod tests {
             assert!(matches!(refused, CacheError::OtherServer { current } if current == one));
             assert_eq!(renewal(Some(one), own, EarlierServer::IsUnused).unwrap().from, Some(one));
         }
+    }
+
+    #[test]
+    fn a_server_that_holds_rows_of_others_is_not_filled_from_a_new_table() {
+        let [one, two] = [1, 2].map(FillingNumber::of);
+        let renewal = |current, earlier| Renewal::of(current, &[two], Holds::RowsOfOthers, earlier);
+        let refused = renewal(None, EarlierServer::IsFilledAgain).unwrap_err();
+        assert!(matches!(refused, CacheError::OtherTable));
+        assert_eq!(renewal(None, EarlierServer::IsUnused).unwrap().from, None);
+        // The database was restored, and has another identity than before.
+        assert_eq!(renewal(Some(two), EarlierServer::IsFilledAgain).unwrap().from, Some(two));
+        let refused = renewal(Some(one), EarlierServer::IsFilledAgain).unwrap_err();
+        assert!(matches!(refused, CacheError::OtherServer { .. }));
     }
 }

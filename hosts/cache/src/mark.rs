@@ -29,7 +29,7 @@ pub(crate) fn number_of(mark: &krl::Row) -> Option<FillingNumber> {
 }
 
 /// The number of the filling that set this mark, or `None` if the mark is that of another database.
-fn filling_of(mark: &krl::Row, identity: &OriginIdentity) -> Option<FillingNumber> {
+pub(crate) fn filling_of(mark: &krl::Row, identity: &OriginIdentity) -> Option<FillingNumber> {
     let (name, number) = parts_of(mark)?;
     (name == identity.as_bytes()).then_some(number)
 }

@@ -1,6 +1,6 @@
 //! Filling a new store of krl that no server serves yet.
 use crate::error::CacheError;
-use crate::filling::{EarlierServer, Renewal, begun};
+use crate::filling::{EarlierServer, Holds, Renewal, begun};
 use crate::mark::{GUARD, MARK, mark_of};
 use crate::origin::{Filling, Origin};
 use crate::version::Version;
@@ -35,7 +35,7 @@ impl<'t, O: Origin> StoreFilling<'t, O> {
     /// database does not answer, or does not grant the lock in time.
     pub fn begin(table: &'t O, earlier: EarlierServer) -> Result<StoreFilling<'t, O>, CacheError> {
         let identity = table.identity()?;
-        let renewal = Renewal::of(table.filling()?, &[], earlier)?;
+        let renewal = Renewal::of(table.filling()?, &[], Holds::NothingOfOthers, earlier)?;
         let mut filling = table.begin_filling()?;
         let versions = filling.versions()?;
         let value = |(key, version): (u64, Version)| (key, version.value());

@@ -135,12 +135,31 @@ fn the_server_of_another_table_is_named_as_such() {
     fill_again(&first, &tables[0]).unwrap();
     let opened_before = open(&first, &tables[1], 0);
     assert!(matches!(opened_before, Err(CacheError::OtherTable)), "{opened_before:?}");
+    let cache = open(&first, &tables[0], 3).unwrap();
+    let filled = fill_again(&first, &tables[1]);
+    assert!(matches!(filled, Err(CacheError::OtherTable)), "{filled:?}");
+    // Nothing has changed.
+    assert_eq!(name(&cache, 10).unwrap().as_deref(), Some("lamp"));
     fill_again(&second, &tables[1]).unwrap();
     let opened_after = open(&first, &tables[1], 1);
     assert!(matches!(opened_after, Err(CacheError::OtherTable)), "{opened_after:?}");
     assert!(is_other_server(&fill_again(&first, &tables[1])));
     open(&first, &tables[0], 2).unwrap().close().unwrap();
     open(&second, &tables[1], 0).unwrap().close().unwrap();
+}
+
+#[test]
+fn a_server_that_holds_rows_of_no_cache_is_not_filled() {
+    let (file, krl) = (File::new(), Krl::start());
+    let stranger = krl.client(0);
+    let row = krl::Row { key: 7, value: krl::Value::from(7) };
+    assert_eq!(stranger.insert(row.key, row.value).unwrap(), krl::Outcome::Applied);
+    let filled = fill_again(&krl, &file);
+    assert!(matches!(filled, Err(CacheError::OtherTable)), "{filled:?}");
+    assert_eq!(stranger.read(..).unwrap(), [row]);
+    fill_in_its_place(&krl, &file).unwrap();
+    let rows = stranger.read(..).unwrap();
+    assert!(rows.iter().all(|row| row.key != 7), "{rows:?}");
 }
 
 #[test]

@@ -179,8 +179,9 @@ pub struct Destination {
     /// memory
     #[arg(long, requires = "store")]
     pub clients_are_stopped: bool,
-    /// State that no process uses the krl server any more that the table was filled into before. By
-    /// default a table is filled only into the server that has its current filling
+    /// State that no process uses the krl server any more that the table was filled into before, nor
+    /// the given one for another table. By default a table is filled only into the server that has its
+    /// current filling, or for the first time into one that holds nothing
     #[arg(long)]
     pub replaces_server: bool,
     #[command(flatten)]

@@ -56,6 +56,13 @@ impl Krl {
         self.cache_at(&self.server.address().to_string(), table, number)
     }
 
+    /// A client of this number that is no cache's.
+    pub fn client(&self, number: u8) -> Client {
+        let lock_file = self.folder.join(format!("client-{number}.lock"));
+        let builder = Client::builder(self.server.address(), number, lock_file);
+        builder.timeout(LONG).join().unwrap()
+    }
+
     fn cache_at<O: Origin>(&self, server: &str, table: O, number: u8) -> Builder<O> {
         let server: krl::Address = server.parse().unwrap();
         let join = |number: u8| {
