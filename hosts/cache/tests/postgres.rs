@@ -427,6 +427,41 @@ fn a_row_of_another_version_than_krls_is_not_replaced() {
     database.connect().wait_until("SELECT price FROM item WHERE number = 10", |price| price == 77);
 }
 
+/// A type with fewer values than columns.
+struct Nameless;
+
+impl PostgresRow for Nameless {
+    const COLUMNS: &'static [&'static str] = &["the name"];
+
+    fn from_row(_: &Row) -> Result<Nameless, Error> {
+        Ok(Nameless)
+    }
+
+    fn values(&self) -> Vec<&(dyn ToSql + Sync)> {
+        Vec::new()
+    }
+}
+
+#[test]
+fn a_type_that_lacks_a_value_is_refused() {
+    let Some((database, krl)) = filled() else { return };
+    let table = Table::new("item").key("number");
+    let table = PostgresOrigin::<Nameless>::new(&database.address(), None, table).unwrap();
+    let cache = krl.cache_of(table, 0).open().unwrap();
+    let before = database.connect();
+    assert!(cache.get(10).unwrap().is_some());
+    let writes: [&dyn Fn() -> Result<bool, CacheError>; 3] =
+        [&|| cache.insert(11, Nameless), &|| cache.update(10, |_| Some(Nameless)), &|| {
+            cache.transact(&[11, 12], |rows| Ok(rows.put(12, Nameless).is_ok()))
+        }];
+    for write in writes {
+        let refused = write().unwrap_err().to_string();
+        assert!(refused.contains("a value for each of its `COLUMNS`"), "{refused}");
+    }
+    before.wait_until("SELECT count(*) FROM item", |count| count == 2);
+    assert!(cache.get(10).unwrap().is_some());
+}
+
 #[test]
 fn a_key_without_a_row_is_locked_too() {
     let Some(database) = Database::start() else { return };

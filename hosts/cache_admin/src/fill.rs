@@ -55,17 +55,31 @@ pub fn fill(database: &Database, words: &TableWords, to: &Destination) -> Result
 
 /// Refuses a store that exists already. It may be that of the table's server, so this comes before
 /// the question whether another server is replaced.
+///
+/// A server that was killed leaves its log next to its store, and SQLite would take that for the
+/// log of the new one: the rows of before would be there again.
 fn is_new(path: &Path) -> Result<(), Failure> {
-    if path.symlink_metadata().is_err() {
-        return Ok(());
+    let exists = |path: &Path| path.symlink_metadata().is_ok();
+    if exists(path) {
+        return Err(Failure::NotDone(format!(
+            "the file {} exists already. To fill a running server again, give its address by --krl \
+             in place of --store; to begin again with a new store, stop all programs and the \
+             server, move the file away, and add --replaces-server",
+            path.display()
+        )));
     }
-    Err(Failure::NotDone(format!(
-        "the file {} exists already. To fill a running server again, give its address by --krl in \
-         place of --store; to begin again with a new store, stop all programs and the server, move \
-         the file away, and add --replaces-server",
-        path.display()
-    )))
+    match LOGS.map(|end| with_end(path, end)).iter().find(|log| exists(log)) {
+        Some(log) => Err(Failure::NotDone(format!(
+            "the file {} belongs to another store, and SQLite would take it for the log of the new \
+             one. Move it away together with its store",
+            log.display()
+        ))),
+        None => Ok(()),
+    }
 }
+
+/// How the names of the files end that SQLite has next to a store.
+const LOGS: [&str; 3] = ["-wal", "-shm", "-journal"];
 
 /// Fills a server, and reports how far it has come.
 pub fn server<O: Origin>(

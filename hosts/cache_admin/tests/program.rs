@@ -265,6 +265,12 @@ fn a_new_store_is_filled_at_once() {
         text.contains("the new store other.db would take the place of the krl server"),
         "{text}"
     );
+    // A server that was killed has left its log.
+    std::fs::write(folder.join("other.db-wal"), "rows of before").unwrap();
+    let (status, text) = ended(folder, &[&words[..], &["--replaces-server"]].concat());
+    assert_eq!(status, 1);
+    assert!(text.contains("the file other.db-wal belongs to another store"), "{text}");
+    assert!(!folder.join("other.db").exists());
     let server = serve(&folder.join("krl.db"));
     assert_eq!(names(folder, &database, &server), expected());
 }

@@ -55,6 +55,18 @@ pub trait PostgresRow: Sized + Send + Sync + 'static {
     }
 }
 
+/// Refuses a type that does not give one value for each of its columns.
+pub(super) fn has_a_value_for_each<T: PostgresRow>(body: &T) -> Result<(), OriginError> {
+    let (values, columns) = (body.values().len(), T::COLUMNS.len());
+    if values == columns {
+        return Ok(());
+    }
+    Err(OriginError::new(format!(
+        "`values` of the program's type of a row has to give a value for each of its `COLUMNS`, in \
+         the same order: {columns}, and not {values}"
+    )))
+}
+
 /// The application's columns of a row, or which of them cannot be read.
 pub(super) fn read<T: PostgresRow>(row: &Row) -> Result<T, OriginError> {
     T::from_row(row).map_err(|error| match (unreadable(row, &error), error.source()) {

@@ -1,6 +1,6 @@
 //! Transactions of PostgreSQL.
 use super::origin::Pool;
-use super::row::PostgresRow;
+use super::row::{PostgresRow, has_a_value_for_each};
 use super::session::{
     AskError, CacheSession, Session, Statements, key_and_version, reported, signed, stored,
 };
@@ -86,6 +86,7 @@ impl<'o, T: PostgresRow> PostgresTransaction<'o, T> {
         replacement: &Replacement<T>,
         meanwhile: impl FnOnce(),
     ) -> Result<(), OriginError> {
+        has_a_value_for_each(&*replacement.body)?;
         let CacheSession { session, statements, seed } = self.session()?;
         let Replacement { key, from, to, body } = replacement;
         let (lock, admitted) = (lock_of(*key, *seed), Admitted::of(*to, &[*key], self.pool));
@@ -176,6 +177,7 @@ impl<T: PostgresRow> Transaction for PostgresTransaction<'_, T> {
         meanwhile: impl FnOnce(),
     ) -> Result<(), OriginError> {
         self.is_sound = false;
+        have_a_value_for_each(changes)?;
         let CacheSession { session, statements, .. } = self.session()?;
         let admitted = Admitted::of(version, &self.keys, self.pool);
         let (keys, version) = (changed_keys(changes), version.as_bytes().as_slice());
@@ -202,6 +204,7 @@ impl<T: PostgresRow> Transaction for PostgresTransaction<'_, T> {
         version: Version,
         changes: &[(u64, Change<T>)],
     ) -> Result<(), CommitError> {
+        have_a_value_for_each(changes).map_err(CommitError::NotDone)?;
         let Some(CacheSession { session, statements, seed }) = self.session.take() else {
             return Err(CommitError::NotDone(OriginError::new("the transaction has ended")));
         };
@@ -279,6 +282,13 @@ impl Admitted {
     fn values(&self) -> [&(dyn ToSql + Sync); 3] {
         [&self.version, &self.keys, &self.filling]
     }
+}
+
+fn have_a_value_for_each<T: PostgresRow>(changes: &[(u64, Change<T>)]) -> Result<(), OriginError> {
+    changes.iter().try_for_each(|(_, change)| match change {
+        Change::Insert(body) | Change::Update(body) => has_a_value_for_each(&**body),
+        Change::Delete => Ok(()),
+    })
 }
 
 fn changed_keys<T>(changes: &[(u64, Change<T>)]) -> Vec<i64> {
