@@ -71,8 +71,8 @@ impl<O: Origin> Cache<O> {
     ///
     /// # Errors
     ///
-    /// `OtherServer`, `OtherTable`: nothing has changed. `Krl`, `Origin`, `Full`, `TimedOut`: then no process
-    /// answers a read until it is called again and succeeds.
+    /// `OtherServer`, `OtherTable`: nothing has changed. `Krl`, `Origin`, `Full`, `TimedOut`: then no
+    /// process answers a read until it is called again and succeeds.
     ///
     /// [`Builder::earlier_server`]: crate::Builder::earlier_server
     pub fn fill(&self, mut progress: impl FnMut(usize, usize)) -> Result<usize, CacheError> {

@@ -100,8 +100,8 @@ pub enum EarlierServer {
     /// It is the one that is filled. The filling is refused if it is another one.
     #[default]
     IsFilledAgain,
-    /// It may be another one. An operator states that no process uses that one any more, nor the one
-    /// that is filled for another table.
+    /// It may be another one. An operator states that no process uses that one any more, and that no
+    /// process uses the one that is filled for another table.
     IsUnused,
 }
 

@@ -33,7 +33,7 @@ pub(crate) fn pattern() -> String {
 ///
 /// The revision shows which build made the guard, and that its text is still the one of that
 /// revision shows that nobody has changed what it does. Only sentences for people may differ:
-/// `has_statements` tells whether nothing else does.
+/// `has_statements` reports whether all the rest is the same.
 pub(crate) fn fault(
     table: &Table,
     text: &str,

@@ -155,8 +155,8 @@ pub enum TableFault {
     /// The guard, which is what the triggers do, has another revision than that of this build of
     /// krl-cache. The revision changes only when what the guard does changes.
     GuardRevision {
-        /// The revision of the table's guard: none if a build made it that gave it none, or if
-        /// krl-cache has not made it.
+        /// The revision of the table's guard, or `None` if it has none: a build made it before guards
+        /// had revisions, or it is not krl-cache's.
         found: Option<u32>,
         /// The revision of this build.
         expected: u32,
