@@ -30,7 +30,7 @@ uint32_t krl_version(void);
 /* Clients.
  *
  * Each of these calls, but for open, answers KRL_CLOSED if the handle is closed, KRL_NO_CLIENT if it keeps a
- * server, and KRL_GONE if its client has left; before it looks at anything else. What it says waits for
+ * server, and KRL_GONE if its client has left; before it looks at anything else. What it sends waits for
  * `krl_take`.
  */
 
@@ -44,17 +44,17 @@ krl_reply krl_client_open(krl_handle *handle, uint64_t number, uint64_t incarnat
  * KRL_BAD_MESSAGE, KRL_OUT_OF_MEMORY. */
 krl_reply krl_client_step(krl_handle *handle, const uint8_t *bytes, size_t length);
 
-/* sends again what is not answered: Hello, a report, a lock request, a write. A client that only reads ticks too: a
+/* Sends again what is not answered: Hello, a report, a lock request, a write. A client that only reads ticks too: a
  * server that has started again waits for its report. Refused by KRL_OUT_OF_MEMORY. */
 krl_reply krl_client_tick(krl_handle *handle);
 
 /* Asks for a lock of this mode on the slot of `point`, and on the slots after it that begin below `hi`, as far as
- * they are free. The status says what became of it. Refused, in this order, by KRL_BAD_MODE, KRL_BAD_POINT,
+ * they are free. The status shows what became of it. Refused, in this order, by KRL_BAD_MODE, KRL_BAD_POINT,
  * KRL_BAD_SPAN (`hi` not above the point, or above KRL_TOP), KRL_NOT_JOINED, KRL_BUSY, KRL_SPENT, KRL_OUT_OF_MEMORY. */
 krl_reply krl_client_lock(krl_handle *handle, uint64_t point, uint64_t hi, uint32_t mode);
 
-/* Ask for a change of the index; the status says its number and what became of it. An insert needs a range part I or
- * X at the key; a put the key part X; a delete the key part X, and the range part X at the key and one past it.
+/* Ask for a change of the index; the status shows its number and what became of it. An insert needs a range part I
+ * or X at the key; a put the key part X; a delete the key part X, and the range part X at the key and one past it.
  * Refused, in this order, by KRL_BAD_VALUE, KRL_BAD_POINT, KRL_NOT_JOINED, KRL_WRITING, KRL_NOT_HELD, KRL_SPENT,
  * KRL_OUT_OF_MEMORY. */
 krl_reply krl_client_insert(krl_handle *handle, uint64_t key, const uint8_t *bytes, size_t length);
@@ -64,7 +64,7 @@ krl_reply krl_client_delete(krl_handle *handle, uint64_t key);
 /* Ask for a change of the index and, in the same message, for the lock that it needs. If nobody waits for the slot of
  * the key and nobody's lock there forbids that lock, the server grants it and makes the change in one step. Otherwise
  * it judges the change by the locks that the client holds: the outcome may be KRL_OUTCOME_NOT_HELD, and the client has
- * to ask for the lock then. The answer tells the client what it holds on the key's slot. A client that holds the lock
+ * to ask for the lock then. The answer states what the client holds on the key's slot. A client that holds the lock
  * already may make these calls too. Refused as the calls above, but never by KRL_NOT_HELD. A delete needs the locks of
  * two slots and takes none, so there is no such call for it. */
 krl_reply krl_client_take_insert(krl_handle *handle, uint64_t key, const uint8_t *bytes, size_t length);
@@ -151,12 +151,12 @@ krl_reply krl_server_open(krl_handle *handle, size_t room, size_t reach, uint64_
                           size_t entries_length, const krl_record *records, size_t records_length);
 
 /* Gives the server the bytes of one message, whoever sent it. A change is one more note of the handle, also with
- * KRL_UNSAID: what this call or a later one says can be taken once it is confirmed. Refused by KRL_BAD_MESSAGE,
+ * KRL_UNSAID: what this call or a later one sends can be taken once it is confirmed. Refused by KRL_BAD_MESSAGE,
  * KRL_ALARM, KRL_OUT_OF_MEMORY. */
 krl_stepped krl_server_step(krl_handle *handle, const uint8_t *bytes, size_t length);
 
 /* Sends again to a client that seems stuck what it may have missed. It changes nothing. A number of 64 or more is no
- * client: nothing is said. Refused by KRL_OUT_OF_MEMORY. */
+ * client: nothing is sent. Refused by KRL_OUT_OF_MEMORY. */
 krl_reply krl_server_nudge(krl_handle *handle, uint64_t client);
 
 /* The server's epoch and phase. */
@@ -205,30 +205,30 @@ krl_reply krl_confirm(krl_handle *handle, uint64_t count);
  * the lowest first, and then the message. All of them go into `bytes`, and the detail is how many bytes that is; or
  * KRL_TOO_SHORT with that number, and none is taken. If nothing waits, the code is KRL_DONE and the detail 0. If
  * messages wait and none of them may be taken, the code is KRL_UNKEPT, and the detail is how many notes were reported.
- * So a call after KRL_DONE tells whether more messages wait. Refused, in this order, by KRL_CLOSED, KRL_UNKEPT. */
+ * So a call after KRL_DONE shows whether more messages wait. Refused, in this order, by KRL_CLOSED, KRL_UNKEPT. */
 krl_reply krl_take(krl_handle *handle, uint8_t *bytes, size_t room);
 
-/* Closes the handle and frees what it kept. What waits to be sent is dropped. A client says nothing. Of a closed
+/* Closes the handle and frees what it kept. What waits to be sent is dropped. A client sends nothing. For a closed
  * handle nothing happens. */
 void krl_close(krl_handle *handle);
 
 /* Leases.
  *
  * How long a client may answer from its cache, and from when on its server may evict it. A lease lets a server evict a
- * client that is dead or cut off, without anybody's word for it: an evicted incarnation answers nothing any more,
- * whatever was lost or delayed, and however long anything stood still. `docs/LEASES.md` says what the two hosts
+ * client that is dead or cut off, without anybody's word for it: an evicted incarnation answers nothing from then on,
+ * whatever was lost or delayed, and however long anything stood still. `docs/LEASES.md` states what the two hosts
  * have to do for that, and what they need of their clocks.
  *
  * These calls need no handle, take no memory, read no clock and cannot fail. `now` is what the host's clock shows: a
- * client's calls are given the client's clock, and a server's calls the server's. Two clocks may show anything beside
- * each other.
+ * client's calls are given the client's clock, and a server's calls the server's. Two clocks may differ by any
+ * amount.
  */
 
 /* The lease of an incarnation that has no terms yet. It sends no Hello before it has taken terms, so it holds
  * nothing. */
 krl_lease krl_lease_new(void);
 
-/* Takes a server's terms: a lease of `length`, in answer to the sign that the client said at `stamp`. The lease runs
+/* Takes a server's terms: a lease of `length`, in answer to the sign that the client sent at `stamp`. The lease runs
  * from that moment, however long the terms were on their way. Nothing changes if the lease has ended at `now`, or if
  * `stamp` is not later than that of the terms taken before. Terms of an earlier connection must not be handed in. */
 void krl_lease_take_terms(krl_lease *lease, uint64_t stamp, uint64_t length, uint64_t now);
@@ -242,9 +242,9 @@ bool krl_lease_holds(const krl_lease *lease, uint64_t now);
 /* That of a client which registers. */
 uint64_t krl_until_register(const krl_terms *terms, uint64_t now);
 
-/* That of a client whose sign has come. `until` is the client's before. The sign says that the client lives by a lease
- * of the length `said`. `now` has to be read after the sign, and the result has to stand before the server answers by
- * its terms. */
+/* That of a client whose sign has come. `until` is the client's before. The sign states that the client lives by a
+ * lease of the length `said`. `now` has to be read after the sign, and the result has to stand before the server
+ * answers by its terms. */
 uint64_t krl_until_sign(uint64_t until, const krl_terms *terms, uint64_t said, uint64_t now);
 
 /* Whether the moment has come: the server may evict the client. */
@@ -252,11 +252,11 @@ bool krl_until_has_come(uint64_t until, uint64_t now);
 
 /* Whether the Hello of another incarnation may be handed to the server. `until` is that of the registered one. It may:
  * if it is no greater one; if the registered one is known to be over; if its moment has come; or if it may answer for
- * ever, and an operator vouches that it is over. A host drops the Hello otherwise, and hears it when it is sent again.
+ * ever, and an operator vouches that it is over. A host drops the Hello otherwise, and takes it when it is sent again.
  */
 bool krl_until_hears(uint64_t until, const krl_take_over *asks, uint64_t now);
 
-/* What a server has to store before it says anything. `kept` was stored before. */
+/* What a server has to store before it sends anything. `kept` was stored before. */
 krl_kept_lease krl_kept_start(const krl_kept_lease *kept, const krl_terms *terms);
 
 /* What it has to store before it answers a client that registers. */

@@ -51,9 +51,9 @@
 enum krl_code {
     /* It is done. */
     KRL_DONE = 0,
-    /* It is done, but memory for what it says was refused: nothing more waits to be sent, as if those messages had
-     * been lost. Ticks and nudges send again what matters. What a server's step changed is still told, and has to be
-     * kept. */
+    /* It is done, but memory for what it sends was refused: nothing more waits to be sent, as if those messages had
+     * been lost. Ticks and nudges send again what matters. What a server's step changed is still reported, and has
+     * to be kept. */
     KRL_UNSAID = 1,
     /* Memory was refused. */
     KRL_OUT_OF_MEMORY = 2,
@@ -67,9 +67,9 @@ enum krl_code {
     KRL_NO_SERVER = 6,
     /* The client has left. */
     KRL_GONE = 7,
-    /* The bytes are no message; the detail says why, by a `krl_fault`. */
+    /* The bytes are no message; the detail is the reason, a `krl_fault`. */
     KRL_BAD_MESSAGE = 8,
-    /* There is too little room for what was found; the detail says how much there has to be. Nothing was written. */
+    /* There is too little room for what was found; the detail is how much there has to be. Nothing was written. */
     KRL_TOO_SHORT = 9,
     /* The client does not know the whole range; the detail is the least point that it does not know. */
     KRL_MISS = 10,
@@ -181,7 +181,7 @@ enum krl_key_part { KRL_KEY_PART_N = 0, KRL_KEY_PART_S = 1, KRL_KEY_PART_U = 2, 
 enum krl_outcome {
     /* No write was judged. */
     KRL_NO_OUTCOME = 0,
-    /* The index has changed as the write says. */
+    /* The index has changed as the write asks. */
     KRL_APPLIED = 1,
     /* An insert of a key that is an entry already. */
     KRL_EXISTS = 2,
@@ -227,7 +227,7 @@ enum krl_write_status {
     KRL_NOT_WRITTEN = 0,
     /* It is not answered yet. */
     KRL_WRITE_WAITING = 1,
-    /* It was judged: `outcome` says how. */
+    /* It was judged: `outcome` has the result. */
     KRL_WRITE_JUDGED = 2
 };
 
@@ -251,7 +251,7 @@ typedef struct krl_reader {
     const void *at;
 } krl_reader;
 
-/* A code, and its detail: 0 if nothing is said of it. */
+/* A code, and its detail: 0 if the code describes none. */
 typedef struct krl_reply {
     uint32_t code;
     uint64_t detail;
@@ -374,9 +374,9 @@ typedef struct krl_held_slot {
 typedef struct krl_lease {
     /* From this moment on the client answers nothing from its cache. KRL_FOR_EVER: the lease does not end. */
     uint64_t end;
-    /* What the last terms granted, which each sign says: 0 before the first terms. */
+    /* What the last terms granted, which each sign states: 0 before the first terms. */
     uint64_t length;
-    /* The sign that the last terms answered: the moment at which it was said. */
+    /* The sign that the last terms answered: the moment at which it was sent. */
     uint64_t stamp;
 } krl_lease;
 

@@ -40,8 +40,8 @@ abbrev pub DroveTo : Known → Known → List ℕ → ℕ → Type 0
 DroveTo before after line status =
     ((status ≡ 0) × Appends before after line) ⊎ ((status ≡ 1) × WroteFrontOf before after line)
 
--- Some run leads to the world in which good rounds ended, and they ended as the status says: 0 if nobody waits there, 3
--- if somebody does. The line that says so was written, or how far the writer got.
+-- Some run leads to the world in which good rounds ended, and they ended as the status reports: 0 if nobody waits
+-- there, 3 if somebody does. The line that reports this was written, or how far the writer got.
 abbrev pub RestedTo : Known → Known → ℕ → Type 0
 RestedTo before after status =
     (w : State) × (ended : Result Rest ScriptFault) × IsReachable w × IfOk ended (EndsAs w)

@@ -30,7 +30,7 @@ use std::thread::Threads;
 use std::time::Clock;
 
 // What the command line asks for, or the exit status of words that ask for no run. Words that are
-// refused are status 2, even if standard error can't be written to say so.
+// refused give status 2, even if standard error can't be written.
 fn asked(rt: &HostRuntime) -> io::Result<Result<Request, u8>> {
     let words = match std::env::args(rt) {
         Err(error) if error.kind() == io::ErrorKind::InvalidData => {
@@ -53,7 +53,7 @@ fn obey(rt: &HostRuntime, request: Request) -> u8 {
     }
 }
 
-// Reads a script from standard input. If that fails it says why, and gives the exit status.
+// Reads a script from standard input. If that fails it reports why, and gives the exit status.
 fn text_of<R: Eprint + Input + AllocGlobal>(rt: &R) -> Result<Vec<u8>, u8> {
     let mut reader = AnyReader(rt.reader());
     match read_text(rt.alloc(), &mut reader) {
@@ -140,7 +140,7 @@ fn status_of<H: Eprint + AllocGlobal, T>(rt: &H, ended: &Result<(T, bool), Scrip
     status::of_random(ended)
 }
 
-// The exit status of the rounds after it. If their line can't be written, that is said too.
+// The exit status of the rounds after it. If their line can't be written, that is reported too.
 fn status_of_rest<H: Eprint + AllocGlobal>(rt: &H, ended: &Result<Rest, ScriptFault>) -> u8
     ensures { result ≡ rest_status ended.now }
 {

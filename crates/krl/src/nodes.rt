@@ -13,11 +13,11 @@ use std::time::{Clock, Duration};
 // How long a client waits if no letter is there for it, in milliseconds.
 const PAUSE: u64 = 1;
 
-// How long it says nothing, in seconds.
+// How long it reports nothing, in seconds.
 const SILENCE: u64 = 1;
 
 /// Passed at once; reports on standard error at which turn the client is, once a second at most,
-/// if anybody is to be told.
+/// if reports are wanted.
 #[derive(Drop)]
 pub struct Telling<'a, R> {
     rt: &'a R,

@@ -1,7 +1,7 @@
 //! How far a random run is, on standard error.
 use krl_script::Progress;
 
-/// Reports on standard error, if anybody is to be told.
+/// Reports on standard error, if reports are wanted.
 #[derive(Drop)]
 pub struct Told<'a, R> {
     rt: &'a R,

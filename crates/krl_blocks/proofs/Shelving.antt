@@ -136,7 +136,7 @@ module _ {X : Type 0} where
 
   -- The other places
 
-  -- the cells are the same, but for the 64 from a on
+  -- the cells are the same, except for the 64 from a on
   pub record AreSameBut (a : ℕ) (vs ws : List X) : Type 0 where
     pub before : take a vs ≡ take a ws
     pub behind : drop (a + 64) vs ≡ drop (a + 64) ws

@@ -111,8 +111,9 @@ impl<V: Copy + Drop> Blocks<V> {
         self.layout.find(point)
     }
 
-    /// As `find`, by a search that begins at the finger, and moves it to where the point stands. So
-    /// a walk that takes a finger along needs no search for the point after one that it has found.
+    /// Like `find`, by a search that begins at the finger, and moves it to where the point stands.
+    /// So a walk that takes a finger along needs no search for the point after one that it has
+    /// found.
     pub fn find_by(&self, point: u64, finger: &mut Finger) -> Found<'_, V>
         ensures found { IsFound self.now.list point result.before result.run.now }
         ensures rises { KeysRise self.now.list }
@@ -135,15 +136,15 @@ impl<V: Copy + Drop> Blocks<V> {
         self.find(key).value_of(key)
     }
 
-    /// As `get`, by a search that begins at the finger, and moves it to where the key stands.
+    /// Like `get`, by a search that begins at the finger, and moves it to where the key stands.
     pub fn get_by(&self, key: u64, finger: &mut Finger) -> Option<V>
         ensures { MatchOption result (NoKey key self.now.list) (λ v. HasEntry self.now.list key v) }
     {
         self.find_by(key, finger).value_of(key)
     }
 
-    /// As `get`; and later searches begin where the key stands. So what is done next at the key, or
-    /// at the one after it, needs no search.
+    /// Like `get`; and later searches begin where the key stands. So what is done next at the key,
+    /// or at the one after it, needs no search.
     pub fn reach(&mut self, key: u64) -> Option<V>
         ensures value { MatchOption result (NoKey key self.old.list)
             (λ v. HasEntry self.old.list key v) }

@@ -17,7 +17,7 @@ use std::alloc::{AllocError, Global};
 /// Two neighbours with this many entries together, or fewer, are merged.
 const FEW: usize = 32;
 
-/// Entries in blocks, none of them empty. `IsKept` says what holds of them, and `flat` which
+/// Entries in blocks, none of them empty. `IsKept` states what holds of them, and `flat` which
 /// entries they are.
 #[derive(Drop)]
 pub struct Layout<V> {
@@ -68,8 +68,8 @@ impl<V: Copy + Drop> Layout<V> {
         self.find_by(point, &mut finger)
     }
 
-    /// As `find`, by a search that begins at the finger. The finger is where the point stands from
-    /// then on.
+    /// Like `find`, by a search that begins at the finger. The finger is where the point stands
+    /// from then on.
     pub fn find_by(&self, point: u64, finger: &mut Finger) -> Found<'_, V>
         requires kept { IsKept self.now.tops self.now.shelf }
         ensures { IsFound (flat self.now.shelf.blocks) point result.before result.run.now }

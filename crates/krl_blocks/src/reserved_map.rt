@@ -12,8 +12,8 @@ use std::alloc::{AllocError, Global};
 use std::marker::Model;
 
 /// Values by key, in key order, seen as a finite map and as how many there may be. All memory is
-/// taken at the start. The values lie where they were put first: a change of the order moves keys
-/// alone.
+/// taken at the start. The values lie where they were put first: a change of the order moves only
+/// keys.
 #[derive(Drop)]
 pub struct ReservedMap<V> {
     places: Blocks<usize>,
@@ -76,7 +76,7 @@ impl<V: Drop> ReservedMap<V> {
         self.values.get(place)
     }
 
-    /// As `get`, by a search that begins at the finger, and moves it to where the key stands.
+    /// Like `get`, by a search that begins at the finger, and moves it to where the key stands.
     pub fn get_by(&self, key: u64, finger: &mut Finger) -> Option<&V>
         ensures { option_copied result ≡ map.get self.now.map key }
     {

@@ -35,7 +35,7 @@ impl<V> Model for Shelf<V> {
     ghost invariant = { λ s. IsStored s.order s.spare s.cells s.most };
 }
 
-// A place that no block has: a spare one, or else the next one, whose cells are made of copies of
+// A place that no block has: a spare one, otherwise the next one, whose cells are made of copies of
 // the entry.
 fn free_place<V: Copy + Drop>(
     spare: &mut Vec<usize>,

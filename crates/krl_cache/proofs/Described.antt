@@ -19,7 +19,7 @@ keys_from f p (suc n) = key_before (reads_key (f p)) p (f p) (keys_from f (suc p
 
 -- Range parts
 
--- the pieces say f from p on for n points, and no more
+-- the pieces state f from p on for n points, and no more
 record SaysFrom (f : ℕ → RangePart) (p n : ℕ) (xs : List RangePiece) : Type 0 where
   in_order : AreInOrder p xs
   merged : AreMerged xs

@@ -1,4 +1,4 @@
--- A walk over the parts of a span, and over the entries where the part doesn't tell.
+-- A walk over the parts of a span, and over the entries where the part doesn't decide.
 use Rattle.krl_cache.proofs.Names.{◌≡◌, ℕ, suc, ◌+◌, ◌≤◌, ◌<◌, inl, inr, Bool, true, false, List, [], ◌∷◌, Option, None, Some, MatchOption, sym, ap, subst, ◌∙◌, arith, leb_tells, RangePart, Entry}
 use Rattle.krl_cache.proofs.Names.{is_covered, CoversAll, IsLeastUncovered, belief_by, part_at, IsFree, IsFirst, AreNext, is_known, AreKnown, IsGap}
 use Rattle.krl_cache.proofs.Starts.{part_holds, part_begins}

@@ -136,7 +136,7 @@ pub record Merges {F : Type 0} (T : F → ℕ → RangePart → Bool → RangePa
   pub same : (f : F) (k : ℕ) (v : RangePart) (w : RangePart) (g : F) → T f k v true w g → v ≡ before f
   pub other : (f : F) (k : ℕ) (v : RangePart) (w : RangePart) (g : F) → T f k v false w g → v ≡ before f → ⊥
 
--- f begins as the list says from p on below hi, and so does g as the other list says; elsewhere they agree
+-- f begins as the list states from p on below hi, and so does g as the other list states; elsewhere they agree
 record Parts (f g : ℕ → Option RangePart) (p hi : ℕ) (xs ys : List (ℕ × RangePart)) : Type 0 where
   old : (q : ℕ) → p ≤ q → q < hi → f q ≡ at xs q
   new : (q : ℕ) → p ≤ q → q < hi → g q ≡ at ys q

@@ -61,7 +61,7 @@ part_by_none f p none =
 
 -- What begins that held there before
 
--- f and g begin alike, but where g says what holds
+-- f and g begin alike, except where g states what holds
 pub record IsMarked (f g : ℕ → Option RangePart) : Type 0 where
   pub each : (q : ℕ) → (g q ≡ f q) ⊎ (g q ≡ Some (part_at f q))
 

@@ -1,4 +1,4 @@
--- What a look into a cache finds, as a scan would say it.
+-- What a look into a cache finds, as a scan would report it.
 use Rattle.krl_cache.specs.declared.found.Found.{Found}
 use Rattle.krl_cache.specs.declared.found.Found.TheVariants as rows_found
 use Rattle.krl_cache.specs.declared.scanned.Scanned.{Scanned}

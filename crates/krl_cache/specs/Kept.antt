@@ -1,4 +1,4 @@
--- Lists that stand for a belief, as a Report tells them. Any two lists that stand for one belief are
+-- Lists that stand for a belief, as a Report states them. Any two lists that stand for one belief are
 -- interchangeable.
 use Rattle.std.specs.Prelude.{◌≡◌, ◌≢◌, ℕ, suc, ◌≤◌, ◌<◌, true, List, [], ◌∷◌, if◌then◌else◌, nat_eq}
 use Rattle.krl_modes.specs.declared.point.TheConstants.{END, TOP}
@@ -13,7 +13,7 @@ use Rattle.krl_messages.specs.declared.key_pieces.KeyPiece.{KeyPiece}
 use Rattle.krl_messages.specs.declared.pieces.Pieces.{Pieces}
 use Rattle.krl_cache.specs.Beliefs.{Belief}
 
--- What lists say of a point: the first that speaks of it, otherwise N
+-- What lists state of a point: the first that speaks of it, otherwise N
 
 -- of its range part
 abbrev pub range_reported_at : List RangePiece → ℕ → RangePart
@@ -31,12 +31,12 @@ AreInOrder lo [] = Unit {0}
 AreInOrder lo (x ∷ xs) =
     (lo ≤ x.span.lo) × (x.span.lo < x.span.hi) × (x.span.hi ≤ TOP) × AreInOrder x.span.hi xs
 
--- the next piece, if it begins as this one ends, says another part
+-- the next piece, if it begins as this one ends, states another part
 abbrev pub DiffersFromNext : RangePiece → List RangePiece → Type 0
 DiffersFromNext x [] = Unit {0}
 DiffersFromNext x (y ∷ ys) = y.span.lo ≡ x.span.hi → y.part ≢ x.part
 
--- neighbours that say the same are one piece, and no piece says N
+-- neighbours that state the same are one piece, and no piece states N
 abbrev pub AreMerged : List RangePiece → Type 0
 AreMerged [] = Unit {0}
 AreMerged (x ∷ xs) = (x.part ≢ range.N) × DiffersFromNext x xs × AreMerged xs
@@ -47,7 +47,7 @@ AreAscending lo [] = Unit {0}
 AreAscending lo (k ∷ ks) =
     (lo ≤ k.point) × (k.point ≤ END) × (reads_key k.part ≡ true) × AreAscending (suc k.point) ks
 
--- the two lists of a Report say exactly this belief's parts, in as few pieces as can be
+-- the two lists of a Report state exactly this belief's parts, in as few pieces as can be
 pub record Describes (ps : Pieces) (b : Belief) : Type 0 where
   pub ranges_in_order : AreInOrder 0 ps.ranges
   pub merged : AreMerged ps.ranges

@@ -1,4 +1,4 @@
--- What an entry says, and the belief of range parts and entries.
+-- What an entry states, and the belief of range parts and entries.
 use Rattle.std.specs.Prelude.{ℕ, Option, Some, None}
 use Rattle.krl_modes.specs.declared.part.RangePart.{RangePart}
 use Rattle.krl_modes.specs.declared.part.KeyPart.{KeyPart}
@@ -7,7 +7,7 @@ use Rattle.krl_messages.specs.Values.{Value}
 use Rattle.krl_cache.specs.declared.entry.Entry.{Entry}
 use Rattle.krl_cache.specs.Beliefs.{Belief}
 
--- what an entry says, if there is one
+-- what an entry states, if there is one
 abbrev pub part_of : Option Entry → KeyPart
 part_of None = key.N
 part_of (Some e) = e.part

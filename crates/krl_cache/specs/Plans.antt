@@ -18,7 +18,7 @@ abbrev pub part_taken : Option (ℕ × RangePart) → Option RangePart
 part_taken None = None
 part_taken (Some e) = Some e.1
 
--- what stands once what is new was put in: what stood, or else what is to stand
+-- what stands once what is new was put in: what stood, otherwise what is to stand
 abbrev pub opened : Option RangePart → Option RangePart → Option RangePart
 opened None becomes = becomes
 opened (Some v) becomes = Some v

@@ -33,7 +33,7 @@ abbrev pub is_end_of : List Holding → ℕ → Bool
 is_end_of [] q = false
 is_end_of (h ∷ hs) q = (nat_eq q h.span.lo || nat_eq q h.span.hi) || is_end_of hs q
 
--- but for the ends of the spans, neighbours with the same part are one
+-- except at the ends of the spans, neighbours with the same part are one
 abbrev pub AreMergedBetween : List Holding → (ℕ → Option RangePart) → Type 0
 AreMergedBetween hs f = (q : ℕ) → is_end_of hs q ≡ false → BeginsAnew f q
 

@@ -77,7 +77,7 @@ pub trait Belief {
         ensures { MatchResult result (beliefs.Scans (believed self.now) span)
             (λ _. beliefs.CoversAll (believed self.now) span) };
 
-    /// Range parts on spans and key parts at points, which say exactly what is believed.
+    /// Range parts on spans and key parts at points, which state exactly what is believed.
     ///
     /// # Errors
     ///

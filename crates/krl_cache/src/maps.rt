@@ -326,7 +326,7 @@ pub fn adopt_entry(entries: &mut BTreeMap<u64, Entry>, span: Span, own: Entry)
     }
 }
 
-// Lowers the entries from `lo` on below `hi`, in one walk: those that are read no more go.
+// Lowers the entries from `lo` on below `hi`, in one walk: those that are no longer read go.
 fn lower_entries(entries: &mut BTreeMap<u64, Entry>, lo: u64, hi: u64, keep: KeyPart)
     requires { lo ≤ hi }
     ensures { IsChanged (entry_lowered keep) (at entries.old.entries)

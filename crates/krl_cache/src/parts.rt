@@ -1,4 +1,4 @@
-//! What parts and entries say.
+//! What parts and entries state.
 ghost use Rattle.std.specs.Prelude.{◌≡◌};
 ghost use Rattle.krl_modes.specs.Parts as parts;
 ghost use Rattle.krl_cache.specs.Lists.{part_of, value_of};
@@ -21,7 +21,7 @@ pub fn reads_gap(part: RangePart) -> bool
     RangePart::S.at_most(part)
 }
 
-/// What an entry says of its key, if there is one.
+/// What an entry states of its key, if there is one.
 pub fn part_of(entry: Option<Entry>) -> KeyPart
     ensures { result ≡ part_of entry }
 {

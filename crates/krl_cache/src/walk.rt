@@ -101,8 +101,8 @@ fn reads_gaps(starts: &BTreeMap<u64, RangePart>, lo: u64, hi: u64) -> bool
     reads_gap(part)
 }
 
-// The least point from `lo` on below `hi` that is not known. The maps are searched where the span
-// begins alone. If each part reads the gap, the parts are walked over once, and no entry is;
+// The least point from `lo` on below `hi` that is not known. The maps are searched only where the
+// span begins. If each part reads the gap, the parts are walked over once, and no entry is;
 // otherwise the entries once, and the parts twice.
 pub fn first_unknown(
     starts: &BTreeMap<u64, RangePart>,

@@ -1,4 +1,4 @@
--- Pieces that are put after others: neighbours that say the same are one, and none says N.
+-- Pieces that are put after others: neighbours that state the same are one, and none states N.
 use Rattle.std.proofs.Common.{◌≡◌, ◌≢◌, ℕ, ◌≤◌, ◌<◌, Bool, true, false, ◌||◌, cond, List, [], ◌∷◌, ◌++◌, refl, sym, ap, subst, ◌∙◌, arith, append_assoc}
 use Rattle.std.proofs.lemmas.Bool.Decides.{nat_tests}
 use Rattle.krl_modes.specs.declared.point.TheConstants.{TOP}
@@ -11,7 +11,7 @@ use Rattle.krl_cache.specs.Entries.{lies_in, StandWithin}
 use Rattle.krl_cache_laws.specs.Lists.{GoesOn, IsBoth, AddsBehind}
 use Rattle.krl_cache.proofs.Pieces.{said_before, stand_lower}
 
--- A piece that says N
+-- A piece that states N
 
 stand_without : (a b : ℕ) (xs : List RangePiece) (x : RangePiece) (ys : List RangePiece) → StandWithin a b (xs ++ x ∷ ys) → StandWithin a b (xs ++ ys)
 stand_without a b [] x ys h = stand_lower a x.span.hi b ys (omega (arith, h.0, h.1)) h.2

@@ -39,18 +39,18 @@ pub record AreKept (x : Lists) : Type 0 where
   pub merged : AreMerged x.ranges
   pub entries : ArePlaced x.entries
 
--- the piece continues where the other ends, and says the same
+-- the piece continues where the other ends, and states the same
 abbrev pub GoesOn : RangePiece → RangePiece → Type 0
 GoesOn x y = (x.span.hi ≡ y.span.lo) × (x.part ≡ y.part)
 
--- the piece covers both, and says what they say
+-- the piece covers both, and states what they state
 pub record IsBoth (x y both : RangePiece) : Type 0 where
   pub on : GoesOn x y
   pub lo : both.span.lo ≡ x.span.lo
   pub hi : both.span.hi ≡ y.span.hi
   pub part : both.part ≡ y.part
 
--- with the piece after the old ones the new ones say the same, whatever follows, and are merged
+-- the new ones state the same as the old ones with the piece after them, whatever follows, and are merged
 pub record AddsBehind (old : List RangePiece) (x : RangePiece) (new : List RangePiece) : Type 0 where
   pub stand : (rest : List RangePiece) → StandWithin 0 TOP (old ++ x ∷ rest) → StandWithin 0 TOP (new ++ rest)
   pub said :

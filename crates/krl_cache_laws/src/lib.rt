@@ -21,7 +21,7 @@ pub fn calls_keep_belief()
 {}
 
 /// Some pieces describe each belief. A call of a cache that gives its pieces takes memory; this one
-/// gives none, and says that there are some.
+/// gives none, and states that there are some.
 pub fn beliefs_are_described()
     ensures { BeliefsAreDescribed }
 {}

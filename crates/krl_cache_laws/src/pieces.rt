@@ -52,7 +52,7 @@ fn add_pieces(
     Ok(())
 }
 
-// Whether the second piece continues where the first ends, and says the same.
+// Whether the second piece continues where the first ends, and states the same.
 fn goes_on(first: &RangePiece, second: &RangePiece) -> bool
     ensures { IsTrue result ↔ GoesOn first.now second.now }
 {
@@ -72,7 +72,7 @@ fn both(first: &RangePiece, second: &RangePiece) -> Option<RangePiece>
     Some(RangePiece { span, part })
 }
 
-// Whether the piece says N.
+// Whether the piece states N.
 fn says_none(piece: &RangePiece) -> bool
     ensures { IsTrue result ↔ (piece.now.part ≡ range.N) }
 {
@@ -80,7 +80,7 @@ fn says_none(piece: &RangePiece) -> bool
 }
 
 // Adds a piece after the others. It is one with the last, if it continues with it, and is left
-// out if it says N.
+// out if it states N.
 fn add_behind(list: &mut Vec<RangePiece>, piece: RangePiece) -> Result<(), AllocError>
     requires { (rest : List RangePiece) × StandWithin 0 TOP (list.old.items ++ piece ∷ rest) }
     ensures { OnOk result (AddsBehind list.old.items piece list.new.items) }
@@ -101,7 +101,7 @@ fn add_behind(list: &mut Vec<RangePiece>, piece: RangePiece) -> Result<(), Alloc
     Ok(())
 }
 
-// The pieces, in which neighbours that say the same are one, and none says N.
+// The pieces, in which neighbours that state the same are one, and none states N.
 fn merged(alloc: Global, pieces: &[RangePiece]) -> Result<Vec<RangePiece>, AllocError>
     requires { StandWithin 0 TOP pieces.now }
     ensures stand { IfOk result (λ list. StandWithin 0 TOP list.items) }

@@ -1,4 +1,4 @@
--- What a client does with each message, by what its tests say.
+-- What a client does with each message, by what its tests show.
 use Rattle.std.proofs.Common.{◌≡◌, ◌≢◌, ℕ, suc, ◌<◌, ◌≤◌, true, false, ◌&&◌, List, [], ◌∷◌, ◌++◌, refl, sym, ap, ◌∙◌, subst, nat_eq, nat_le, eq-eqb, lt-ltb, le-ltb, leb-true, eqb-true}
 use Rattle.std.proofs.lemmas.Bool.{and_parts, ne_eqb}
 use Rattle.krl_modes.specs.declared.point.TheConstants.{END}
@@ -17,7 +17,7 @@ use Rattle.krl_client.specs.Messages.{Case, Ignores, AcksAgain, Adopts, Accepts,
 use Rattle.krl_client.specs.Ticks.{says_hello, lock_again, write_again}
 use Rattle.krl_client.specs.FieldSteps.{judged_where, Follows, IsTick, IsOpening}
 
--- Follows, if no pieces are told: some describe the belief
+-- Follows, if no pieces are given: some describe the belief
 
 pub ignores : (k : Client) (x : Case) (list : List ToServer) → IsBelief k.belief → x ≡ Ignores → list ≡ [] → Follows k x k list
 ignores k x list i e l = let some = beliefs_are_described k.belief i in rw (e, l) (record { client = refl; pieces = some.0; described = some.1; says = refl })

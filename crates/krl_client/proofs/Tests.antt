@@ -1,4 +1,4 @@
--- What tests say together.
+-- What tests show together.
 use Rattle.std.proofs.Common.{◌≡◌, Bool, true, false, Option, Some, None, refl, if◌then◌else◌}
 
 -- a reason that isn't the refusal doesn't hold

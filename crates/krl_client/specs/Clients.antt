@@ -113,7 +113,7 @@ free_pin k = free_from k.pins 0 max_pins
 abbrev pub with_pin : (ℕ → Option Bounds) → ℕ → Option Bounds → ℕ → Option Bounds
 with_pin pins i s j = if nat_eq j i then s else pins j
 
--- What it says
+-- What it sends
 
 -- a message of the client
 abbrev pub from : Client → ToServerBody → ToServer

@@ -1,4 +1,4 @@
--- What calls make of the fields of a client, and what they say.
+-- What calls make of the fields of a client, and what they send.
 use Rattle.std.specs.Prelude.{◌≡◌, ℕ, Bool, Option, None, Some, List, [], ◌∷◌, if◌then◌else◌, nat_eq}
 use Rattle.krl_messages.specs.declared.outcome.Outcome.{Outcome}
 use Rattle.krl_messages.specs.declared.pieces.Pieces.{Pieces}
@@ -23,7 +23,7 @@ abbrev pub IsDue : Option CommandRefused → CommandRefused → Type 0
 IsDue None r = r ≡ OutOfMemory
 IsDue (Some due) r = r ≡ due
 
--- a Report of pieces that say what is believed
+-- a Report of pieces that state what is believed
 pub record IsReport (k : Client) (epoch : ℕ) (m : ToServer) : Type 0 where
   pub pieces : Pieces
   pub described : Describes pieces k.belief
@@ -33,19 +33,19 @@ abbrev pub as_list : {A : Type 0} → Option A → List A
 as_list None = []
 as_list (Some a) = a ∷ []
 
--- what a client that has joined says first in a tick
+-- what a client that has joined sends first in a tick
 pub record IsOpening (k : Client) (m : ToServer) : Type 0 where
   pub pieces : Pieces
   pub described : Describes pieces k.belief
   pub message : m ≡ (if nat_eq k.seen 0 then says_report pieces k else says_ack k)
 
--- what a tick says, if the pieces say what is believed
+-- what a tick sends, if the pieces state what is believed
 pub record IsTick (k : Client) (list : List ToServer) : Type 0 where
   pub pieces : Pieces
   pub described : Describes pieces k.belief
   pub says : list ≡ tick pieces k
 
--- the client after a message of this case, and what it says, if the pieces say what is believed
+-- the client after a message of this case, and what it sends, if the pieces state what is believed
 pub record Follows (k : Client) (x : Case) (next : Client) (list : List ToServer) : Type 0 where
   pub client : next ≡ after k x
   pub pieces : Pieces

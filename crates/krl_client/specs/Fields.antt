@@ -26,7 +26,7 @@ written_of (written.Judged outcome) = Judged outcome
 abbrev pub pins_of : List (Option Bounds) → ℕ → Option Bounds
 pins_of spans id = slice_index_or spans id None
 
--- what the fields say, apart from its memory
+-- what the fields hold, apart from its memory
 pub record Fields : Type 0 where
   pub number : ℕ
   pub incarnation : ℕ

@@ -1,4 +1,4 @@
--- What a client answers to a look into its cache, as a scan would say it.
+-- What a client answers to a look into its cache, as a scan would report it.
 use Rattle.krl_client.specs.declared.find_answer.FindAnswer.{FindAnswer}
 use Rattle.krl_client.specs.declared.find_answer.FindAnswer.TheVariants as find
 use Rattle.krl_client.specs.declared.scan_answer.ScanAnswer.{ScanAnswer}

@@ -15,7 +15,7 @@ use krl_modes::{END, MAX_CLIENTS};
 use std::alloc::Global;
 use std::marker::Model;
 
-/// A client: what it was told, what it asked and wrote, what it believes, and the spans that it
+/// A client: what it learned, what it asked and wrote, what it believes, and the spans that it
 /// pins.
 #[derive(Drop)]
 pub struct Client {
@@ -74,7 +74,7 @@ impl Model for Client {
 }
 
 impl Client {
-    /// A client of this number, from 0 to 63, that starts, and the Hello that it says. Each start
+    /// A client of this number, from 0 to 63, that starts, and the Hello that it sends. Each start
     /// of a number has a greater incarnation, from 0 to END. It takes no memory.
     ///
     /// # Errors

@@ -78,7 +78,7 @@ impl Client {
         }
     }
 
-    /// What its own cache says of the points from `lo` on below `hi`: their entries, if it knows
+    /// What its own cache states of the points from `lo` on below `hi`: their entries, if it knows
     /// each of these points; otherwise the least that it does not know. If the key of its
     /// outstanding write is one of them, that key. Only entries take memory.
     ///

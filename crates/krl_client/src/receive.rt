@@ -49,7 +49,7 @@ impl Client {
         Ok(list)
     }
 
-    // Lowers the span, and says so.
+    // Lowers the span, and reports it.
     pub(crate) fn lower_span(&mut self, span: Span, keep: Mode) -> Result<Vec<ToServer>, AllocError>
         ensures unchanged { OnErr result (self.new ≡ self.old) }
         ensures follows { IfOk result
@@ -231,9 +231,9 @@ impl Client {
         self.lower_span(span, keep)
     }
 
-    /// Does what the message asks for, and gives what it says to that: at most one message. A
-    /// message for another client or incarnation, or of another epoch, is passed over, but for a
-    /// later epoch, which it joins.
+    /// Does what the message asks for, and gives its answer: at most one message. A
+    /// message for another client or incarnation, or of another epoch, is passed over, except that
+    /// it joins a later epoch.
     ///
     /// # Errors
     ///

@@ -121,16 +121,16 @@ impl Client {
     }
 
     /// Asks for a change of the index. The write is outstanding until it is answered, across epochs
-    /// too, and each tick sends it again. It needs what lets its holder make the change alone: for
-    /// an insert a range part of I or X at the key; for a put the key part X there; for a delete
-    /// the key part X, and the range part X both at the key and one past it.
+    /// too, and each tick sends it again. It needs what lets its holder make the change: for an
+    /// insert a range part of I or X at the key; for a put the key part X there; for a delete the
+    /// key part X, and the range part X both at the key and one past it.
     ///
     /// # Errors
     ///
-    /// In this order: `BadPoint` if the key is END or more; `NotJoined` before the client was
-    /// told an epoch; `Writing` while a write is outstanding; `NotHeld` if the client does not
-    /// hold what the write needs; `Spent` if no number is left for it; `OutOfMemory`. The client
-    /// is as it was.
+    /// In this order: `BadPoint` if the key is END or more; `NotJoined` before the client has
+    /// learned an epoch; `Writing` while a write is outstanding; `NotHeld` if the client does not
+    /// hold what the write needs; `Spent` if no number is left for it; `OutOfMemory`. The client is
+    /// as it was.
     pub fn write(&mut self, change: WriteOp) -> Result<Vec<ToServer>, CommandRefused>
         ensures due { IfErr result
             (λ r. IsDue (commands.write_refusal (meaning self.old) change) r) }
@@ -185,15 +185,15 @@ impl Client {
     /// Asks for a change of the index, as `write` does, and for the lock that it needs: if nobody
     /// waits for the slot of the key and nobody's lock forbids it, the server gives the client that
     /// lock and makes the change in one step. Otherwise the change is judged by what the client
-    /// holds, and may be `NotHeld`. The answer says what the client holds on the key's slot then.
+    /// holds, and may be `NotHeld`. The answer states what the client then holds on the key's slot.
     ///
     /// A delete needs the locks of two slots, and takes neither: it is asked for as by `write`.
     ///
     /// # Errors
     ///
-    /// In this order: `BadPoint` if the key is END or more; `NotJoined` before the client was
-    /// told an epoch; `Writing` while a write is outstanding; `NotHeld` if a delete lacks what it
-    /// needs; `Spent` if no number is left for it; `OutOfMemory`. The client is as it was.
+    /// In this order: `BadPoint` if the key is END or more; `NotJoined` before the client has
+    /// learned an epoch; `Writing` while a write is outstanding; `NotHeld` if a delete lacks what
+    /// it needs; `Spent` if no number is left for it; `OutOfMemory`. The client is as it was.
     pub fn take(&mut self, change: WriteOp) -> Result<Vec<ToServer>, CommandRefused>
         ensures due { IfErr result
             (λ r. IsDue (commands.take_refusal (meaning self.old) change) r) }
@@ -252,8 +252,8 @@ impl Client {
 
     /// Gives back, of what it holds of the points from `lo` on below `hi`, all that is above
     /// `keep`: at each of them it continues to hold the meet of what it held and `keep`. Outside
-    /// these points it holds what it held. The one message that it gives is the Release that says
-    /// so.
+    /// these points it holds what it held. The one message that it gives is the Release that
+    /// reports this.
     ///
     /// A pin keeps all that is held of its points, so `keep` makes no difference to a refusal.
     ///

@@ -66,7 +66,7 @@ impl Client {
         Some(self.requests(RequestBody::Write { number, op, takes }))
     }
 
-    // What it says first in an epoch that it has joined: its Report if it has accepted no push
+    // What it sends first in an epoch that it has joined: its Report if it has accepted no push
     // of it, otherwise an Ack.
     fn opening(&self) -> Result<ToServer, AllocError>
         ensures { IfOk result (IsOpening (meaning self.now)) }

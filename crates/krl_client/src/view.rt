@@ -1,4 +1,4 @@
-//! What a client shows of itself, and what it says under its name.
+//! What a client shows of itself, and what it sends under its name.
 ghost use Rattle.std.specs.Prelude.{◌≡◌, false, IfOk, [], ◌∷◌};
 ghost use Rattle.krl_client.specs.Clients as clients;
 ghost use Rattle.krl_client.specs.Shown as shown;

@@ -1,4 +1,4 @@
-//! What a client is told and asked to do, one act after another, and what comes of it. If an
+//! What a client receives and is asked to do, one act after another, and what comes of it. If an
 //! allocation is refused, a client shows what it showed, and the refused call is made again.
 use crate::again::{CALLS, put, room_for};
 use crate::shown::{are_numbers, are_told};
@@ -18,7 +18,7 @@ pub enum Change {
     Delete(u64),
 }
 
-// What a client is told or asked to do, by the ends of its span.
+// What a client receives or is asked to do, by the ends of its span.
 #[derive(Clone, Copy)]
 pub enum Act {
     Epoch(u64),
@@ -49,7 +49,7 @@ pub enum Act {
 #[derive(Clone, Copy)]
 pub struct Held(pub u64, pub u64, pub Mode, pub Option<u64>);
 
-// What it says, with its epoch and the last push that it has accepted.
+// What it sends, with its epoch and the last push that it has accepted.
 pub enum Says {
     Hello,
     Ack(u64, u64),
@@ -91,7 +91,7 @@ fn op_of(change: Change) -> WriteOp {
     }
 }
 
-// What the client shows: its status, and what it holds at the points that the rows speak of.
+// What the client shows: its status, and what it holds at the points that the rows name.
 fn seen(client: &Client) -> (Status, [(RangePart, KeyPart); 8]) {
     let mut all = [(RangePart::N, KeyPart::N); 8];
     for i in 0..8usize {
@@ -158,7 +158,7 @@ pub fn is_said(message: &ToServer, expected: &Says) -> bool {
     }
 }
 
-// Whether the client says this.
+// Whether the client sends this.
 fn are_said(messages: &[ToServer], expected: &Gives) -> bool {
     match (messages, expected) {
         ([], Gives::Nothing) => true,
@@ -198,7 +198,7 @@ fn one(alloc: Global, held: Held) -> Option<Holdings> {
     Holdings::new(items)
 }
 
-// What the client is told, if the act is a message.
+// What the client receives, if the act is a message.
 fn told(alloc: Global, act: Act) -> Option<ToClientBody> {
     match act {
         Act::Epoch(epoch) | Act::ForAnother(epoch) | Act::ForAnEarlier(epoch) => {
@@ -241,7 +241,7 @@ fn message(act: Act, body: ToClientBody) -> ToClient {
     }
 }
 
-// Whether the client says this to the message, perhaps after refusals, each of which changes
+// Whether the client answers the message with this, perhaps after refusals, each of which changes
 // nothing.
 fn hears(client: &mut Client, message: &ToClient, expected: &Gives) -> bool {
     let before = seen(client);

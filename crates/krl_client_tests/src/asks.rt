@@ -39,7 +39,7 @@ fn at<B: Belief>(cache: &B, p: u64) -> (RangePart, KeyPart, Option<Value>) {
     (cache.range_at(p), cache.key_at(p), cache.value_at(p))
 }
 
-// What is believed at the points that the rows speak of.
+// What is believed at the points that the rows name.
 fn seen<B: Belief>(cache: &B) -> [(RangePart, KeyPart, Option<Value>); 9] {
     let mut all = [(RangePart::N, KeyPart::N, None); 9];
     for i in 0..9usize {

@@ -1,4 +1,4 @@
-//! Clients that are told everything by hand. Each run ends alike, whichever one or two allocations
+//! Clients that are driven by hand. Each run ends alike, whichever one or two allocations
 //! in a row fail.
 use crate::acts::{Act, Gives, Says, fails, is_said};
 use crate::again::CALLS;

@@ -71,7 +71,7 @@ pub static BEFORE_IT_JOINS: [(Act, Gives); 26] = [
     (Act::Tick, Gives::One(Says::Report(1, &[], &[]))),
 ];
 
-// A later epoch: it reports, drops what waits, keeps its write, and ignores what is told of an
+// A later epoch: it reports, drops what waits, keeps its write, and ignores the messages of an
 // earlier one.
 pub static EPOCHS: [(Act, Gives); 15] = [
     (Act::Epoch(1), Gives::One(Says::Report(1, &[], &[]))),

@@ -21,7 +21,7 @@ pub struct RandomOptions {
     pub busy: bool,
     /// Whether it continues by good rounds then, until nobody waits.
     pub rest: bool,
-    /// Whether it tells how far it is, wherever standard error goes.
+    /// Whether it reports how far it is, wherever standard error goes.
     pub progress: bool,
     pub ghost in_range: { (seed ≤ END) × (1 ≤ steps) × (steps ≤ max_steps) },
 }
@@ -242,7 +242,7 @@ fn commands<'a>(alloc: Global) -> Result<Command<'a>, AllocError> {
     add(command, nodes_command(alloc))
 }
 
-// What clap found, which is in the ranges that it was told.
+// What clap found, which is in the ranges that it was given.
 fn random_options(matches: &ArgMatches) -> Option<RandomOptions> {
     let seed = matches.get_one::<u64>("seed")?;
     let steps = matches.get_one::<u64>("steps")?;
@@ -289,7 +289,7 @@ fn request_of(matches: &ArgMatches) -> Request {
 ///
 /// # Errors
 ///
-/// What clap says of words that it refuses, of `--help` and of `--version`; its kind is
+/// What clap reports of words that it refuses, of `--help` and of `--version`; its kind is
 /// `OutOfMemory` if memory ran out.
 pub fn read(alloc: Global, words: &[String]) -> Result<Request, Error> {
     let command = commands(alloc)?;

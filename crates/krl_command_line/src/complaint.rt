@@ -1,4 +1,4 @@
-//! What is said of words that ask for no run.
+//! What is reported of words that ask for no run.
 ghost use Rattle.std.specs.Prelude.{◌≡◌, IfErr};
 ghost use Rattle.clap.specs.Values.{kind_of};
 ghost use Rattle.clap.specs.declared.error.kind.ErrorKind.{ErrorKind};
@@ -24,7 +24,7 @@ fn status_of(error: &Error) -> u8
     }
 }
 
-// Says what clap found.
+// Reports what clap found.
 fn complain<R: Eprint>(rt: &R, error: &Error) {
     if error.kind() == ErrorKind::OutOfMemory {
         let _ = eprintln!(rt; "krl: {}", io::Error::from(io::ErrorKind::OutOfMemory));
@@ -33,8 +33,8 @@ fn complain<R: Eprint>(rt: &R, error: &Error) {
     }
 }
 
-/// Reads the words of a command line, the first of which is the program's name. If they ask for
-/// no run it says why on standard error, or what `--help` and `--version` ask for.
+/// Reads the words of a command line, the first of which is the program's name. If they ask for no
+/// run it reports why on standard error, or prints what `--help` and `--version` ask for.
 ///
 /// # Errors
 ///

@@ -2,8 +2,8 @@
 use crate::{advice, blame};
 use krl_text::ScriptFault;
 
-// Says why a run ended, which word it is about, and what can be done. If that can't be written,
-// the exit status alone is left to say it.
+// Reports why a run ended, which word it is about, and what can be done. If that can't be written,
+// only the exit status is left to report it.
 fn say<R: Eprint>(rt: &R, fault: ScriptFault, word: Option<&str>, advice: &str) {
     let _ = match word {
         Some(word) => eprintln!(rt; "krl: {fault} '{word}' ({advice})"),

@@ -191,7 +191,7 @@ impl Generator {
         )
     }
 
-    // A client crashes, or else ticks.
+    // A client crashes or ticks.
     fn crash(&mut self) -> Step
         ensures { (result, self.new) ≡ draw.crash self.old }
     {

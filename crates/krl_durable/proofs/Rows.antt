@@ -1,4 +1,4 @@
--- The register, by what an `IndexMap` says of its entries.
+-- The register, by what an `IndexMap` states of its entries.
 use Rattle.krl_durable.proofs.Names.{◌≡◌, ℕ, Bool, true, false, cond, nat_eq, List, [], ◌∷◌, Option, None, Some, refl, sym, ap, subst, ◌∙◌, is_some, nat_lt, IsSome, IfSome, AllByRecursion}
 use Rattle.krl_durable.proofs.Names.{filter_map, lookup, set_value, Record, Register, record_of, with_record, not_left, HasOutcomes, HasLasts, HasIncarnations, IsRow, IsRecord, missing_of}
 use Rattle.indexmap.specs.IndexMap.{insert_entry}

@@ -1,4 +1,4 @@
--- What a search in the blocks says of the index.
+-- What a search in the blocks shows of the index.
 use Rattle.std.proofs.Common.{◌≡◌, ◌≢◌, ℕ, suc, ◌≤◌, ◌<◌, Bool, true, false, cond, List, [], ◌∷◌, ◌++◌, length, take, drop, Option, None, Some, IfSome, MatchOption, refl, sym, ap, subst, ◌∙◌, arith, is_some}
 use Rattle.krl_durable.proofs.Names.{nat_tests, take-append-drop, head_none, nat_lt, AllByRecursion, slice_get, filter, nat_cmp, eq_by_cmp, find, put, is_sorted, END, Value, AreBelow, AreFrom, NoKey, KeysAbove}
 use Rattle.krl_durable.proofs.Names.{KeysRise, HasEntry, IsFound, IsInserted, IsRemoved, IsChanged, last_key, after_keys, low_of, behind, slot_of, AreBelowEnd, IsEntries}

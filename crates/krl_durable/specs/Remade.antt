@@ -20,8 +20,8 @@ of_parts l es epoch register =
 abbrev pub fresh : List (ℕ × Value) → Durable
 fresh es = of_parts standard_limits es 0 []
 
--- d can be written out and brought back, with any limits that it can have: the entries of its index are refused for
--- want of memory alone, and with its epoch and these records they make d again, with these limits
+-- d can be written out and brought back, with any limits that it can have: the entries of its index are refused only
+-- for want of memory, and with its epoch and these records they make d again, with these limits
 pub record MakesAgain (d : Durable) (records : Register) : Type 0 where
   pub taken : (l : Limits) → Fits l d → (e : EntriesRefused) → Refuses l.room (map.entries d.index) e →
       e ≡ entries_refused.OutOfMemory

@@ -1,4 +1,4 @@
--- The limits of what survives if nobody says others.
+-- The limits of what survives, by default.
 use Rattle.krl_modes.specs.declared.limits.TheConstants.{STANDARD_REACH}
 use Rattle.krl_modes.specs.Limits.{standard_room}
 use Rattle.krl_durable.specs.declared.limits.Limits.{Limits}

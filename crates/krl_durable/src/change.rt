@@ -1,8 +1,8 @@
 //! A change of what survives.
 use krl_messages::{Outcome, WriteOp};
 
-/// What a message to the server changes in what survives. `specs/Changes` says what a change makes
-/// of it.
+/// What a message to the server changes in what survives. `specs/Changes` states what a change
+/// makes of it.
 #[derive(Clone, Copy, PartialEq, Eq)]
 pub enum Change {
     /// A client registers with a new incarnation, of which no write has been judged.

@@ -170,12 +170,12 @@ impl Durable {
         }
     }
 
-    /// The epoch. Its clause `kept` says what holds of all that survives.
+    /// The epoch. Its clause `kept` states what holds of all that survives.
     pub fn epoch(&self) -> u64
         ensures epoch { result ≡ self.now.epoch }
         ensures kept { IsKept self.now }
     {
-        // By the clauses of these four the prover knows what `kept` says.
+        // By the clauses of these four the prover knows what `kept` states.
         self.index.entries();
         self.index.room();
         self.reach.get();
@@ -259,7 +259,7 @@ impl Durable {
         self.index.find(point)
     }
 
-    /// As `find`, by a search that begins at the finger, and moves it to the slot.
+    /// Like `find`, by a search that begins at the finger, and moves it to the slot.
     pub fn find_by(&self, point: u64, finger: &mut Finger) -> Slot
         requires { point ≤ END }
         ensures slot { result.point ≡ slot_of self.now.index point }

@@ -1,4 +1,4 @@
--- What a server does with a message that raises an alarm, and what is told of a step.
+-- What a server does with a message that raises an alarm, and what is reported of a step.
 use Rattle.std.proofs.Common.{◌≡◌, ◌∙◌, ℕ, List, [], Bool, true, false, Option, Some, None, Result, Ok, Err, ap, refl, sym}
 use Rattle.std.specs.Prelude.{if◌then◌else◌}
 use Rattle.krl_messages.specs.declared.to_server.ToServer.{ToServer}

@@ -58,13 +58,13 @@ said_in n [] x i = absurd i
 said_in n (m ∷ ms) x (inl e) = ap (λ y. y.after) e
 said_in n (m ∷ ms) x (inr i) = said_in n ms x i
 
--- the bytes of the frames of what was said
+-- the bytes of the frames of what was sent
 abbrev size : List Said → ℕ
 size said = length (told_frames (messages_of said))
 
 -- Marks
 
--- more is said, which rests on all notes
+-- more is sent, which rests on all notes
 said_more : (marks : List ℕ) (n k : ℕ) (said : List Said) (ms : List ToClient) → k ≡ n + length marks → AreMarks marks n said → AreMarks marks n (said ++ said_after k ms)
 said_more [] n k said ms e are = λ x i. ⊎_elim (λ (y : In x said). are x y) (λ (y : In x (said_after k ms)). let a = said_in k ms x y in omega (arith, a, e)) (in_both said (said_after k ms) x i)
 said_more (mark ∷ marks) n k said ms e are = (

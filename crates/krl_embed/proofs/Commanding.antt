@@ -12,7 +12,7 @@ use Rattle.krl_embed.specs.declared.code.Code.TheVariants as code
 use Rattle.krl_embed.specs.Frames.{said_frames, WaitsBy}
 use Rattle.krl_embed.specs.Clients.{refusal_code, Did, Commanded, SaidOr}
 
--- it says these
+-- it sends these
 pub did : (Becomes : Fields → List ToServer → Type 0) (k l : Fields) (old new : List ℕ) (list : List ToServer)
     (c : Option Code) → Becomes l list → WaitsBy (said_frames list) old new c → Did Becomes k old l new c
 did Becomes k l old new list (Some code.Done) is waits = (list, is, waits)

@@ -1,4 +1,4 @@
--- A host that keeps what it is told has what survives.
+-- A host that keeps what is reported to it has what survives.
 use Rattle.std.proofs.Common.{◌≡◌, ◌∙◌, ℕ, ◌-◌, List, [], ◌∷◌, length, take, Option, Some, None, Result, Ok, Err, ap, refl, sym}
 use Rattle.std.proofs.Math.ListN.{replicate}
 use Rattle.std.proofs.Math.Seq.{take-append_seam}
@@ -48,14 +48,14 @@ named (Some (change.Judged c number op o)) =
     ap (λ (x : WriteOp). judged_named c number x (outcome_of (outcome_number o))) (write_back op)
     ∙ ap (judged_named c number op) (outcome_back o)
 
--- the change is told
+-- the change is reported
 told : (s t : Server) (m : ToServer) (out : ServerOut) (r : Stepped) → HasActed s m t out r
     → t.durable ≡ kept r s.durable
 told s t m out r acted =
     acted.change.makes
     ∙ ap (λ (o : Option Change). changed_by o s.durable) (sym (ap change_named acted.told ∙ named out.change))
 
--- nothing has changed, and so it is told
+-- nothing has changed, and so it is reported
 same : (s t : Server) (r : Stepped) → t ≡ s → r.change ≡ unchanged → t.durable ≡ kept r s.durable
 same s t r is none =
     ap (λ (x : Server). x.durable) is

@@ -35,7 +35,7 @@ copied_one found was now i d x lt room row seen =
     ap (λ (l : List PartRow). set l i x) (seen ∙ ap (λ (l : List PartRow). front ++ l) split) ∙ at
     ∙ sym (ap (λ (l : List PartRow). l ++ drop (i + 1) was) grown ∙ append_assoc front (x ∷ []) (drop (i + 1) was))
 
--- what is copied is what is told
+-- what is copied is what is reported
 tells_as : (bounds : List ℕ) (s : Bounds) (ps : List Part) (was now : List PartRow) (r : Reply) (o : Option Code)
     → CopiesParts bounds s was now r → CopiesAs ps was now o → TellsPartsAs bounds s was now r o
 tells_as bounds s ps was now r None h c = absurd c

@@ -32,8 +32,8 @@ IsServer (role.Left bye) t = ⊥
 abbrev pub messages_of : List Said → List ToClient
 messages_of xs = map (λ x. x.message) xs
 
--- of what was said, in its order, the first messages rest on no more than the first n notes, and each of the rest on
--- more; the frames of the first are so many bytes
+-- of what the server has produced, in its order, the first messages rest on no more than the first n notes, and each of
+-- the rest on more; the frames of the first are so many bytes
 pub record Parts (place n : ℕ) (said : List Said) : Type 0 where
   pub first : List Said
   pub rest : List Said
@@ -42,12 +42,12 @@ pub record Parts (place n : ℕ) (said : List Said) : Type 0 where
   pub early : (x : Said) → In x first → x.after ≤ n
   pub late : (x : Said) → In x rest → n < x.after
 
--- the marks part what was said so: the first at n notes, each further one at a note more. None of it rests on more
+-- the marks divide these messages so: the first at n notes, each further one at a note more. None of it rests on more
 abbrev pub AreMarks : List ℕ → ℕ → List Said → Type 0
 AreMarks [] n said = (x : Said) → In x said → x.after ≤ n
 AreMarks (mark ∷ marks) n said = Parts mark n said × AreMarks marks (suc n) said
 
--- the handle keeps this host's server, what it has said and what is not sent, and how much is kept
+-- the handle keeps this host's server, what that has produced and the host has not sent, and how much is kept
 pub record IsHost (e : Endpoint) (h : Host) : Type 0 where
   pub server : IsServer e.role h.memory
   pub outgoing : e.outgoing ≡ told_frames (messages_of h.unsent)
@@ -55,7 +55,7 @@ pub record IsHost (e : Endpoint) (h : Host) : Type 0 where
   pub unconfirmed : length e.notes.marks ≡ length h.unkept
   pub marks : AreMarks e.notes.marks h.kept h.unsent
 
--- the server read the message of these bytes, and what it changed and said waits
+-- the server read the message of these bytes, and what it changed and produced waits
 abbrev pub Judged : List ℕ → Host → Endpoint → Type 0
 Judged bytes h f = (m : ToServer) × (t : Server) × (outs : List ToClient) × (said : List ToClient)
     × (reading.to_server_of bytes ≡ Ok m) × ServerStep h.memory m t outs × AreAmong said outs
@@ -65,7 +65,7 @@ Judged bytes h f = (m : ToServer) × (t : Server) × (outs : List ToClient) × (
 abbrev pub IsGiven : List Said → List ℕ → List ℕ → Type 0
 IsGiven given was now = let frames = told_frames (messages_of given) in now ≡ frames ++ drop (length frames) was
 
--- given is what rests on notes that are kept, and only that: the first of what was said. The rest waits
+-- given is what rests on notes that are kept, and only that: the first of what was produced. The rest waits
 pub record Gives (h : Host) (f : Endpoint) (was now : List ℕ) : Type 0 where
   pub given : List Said
   pub rest : List Said

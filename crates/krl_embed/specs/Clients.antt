@@ -55,7 +55,7 @@ refusal_code command_refused.Writing = code.Writing
 refusal_code command_refused.TooManyPins = code.TooManyPins
 refusal_code command_refused.Spent = code.Spent
 
--- The client becomes such, and says such messages, which wait behind all others, or are lost; or nothing changes, for
+-- The client becomes such, and gives such messages, which wait after all others, or are lost; or nothing changes, for
 -- want of memory.
 abbrev pub Did : (Fields → List ToServer → Type 0) → Fields → List ℕ → Fields → List ℕ → Option Code → Type 0
 Did Becomes k old l new (Some code.Done) =
@@ -91,12 +91,12 @@ abbrev pub Ticks : Fields → List ℕ → Fields → List ℕ → Reply → Typ
 Ticks k old l new r =
     (r.detail ≡ 0) × Did (λ x list. (x ≡ k) × IsTick (meaning k) list) k old l new (code_of r)
 
--- what a command says waits, or it is refused and nothing more waits
+-- what a command sends waits, or it is refused and nothing more waits
 abbrev pub SaidOr : Result (Vec ToServer) CommandRefused → List ℕ → List ℕ → Option Code → Type 0
 SaidOr (Ok list) old new c = WaitsBy (said_frames list.items) old new c
 SaidOr (Err r) old new c = (new ≡ old) × (c ≡ Some (refusal_code r))
 
--- a command is refused for what is due; otherwise it is done, and makes this client and says this message
+-- a command is refused for what is due; otherwise it is done, and makes this client and gives this message
 abbrev pub Commanded : Option CommandRefused → Client → ToServer
     → Fields → List ℕ → Fields → List ℕ → Option Code → Type 0
 Commanded (Some due) next m k old l new c = Refused (refusal_code due) k old l new c

@@ -10,7 +10,7 @@ use Rattle.krl_embed.specs.declared.code.Code.{Code}
 use Rattle.krl_embed.specs.declared.code.Code.TheVariants as code
 use Rattle.krl_embed.specs.Replies.{code_of}
 
--- this code, and nothing more to say
+-- this code, and nothing more to report
 abbrev pub IsCode : Code → Reply → Type 0
 IsCode c r = (code_of r ≡ Some c) × (r.detail ≡ 0)
 
@@ -18,7 +18,7 @@ IsCode c r = (code_of r ≡ Some c) × (r.detail ≡ 0)
 abbrev pub IsUntold : {X : Type 0} → List X → List X → Code → Reply → Type 0
 IsUntold was now c r = IsCode c r × (now ≡ was)
 
--- what is closed stays closed, and the answer says so; to what is open the call does this
+-- what is closed stays closed, and the answer reports it; to what is open the call does this
 abbrev pub OnHandle : {R : Type 0} → (Code → R → Type 0) → (Endpoint → Endpoint → R → Type 0)
     → Option Endpoint → Option Endpoint → R → Type 0
 OnHandle Is Does None None r = Is code.Closed r
@@ -47,7 +47,7 @@ OnClientRole Does (role.Server s) old now new r = Stays code.NoClient (role.Serv
 abbrev pub OnClient : (Fields → List ℕ → Fields → List ℕ → Reply → Type 0) → Endpoint → Endpoint → Reply → Type 0
 OnClient Does e f r = OnClientRole Does e.role e.outgoing f.role f.outgoing r
 
--- what a call tells of a client
+-- what a call reports of a client
 abbrev pub OfClient : {R : Type 0} → (Code → R → Type 0) → (Fields → R → Type 0) → Role → R → Type 0
 OfClient Is Tells (role.Client k) r = Tells k r
 OfClient Is Tells (role.Left bye) r = Is code.Gone r

@@ -24,7 +24,7 @@ said_frames ms = flat_map said_frame ms
 abbrev pub told_frames : List ToClient → List ℕ
 told_frames ms = flat_map told_frame ms
 
--- Done: these wait behind all others. Unsaid: what waits is as it was. It is no other code.
+-- Done: these wait after all others. Unsaid: what waits is as it was. It is no other code.
 abbrev pub Waits : List ℕ → List ℕ → List ℕ → Code → Type 0
 Waits frames old new code.Done = new ≡ old ++ frames
 Waits frames old new code.Unsaid = new ≡ old

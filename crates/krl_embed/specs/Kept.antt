@@ -1,4 +1,4 @@
--- What a host has that keeps what the steps of its server tell.
+-- What a host has if it keeps what the steps of its server report.
 use Rattle.std.specs.Prelude.{◌≡◌, ℕ, List, [], ◌∷◌, take, Option, Some, None, ◌==◌, if◌then◌else◌}
 use Rattle.krl_messages.specs.declared.outcome.Outcome.{Outcome}
 use Rattle.krl_messages.specs.declared.write_op.WriteOp.{WriteOp}
@@ -31,7 +31,7 @@ abbrev pub judged_named : ℕ → ℕ → WriteOp → Option Outcome → Option 
 judged_named c number op None = None
 judged_named c number op (Some o) = Some (change.Judged c number op o)
 
--- the change that a host reads from what it is told
+-- the change that a host reads from what is reported to it
 abbrev pub change_named : ChangeRow → Option Change
 change_named r =
     if r.kind == 1 then Some (change.Registered r.client r.number)
@@ -57,7 +57,7 @@ AllAnswered s [] t = t ≡ s
 AllAnswered s (r ∷ rs) t = (mid : State) × Answered s r mid × AllAnswered mid rs t
 
 pub record ChangesAreKept : Type 0 where
-  -- what is told of a change names it
+  -- what is reported of a change names it
   pub named : (o : Option Change) → change_named (change_row o) ≡ o
   -- a server that is opened on some parts has them, at the next epoch
   pub opened :

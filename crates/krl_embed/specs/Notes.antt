@@ -8,7 +8,7 @@ use Rattle.krl_embed.specs.declared.notes.Notes.{Notes}
 use Rattle.krl_embed.specs.declared.reply.Reply.{Reply}
 use Rattle.krl_embed.specs.Replies.{code_of}
 
--- the opening is reported, and not confirmed: what is said afterwards rests on it
+-- the opening is reported, and not confirmed: what is sent afterwards rests on it
 abbrev pub opening : Notes
 opening = record { confirmed = 0; marks = 0 ∷ [] }
 
@@ -74,7 +74,7 @@ TakesAs n was now e f (Some code.TooShort) =
     (length was < n) × (f.outgoing ≡ e.outgoing) × (f.notes ≡ e.notes) × (now ≡ was)
 TakesAs n was now e f _ = ⊥
 
--- so many bytes may leave; the detail says how many
+-- so many bytes may leave; the detail is that number
 abbrev pub TakesReady : ℕ → List ℕ → List ℕ → Endpoint → Endpoint → Reply → Type 0
 TakesReady n was now e f r = (f.role ≡ e.role) × (r.detail ≡ n) × TakesAs n was now e f (code_of r)
 

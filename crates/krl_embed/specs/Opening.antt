@@ -77,7 +77,7 @@ refused_code entries_refused.BadKey = code.BadKey
 refused_code entries_refused.Twice = code.Twice
 refused_code entries_refused.Full = code.Full
 
--- what is said of a record at this place that is refused: its place, if it is bad
+-- what is reported of a record at this place that is refused: its place, if it is bad
 abbrev pub place_said : Code → ℕ → ℕ
 place_said code.BadRecord i = i
 place_said _ i = 0
@@ -95,7 +95,7 @@ RefusesRecords records r = RefusesRecordsAs records r.detail (code_of r)
 abbrev pub HasValues : ℕ → List Row → Type 0
 HasValues epoch entries = (epoch < END) × AllByRecursion HasValue entries
 
--- besides, each record is a client's, and no client has two
+-- in addition, each record is a client's, and no client has two
 pub record HasParts (epoch : ℕ) (entries : List Row) (records : List RecordRow) : Type 0 where
   pub below : epoch < END
   pub values : AllByRecursion HasValue entries

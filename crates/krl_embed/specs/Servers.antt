@@ -28,14 +28,14 @@ use Rattle.krl_embed.specs.Endpoints.{IsCode}
 abbrev pub IsUnchanged : Code → Stepped → Type 0
 IsUnchanged c r = IsCode c r.reply × (r.change ≡ unchanged)
 
--- the server took the message, which raised no alarm, and what it changed is told
+-- the server took the message, which raised no alarm, and what it changed is reported
 pub record HasActed (s : Server) (m : ToServer) (t : Server) (out : ServerOut) (r : Stepped) : Type 0 where
   pub stepped : HasStepped s m t out
   pub calm : out.alarm ≡ None
   pub change : IsChange s.durable t.durable out.change
   pub told : r.change ≡ change_row out.change
 
--- the report contradicts what the server knows: the sender is told, and nothing changes
+-- the report contradicts what the server knows: the sender is reported, and nothing changes
 pub record HasAlarmed (s : Server) (m : ToServer) (t : Server) (out : ServerOut) (r : Stepped) : Type 0 where
   pub stepped : HasStepped s m t out
   pub client : out.alarm ≡ Some r.reply.detail
@@ -43,7 +43,7 @@ pub record HasAlarmed (s : Server) (m : ToServer) (t : Server) (out : ServerOut)
   pub silent : out.messages ≡ []
   pub told : r.change ≡ unchanged
 
--- What is sent waits behind all others, or is lost; what has changed is told in both cases. Or nothing changes.
+-- What is sent waits after all others, or is lost; what has changed is reported in both cases. Or nothing changes.
 abbrev pub Acts : ToServer → State → List ℕ → State → List ℕ → Stepped → Option Code → Type 0
 Acts m s old t new r (Some code.Done) =
     (out : ServerOut) × HasActed (meaning s) m (meaning t) out r × (new ≡ old ++ told_frames out.messages)
@@ -56,7 +56,7 @@ Acts m s old t new r (Some code.OutOfMemory) =
     (t ≡ s) × (new ≡ old) × (r.change ≡ unchanged) × (r.reply.detail ≡ 0)
 Acts m s old t new r _ = ⊥
 
--- bytes that are no message change nothing; the fault is told, unless memory runs out first
+-- bytes that are no message change nothing; the fault is reported, unless memory runs out first
 abbrev pub IsRefused : Fault → State → List ℕ → State → List ℕ → Stepped → Option Code → Type 0
 IsRefused f s old t new r (Some code.BadMessage) =
     (t ≡ s) × (new ≡ old) × (r.change ≡ unchanged) × (r.reply.detail ≡ fault_number f)

@@ -21,7 +21,7 @@ AreBounds bounds = (length bounds < max_shards) × IsPartition bounds
 abbrev pub HasPoint : List ℕ → ℕ → ℕ → Type 0
 HasPoint bounds p i = IsShardOf bounds p i × IsOnlyShardOf bounds p i
 
--- The detail is the shard. Otherwise the bounds are none, or else the point lies past the last one.
+-- The detail is the shard. Otherwise the bounds are none, or the point lies past the last one.
 abbrev pub TellsShardAs : List ℕ → ℕ → ℕ → Option Code → Type 0
 TellsShardAs bounds p i (Some code.Done) = AreBounds bounds × HasPoint bounds p i
 TellsShardAs bounds p i (Some code.BadShards) = (AreBounds bounds → ⊥) × (i ≡ 0)
@@ -62,7 +62,7 @@ CopiesParts bounds s was now r =
 abbrev pub IsSpan : Bounds → Type 0
 IsSpan s = IsWhole s × (s.hi ≤ past_points)
 
--- The parts go into the room. Otherwise the bounds are none, or else the span is none, and the room stays as it was.
+-- The parts go into the room. Otherwise the bounds are none, or the span is none, and the room stays as it was.
 abbrev pub TellsPartsAs : List ℕ → Bounds → List PartRow → List PartRow → Reply → Option Code → Type 0
 TellsPartsAs bounds s was now r (Some code.Done) = CopiesParts bounds s was now r
 TellsPartsAs bounds s was now r (Some code.TooShort) = CopiesParts bounds s was now r

@@ -128,7 +128,7 @@ GoesTo (role.Client k) (role.Server s) c = ⊥
 GoesTo (role.Left bye) now c = now ≡ role.Left bye
 GoesTo (role.Server s) now c = (now ≡ role.Server s) × (c ≡ code.NoClient)
 
--- the Bye waits behind all others, or is lost; a client that is gone sends it again
+-- the Bye waits after all others, or is lost; a client that is gone sends it again
 abbrev pub LeavesRole : Role → List ℕ → Role → List ℕ → Reply → Type 0
 LeavesRole (role.Client k) old (role.Left bye) new r =
     (bye ≡ says_bye (clients.meaning k) ∷ []) × WaitsBy (said_frames bye) old new (code_of r) × (r.detail ≡ 0)

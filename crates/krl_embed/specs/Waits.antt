@@ -18,7 +18,7 @@ use Rattle.krl_embed.specs.Replies.{code_of}
 use Rattle.krl_embed.specs.Endpoints.{IsCode, IsUntold}
 use Rattle.krl_embed.specs.Shown.{Copies}
 
--- what is told of a client; a number that is no client's is refused
+-- what is reported of a client; a number that is no client's is refused
 pub record OfNumber {R : Type 0} (Is : Code → R → Type 0) (c : ℕ) (Tells : R → Type 0) (r : R) : Type 0 where
   pub client : c < MAX_CLIENTS → Tells r
   pub stranger : MAX_CLIENTS ≤ c → Is code.BadClient r
@@ -39,7 +39,7 @@ TellsWait c s r =
 abbrev pub TellsWaited : ℕ → List ℕ → List ℕ → State → Reply → Type 0
 TellsWaited c was now s r = OfNumber (IsUntold was now) c (Copies (waited_for (meaning s) c) was now) r
 
--- the detail says at how many slots the client holds a mode other than N
+-- the detail is the number of slots at which the client holds a mode other than N
 pub record IsHolding (s : State) (c : ℕ) (r : Reply) : Type 0 where
   pub done : code_of r ≡ Some code.Done
   pub count : HoldsAt (meaning s).rows c r.detail

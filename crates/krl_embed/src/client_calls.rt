@@ -37,7 +37,7 @@ fn refusal_code(refused: CommandRefused) -> Code
     }
 }
 
-// What these say goes out.
+// What these send goes out.
 fn say(alloc: Global, outgoing: &mut Frames, messages: &[ToServer]) -> Reply
     ensures waits { WaitsBy (said_frames messages.now) outgoing.old outgoing.new (code_of result) }
     ensures detail { result.detail ≡ 0 }
@@ -45,7 +45,7 @@ fn say(alloc: Global, outgoing: &mut Frames, messages: &[ToServer]) -> Reply
     Reply::of(outgoing.say(alloc, messages))
 }
 
-// What a command says goes out.
+// What a command sends goes out.
 fn said(
     alloc: Global,
     outgoing: &mut Frames,

@@ -26,8 +26,8 @@ use krl_messages::{Value, WriteOp};
 use krl_modes::{MAX_CLIENTS, Mode};
 use std::alloc::Global;
 
-// A client that starts, and its Hello. The library's own start takes an incarnation of 0, of which
-// no server hears anything.
+// A client that starts, and its Hello. The library's own start takes an incarnation of 0, whose
+// messages every server ignores.
 fn start(alloc: Global, number: u64, incarnation: u64) -> Result<Endpoint, Code>
     ensures none_due { OnOk result (opening.client_refusal number incarnation ≡ None) }
     ensures begun { IfOk result (opening.IsBegun number incarnation) }

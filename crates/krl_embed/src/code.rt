@@ -4,12 +4,12 @@ ghost use Rattle.krl_embed.specs.declared.code.Code.TheVariants as code;
 
 use std::alloc::{AllocError, AllocFailed};
 
-/// What a call answers, by name. `krl_types.h` says what each one means.
+/// What a call answers, by name. `krl_types.h` states what each one means.
 #[derive(Clone, Copy, PartialEq, Eq)]
 pub enum Code {
     /// It is done.
     Done,
-    /// It is done, but there was no memory for what it says.
+    /// It is done, but there was no memory for what it sends.
     Unsaid,
     /// Memory was refused.
     OutOfMemory,

@@ -5,7 +5,7 @@ use krl_client::Client;
 use krl_messages::{Items, ToServer};
 use krl_server::Server;
 
-/// What a handle keeps: a client or a server, and what it says.
+/// What a handle keeps: a client or a server, and what it sends.
 #[derive(Drop)]
 pub struct Endpoint {
     pub(crate) role: Role,

@@ -74,7 +74,7 @@ pub extern "C" fn krl_take(alloc: Global, handle: &mut Handle, bytes: &mut [u8])
     reply
 }
 
-/// Closes the handle: what it kept is freed. A client says nothing.
+/// Closes the handle: what it kept is freed. A client sends nothing.
 #[unsafe(no_mangle)]
 pub extern "C" fn krl_close(alloc: Global, handle: &mut Handle)
     ensures { handle.new.owned.value ≡ None }

@@ -81,7 +81,7 @@ impl Frames {
         }
     }
 
-    // These frames wait behind all others.
+    // These frames wait after all others.
     fn append(&mut self, frames: &[u8]) -> Code
         ensures { Waits frames.now self.old self.new result }
     {
@@ -91,7 +91,7 @@ impl Frames {
         }
     }
 
-    /// What a client sends waits behind all others: Done; or else nothing more waits: Unsaid.
+    /// What a client sends waits after all others: Done; otherwise nothing more waits: Unsaid.
     pub(crate) fn say(&mut self, alloc: Global, messages: &[ToServer]) -> Code
         ensures { Waits (said_frames messages.now) self.old self.new result }
     {
@@ -101,7 +101,7 @@ impl Frames {
         }
     }
 
-    /// What a server sends waits behind all others: Done; or else nothing more waits: Unsaid.
+    /// What a server sends waits after all others: Done; otherwise nothing more waits: Unsaid.
     pub(crate) fn tell(&mut self, alloc: Global, messages: &[ToClient]) -> Code
         ensures { Waits (told_frames messages.now) self.old self.new result }
     {
@@ -118,7 +118,7 @@ impl Frames {
         self.bytes.len()
     }
 
-    /// The first so many bytes go into `bytes`, and wait no more.
+    /// The first so many bytes go into `bytes`, and no longer wait.
     pub(crate) fn give(&mut self, count: usize, bytes: &mut [u8])
         requires waiting { count ≤ length self.old }
         requires room { count ≤ length bytes.old }

@@ -3,13 +3,13 @@
 ghost use Rattle.krl_embed.specs.Calls.{CallsAreMoves};
 ghost use Rattle.krl_embed.specs.Kept.{ChangesAreKept};
 
-/// A host that keeps the changes that the steps of its server tell, in their order, has what
+/// A host that keeps the changes that the steps of its server report, in their order, has what
 /// survives, at every moment. A server that is opened on what was kept has it, at the next epoch.
 pub fn changes_are_kept()
     ensures { ChangesAreKept }
 {}
 
-/// Each call on a server is a move of its host in a world of hosts, or none: what it says waits
+/// Each call on a server is a move of its host in a world of hosts, or none: what it sends waits
 /// until all that it rests on is kept, by the host's word.
 pub fn calls_are_moves()
     ensures { CallsAreMoves }

@@ -134,7 +134,7 @@ pub extern "C" fn krl_until_hears(until: u64, asks: &TakeOverRow, now: u64) -> b
     Until { moment: until }.hears(asks.asks(), now)
 }
 
-/// What a server has to store before it says anything.
+/// What a server has to store before it sends anything.
 #[unsafe(no_mangle)]
 pub extern "C" fn krl_kept_start(kept: &KeptRow, terms: &TermsRow) -> KeptRow
     ensures { result ≡ row_of (servers.kept_from (kept_of kept.now) (terms_of terms.now)) }

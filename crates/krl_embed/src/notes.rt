@@ -89,7 +89,7 @@ impl Notes {
         }
     }
 
-    /// So many bytes were given out, and wait no more.
+    /// So many bytes were given out, and no longer wait.
     pub(crate) fn give(&mut self, given: usize)
         ensures { self.new ≡ notes.given given self.old }
     {

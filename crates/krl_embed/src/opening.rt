@@ -108,7 +108,7 @@ pub(crate) fn limits_of(room: usize, reach: usize) -> Result<Limits, Reply>
 }
 
 /// A server that starts on what was kept, with these limits. A frame of its own would have the
-/// server on the stack once more.
+/// server on the stack again.
 #[inline(always)]
 pub(crate) fn start(
     alloc: Global,

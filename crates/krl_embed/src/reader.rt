@@ -45,7 +45,7 @@ pub extern "C" fn krl_reader_scan(reader: &mut Reader, lo: u64, hi: u64, rows: &
     client_calls::scan(is_shared(reader.lent.shown()), lo, hi, rows)
 }
 
-/// What the client believes that it holds at a point, as `krl_client_held` says it.
+/// What the client believes that it holds at a point, as `krl_client_held` reports it.
 #[unsafe(no_mangle)]
 pub extern "C" fn krl_reader_held(reader: &mut Reader, point: u64) -> Held
     ensures unchanged { reader.new.lent.value ≡ reader.old.lent.value }
@@ -59,7 +59,7 @@ pub extern "C" fn krl_reader_held(reader: &mut Reader, point: u64) -> Held
     client_shows::held_at(is_shared(reader.lent.shown()), point)
 }
 
-/// What the client shows of itself, as `krl_client_status` says it.
+/// What the client shows of itself, as `krl_client_status` reports it.
 #[unsafe(no_mangle)]
 pub extern "C" fn krl_reader_status(reader: &mut Reader) -> ClientState
     ensures unchanged { reader.new.lent.value ≡ reader.old.lent.value }

@@ -4,7 +4,7 @@ ghost use Rattle.krl_embed.specs.Replies.{code_of};
 
 use crate::code::Code;
 
-/// A code, and what it speaks of: a count, a point, a key or a place.
+/// A code, and what it refers to: a count, a point, a key or a place.
 #[repr(C)]
 #[derive(Clone, Copy)]
 pub struct Reply {
@@ -13,7 +13,7 @@ pub struct Reply {
 }
 
 impl Reply {
-    /// This code, of which there is nothing more to say.
+    /// This code, of which there is nothing more to report.
     #[tactic(auto, unfolding(crate::specs::Replies::code_at))]
     pub(crate) fn of(code: Code) -> Reply
         ensures code { code_of result ≡ Some code }
@@ -25,7 +25,7 @@ impl Reply {
         }
     }
 
-    /// This code, and what it speaks of.
+    /// This code, and what it refers to.
     #[tactic(auto, unfolding(crate::specs::Replies::code_at))]
     pub(crate) fn with(code: Code, detail: u64) -> Reply
         ensures code { code_of result ≡ Some code }

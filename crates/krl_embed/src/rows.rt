@@ -32,7 +32,7 @@ impl Row {
         }
     }
 
-    /// The key alone.
+    /// Only the key.
     pub(crate) fn of_key(key: u64) -> Row
         ensures { result ≡ row_of (key, []) }
     {

@@ -45,7 +45,7 @@ pub extern "C" fn krl_server_open(
         Ok(limits) => limits,
         Err(reply) => return reply,
     };
-    // Before the server: to give it up here would have it on the stack once more.
+    // Before the server: to give it up here would have it on the stack again.
     let notes = match Notes::opening(alloc) {
         Ok(notes) => notes,
         Err(_) => return Reply::of(Code::OutOfMemory),

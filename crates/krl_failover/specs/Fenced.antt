@@ -84,7 +84,7 @@ pub record Turned (old new : ℕ → ℕ → Kept) (e c : ℕ) (z : Kept) : Type
   pub here : new e c ≡ z
   pub rest : (f d : ℕ) → (f ≢ e) ⊎ (d ≢ c) → new f d ≡ old f d
 
--- the push answers the last write of the old server's record, as that record says, and speaks of its key
+-- the push answers the last write of the old server's record, as that record states, and speaks of its key
 pub record AnswersKept (l : Link) (z : Kept) (p : Push) : Type 0 where
   pub write : Write
   pub sent : In write l.writes

@@ -40,7 +40,7 @@ pub record Mirrors
   pub world : f.world ≡ world_of s of log
   pub shows : Shows s of
   pub sound : IsSound s
-  -- who has left holds nothing
+  -- a client that has left holds nothing
   pub empty : AreEmpty s
   pub blank : (c : ℕ) → (of c).left ≡ true → IsBlankRow (of c)
 

@@ -9,7 +9,7 @@ ghost use Rattle.krl_modes.specs.declared.part.RangePart.TheVariants as range;
 ghost use Rattle.krl_failover.specs.Fenced.{Fenced};
 ghost use Rattle.krl_failover.specs.Steps.{FencedReachable, FencedSteps};
 
-/// No two clients hold incompatible parts at one point, whatever old servers say.
+/// No two clients hold incompatible parts at one point, whatever old servers send.
 pub fn compatible()
     ensures { (index : ℕ → Option Value) (end : ℕ) (f : Fenced) → FencedReachable index end f
         → IsCompatible f.world }
@@ -21,8 +21,8 @@ pub fn scans()
         → ScanIsRange f.world }
 {}
 
-/// Each numbered write changed the store's index at most once, and once if its client was told
-/// so, by whatever server.
+/// Each numbered write changed the store's index at most once, and once if its client learned that
+/// it did, from whatever server.
 pub fn once()
     ensures { (index : ℕ → Option Value) (end : ℕ) (f : Fenced) → FencedReachable index end f
         → WritesOnce index f.world }

@@ -12,7 +12,7 @@ ghost use Rattle.krl_failover.specs.Worlds.{FencedWorld, IsReached, OldGrants};
 
 /// Whatever old servers do: no two clients hold incompatible parts at one point, each scan that a
 /// client answers from its cache is that range of the store's index, and each numbered write
-/// changed that at most once, and once if its client was told Applied.
+/// changed that at most once, and once if its client received Applied.
 pub fn headline()
     ensures { (w : FencedWorld) → IsReached w → Headline w.world }
 {}

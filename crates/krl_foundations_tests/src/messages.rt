@@ -114,7 +114,7 @@ fn holding_of(lo: u64, hi: u64, mode: Mode, value: Option<u64>) -> Option<Holdin
     Some(Holding { span, mode, value })
 }
 
-/// Whether its slot is the last point of its span, and it has its value or not, as told.
+/// Whether its slot is the last point of its span, and it has its value or not, as `has` states.
 fn is_as_told(holding: &Holding, has: bool) -> bool {
     holding.slot() == holding.span.last() && holding.has_its_value() == has
 }

@@ -36,7 +36,7 @@ const HERE: Record = Record {
     outcome: None,
 };
 
-// Who has left, in order of registration.
+// The clients that have left, in order of registration.
 static ALL_LEFT: [(u64, Record); 2] = [(0, GONE), (9, WRITER)];
 
 // The first of them has not left.
@@ -86,7 +86,7 @@ fn has_eight_bytes(durable: &Durable) -> bool {
     }
 }
 
-// Whether those who have left have their records, and nobody else has one.
+// Whether the clients that have left have their records, and no other has one.
 fn has_records(durable: &Durable) -> bool {
     for (c, record) in &ALL_LEFT {
         if durable.record(*c) != Some(*record) {
@@ -96,7 +96,7 @@ fn has_records(durable: &Durable) -> bool {
     durable.record(1).is_none()
 }
 
-// Whether it keeps all but the form of its value if nobody is missing, and is else refused,
+// Whether it keeps all but the form of its value if nobody is missing, and is otherwise refused,
 // since this client has not left.
 fn is_migrated(alloc: Global, old: &DurableV1, missing: Option<u64>) -> bool {
     for _ in 0..CALLS {

@@ -52,7 +52,7 @@ fn is(waiter: Option<Waiter>, client: u64, point: u64) -> bool {
     }
 }
 
-/// Takes out all that wait, and says whether they were just these, in this order.
+/// Takes out all that wait, and reports whether they were just these, in this order.
 fn drains(list: &mut WaitList, waiting: &[(u64, u64)]) -> bool {
     for (client, point) in waiting {
         if !is(list.pop_front(), *client, *point) {

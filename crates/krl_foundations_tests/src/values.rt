@@ -1,4 +1,4 @@
-//! Values: the bytes that they are made of, and the numbers that eight of them tell.
+//! Values: the bytes that they are made of, and the numbers that eight of them encode.
 use krl_messages::Value;
 
 /// One byte more than a value can have. Zeros stand where some value ends.

@@ -1,4 +1,4 @@
--- A run: three clients register in one batch, the host keeps two of the changes, tells a client, and crashes.
+-- A run: three clients register in one batch, the host keeps two of the changes, informs a client, and crashes.
 use Rattle.std.proofs.Common.{◌≡◌, ℕ, Some, None, List, [], ◌∷◌, ◌++◌, inl, inr, refl, ap, arith}
 use Rattle.std.specs.FinMap as map
 use Rattle.krl_modes.specs.Limits.{max_clients}

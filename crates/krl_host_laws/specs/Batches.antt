@@ -32,7 +32,7 @@ pub record JudgesAhead : Type 0 where
 abbrev pub registered : State → ℕ → ℕ
 registered w c = incarnation_or_0 (record_of (disk_of w).register c)
 
--- the server tells incarnation 1 of the client its first epoch
+-- the server sends incarnation 1 of the client its first epoch
 abbrev pub epoch_for : ℕ → ToClient
 epoch_for c = record { client = c; incarnation = 1; body = told.Epoch 1 }
 

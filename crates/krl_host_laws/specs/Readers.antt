@@ -14,7 +14,8 @@ abbrev pub Scans : State → ℕ → ℕ → ℕ → List (ℕ × Value) → Typ
 Scans w c lo hi rows = Steps w (step.Command c (command.Scan lo hi)) (Ok (answered.Rows rows)) w
 
 -- The scan of a reader of client c that began in v continues: whatever is moved, no call changes the client meanwhile.
--- A call that takes the client's handle by itself waits until its readers have ended, so what it says leaves after them
+-- A call that takes the client's handle by itself waits until its readers have ended, so what it sends leaves after
+-- them
 pub data Lasts (c : ℕ) (v : HostWorld) : HostWorld → Type 0 where
   begins : Lasts c v v
   goes_on : (u w : HostWorld) → Lasts c v u → Moves u w → client_of w.world c ≡ client_of u.world c → Lasts c v w

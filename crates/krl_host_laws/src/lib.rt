@@ -1,4 +1,4 @@
-//! Hosts that keep what their server changes in batches, and send what it says only afterwards, are
+//! Hosts that keep what their server changes in batches, and send its messages only afterwards, are
 //! worlds: laws of the code of the servers and the clients. Each function has an empty body: its
 //! contract is a theorem.
 #![tactic(auto)]
@@ -18,7 +18,7 @@ pub fn batches_are_worlds()
 
 /// So no two clients hold incompatible parts at one point, each scan that a client answers from its
 /// cache is that range of the index on the disk, and each numbered write changed that at most
-/// once, and once if its client was told Applied.
+/// once, and once if its client received Applied.
 pub fn headline()
     ensures { (w : HostWorld) → IsReached w → Headline w.world }
 {}
@@ -30,8 +30,8 @@ pub fn holds_ahead()
 {}
 
 /// A scan that reads a client's cache while other threads work has a beginning and an end. If no
-/// call changes the client between, its rows are that range of the index on the disk at each
-/// moment from the one to the other. So what the client says when it gives something up leaves
+/// call changes the client meanwhile, its rows are that range of the index on the disk at each
+/// moment from the one to the other. So the message by which the client gives something up leaves
 /// after each scan that could see it.
 pub fn scans_last()
     ensures { ScansLast }

@@ -33,7 +33,7 @@ notes_of (Some x) = Changed x ∷ []
 
 -- The server's host
 
--- what the server has said and the host has not yet sent: so many notes of this start have to be on the disk first
+-- what the server has produced and the host has not yet sent: so many notes of this start have to be on the disk first
 pub record Said : Type 0 where
   pub after : ℕ
   pub message : ToClient
@@ -49,7 +49,7 @@ pub record Host : Type 0 where
   pub unkept : List Note  -- these are not, the oldest first
   pub unsent : List Said
 
--- the server has taken a step: it is this one now, with these notes of the step, and said this
+-- the server has taken a step: it is this one now, with these notes of the step, and has produced these messages
 abbrev pub stepped : Host → Server → List Note → List ToClient → Host
 stepped h t notes said =
     let unkept = h.unkept ++ notes in
@@ -60,6 +60,6 @@ stepped h t notes said =
       unsent = h.unsent ++ said_after (h.kept + length unkept) said;
     }
 
--- all that is said was to be said: the rest is lost
+-- each of the first is one of the second: the rest is lost
 abbrev pub AreAmong : {A : Type 0} → List A → List A → Type 0
 AreAmong {A} xs ys = (x : A) → In x xs → In x ys

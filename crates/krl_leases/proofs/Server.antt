@@ -26,7 +26,7 @@ module _ (limits : Limits) (clocks : Clocks) (agree : Agree limits clocks) (w : 
     | inr e ↦ (let m : g.moment ≡ sign.moment = ap (λ (y : Grant). y.moment) e in let b = h.said_before sign i in omega arith)
   ]
 
-  -- by what it lives now, or may live: what the sign says, or what this server grants
+  -- by what it lives now, or may live: what the sign states, or what this server grants
   no_longer : (g : Grant) → Live (heard clocks w s sign) g → g.length ≤ max sign.said s.terms.length
   no_longer g (inl e) = elim (v.signs sign i g e) [ inl a ↦ omega arith | inr b ↦ omega arith ]
   no_longer g (inr (inl j)) = let m : g.length ≡ s.terms.length = v.grants (h.connected sign i) g j in omega arith

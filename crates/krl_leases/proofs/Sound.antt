@@ -25,12 +25,12 @@ pub record Covers (clocks : Clocks) (machine now : ℕ) (until : Until) (g : Gra
   pub ends : g.length < FOR_EVER → until.moment < FOR_EVER →
       (t : ℕ) → now ≤ t → until.moment ≤ clocks.server machine t → HasEnded clocks g t
 
--- what is kept says that the lease may run, or it has ended for good
+-- what is kept states that the lease may run, or it has ended for good
 pub record IsKept (clocks : Clocks) (now : ℕ) (kept : Kept) (g : Grant) : Type 0 where
   pub endless : FOR_EVER ≤ g.length → kept.is_unleased ≡ true
   pub ends : g.length < FOR_EVER → (g.length ≤ kept.longest) ⊎ ((t : ℕ) → now ≤ t → HasEnded clocks g t)
 
--- the client's lease ends no later than the terms say
+-- the client's lease ends no later than the terms state
 pub record LivesBy (clocks : Clocks) (lease : Lease) (g : Grant) : Type 0 where
   pub end : lease.end ≤ clocks.client g.moment + g.length
   pub length : lease.length ≡ g.length

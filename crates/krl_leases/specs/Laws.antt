@@ -20,7 +20,7 @@ EvictedAnswerNothing =
 abbrev pub SteadyAgree : Type 0
 SteadyAgree = (limits : Limits) (clocks : Clocks) → AreSteady limits clocks → Agree limits clocks
 
--- Somewhere a client answers, and later is evicted: so nothing of this is said in vain. Its clock is the server's
+-- Somewhere a client answers, and later is evicted: so nothing of this is vacuous. Its clock is the server's
 
 abbrev pub one_second : Terms
 one_second = record { length = 1000000000; drift = 25 }

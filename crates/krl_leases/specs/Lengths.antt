@@ -2,7 +2,7 @@
 use Rattle.std.specs.Prelude.{ℕ, ◌+◌, ◌*◌, ◌/◌, min}
 use Rattle.krl_leases.specs.declared.length.TheConstants.{FOR_EVER}
 
--- so far may the server's clock go while a client's goes by a length: further by the drift, in a hundred, rounded up
+-- so far may the server's clock go while a client's goes by a length: further by the drift, in percent, rounded up
 unfoldable pub stretched : ℕ → ℕ → ℕ
 stretched drift length = (length * (100 + drift) + 99) / 100
 

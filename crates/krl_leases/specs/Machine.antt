@@ -39,10 +39,10 @@ pub record State : Type 0 where
   pub is_greeted : Bool  -- it took terms on this connection
   -- the connection: messages may be lost, repeated and delayed
   pub is_connected : Bool  -- to the server that runs
-  pub signs : List Sign  -- said to this server
+  pub signs : List Sign  -- sent to this server
   pub waiting : List Grant  -- it knows until when they last, and asks its store whether it is still the store's server
   pub grants : List Grant  -- answered on this connection
-  pub says_hello : Bool  -- a Hello was said to this server
+  pub says_hello : Bool  -- a Hello was sent to this server
   -- the server
   pub server : Option Server
   pub kept : Kept
@@ -67,7 +67,7 @@ abbrev pub In : {A : Type 0} → A → List A → Type 0
 In x [] = ⊥
 In x (y ∷ ys) = (x ≡ y) ⊎ In x ys
 
--- nothing was said
+-- nothing was sent
 abbrev pub begun : State
 begun = record {
   now = 0;
@@ -127,7 +127,7 @@ registered clocks w s =
       standing = Registered;
     }
 
--- nothing comes of what was said to it, nor of what it asks its store
+-- nothing comes of what was sent to it, nor of what it asks its store
 abbrev pub stopped : State → State
 stopped w = record w { server = None; is_connected = false; signs = []; waiting = []; says_hello = false }
 

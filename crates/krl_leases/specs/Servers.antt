@@ -20,11 +20,12 @@ has_come until now = nat_lt until.moment FOR_EVER && nat_le until.moment now
 abbrev pub since : Terms → ℕ → Until
 since terms now = record { moment = end_of terms.drift now terms.length }
 
--- no earlier than what was known. Who might answer for ever says by what it lives now
+-- no earlier than what was known. A client that might answer for ever states by what it lives now
 abbrev pub at_least : Until → ℕ → ℕ
 at_least until moment = if is_never until then moment else max until.moment moment
 
--- a client's sign says by a lease of which length it lives: for so long, or for what it is granted, it may answer
+-- a client's sign states the length of the lease by which it lives: for so long, or for what it is granted, it may
+-- answer
 abbrev pub signed : Terms → Until → ℕ → ℕ → Until
 signed terms until said now = record { moment = at_least until (end_of terms.drift now (max said terms.length)) }
 
@@ -33,7 +34,7 @@ signed terms until said now = record { moment = at_least until (end_of terms.dri
 abbrev pub grants_for_ever : Terms → Bool
 grants_for_ever terms = terms.length == FOR_EVER
 
--- what has to be stored before a server with these terms says anything
+-- what has to be stored before a server with these terms sends anything
 abbrev pub kept_from : Kept → Terms → Kept
 kept_from kept terms =
     if grants_for_ever terms

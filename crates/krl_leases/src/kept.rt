@@ -15,7 +15,7 @@ pub struct Kept {
 }
 
 impl Kept {
-    /// What a server with these terms has to store before it says anything.
+    /// What a server with these terms has to store before it sends anything.
     pub fn start(self, terms: Terms) -> Kept
         ensures { result ≡ servers.kept_from self terms }
     {

@@ -10,9 +10,9 @@ use crate::length::FOR_EVER;
 pub struct Lease {
     /// From this moment on the client answers nothing from its cache.
     pub end: u64,
-    /// What the last terms granted, which each sign says: 0 before the first terms.
+    /// What the last terms granted, which each sign states: 0 before the first terms.
     pub length: u64,
-    /// The sign that the last terms answered: the moment at which it was said.
+    /// The sign that the last terms answered: the moment at which it was sent.
     pub stamp: u64,
 }
 

@@ -10,7 +10,7 @@ pub const FOR_EVER: u64 = u64::MAX;
 pub struct Terms {
     /// The length of each lease, in nanoseconds: `FOR_EVER` if the server has no leases.
     pub length: u64,
-    /// How much further the server's clock may go than a client's meanwhile, in a hundred.
+    /// How much further the server's clock may go than a client's meanwhile, in percent.
     pub drift: u32,
 }
 

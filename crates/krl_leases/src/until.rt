@@ -18,9 +18,10 @@ pub struct TakeOver {
     pub registered: u64,
     /// The one that sends Hello.
     pub incarnation: u64,
-    /// The incarnation of which its host knows that it answers no more: it stood in the lock file.
+    /// The incarnation of which its host knows that it no longer answers: it stood in the lock
+    /// file.
     pub over: u64,
-    /// Whether an operator vouches that the registered one answers no more.
+    /// Whether an operator vouches that the registered one no longer answers.
     pub is_vouched: bool,
 }
 
@@ -39,8 +40,8 @@ impl Until {
         self.moment < FOR_EVER && self.moment <= now
     }
 
-    /// A client's sign has come, which says that it lives by a lease of the length `said`. This has
-    /// to be known before the client is answered by the terms. `now` is read after the sign.
+    /// A client's sign has come, which states that it lives by a lease of the length `said`. This
+    /// has to be known before the client is answered by the terms. `now` is read after the sign.
     pub fn sign(self, terms: Terms, said: u64, now: u64) -> Until
         ensures { result ≡ servers.signed terms self said now }
     {

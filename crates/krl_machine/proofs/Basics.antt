@@ -4,7 +4,7 @@ use Rattle.krl_machine.proofs.Names.{Push, Release, Write, Report, Shared, Link,
 use Rattle.krl_modes.specs.declared.part.RangePart.TheVariants as range
 use Rattle.krl_modes.specs.declared.part.KeyPart.TheVariants as key
 
--- who is who: incarnations, epochs, the phase
+-- identities: incarnations, epochs, the phase
 abbrev pub Standing : Shared → Link → Type 0
 Standing s l = record {
   server : 1 ≤ s.epoch;
@@ -58,14 +58,15 @@ Belief l = record {
   bound : (q : ℕ) → RangeAtMost (l.range q) (l.top_range q) × KeyAtMost (l.key q) (l.top_key q);
 }
 
--- what is said of q is true of the index: a key that is read stands there with its value, and none in a gap that is read
+-- what is stated of q is true of the index: a key that is read stands there with its value, and none in a gap that is
+-- read
 abbrev pub IsTrueOf : Shared → ℕ → Said → Type 0
 IsTrueOf s q t = record {
   entry : q ≢ s.end → 1 ≤ rank t.key → s.index q ≡ t.value;
   empty : t.key ≡ key.N → 1 ≤ reads t.range → s.index q ≡ None;
 }
 
--- what a live push says of a point is within the bound, covers the belief, and is true of the index
+-- what a live push states of a point is within the bound, covers the belief, and is true of the index
 abbrev pub LiveAt : Shared → Link → ℕ → Said → Type 0
 LiveAt s l q t = record {
   low : RangeAtMost t.range (l.top_range q) × KeyAtMost t.key (l.top_key q);

@@ -13,7 +13,7 @@ use Rattle.krl_machine.proofs.RowChanges.{blank_below, cut_within}
 pub stranger_blank : (s : Shared) (l : Link) → Standing s l → Belief l → l.inc ≢ l.reg → IsBlank l
 stranger_blank s l st b ne = epoch_cases l.epoch (λ e. b.early e) (λ h. absurd (ne (st.joined h)))
 
--- what a passing head says of a client of the registered incarnation
+-- what a passing head shows of a client of the registered incarnation
 pub passing : (s : Shared) (l : Link) (a : Head) → Standing s l → Counting s l → In a l.heads → Passes s l a → l.inc ≡ l.reg → (a.epoch ≡ l.epoch) × (a.seen ≡ l.seen) × (l.seen ≡ l.last_push) × (l.epoch ≡ s.epoch)
 passing s l a st c at ok same =
     let h = (c.heads a at).1 (ok.inc ∙ sym same) in
@@ -35,7 +35,7 @@ none_live s l a p st c ha ok at live =
     let up = (c.pushes p at).last_push (live.inc ∙ same) (live.epoch ∙ f.3) in
     omega (arith, up, live.number, f.2)
 
--- at a point off the slots a key part is that of a delete that is not yet told
+-- at a point off the slots a key part is that of a delete that the client has not yet learned of
 pub off_ok : (s : Shared) (l : Link) → Known s l → (q : ℕ) (r : RangePart) → q ≢ s.end → s.index q ≡ None → RangeAtMost (l.range q) r → KeyAtMost (l.key q) (off_slot r)
 off_ok s l k q r far none below = epoch_cases (rank (l.key q)) (λ e. omega (arith, e)) (λ h.
     let del = k.gone q far none h in
@@ -47,7 +47,7 @@ off_ok s l k q r far none below = epoch_cases (rank (l.key q)) (λ e. omega (ari
 belief_blank : (l l' : Link) → IsBlank l' → Belief l'
 belief_blank l l' b = record { down = λ u. b; early = λ e. b; bound = λ q. blank_below (l'.range q) (l'.key q) (l'.top_range q) (l'.top_key q) (b q).0 (b q).1 }
 
--- after an accepted push, each point is as the push says or as before
+-- after an accepted push, each point is as the push states or as before
 pub by_said : (l : Link) (p : Push) (q : ℕ) (P : Said → Type 0) → ((t : Said) → p.says q ≡ Some t → P t) → (p.says q ≡ None → P (belief l q)) → P (adopted l p q)
 by_said l p q P spoken silent = by_option (p.says q) refl
   where

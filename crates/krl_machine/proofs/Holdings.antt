@@ -1,4 +1,4 @@
--- What the holdings of a message say, as a push may say it.
+-- What the holdings of a message state, as a push may state it.
 use Rattle.krl_machine.proofs.Names.{◌≡◌, ◌≢◌, ℕ, suc, ◌≤◌, ◌<◌, Bool, true, false, Option, Some, None, List, [], ◌∷◌, inl, inr, refl, sym, ap, subst, ◌∙◌, arith, nat_eq, eq-eqb, ne_eqb, none-some}
 use Rattle.krl_machine.proofs.Names.{same_Some, Mode, range_of, key_of, In, rank, Said, Shared, Link, IsSlot, InSpan, MaySay, at_slot, off_slots, key_at}
 use Rattle.std.specs.Prelude.{if◌then◌else◌}
@@ -20,7 +20,7 @@ or_either P None h q t said one e = by_test (contains h.span q) refl e
     by_test true at e = let i = inside_span h.span q at in subst P (same_Some (said_at h q) t e) (one i.0 i.1)
     by_test false at e = absurd (none-some t e)
 
--- what holds of each holding at the points of its span holds of all that they say
+-- what holds of each holding at the points of its span holds of all that they state
 pub said_each : (P : ℕ → Said → Type 0) (hs : List Holding) → AllByRecursion (λ h. (q : ℕ) → h.span.lo ≤ q → q < h.span.hi → P q (said_at h q)) hs → (q : ℕ) (t : Said) → said_by hs q ≡ Some t → P q t
 said_each P [] each q t e = absurd (none-some t e)
 said_each P (h ∷ hs) each q t e = or_either (P q) (said_by hs q) h q t (said_each P hs each.1 q t) (each.0 q) e
@@ -39,11 +39,11 @@ speaks_at [] h i q low up = absurd i
 speaks_at (x ∷ xs) h (inl e) q low up = or_here (said_by xs q) x q (subst (λ z. contains z.span q ≡ true) e (in_span h.span q low up))
 speaks_at (x ∷ xs) h (inr i) q low up = or_said (said_by xs q) x q (speaks_at xs h i q low up)
 
--- one holding says this of a point of its span
+-- one holding states this of a point of its span
 pub says_here : (h : Holding) (q : ℕ) → h.span.lo ≤ q → q < h.span.hi → said_by (h ∷ []) q ≡ Some (said_at h q)
 says_here h q low up = ap (λ b. if b then Some (said_at h q) else None) (in_span h.span q low up)
 
--- a holding of the mode at the slot n, on its span, is what a push may say
+-- a holding of the mode at the slot n, on its span, is what a push may state
 pub slot_holding : (s : Shared) (l : Link) (modes : ℕ → Mode) → KeysNear s → Shows s l modes → (n : ℕ) → IsSlot s n → (h : Holding) → h.mode ≡ modes n → h.span.hi ≡ suc n → ((q : ℕ) → h.span.lo ≤ q → q < h.span.hi → InSpan s n q) → (n ≢ s.end → 1 ≤ rank (key_of h.mode) → s.index n ≡ h.value) → (q : ℕ) → h.span.lo ≤ q → q < h.span.hi → MaySay s l q (said_at h q)
 slot_holding s l modes near shows n slot h mode hi within entry q low up =
     let span = within q low up in

@@ -10,7 +10,7 @@ use Rattle.krl_machine.proofs.Basics.{IsBlank, IsTrueOf, LiveAt, LiveOk, Pushed,
 use Rattle.krl_machine.proofs.Points.{lowered_below, epoch_cases}
 use Rattle.krl_machine.proofs.Belief.{live_registered, none_live, by_said}
 
--- what a new push says of one point
+-- what a new push states of one point
 new_said : (s : Shared) (l : Link) (q : ℕ) (t : Said) → Inv s l → MaySay s l q t → LiveAt s l q t
 new_said s l q t i (at_slot slot r k entry) = record {
   low = rw r (rw k ((omega arith, omega arith), omega arith));

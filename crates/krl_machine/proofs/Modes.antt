@@ -1,4 +1,4 @@
--- What the parts' numbers say, and that they say what the tables of the modes say.
+-- What the parts' numbers state, and that they state what the tables of the modes state.
 use Rattle.std.proofs.Common.{◌≡◌, ◌*◌, ◌≤◌, min, Some, ◌↔◌, arith}
 use Rattle.krl_machine.proofs.Names.{IsTrue, and_parts, and_from, RangePart, KeyPart, Mode, range_of, key_of, at_or_above, mode_of, at_most, compatible, reads, inserts, rank, RangeAtMost, KeyAtMost}
 use Rattle.krl_machine.proofs.Names.{RangesAgree, KeysAgree, IsMode, off_slot}

@@ -31,7 +31,7 @@ pub record Aside (s : Shared) (l : Link) (index : ℕ → Option Value) (k : ℕ
   pub empty : s.index k ≡ None → 1 ≤ reads (l.top_range k) → index k ≡ None
 
 module _ (s : Shared) (l : Link) (index : ℕ → Option Value) (k : ℕ) (i : Inv s l) (a : Aside s l index k) where
-  -- what is said of a point within the row stays true
+  -- what is stated of a point within the row stays true
   aside_true : (q : ℕ) (t : Said) → RangeAtMost t.range (l.top_range q) × KeyAtMost t.key (l.top_key q) → IsTrueOf s q t → IsTrueOf (record s { index = index }) q t
   aside_true q t low h = eq_cases q k
       (λ e. record {

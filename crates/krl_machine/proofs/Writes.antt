@@ -1,4 +1,4 @@
--- Each write is done once, and what clients are told of it is so.
+-- Each write is done once, and what clients learn of it is so.
 use Rattle.krl_machine.proofs.Names.{◌≡◌, ◌≢◌, ℕ, suc, ◌≤◌, true, false, Option, Some, None, List, ◌∷◌, ◌⊎◌, inl, inr, refl, sym, ap, subst, ◌∙◌, ⊎_elim, true≢false, arith, KeyPart, Value, In}
 use Rattle.krl_machine.proofs.Names.{each_more, Op, Insert, Put, Delete, op_key, Push, Write, Wrote, Shared, Link, LinkStep, Passes, AnswersLast, starts, issues, writes_again, registers, refuses}
 use Rattle.krl_machine.proofs.Names.{pushes, if◌then◌else◌, eq-eqb, ne_eqb, Logged, World, Changed, Applies, inserted, replaced, deleted, wrote_by, Step, at_link, raises, applies, crash, start}

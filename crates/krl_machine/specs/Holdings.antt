@@ -1,4 +1,4 @@
--- What the holdings of a message say of each point.
+-- What the holdings of a message state of each point.
 use Rattle.std.specs.Prelude.{ℕ, suc, nat_eq, Option, Some, None, List, [], ◌∷◌, if◌then◌else◌}
 use Rattle.krl_modes.specs.declared.part.KeyPart.TheVariants as key
 use Rattle.krl_modes.specs.Modes.{range_of, key_of}
@@ -14,12 +14,12 @@ said_at h q = record {
   value = if nat_eq (suc q) h.span.hi then h.value else None;
 }
 
--- what is said already of the point, or else what the holding says of it
+-- what is stated already of the point, otherwise what the holding states of it
 abbrev pub or_by : Option Said → Holding → ℕ → Option Said
 or_by None h q = if contains h.span q then Some (said_at h q) else None
 or_by (Some t) h q = Some t
 
--- of a point in no span nothing, of any other what the last holding there says
+-- of a point in no span nothing, of any other what the last holding there states
 abbrev pub said_by : List Holding → ℕ → Option Said
 said_by [] q = None
 said_by (h ∷ hs) q = or_by (said_by hs q) h q

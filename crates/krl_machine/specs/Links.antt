@@ -19,7 +19,7 @@ use Rattle.krl_machine.specs.Modes.{RangeAtMost, KeyAtMost, IsMode, off_slot}
 pub data Phase : Type 0 where
   Down Recovering Serving : Phase
 
--- what a write asks for: the key, and its value but for a Delete
+-- what a write asks for: the key, and its value except for a Delete
 pub data Op : Type 0 where
   Insert : ℕ → Value → Op
   Put : ℕ → Value → Op
@@ -41,7 +41,7 @@ pub record Notice : Type 0 where
   pub inc : ℕ
   pub epoch : ℕ
 
--- what is said of one point: a part of the gap around it, a part of the key at it, and the value there, if it is
+-- what is stated of one point: a part of the gap around it, a part of the key at it, and the value there, if it is
 -- read
 pub record Said : Type 0 where
   pub range : RangePart
@@ -70,7 +70,7 @@ pub record Write : Type 0 where
   pub number : ℕ  -- within the incarnation, from 1
   pub op : Op
 
--- what the client holds at each point, said when it joins an epoch
+-- what the client holds at each point, sent when it joins an epoch
 pub record Report : Type 0 where
   pub inc : ℕ
   pub epoch : ℕ
@@ -148,7 +148,7 @@ IsLive l p = record { up : l.up ≡ true; inc : p.inc ≡ l.inc; epoch : p.epoch
 abbrev pub belief : Link → ℕ → Said
 belief l q = record { range = l.range q; key = l.key q; value = l.value q }
 
--- and after it accepted the push: what that says of q, if it speaks of it
+-- and after it accepted the push: what that states of q, if it speaks of it
 abbrev pub adopted : Link → Push → ℕ → Said
 adopted l p q = unwrap_or (p.says q) (belief l q)
 
@@ -189,7 +189,7 @@ pub record Passes (s : Shared) (l : Link) (a : Head) : Type 0 where
 abbrev pub IsSlot : Shared → ℕ → Type 0
 IsSlot s n = n ≢ s.end → s.index n ≢ None
 
--- what the server may say of the point q: the row's range part; at a slot also the row's key part, and the entry if
+-- what the server may state of the point q: the row's range part; at a slot also the row's key part, and the entry if
 -- it is read; at any other point no key part
 pub data MaySay (s : Shared) (l : Link) (q : ℕ) (t : Said) : Type 0 where
   at_slot : IsSlot s q → t.range ≡ l.top_range q → t.key ≡ l.top_key q →
@@ -216,7 +216,7 @@ IsRow s ranges keys = record {
   -- the range part changes only above a slot, and there is none past END
   same : (q : ℕ) → q ≢ s.end → s.index q ≡ None → ranges q ≡ ranges (suc q);
   past : (q : ℕ) → s.end < q → (ranges q ≡ range.N) × (keys q ≡ key.N);
-  -- on a slot the two parts are a mode; off the slots the range part says what the key part is
+  -- on a slot the two parts are a mode; off the slots the range part determines the key part
   mode : (n : ℕ) → IsSlot s n → IsMode (ranges n) (keys n);
   off : (q : ℕ) → q ≢ s.end → s.index q ≡ None → keys q ≡ off_slot (ranges q);
 }
@@ -271,7 +271,7 @@ pub data LinkStep (s : Shared) (l : Link) : Link → Type 0 where
         client = record l.client { epoch = n.epoch; seen = 0 };
         reports = record { inc = l.inc; epoch = n.epoch; range = l.range; key = l.key } ∷ l.reports;
       })
-  -- it accepts the next push: it adopts what that says it holds, and sends Ack
+  -- it accepts the next push: it adopts what the push states that it holds, and sends Ack
   accepts : (p : Push) (out : Option Op) → In p l.pushes → IsLive l p → OutAfter l p out →
       LinkStep s l (record l {
         client = record l.client {

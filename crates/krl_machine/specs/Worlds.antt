@@ -57,8 +57,8 @@ pub data Step (w : World) : World → Type 0 where
   at_link : (c : ℕ) (l : Link) (links : ℕ → Link) →
       LinkStep w.shared (w.links c) l → Changed w.links links c l →
       Step w (record w { links = links })
-  -- a grant raises the row of c to one that agrees with the rows of all others. The push that tells it is a step of the
-  -- link
+  -- a grant raises the row of c to one that agrees with the rows of all others. The push that reports it is a step of
+  -- the link
   raises : (c : ℕ) (range : ℕ → RangePart) (key : ℕ → KeyPart) (links : ℕ → Link) →
       w.shared.phase ≡ Serving → IsRow w.shared range key →
       ((q : ℕ) → RangeAtMost ((w.links c).top_range q) (range q) × KeyAtMost ((w.links c).top_key q) (key q)) →
@@ -249,7 +249,7 @@ IsProper index (e ∷ es) = IsDue e.wrote.op (replay index es) × IsProper index
 abbrev pub IsListed : World → ℕ → ℕ → ℕ → Type 0
 IsListed w c inc number = (e : Logged) × In e w.log × (e.client ≡ c) × (e.wrote.inc ≡ inc) × (e.wrote.number ≡ number)
 
--- each numbered write changed the index at most once, and what clients are told of it is so
+-- each numbered write changed the index at most once, and what clients learn of it is so
 pub record WritesOnce (index : ℕ → Option Value) (w : World) : Type 0 where
   pub once : IsOnce w.log
   -- the index is what the list makes of the first one
@@ -285,7 +285,7 @@ NoAlarm w = (c : ℕ) (r : Report) (ranges : ℕ → RangePart) (keys : ℕ → 
 pub record Restarts (w : World) : Type 0 where
   -- the bound of each client is a row over the present slots
   pub rows : (c : ℕ) → IsRow w.shared (w.links c).top_range (w.links c).top_key
-  -- what a live push says is at most the bound
+  -- what a live push states is at most the bound
   pub live : (c : ℕ) (p : Push) → In p (w.links c).pushes → IsLive (w.links c) p → (q : ℕ) (t : Said) →
       p.says q ≡ Some t → RangeAtMost t.range ((w.links c).top_range q) × KeyAtMost t.key ((w.links c).top_key q)
   -- no message has an epoch above the durable one

@@ -18,7 +18,7 @@ ghost use Rattle.krl_machine.specs.Worlds.{World, Step, Reachable, IsCompatible,
 ghost use Rattle.krl_machine.specs.Worlds.{ScanIsIndex, ScanIsRange, NoAlarm, Restarts};
 ghost use Rattle.krl_machine.specs.Worlds.{BoundStays, WritesOnce};
 
-/// The inequalities of this crate say what the tables of the modes say.
+/// The inequalities of this crate state what the tables of the modes state.
 pub fn weights()
     ensures ranges { (a b : RangePart) → IsTrue (range_at_most a b) ↔ RangeAtMost a b }
     ensures keys { (a b : KeyPart) → IsTrue (key_at_most a b) ↔ KeyAtMost a b }
@@ -61,7 +61,7 @@ pub fn no_alarm()
     ensures { (index : ℕ → Option Value) (end : ℕ) (w : World) → Reachable index end w → NoAlarm w }
 {}
 
-/// Each numbered write changed the index at most once, and once if its client was told so.
+/// Each numbered write changed the index at most once, and once if its client learned that it did.
 pub fn once()
     ensures { (index : ℕ → Option Value) (end : ℕ) (w : World) → Reachable index end w
         → WritesOnce index w }

@@ -1,4 +1,4 @@
--- What an outcome says of its write.
+-- What an outcome states of its write.
 use Rattle.std.specs.Prelude.{Bool, true, false}
 use Rattle.krl_messages.specs.declared.outcome.Outcome.{Outcome}
 use Rattle.krl_messages.specs.declared.outcome.Outcome.TheVariants as outcome

@@ -1,8 +1,8 @@
-//! What a client and the server say to each other, as plain data.
+//! What a client and the server send to each other, as plain data.
 //!
 //! A point, a key or a number in a message is a plain `u64`: a stranger may set it to anything, and
-//! whoever receives it judges it. A span or a mode is one by its type. Whatever needs no memory is
-//! `Copy`; what holds lists has a `try_clone`.
+//! its receiver judges it. A span or a mode is one by its type. Whatever needs no memory is `Copy`;
+//! what holds lists has a `try_clone`.
 #![tactic(auto)]
 
 mod gathering;

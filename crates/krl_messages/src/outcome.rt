@@ -3,7 +3,7 @@
 /// How the server judged a write. Only `Applied` changed the index.
 #[derive(Clone, Copy, PartialEq, Eq)]
 pub enum Outcome {
-    /// The index has changed as the write says.
+    /// The index has changed as the write asks.
     Applied,
     /// An insert of a key that is an entry already.
     Exists,

@@ -10,15 +10,15 @@ use std::alloc::{AllocError, Global};
 /// A message from the server to one client. A grant has a list in memory of its own.
 #[derive(PartialEq, Drop)]
 pub struct ToClient {
-    /// The number of the client that is spoken to.
+    /// The number of the client that it is sent to.
     pub client: u64,
-    /// The incarnation that is spoken to: a client ignores what is meant for another one.
+    /// The incarnation that it is sent to: a client ignores what is meant for another one.
     pub incarnation: u64,
-    /// What is said.
+    /// What is sent.
     pub body: ToClientBody,
 }
 
-/// What the server says to a client.
+/// What the server sends to a client.
 #[derive(PartialEq, Drop)]
 pub enum ToClientBody {
     /// Answers a Hello and a message of another epoch, and reminds a client whose report the server
@@ -28,7 +28,7 @@ pub enum ToClientBody {
         /// The server's epoch. Epochs are counted from 1, one for each start of the server.
         epoch: u64,
     },
-    /// Made when something is to be told and the push before it is acknowledged; sent again,
+    /// Made when there is something to report and the push before it is acknowledged; sent again,
     /// unchanged, if the client shows that it has not accepted it yet. A client accepts the
     /// pushes of its epoch in the order of their numbers, each once.
     Push {
@@ -61,7 +61,7 @@ pub enum PushBody {
         /// The request's number.
         req: u64,
         /// What the client holds now of the slot that it asked for, and of each slot after it that
-        /// it got beside.
+        /// it got as well.
         holdings: Holdings,
     },
     /// Answers a lock request in mode S, U or X at a point that is no entry: there is nothing to

@@ -13,14 +13,14 @@ pub struct ToServer {
     pub client: u64,
     /// The sender's incarnation, from 1 to END: each start of a client has a greater one.
     pub incarnation: u64,
-    /// What is said.
+    /// What is sent.
     pub body: ToServerBody,
 }
 
 /// What a client sends to the server.
 #[derive(PartialEq, Eq, Drop)]
 pub enum ToServerBody {
-    /// Sent by a client that has joined no epoch yet, again and again until it hears of one.
+    /// Sent by a client that has joined no epoch yet, again and again until it learns of one.
     Hello,
     /// Sent by a client as it leaves: all that it held is given back. The client is gone then.
     Bye,

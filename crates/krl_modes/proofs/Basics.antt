@@ -1,4 +1,4 @@
--- What a test and an option say. Every crate takes these from here.
+-- What a test and an option show. Every crate takes these from here.
 use Rattle.std.proofs.Common.{◌≡◌, Bool, true, false, Option, Some, None, is_some, refl}
 pub use Rattle.std.proofs.option.Match.{None-if_not_some}
 

@@ -1,4 +1,4 @@
--- The parts as small numbers: what the tables say is then linear arithmetic, which `omega` proves.
+-- The parts as small numbers: what the tables state is then linear arithmetic, which `omega` proves.
 use Rattle.std.proofs.Common.{◌≡◌, ◌+◌, ◌≤◌, min, max, ◌↔◌, arith}
 use Rattle.std.specs.Prelude.{IsTrue}
 use Rattle.krl_modes.specs.declared.part.RangePart.{RangePart}

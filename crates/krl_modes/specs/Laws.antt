@@ -1,4 +1,4 @@
--- What holds of the modes, in words; the clauses of the calls say that it does.
+-- What holds of the modes, in words; the clauses of the calls state that it does.
 use Rattle.std.specs.Prelude.{◌≡◌, ℕ, List, IsTrue, ◌⊎◌}
 use Rattle.krl_modes.specs.declared.part.RangePart.{RangePart}
 use Rattle.krl_modes.specs.declared.part.RangePart.TheVariants as range
@@ -35,7 +35,7 @@ pub record IsGreatestBeside (q bound : Mode) : Type 0 where
   pub beside : IsTrue (compatible bound q)
   pub greatest : (m : Mode) → IsTrue (compatible m q) → IsTrue (at_most m bound)
 
--- who reads the gap reads the key
+-- a mode that reads the gap reads the key
 abbrev pub ReadsItsKey : Mode → Type 0
 ReadsItsKey m = IsTrue (range_at_most range.S (range_of m)) → IsTrue (key_at_most key.S (key_of m))
 

@@ -48,7 +48,7 @@ at_most a b = range_at_most (range_of a) (range_of b) && key_at_most (key_of a) 
 abbrev pub compatible : Mode → Mode → Bool
 compatible a b = ranges_compatible (range_of a) (range_of b) && keys_compatible (key_of a) (key_of b)
 
--- the least mode whose parts are at least these: the pair itself, but for the three that are no mode
+-- the least mode whose parts are at least these: the pair itself, except for the three that are no mode
 abbrev pub at_or_above : RangePart → KeyPart → Mode
 at_or_above range.S key.N = mode.RangeSS
 at_or_above range.S key.X = mode.RangeXX

@@ -67,7 +67,7 @@ reads_gap r = range_at_most range.S r
 abbrev pub lets_insert : RangePart → Bool
 lets_insert r = range_at_most range.I r
 
--- the gap is its holder's alone
+-- only its holder has the gap
 abbrev pub is_range_X : RangePart → Bool
 is_range_X r = range_at_most range.X r
 
@@ -75,6 +75,6 @@ is_range_X r = range_at_most range.X r
 abbrev pub reads_key : KeyPart → Bool
 reads_key k = key_at_most key.S k
 
--- the entry is its holder's alone
+-- only its holder has the entry
 abbrev pub is_key_X : KeyPart → Bool
 is_key_X k = key_at_most key.X k

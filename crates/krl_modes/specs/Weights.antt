@@ -1,4 +1,4 @@
--- The parts as small numbers: what the tables say is then linear arithmetic.
+-- The parts as small numbers: what the tables state is then linear arithmetic.
 use Rattle.std.specs.Prelude.{ℕ}
 use Rattle.krl_modes.specs.declared.part.RangePart.{RangePart}
 use Rattle.krl_modes.specs.declared.part.RangePart.TheVariants as range

@@ -6,7 +6,7 @@ pub const MAX_CLIENTS: usize = 64;
 /// One message carries at most this many holdings: the greatest reach of a grant.
 pub const MAX_HOLDINGS: usize = 128;
 
-/// The slots that one grant takes at most if nobody says another number.
+/// The slots that one grant takes at most, by default.
 pub const STANDARD_REACH: usize = 8;
 
 /// A client has at most this many pins. Their ids lie below it.
@@ -18,5 +18,5 @@ pub const MAX_VALUE_BYTES: usize = 32;
 /// The most entries that an index can have room for.
 pub const MAX_ROOM: usize = 1_048_576;
 
-/// The entries that an index has room for if nobody says another number.
+/// The entries that an index has room for, by default.
 pub const STANDARD_ROOM: usize = 65_536;

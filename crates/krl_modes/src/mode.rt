@@ -13,8 +13,8 @@ ghost use Rattle.krl_modes.specs.declared.mode.Mode.{Mode};
 use crate::part::{KeyPart, RangePart};
 
 /// What a client holds of a slot, or asks of it: a range part for the gap below the slot's entry,
-/// and a key part for the entry. A mode is named by both parts, as RangeS-U, or by the key part
-/// alone if it holds nothing of the gap.
+/// and a key part for the entry. A mode is named by both parts, such as RangeS-U, or by only the
+/// key part if it holds nothing of the gap.
 ///
 /// S, U, X, RangeS-S, RangeS-U, RangeI-N and RangeX-X are the published modes of the SQL Server
 /// guide's table, and RangeI-S, RangeI-U, RangeI-X, RangeX-S and RangeX-U its conversion modes. N
@@ -41,11 +41,11 @@ pub enum Mode {
     RangeIU,
     /// The gap may be inserted into, and the entry is changed.
     RangeIX,
-    /// The gap is the holder's alone, and the entry is read.
+    /// Only the holder has the gap, and the entry is read.
     RangeXS,
-    /// The gap is the holder's alone, and the entry may be changed next.
+    /// Only the holder has the gap, and the entry may be changed next.
     RangeXU,
-    /// The gap and the entry are the holder's alone.
+    /// Only the holder has the gap and the entry.
     RangeXX,
 }
 
@@ -212,7 +212,7 @@ impl Mode {
         matches!(self, Mode::S | Mode::U | Mode::X)
     }
 
-    /// The mode's name, as RangeS-U. No other mode has it.
+    /// The mode's name, such as RangeS-U. No other mode has it.
     pub fn name(self) -> &'static str
         ensures name { result.now ≡ mode_name self }
         ensures own { mode_named result.now ≡ Some self }

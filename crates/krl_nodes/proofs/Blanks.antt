@@ -70,7 +70,7 @@ kept_set words homes views mail id v w there same k =
     })))
     k
 
--- a seat that keeps what it was, but for its last exchange
+-- a seat that keeps what it was, except for its last exchange
 told : (words : List ℕ) (homes : List (opt.Option Mail)) (views : List View) (id : ℕ) (v w : View) → get_elem? views id ≡ opt.some v → Holds (record { words = words; homes = homes; views = views }) → Holds (record { words = words; homes = homes; views = set views id (joined_view v w) })
 told words homes views id v w there h = record {
   mail = h.mail;

@@ -39,7 +39,7 @@ exchanged a b m m' n' P t ch gave = record {
   so = ch.so;
 }
 
--- the post was given back once more
+-- the post was given back again
 pub given_once : (a b m m' : Me Mail View) (n' : Node) (P : Mail → Mail → Type 0) → Took a b → Changes b m P → m' ≡ (given_view m n', []) → m'.0.given ≡ suc a.0.given
 given_once a b m m' n' P t ch gave = ap (λ (x : Me Mail View). x.0.given) gave ∙ ap (λ (x : Me Mail View). suc x.0.given) ch.has ∙ ap (λ (x : Me Mail View). suc x.0.given) t.1
 

@@ -1,4 +1,4 @@
--- What a client sends with a command, and the same said elsewhere.
+-- What a client sends with a command, and the same sent elsewhere.
 use Rattle.krl_nodes.proofs.Names.{◌≡◌, List, [], ◌∷◌, ◌++◌, Option, refl, sym, ◌∙◌, append-nil, ToServer, span, Message, Command, Answer, from_clients, Does}
 use Rattle.krl_client.specs.Clients.{Client}
 use Rattle.krl_client.specs.Commands.{locked, wrote, took, says_lock, says_write, says_release, says_bye}

@@ -97,7 +97,7 @@ with_to_client mail c list = record {
   chairs = mail.chairs;
 }
 
--- after a client said these, at the end of the letters to the server
+-- after a client sent these, at the end of the letters to the server
 abbrev pub with_said : Mail → List ToServer → Mail
 with_said mail list = with_to_server mail (mail.to_server ++ list)
 

@@ -1,4 +1,4 @@
--- What each kind of step asks and tells.
+-- What each kind of step asks and answers.
 use Rattle.std.specs.Prelude.{◌≡◌, ◌≢◌, ◌⊎◌, ◌+◌, ℕ, suc, List, [], ◌∷◌, Option, Some, None, Ok, slice_get, slice_set}
 use Rattle.atomic_table.specs.Table as table
 use Rattle.krl_messages.specs.Values.{Value}

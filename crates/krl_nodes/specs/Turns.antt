@@ -52,7 +52,7 @@ pub record ServerTakes (p : Pick) (mail : Mail) (d : ServerPlace) (mail' : Mail)
   pub reads : ServerReads d letter d' outs
   pub post : mail' ≡ with_sent (with_to_server mail (left_by p mail.to_server)) outs
 
--- so does a client, and what it says goes to the end of the letters to the server
+-- so does a client, and what it sends goes to the end of the letters to the server
 pub record ClientTakes (p : Pick) (c : ℕ) (mail : Mail) (x : ClientPlace) (mail' : Mail)
     (x' : ClientPlace) : Type 0 where
   pub delivers : Delivers p
@@ -82,7 +82,7 @@ abbrev pub did_of : Result Answer Refused → Result Turn Refused
 did_of (Ok a) = Ok (Did a)
 did_of (Err r) = Err r
 
--- a call that has nothing to say was done
+-- a call that has nothing to report was done
 abbrev pub done_if : Result (Unit {0}) Refused → Result Answer Refused
 done_if (Ok u) = Ok answered.Done
 done_if (Err r) = Err r
@@ -172,7 +172,7 @@ ClientTakesMemory client_order.Tick c mail x = Unit {0}
 ClientTakesMemory client_order.Start c mail x = Unit {0}
 ClientTakesMemory client_order.Crash c mail x = ⊥
 
--- a command that is obeyed, and what the client says with it
+-- a command that is obeyed, and what the client sends with it
 pub record Obeys (what : Command) (mail : Mail) (x : ClientPlace) (mail' : Mail)
     (x' : ClientPlace) (a : Answer) : Type 0 where
   pub list : List ToServer

@@ -144,7 +144,7 @@ impl ClientNode {
         answer
     }
 
-    /// As `turn`, but for `Letter`: the policy is asked, if some letter to this client waits,
+    /// Like `turn`, except for `Letter`: if some letter to this client waits, the policy is asked
     /// which one is delivered, and whether it is taken out or stays; or which one is lost. A lost
     /// letter is taken out, and the client is as it was: the answer is `Lost`.
     ///
@@ -209,7 +209,7 @@ impl ClientNode {
         }
     }
 
-    /// What the client's own cache says of the points from `lo` on below `hi`. The rows are the
+    /// What the client's own cache states of the points from `lo` on below `hi`. The rows are the
     /// entries of the server's index in that span, at this moment, and no message is sent: neither
     /// the post nor a runtime value is taken.
     ///

@@ -63,7 +63,7 @@ impl Office {
         self.table.shared.store::<Give<J>>(ticket, 0, 0);
     }
 
-    // The same. The call tells the server, which only its proof reads.
+    // The same. The call names the server, which only its proof reads.
     pub(crate) fn give_server<J: Next>(&self, ticket: &mut Ticket, _desk: &ServerPlace)
         requires own { ticket.old.table_id ≡ self.now }
         requires may { MayGive ticket.old.me J.next }
@@ -75,7 +75,7 @@ impl Office {
         self.give_back::<J>(ticket);
     }
 
-    // The same. The call tells the client's number and seat, which only its proof reads.
+    // The same. The call names the client's number and seat, which only its proof reads.
     pub(crate) fn give_client<J: Next>(
         &self,
         ticket: &mut Ticket,

@@ -1,12 +1,13 @@
-//! What a node is told to do, and what it answers.
+//! The orders of a node, and what it answers.
 use krl_world::{Answer, Command};
 
-/// What the server's node is told to do.
+/// The orders of the server's node.
 #[derive(Clone, Copy)]
 pub enum ServerOrder {
     /// Read a letter to the server, if one waits: the oldest, or the one that is picked.
     Letter,
-    /// Send the client of this number again what it has not heard, or call back those who block it.
+    /// Send the client of this number again what it has not answered, or call back those that
+    /// block it.
     Nudge(u64),
     /// Stop. What is durable stays.
     Crash,
@@ -14,7 +15,7 @@ pub enum ServerOrder {
     Start,
 }
 
-/// What a client's node is told to do.
+/// The orders of a client's node.
 #[derive(Clone, Copy)]
 pub enum ClientOrder {
     /// Read a letter to this client, if one waits: the oldest, or the one that is picked.

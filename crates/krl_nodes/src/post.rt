@@ -42,7 +42,7 @@ pub enum Chair {
     Free(u64),
 }
 
-/// Who reads a letter.
+/// The node that reads a letter.
 #[derive(Clone, Copy)]
 pub enum Reader {
     /// The server.
@@ -252,7 +252,7 @@ impl Post {
         self.chairs[client as usize] = chair;
     }
 
-    /// Seats the client if its chair is free, and says how it was.
+    /// Seats the client if its chair is free, and reports how it was.
     pub(crate) fn sit(&mut self, client: u64) -> Chair
         requires { client < MAX_CLIENTS }
         ensures { IsSeated client result self.old self.new }
@@ -316,8 +316,8 @@ impl Post {
         hear_one(alloc, &mut self.to_server, desk, &mut self.unsorted, pick)
     }
 
-    /// The client of this number reads the letter that is picked, if there is one, and what it says
-    /// goes to the end of the letters to the server. One that is down loses the letter.
+    /// The client of this number reads the letter that is picked, if there is one, and what it
+    /// sends goes to the end of the letters to the server. One that is down loses the letter.
     ///
     /// # Errors
     ///

@@ -129,7 +129,7 @@ impl ServerNode {
         answer
     }
 
-    /// As `turn`, but for `Letter`: the policy is asked, if some letter to the server waits,
+    /// Like `turn`, except for `Letter`: if some letter to the server waits, the policy is asked
     /// which one is delivered, and whether it is taken out or stays; or which one is lost. A lost
     /// letter is taken out, and the server is as it was: the answer is `Lost`.
     ///

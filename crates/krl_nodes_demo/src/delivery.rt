@@ -94,7 +94,7 @@ impl Delivery {
         self.seed
     }
 
-    // Notes what the turn for a letter came to, and says whether there was none.
+    // Notes what the turn for a letter came to, and reports whether there was none.
     fn note(&mut self, is_idle: bool) -> bool
         ensures idle { result ≡ is_idle }
         ensures same { (self.new.policy ≡ self.old.policy) × (self.new.seed ≡ self.old.seed) }
@@ -115,7 +115,7 @@ impl Delivery {
         may_lack
     }
 
-    /// The client reads a letter, and this says whether there was none.
+    /// The client reads a letter, and this reports whether there was none.
     pub(crate) fn read<R: Wait>(&mut self, rt: &R, office: &Office, node: &mut ClientNode) -> bool
         requires { node.old.office ≡ office.now }
         ensures same { IsSameClient node.old node.new }

@@ -330,7 +330,7 @@ pub fn run_nodes<
 /// # Errors
 ///
 /// As of `run_nodes`. A client comes to its last turn also if what was lost keeps it waiting:
-/// if the last words of client 1 are lost, nobody says them again.
+/// if the last messages of client 1 are lost, nobody sends them again.
 pub fn run_nodes_by<
     R: Threads + Wait + Sync,
     F: Gate + Send + Drop,

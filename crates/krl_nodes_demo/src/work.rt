@@ -144,7 +144,7 @@ fn nudge<R: Wait>(rt: &R, office: &Office, node: &mut ServerNode, is_second: boo
     let _ = node.turn(rt, office, ServerOrder::Nudge(nudged(is_second)));
 }
 
-// Reads a letter, or, if one may be lost, rests and nudges a client. Says whether the next nudge
+// Reads a letter, or, if one may be lost, rests and nudges a client. Reports whether the next nudge
 // is for the second.
 fn serve_once<R: Wait, G: Gate>(
     rt: &R,
@@ -203,7 +203,8 @@ fn tick<R: Wait>(rt: &R, office: &Office, node: &mut ClientNode)
     let _ = node.turn(rt, office, ClientOrder::Tick);
 }
 
-/// Starts, inserts 15=5, forgets what it holds there and leaves; and says whether it came to that.
+/// Starts, inserts 15=5, gives back what it holds there and leaves; and reports whether it came to
+/// that.
 pub(crate) fn insert<R: Wait, G: Gate>(
     rt: &R,
     office: &Office,

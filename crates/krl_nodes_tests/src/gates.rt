@@ -13,7 +13,7 @@ use std::time::{Clock, Duration};
 // The most looks at what another thread does, with a pause after each.
 const MAX_LOOKS: u64 = 10_000;
 
-// What the gates of two threads tell each other.
+// What the gates of two threads report to each other.
 #[derive(Drop)]
 struct Meeting {
     is_there: AtomicBool,
@@ -46,7 +46,7 @@ fn nap(rt: &impl Clock) {
     thread::sleep(rt, Duration::from_micros(200));
 }
 
-// Client 1 begins when client 2 stands in its first pass, and says when its insert is answered.
+// Client 1 begins when client 2 stands in its first pass, and reports when its insert is answered.
 #[derive(Drop)]
 struct Writes<'a, R> {
     rt: &'a R,

@@ -28,7 +28,7 @@ fn settle_by<R: Wait, P: Policy>(
     }
 }
 
-/// What a client is told in a round.
+/// The order of a client in a round.
 fn order_of(who: Who, round: u64) -> ClientOrder {
     if round == 0 {
         return ClientOrder::Start;
@@ -75,7 +75,7 @@ fn holds(scene: &Scene, who: Who) -> bool {
     scene.held(who, 15) != (RangePart::N, KeyPart::N)
 }
 
-/// The server takes its turn, and the client does what it is told in this round. Whether the
+/// The server takes its turn, and the client follows its order of this round. Whether the
 /// clients are compatible then.
 fn stays_sound<R: Wait>(
     rt: &R,
@@ -112,7 +112,7 @@ fn is_sound_by<R: Wait>(rt: &R, scene: &mut Scene, seed: u64) -> bool {
     sound && held
 }
 
-/// Whether the client does what it is told in each of these rounds, with each letter delivered
+/// Whether the client follows its order of each of these rounds, with each letter delivered
 /// twice.
 fn comes_through<R: Wait>(rt: &R, scene: &mut Scene, who: Who, rounds: &[u64]) -> bool {
     let mut policy = Twice { is_second: false };

@@ -8,7 +8,7 @@ use krl_world::{Command, Refused};
 use std::process::Abort;
 use std::sync::Wait;
 
-/// What a client is told to do, as a row can hold it.
+/// An order of a client, as a row can hold it.
 #[derive(Clone, Copy)]
 pub enum Told {
     /// To read a letter.

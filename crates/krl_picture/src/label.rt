@@ -7,7 +7,7 @@ use krl_modes::Span;
 use krl_world::Message;
 use std::alloc::{AllocError, Global};
 
-/// What a picture says of a message.
+/// What a picture shows of a message.
 #[derive(Drop)]
 pub struct Label {
     /// It in a few words.
@@ -208,7 +208,7 @@ fn of_message_to_client(alloc: Global, message: &ToClient) -> Result<Label, Allo
     })
 }
 
-/// What a picture says of this message.
+/// What a picture shows of this message.
 pub fn of_message(alloc: Global, message: &Message) -> Result<Label, AllocError> {
     match message {
         Message::ToServer(message) => of_message_to_server(alloc, message),

@@ -99,7 +99,7 @@ impl Recorder {
         Ok(())
     }
 
-    // The message waits no more. Whether it did.
+    // The message no longer waits. Whether it did.
     fn pass(&mut self, number: u64) -> bool {
         match self.is_past.get_mut(number.wrapping_sub(1) as usize) {
             Some(past) => {
@@ -168,7 +168,7 @@ impl Recorder {
             self.look()?;
             return Ok(true);
         }
-        // It was refused, and the message waits on.
+        // It was refused, and the message continues to wait.
         if at < self.rows.len() && at < MAX_ROWS {
             self.rows.remove(at);
         }

@@ -1,6 +1,6 @@
 //! What a picture shows, line by line.
 
-/// Who sends or receives.
+/// A node that sends or receives.
 #[derive(Clone, Copy, PartialEq, Eq)]
 pub enum Node {
     /// The server.

@@ -36,7 +36,7 @@ pub record Agrees (u : State) : Type 0 where
   pub within : AllWithin u
   pub same : AllSame u
 
--- who stands at a place that is set
+-- the client at a place that is set
 pub by_place : (u : State) (d : ℕ) (x : ClientPlace) (c : ℕ) (k : Client) (P : Type 0) → (c ≡ d → x.client ≡ Some k → P) → (c ≢ d → client_of u c ≡ Some k → P) → (if nat_eq c d then x else u.places c).client ≡ Some k → P
 by_place u d x c k P f g e = by_test (nat_eq c d) refl e
   where

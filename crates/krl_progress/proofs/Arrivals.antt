@@ -1,4 +1,4 @@
--- A push that a server has made is accepted within three good rounds: its client's tick brings it out once more.
+-- A push that a server has made is accepted within three good rounds: its client's tick brings it out again.
 use Rattle.krl_progress.proofs.Names.{◌≡◌, ℕ, suc, ◌≤◌, ◌<◌, ◌∙◌, ◌⊎◌, inl, inr, ⊎_elim, Bool, true, false, ◌&&◌, ◌||◌, Option, Some, None, is_some, List, [], ◌∷◌, ◌++◌, length, slice_get, refl, sym, ap, subst, arith, nat_eq, nat_lt, nat_le, if◌then◌else◌, eqb-true, eqb-false, ltb-true, ltb-false, eq-eqb, ne_eqb, le-ltb, END}
 use Rattle.krl_progress.proofs.Names.{ToServer, ToClient, In, Client, Message, Pieces, Record, Server, is_recovering, Step, Answer, Up, Down, State, client_of, message_at, Delivers, ServerReads, ClientReads, Runs, Takes, IsReachable, Case, Ignored, Repeats, case_of, effect, from_clients, from_server, record_of, kind_of}
 use Rattle.std.proofs.Common.{le-leb}
@@ -203,7 +203,7 @@ module _ (c inc epoch seen0 : ℕ) (some : 1 ≤ epoch) (room : seen0 < END) (n 
   pub one : (X Y : State → Type 0) (s0 : Step) → Lasts X → Lasts Y → loses_a_node s0 ≡ false → Hits X s0 Y → (u v : State) (steps : List Step) → ((s : Step) → In s steps → loses_a_node s ≡ false) → In s0 steps → Or X u → Runs u steps v → Or Y v
   one X Y s0 x y calm hits u v steps all i h r = run_hits (Or X) (Or Y) s0 (or_kept X x) (or_kept Y y) (or_hits X Y s0 x calm hits) steps u v all i h r
 
-  -- The request that a tick says
+  -- The request that a tick sends
 
   -- the message comes after number n
   pub record Sent (m : Message) (u : State) : Type 0 where

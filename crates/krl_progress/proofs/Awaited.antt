@@ -23,7 +23,7 @@ use Rattle.krl_progress.proofs.Known.{goes_mine}
 use Rattle.krl_progress.proofs.Agreed.{agrees, by_place, heard_of, new_place, hello}
 use Rattle.krl_progress.proofs.Pending.{Pending, Writes, step_pending}
 
--- what was said of a write with the client's last push seen is said of its outstanding one
+-- a write that was sent with the client's last push seen is its outstanding one
 abbrev pub Says : State → ℕ → Client → Type 0
 Says u c k = (m : ToServer) → m.client ≡ c → In (message.ToServer m) u.sent → Writes m k
 

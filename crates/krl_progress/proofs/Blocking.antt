@@ -39,7 +39,7 @@ in_among s x n [] at h = absurd at
 in_among s x n (m ∷ ns) (inl e) h = in_left (callbacks_at s m (s.rows m).queue) (callbacks_among s ns) x (subst (λ y. In x (callbacks_at s y (s.rows y).queue)) e h)
 in_among s x n (m ∷ ns) (inr at) h = in_right (callbacks_at s m (s.rows m).queue) (callbacks_among s ns) x (in_among s x n ns at h)
 
--- who blocks a first waiter is called back
+-- a client that blocks a first waiter is called back
 pub blocker_called : (s : Server) (n : ℕ) (u : Waiter) (us : List Waiter) (c : ℕ) → In n (slots s.durable.index) → (s.rows n).queue ≡ u ∷ us → asks_absent s.durable.index u ≡ false → c < max_clients → is_compatible s n u c ≡ false → In (callback_to s c (span_of s.durable.index n) (cap (wanted (s.rows n) u))) (callbacks s)
 blocker_called s n u us c at q possible near blocks =
     let x = callback_to s c (span_of s.durable.index n) (cap (wanted (s.rows n) u)) in

@@ -1,4 +1,4 @@
--- Calm rounds are quiet, but for the last three: whatever is on its way brings a push that is accepted within three.
+-- Calm rounds are quiet, except for the last three: whatever is on its way brings a push that is accepted within three.
 use Rattle.krl_progress.proofs.Names.{◌≡◌, ℕ, zero, suc, ◌≤◌, ◌<◌, ◌⊎◌, inl, inr, ⊎_elim, ◌∙◌, true, false, Option, Some, None, List, [], ◌∷◌, length, refl, sym, ap, subst, arith, if◌then◌else◌, END, In}
 use Rattle.krl_progress.proofs.Names.{Client, Server, is_recovering, Step, Answer, Up, State, client_of, Runs, Takes, IsReachable, is_serving, WriteOp}
 use Rattle.std.proofs.lemmas.Bool.{cases_lt}

@@ -28,7 +28,7 @@ use Rattle.krl_modes.specs.declared.point.TheConstants.{TOP}
 use Rattle.std.proofs.lemmas.Bool.{not-false}
 use Rattle.krl_progress.proofs.Moves.{passed, was_down, Follows, reads_follow, write_free, take_free}
 
--- the number of the lock request that is said, or 0
+-- the number of the lock request that is sent, or 0
 abbrev pub request_of : RequestBody → ℕ
 request_of (asked.Lock req point hi g) = req
 request_of (asked.Write number op takes) = 0
@@ -64,7 +64,7 @@ pub data Goes (u : State) (d : ℕ) (k : Client) : Client → List ToServer → 
 
 -- Writes
 
--- the number of the write that is said
+-- the number of the write that is sent
 abbrev pub write_of : RequestBody → Option ℕ
 write_of (asked.Lock req point hi g) = None
 write_of (asked.Write number op takes) = Some number
@@ -77,7 +77,7 @@ write_said said.Bye = None
 write_said (said.Report epoch pieces) = None
 write_said (said.Request r) = write_of r.body
 
--- the messages say no write but the client's outstanding one
+-- the messages hold no write but the client's outstanding one
 abbrev pub SaysItsWrite : Client → List ToServer → Type 0
 SaysItsWrite l ms = (m : ToServer) → In m ms → (n : ℕ) → write_said m.body ≡ Some n → (is_some (outstanding l.written) ≡ true) × (n ≡ l.writes)
 
@@ -97,7 +97,7 @@ silent_says l ms h m at n e = absurd (let bad : None ≡ Some n = sym (h m at) �
 both_say : (l : Client) (xs ys : List ToServer) → SaysItsWrite l xs → SaysItsWrite l ys → SaysItsWrite l (xs ++ ys)
 both_say l xs ys h g m at = ⊎_elim (λ (a : In m xs). h m a) (λ (a : In m ys). g m a) (in_both xs ys m at)
 
--- what becomes of a client's write, and what the client says of it
+-- what becomes of a client's write, and what the client sends about it
 pub record WriteGoes (k l : Client) (ms : List ToServer) : Type 0 where
   pub follows : Follows k l
   pub number : (l.writes ≡ k.writes) ⊎ (l.writes ≡ suc k.writes)

@@ -1,4 +1,4 @@
--- Who blocks a first waiter at the end of some rounds has blocked it all the time.
+-- A client that blocks a first waiter at the end of some rounds has blocked it all the time.
 use Rattle.krl_progress.proofs.Names.{◌≡◌, ℕ, zero, suc, ◌≤◌, ◌∙◌, inl, Bool, true, false, List, [], ◌∷◌, length, refl, sym, ap, subst, arith}
 use Rattle.krl_progress.proofs.Names.{ToServer, ToClient, In, Server, is_recovering, is_slot, Step, Up, Down, State, Runs, IsReachable, ServerStep, is_compatible}
 use Rattle.krl_modes.proofs.Basics.{not_both}

@@ -1,4 +1,4 @@
--- What the messages of a reachable world say of a client that runs, and of the server.
+-- What the messages of a reachable world show of a client that runs, and of the server.
 use Rattle.krl_progress.proofs.Names.{◌≡◌, ℕ, ◌≤◌, ◌∙◌, Option, Some, None, refl, sym, subst, arith, END, all_follow, In}
 use Rattle.krl_progress.proofs.Names.{ToServer, ToClient, Client, Link, Up, Down, State, ServerPlace, client_of, IsReachable, Server, durable_of, record_of, IsRecord, view, ShowsClient, ShowsPlace, Stands, WasSent, push_of}
 use Rattle.krl_messages.specs.declared.to_server.ToServerBody.TheVariants as said
@@ -16,7 +16,7 @@ use Rattle.krl_world.proofs.Refinement.Openings.{first_of}
 use Rattle.krl_world.proofs.Refinement.Reached.{world_reached}
 use Rattle.krl_progress.proofs.Standings.{reg_is}
 
--- what a client's number has said, if it runs as k
+-- what was sent under a client's number, if it runs as k
 pub record HasSaid (u : State) (c : ℕ) (k : Client) : Type 0 where
   pub number : k.number ≡ c
   pub epoch : k.epoch ≤ (durable_of u.server).epoch
@@ -46,7 +46,7 @@ has_said u c k h runs =
     let place : ShowsPlace c (u.places c).last_incarnation (Some k) (r.of c) = subst (λ o. ShowsPlace c (u.places c).last_incarnation o (r.of c)) runs (r.mirrors.places c) in
     said_so u c k (r.of c) i (shared_epoch u.server) place.1 (λ m e at. subst (λ d. Stands (r.of d) m.incarnation m.body) e (r.mirrors.from m at))
 
--- what a server that runs has told a client's number
+-- what a server that runs has sent to a client's number
 pub record HasTold (u : State) (s : Server) (c : ℕ) : Type 0 where
   pub place : incarnation_of s c ≤ (u.places c).last_incarnation
   pub epochs : (m : ToClient) → m.client ≡ c → In (message.ToClient m) u.sent → (e : ℕ) → m.body ≡ told.Epoch e → (m.incarnation ≤ incarnation_of s c) × (e ≤ s.durable.epoch)

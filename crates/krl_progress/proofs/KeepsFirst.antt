@@ -38,7 +38,7 @@ use Rattle.krl_progress.proofs.WritesMove.{nobody_listed}
 use Rattle.krl_progress.proofs.Queues.{Stands, cleared_away}
 use Rattle.krl_progress.proofs.Spans.{slot_kept, span_kept}
 
--- Whoever holds or waits for something has no push and no lock request taken, and waits on if it waited.
+-- A client that holds or waits for something has no push and no lock request taken, and continues to wait if it waited.
 pub record IsStill (old new : Server) : Type 0 where
   pub pushes : (c : ℕ) → HasPart old c → (new.sessions c).last_push ≡ (old.sessions c).last_push
   pub requests : (c : ℕ) → HasPart old c → (new.sessions c).last_request ≡ (old.sessions c).last_request

@@ -200,7 +200,7 @@ other_session s m (AnswersAgain number op o) d ne = pushes_other (acknowledged s
 
 -- A message of another client
 
--- the server still says the same of the client, and its waiter stays
+-- the server still knows the same of the client, and its waiter stays
 pub same_knows : (s t : Server) (c : ℕ) (k : Client) → t.durable.epoch ≡ s.durable.epoch → incarnation_of t c ≡ incarnation_of s c → t.sessions c ≡ s.sessions c → Stays s.rows t.rows c → Stays t.rows s.rows c → Knows s c k → Knows t c k
 same_knows s t c k epoch inc session on back h = record {
   early = λ i lt. let f = h.early (sym inc ∙ i) (omega (arith, lt, epoch)) in
@@ -307,7 +307,7 @@ effect_knows s m c k i f h = eq_cases m.client c
 
 -- An answer to a first waiter
 
--- the session of who is answered
+-- the session of the client that is answered
 pub record IsPushed (s t : Server) (u : Waiter) : Type 0 where
   pub body : PushBody
   pub none : (s.sessions u.client).unacked ≡ None

@@ -49,7 +49,7 @@ step_knows s t m outs c k i o step f h = ends_knows (effect s m (case_of s m)) (
 abbrev pub AllKnow : State → Type 0
 AllKnow u = (s : Server) (c : ℕ) (k : Client) → u.server ≡ Up s → client_of u c ≡ Some k → Knows s c k
 
--- no lock request that was said in the client's epoch has a number above its last one
+-- no lock request that was sent in the client's epoch has a number above its last one
 abbrev pub Within : State → ℕ → Client → Type 0
 Within u c k = (m : ToServer) → m.client ≡ c → In (message.ToServer m) u.sent → m.incarnation ≡ k.incarnation → 1 ≤ k.epoch → (r : Request) → m.body ≡ said.Request r → r.epoch ≡ k.epoch → request_of r.body ≤ k.req
 

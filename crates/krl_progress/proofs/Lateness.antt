@@ -246,7 +246,7 @@ module _ (reqs seen : ℕ → ℕ) (e : ℕ) where
       let first = run_taken r.0 u r.1 r.2.stays g none r.3 r.4 in
       (r.0, r.1, r.2, r.3, first.1, rounds_taken m (length u.sent) r.1 v (run_good r.0 u r.1 r.2.stays g r.3 r.4) first.0 r.5)
 
-  -- Who waits waits on
+  -- A client that waits continues to wait
 
   record IsWaiting (c : ℕ) (u : State) : Type 0 where
     client : Client

@@ -1,5 +1,5 @@
--- A manned world stays so through good rounds: whoever comes to hold or wait for something runs in the server's epoch. So
--- lock requests are answered if nobody asks for more.
+-- A manned world stays so through good rounds: a client that comes to hold or wait for something runs in the server's
+-- epoch. So lock requests are answered if nobody asks for more.
 use Rattle.krl_progress.proofs.Names.{◌≡◌, ℕ, zero, suc, ◌≤◌, ◌<◌, ◌⊎◌, inl, inr, ⊎_elim, ◌∙◌, false, Some, List, [], ◌∷◌, length, refl, sym, ap, subst, arith, END, In, all_follow}
 use Rattle.krl_progress.proofs.Names.{ToServer, ToClient, Client, Record, Durable, record_of, Server, is_recovering, Step, Answer, Up, Down, State, client_of, opened, Runs, Takes, IsReachable, ServerStep, Link, IsRecord, Stands, epoch_said}
 use Rattle.krl_messages.specs.declared.to_server.ToServerBody.TheVariants as said
@@ -53,7 +53,7 @@ record RunsIn (u : State) (c epoch : ℕ) : Type 0 where
   runs : client_of u c ≡ Some client
   now : client.epoch ≡ epoch
 
--- whoever has sent a request of the server's epoch, as the registered incarnation, which has not left, runs
+-- a client that has sent a request of the server's epoch, as the registered incarnation, which has not left, runs
 abbrev AskersRun : State → Server → Type 0
 AskersRun u s = (m : ToServer) (r : Request) (x : Record) → In (message.ToServer m) u.sent → m.body ≡ said.Request r → r.epoch ≡ s.durable.epoch → record_of s.durable.register m.client ≡ Some x → m.incarnation ≡ x.incarnation → x.left ≡ false → RunsAs u m.client m.incarnation
 
@@ -99,7 +99,7 @@ module _ (u v : State) (step : Step) (answer : Answer) (calm : loses_a_node step
         let low = l.3 in
         record { client = l.0; runs = l.1; now = omega (arith, joined, low, most, epoch) }
 
-    -- whoever asks runs in the epoch
+    -- a client that asks runs in the epoch
     asker_runs : (m : ToServer) → In (message.ToServer m) u.sent → IsAsker h.server m → RunsIn v m.client t.durable.epoch
     asker_runs m at a =
         let k = h.askers m a.request a.known at a.said a.now a.from.known a.from.same a.from.here in

@@ -90,7 +90,7 @@ pays_here e k l here there waits writes seen =
           (λ (s : count (is_waiting l.asked) + count (is_some (outstanding l.written)) < count (is_waiting k.asked) + count (is_some (outstanding k.written))). inr (omega (arith, a, b, x, y, s))) seen;
     }
 
--- who is owed nothing afterwards, and had accepted as much before
+-- a client that is owed nothing afterwards, and had accepted as much before
 pays_none : (e : ℕ) (old new : Option Client) → waits_by e new ≡ 0 → writes_by e new ≡ 0 → seen_by e new ≡ seen_by e old → Pays e old new
 pays_none e old new a b s = record { waits = omega (arith, a); writes = omega (arith, b); seen = inl s }
 

@@ -1,4 +1,4 @@
--- Who comes to hold or wait for something: whoever did so before, or whose request the server reads.
+-- A client that holds or waits for something did so before, or the server reads its request.
 use Rattle.krl_progress.proofs.Names.{◌≡◌, ◌≢◌, ℕ, suc, ◌<◌, ◌⊎◌, inl, inr, ⊎_elim, ◌∙◌, Bool, true, false, ◌&&◌, Option, Some, None, List, refl, sym, ap, subst, nat_eq, eqb-true, ne_eqb, same_Some, eq_cases, if◌then◌else◌, END, In}
 use Rattle.krl_progress.proofs.Names.{ToServer, ToClient, WriteOp, Outcome, Record, Server, Durable, record_of, left_by, is_recovering, lists, case_of, Registers, Done, effect, acknowledged, writes, holding, slot_of, span_of, is_slot, op_key, Turn, next_turn, answer_first, Answered, stops, goes_on, Kind, kind_of, Ends, at_once, recovers, serves, ServerStep}
 use Rattle.krl_modes.specs.declared.mode.Mode.{Mode}
@@ -116,7 +116,7 @@ taken_part : (s : Server) (d c : ℕ) (op : WriteOp) → c ≢ d → HasPart (ef
 taken_part s d c op ne (holds n held) = holds n (λ none. held (sym (raised_others s.rows (slot_of s.durable.index (op_key op)) (lock_for d op) c ne n) ∙ none))
 taken_part s d c op ne (waits n u at own) = waits n u (subst (In u) (raised_queue s.rows (slot_of s.durable.index (op_key op)) (lock_for d op) n) at) own
 
--- whoever holds this held something before, or has sent this request
+-- a client that holds this held something before, or has sent this request
 abbrev Gets : Server → ToServer → ℕ → Mode → Type 0
 Gets s m c g = g ≢ mode.N → HasPart s c ⊎ ((c ≡ m.client) × IsAsker s m)
 

@@ -32,7 +32,7 @@ Comes x k = (b : PushBody) → x.unacked ≡ Some b → x.last_push ≡ suc k.se
 abbrev pub Pending : Server → ℕ → Client → Type 0
 Pending s c k = k.epoch ≡ s.durable.epoch → Comes (s.sessions c) k
 
--- what is said of a write with the client's last push seen is said of its outstanding one
+-- a write that is sent with the client's last push seen is its outstanding one
 abbrev pub Writes : ToServer → Client → Type 0
 Writes m k = 1 ≤ k.epoch → m.incarnation ≡ k.incarnation → (r : Request) → m.body ≡ said.Request r → r.epoch ≡ k.epoch → r.seen ≡ k.seen → (n : ℕ) → write_of r.body ≡ Some n → (is_some (outstanding k.written) ≡ true) × (n ≡ k.writes)
 

@@ -46,7 +46,7 @@ pub record Stands (rows : Rows) (c : ℕ) (u : Waiter) : Type 0 where
 abbrev pub Away : Rows → ℕ → Type 0
 Away rows c = (u : Waiter) → Stands rows c u → ⊥
 
--- whoever stands in the first queues stands in the others
+-- a client that stands in the first queues stands in the others
 abbrev pub Stays : Rows → Rows → ℕ → Type 0
 Stays rows later c = (u : Waiter) → Stands rows c u → Stands later c u
 
@@ -147,7 +147,7 @@ effect_stays s m c i = let t = acknowledged s m.client in by_case s m (λ k. (m.
       own = x.own;
     }
 
--- who is taken: the new waiter is the client's only one
+-- the client whose request is taken: the new waiter is its only one
 pub taken_stands : (s : Server) (m : ToServer) (req point hi : ℕ) (g : Rattle.krl_modes.specs.declared.mode.Mode.Mode) → Stands (effect s m (Waits req point hi g)).server.rows m.client (record { client = m.client; req = req; point = point; hi = hi; mode = g })
 taken_stands s m req point hi g = record {
   slot = slot_of s.durable.index point;
@@ -207,7 +207,7 @@ module _ (s : Server) (t : Turn) (e : next_turn s ≡ Some t) where
           (λ f. subst (λ y. In u (dropped s.rows t.slot y).queue) (sym f) (subst (λ (r : Row). In u r.queue) (sym (row_here s.rows t.slot _)) (behind (subst (λ y. In u (s.rows y).queue) f x.at))))
           (λ no. subst (λ (r : Row). In u r.queue) (sym (row_other s.rows t.slot _ x.slot no)) x.at)
 
-  -- who waits after an answer waited before
+  -- a client that waits after an answer waited before
   behind_in : (us : List Waiter) (u : Waiter) → In u (behind_first us) → In u us
   behind_in [] u at = absurd at
   behind_in (v ∷ us) u at = inr at
@@ -220,7 +220,7 @@ module _ (s : Server) (t : Turn) (e : next_turn s ≡ Some t) where
     own = x.own;
   }
 
-  -- and who was answered waits nowhere
+  -- and a client that was answered waits nowhere
   pub turn_away : IsTable s.durable.index s.rows → Away (answer_first s t).server.rows t.waiter.client
   turn_away table u x = ⊎_elim
       (λ (y : (x.slot ≡ t.slot) × In u (behind_first (s.rows t.slot).queue)). none_in t.waiter.client (behind_first (s.rows t.slot).queue) alone u y.1 x.own)

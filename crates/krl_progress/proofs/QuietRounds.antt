@@ -126,7 +126,7 @@ module _ (e : ℕ) (reqs writes : ℕ → ℕ) where
     good_stay _ answer (ticks c k i) t = let d = t.1.1 in place_stay c d.0 _ d.2.2 (all c d.0 d.1)
     good_stay _ answer (delivers i m is) t = delivers_stay (message_at u.sent i) (at_in u.sent i) t.1.1
 
-  -- who stays so asks for no more
+  -- a client that stays so asks for no more
   asks_no_more : (u : State) (h : Lasts u) → h.server.durable.epoch ≡ e → AllStay u → AsksNoMore reqs writes u
   asks_no_more u h now all s c k up runs here =
       let x = all c k runs in

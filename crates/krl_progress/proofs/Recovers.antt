@@ -119,7 +119,7 @@ from_client c inc b = message.ToServer (record { client = c; incarnation = inc; 
 abbrev epoch_message : ℕ → ℕ → ℕ → ToClient
 epoch_message c inc epoch = record { client = c; incarnation = inc; body = told.Epoch epoch }
 
--- the client said such a thing, after the message of number n
+-- the client sent such a message, after the message of number n
 record Said (c inc n : ℕ) (B : ToServerBody → Type 0) (u : State) : Type 0 where
   index : ℕ
   body : ToServerBody

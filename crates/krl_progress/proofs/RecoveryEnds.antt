@@ -8,7 +8,7 @@ use Rattle.krl_progress.specs.Laws.{MissingRun, RecoveryEndsIn}
 use Rattle.krl_progress.proofs.Standings.{standing}
 use Rattle.krl_progress.proofs.Recovers.{GoesOn, server_goes_on, At, five_rounds}
 
--- The server alone
+-- Only the server
 
 server_lasts : (s : Server) (u v : State) (taken : Step) (answer : Answer) → loses_a_node taken ≡ false → GoesOn s u → Takes u taken answer v → GoesOn s v
 server_lasts s u v taken answer calm g t = let n = server_goes_on u v g.after taken calm g.up (way u v taken answer t.1) in record { after = n.after; up = n.up; epoch = n.epoch ∙ g.epoch; heard = λ c e. n.heard c (g.heard c e) }

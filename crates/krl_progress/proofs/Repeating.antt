@@ -39,7 +39,7 @@ tick_asks k ps waits some = if_case (AsksAgain k k.asked) (nat_lt 0 k.epoch) _ (
     (λ j. let a = locks_again k k.asked waits in record { point = a.point; hi = a.hi; mode = a.mode; is = a.is; said = inr (in_left (lock_again k k.asked) (write_again k (outstanding k.written)) _ a.said) })
     (λ j. absurd (let y = ltb-false 0 k.epoch j in omega (arith, y, some)))
 
--- whoever stands in a queue waits, and knows it
+-- a client that stands in a queue waits, and knows it
 pub queued_waits : (x : State) (s : Server) (n : ℕ) (u : Waiter) (k : Client) → IsReachable x → x.server ≡ Up s → In u (s.rows n).queue → client_of x u.client ≡ Some k → k.epoch ≡ s.durable.epoch → is_waiting k.asked ≡ true
 queued_waits x s n u k rx up there runs now = by_request (((agrees x rx).knows s u.client k up runs).now now).request
   where
@@ -56,7 +56,7 @@ module _ (c inc epoch seen : ℕ) (some : 1 ≤ epoch) (n : ℕ) where
   abbrev pub lock_said : ℕ → ℕ → ℕ → Mode → Message
   lock_said req point hi g = message.ToServer (request_from c inc epoch seen (asked.Lock req point hi g))
 
-  -- it was said after number n
+  -- it was sent after number n
   pub record LockSaid (u : State) : Type 0 where
     pub req : ℕ
     pub point : ℕ

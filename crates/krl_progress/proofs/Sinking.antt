@@ -205,7 +205,7 @@ ends_sink s m done kind t outs c (serves u answers ne up a) later inc same h = �
 pub step_sinks : (s t : Server) (m : ToServer) (outs : List ToClient) (c : ℕ) → IsSound s → is_recovering s.missing ≡ false → ServerStep s m t outs → incarnation_of t c ≡ incarnation_of s c → (t.sessions c).last_push ≡ (s.sessions c).last_push → Sinks s.durable.index s.rows t.rows c
 step_sinks s t m outs c i up step inc same = ends_sink s s.durable.index (effect s m (case_of s m)) (kind_of (case_of s m)) t outs c step (effect_later s m c) inc same (effect_sinks s m c i up)
 
--- what a waiter wants there sinks with what its client holds, and who is compatible with it stays so
+-- what a waiter wants there sinks with what its client holds, and what is compatible with it stays so
 pub wanted_sinks : (s t : Server) (n : ℕ) (u : Waiter) → Sinks s.durable.index s.rows t.rows u.client → is_slot s.durable.index n ≡ true → nobody_waits (s.rows n).queue ≡ false → at_most (wanted (t.rows n) u) (wanted (s.rows n) u) ≡ true
 wanted_sinks s t n u h slot waited = low_join (mode_at t.rows n u.client) (mode_at s.rows n u.client) u.mode (h n slot waited)
 

@@ -63,14 +63,14 @@ tick_of ps k = if_both (AreOf k) (has_joined k) _ (says_hello k ∷ [])
 
 -- What a step adds
 
--- a client that runs says it
+-- a client that runs sends it
 pub record IsSpoken (u : State) (m : ToServer) : Type 0 where
   pub place : ℕ
   pub speaker : Client
   pub runs : client_of u place ≡ Some speaker
   pub of : IsOf speaker m
 
--- whoever asks in the later world has asked before, or asks now
+-- a client that asks in the later world has asked before, or asks now
 abbrev pub Speaks : State → State → Type 0
 Speaks u v = (m : ToServer) (r : Request) → m.body ≡ said.Request r → In (message.ToServer m) v.sent → In (message.ToServer m) u.sent ⊎ IsSpoken u m
 

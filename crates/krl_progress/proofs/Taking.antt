@@ -44,7 +44,7 @@ module _ (c seen req inc epoch : ℕ) (some : 1 ≤ epoch) (n : ℕ) where
   along : (u v : State) (s : Step) (answer : Answer) → loses_a_node s ≡ false → Along u → IsUntaken c seen req v → Takes u s answer v → Along v
   along u v s answer safe h g t = record { untaken = g; at = at_kept c inc epoch n u v s answer safe h.at t }
 
-  -- the client has said it again
+  -- the client has sent it again
   record Repeated (u : State) : Type 0 where
     point : ℕ
     hi : ℕ

@@ -157,7 +157,7 @@ module _ (c inc epoch seen0 number : ℕ) (op : WriteOp) (some : 1 ≤ epoch) (r
   pub one : (X Y : State → Type 0) (s0 : Step) → Lasts X → Lasts Y → loses_a_node s0 ≡ false → ((u v : State) (answer : Answer) → Live u → Waits u → X u → Takes u s0 answer v → Risen v ⊎ Y v) → (u v : State) (steps : List Step) → ((s : Step) → In s steps → loses_a_node s ≡ false) → In s0 steps → Or X u → Runs u steps v → Or Y v
   one X Y s0 x y calm hits u v steps all i h r = run_hits (Or X) (Or Y) s0 (or_kept X x) (or_kept Y y) (or_hits X Y s0 x calm hits) steps u v all i h r
 
-  -- The Write that a tick says, which takes its lock or not
+  -- The Write that a tick sends, which takes its lock or not
 
   abbrev pub write_body : Bool → ToServerBody
   write_body takes = said.Request (record { epoch = epoch; seen = seen0; body = asked.Write number op takes })

@@ -25,7 +25,7 @@ use Rattle.krl_server.specs.Steps.{Idle, kind_of, ServerStep}
 use Rattle.krl_server.specs.Soundness.{IsSound}
 use Rattle.krl_server.specs.Invariant.{IsOrdered}
 
--- the push grants the request of this number, or says that its entry is absent
+-- the push grants the request of this number, or states that its entry is absent
 abbrev pub answers_request : ℕ → PushBody → Bool
 answers_request req (push.Grant r hs) = nat_eq r req
 answers_request req (push.Absent r point) = nat_eq r req

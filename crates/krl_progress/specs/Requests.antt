@@ -39,7 +39,7 @@ RequestsAreKnown =
     (w : State) (s : Server) (c : ℕ) (k : Client) → IsReachable w → w.server ≡ Up s → client_of w c ≡ Some k →
     k.epoch ≡ s.durable.epoch → RequestIsKnown s c k
 
--- the client waits for what the push says: the reply to its lock request, or how its outstanding write was judged
+-- the client waits for what the push reports: the reply to its lock request, or how its outstanding write was judged
 abbrev pub IsAwaited : Client → PushBody → Type 0
 IsAwaited k (push.Grant req hs) = (is_waiting k.asked ≡ true) × (req ≡ k.req)
 IsAwaited k (push.Absent req point) = (is_waiting k.asked ≡ true) × (req ≡ k.req)

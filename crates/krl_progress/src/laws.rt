@@ -86,8 +86,8 @@ pub fn blocks_end()
 {}
 
 /// After any past: nobody stands first for four good rounds in which nothing else moves it: no push
-/// to the waiter or to who blocks it, no change of the slot, no write and no pin of a blocker
-/// there. So the waiter is answered, however many blocked it. Push numbers are not spent.
+/// to the waiter or to a client that blocks it, no change of the slot, no write and no pin of a
+/// blocker there. So the waiter is answered, however many blocked it. Push numbers are not spent.
 pub fn first_waits_end()
     ensures { FirstWaitsEndIn 4 }
 {}

@@ -1,7 +1,7 @@
 //! The clients that wait for one slot, in order.
 //!
-//! A waiter's node is made beforehand, so that whoever puts it into a list has asked for its memory
-//! first. No other call takes memory, and none can be refused.
+//! A waiter's node is made beforehand, so that its memory has been asked for before it is put into
+//! a list. No other call takes memory, and none can be refused.
 #![tactic(auto)]
 
 mod list;

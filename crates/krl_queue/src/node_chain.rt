@@ -29,7 +29,8 @@ impl Model for NodeChain {
     ghost also_shares = { λ c _ κ. segment_lent null_ptr c.spots null_ptr κ };
 }
 
-// A chain owns its nodes alone, and the C library's heap takes a block back from any thread.
+// A chain is the only owner of its nodes, and the C library's heap takes a block back from any
+// thread.
 unsafe impl Send for NodeChain {}
 
 unsafe impl Sync for NodeChain {}

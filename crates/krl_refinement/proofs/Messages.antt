@@ -56,11 +56,11 @@ report_is r inc epoch ps i e d =
     let keys : r.key ≡ reported_key ps.keys = fun_ext (λ q. sym (keys_agree ps.keys 0 q d.keys_in_order ∙ d.keys q)) in
     λ t. record { inc = i t; epoch = e t; range = ranges t; key = keys t }
 
--- pieces that describe something describe what they say
+-- pieces that describe something describe what they state
 described : (ps : Pieces) (b : Belief) → Describes ps b → Describes ps (record { range_at = range_said ps.ranges; key_at = reported_key ps.keys; value_at = λ p. None })
 described ps b d = record { ranges_in_order = d.ranges_in_order; merged = d.merged; keys_in_order = d.keys_in_order; ranges = λ q. sym (ranges_agree ps.ranges 0 q d.ranges_in_order); keys = λ q. sym (keys_agree ps.keys 0 q d.keys_in_order) }
 
--- the last report, of pieces that describe what it says
+-- the last report, of pieces that describe what it states
 pub report_stands : (l : Link) (r : links.Report) (inc epoch : ℕ) (ps : Pieces) → r.inc ≡ inc → r.epoch ≡ epoch → Describes ps (record { range_at = r.range; key_at = r.key; value_at = λ p. None }) → IsFrom (record l { reports = r ∷ l.reports }) inc (said.Report epoch ps)
 report_stands l r inc epoch ps i e d = ((inl (sym (report_is r inc epoch ps i e d)), all_whole ps.ranges 0 d.ranges_in_order), described ps _ d)
 
@@ -81,7 +81,7 @@ push_number inc epoch number (push.Grant req hs) = refl
 push_number inc epoch number (push.Absent req point) = refl
 push_number inc epoch number (push.Answer w o h) = refl
 
--- What a client sends and is told
+-- What a client sends and receives
 
 pub from_stands : (l : Link) (inc : ℕ) (b : ToServerBody) → IsFrom l inc b → Stands l inc b
 from_stands l inc said.Hello h = h

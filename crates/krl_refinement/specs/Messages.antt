@@ -35,7 +35,7 @@ op_of (write.Insert k v) = Insert k v
 op_of (write.Put k v) = Put k v
 op_of (write.Delete k) = Delete k
 
--- the machine has one push for an answer to a write, if applied says how it was judged, and for a grant, which
+-- the machine has one push for an answer to a write, if applied states how it was judged, and for a grant, which
 -- answers no write
 abbrev pub push_with : ℕ → ℕ → ℕ → ℕ → Bool → List Holding → links.Push
 push_with inc epoch number answers applied hs =
@@ -46,7 +46,7 @@ push_of inc epoch number (push.Grant req hs) = push_with inc epoch number 0 fals
 push_of inc epoch number (push.Absent req point) = push_with inc epoch number 0 false []
 push_of inc epoch number (push.Answer w o h) = push_with inc epoch number w (is_applied o) (h ∷ [])
 
--- the machine's report says of each point what the pieces say
+-- the machine's report states of each point what the pieces state
 abbrev pub report_of : ℕ → ℕ → Pieces → links.Report
 report_of inc epoch pieces =
     record { inc = inc; epoch = epoch; range = range_said pieces.ranges; key = reported_key pieces.keys }
@@ -66,7 +66,7 @@ RequestStands l a asked.Ack = Unit {0}
 abbrev pub head_of : ℕ → Request → Head
 head_of inc request = record { inc = inc; epoch = request.epoch; seen = request.seen }
 
--- what this incarnation said stands in the link
+-- what this incarnation sent stands in the link
 abbrev pub Stands : Link → ℕ → ToServerBody → Type 0
 Stands l inc said.Hello = In inc l.hellos
 Stands l inc said.Bye = In inc l.byes
@@ -81,7 +81,7 @@ IsTold (push.Grant req hs) = Ascend hs × AllByRecursion (λ h. IsWhole h.span) 
 IsTold (push.Absent req point) = Unit {0}
 IsTold (push.Answer number o h) = 1 ≤ number
 
--- what was told this incarnation stands in the link
+-- what was sent to this incarnation stands in the link
 abbrev pub WasSent : Link → ℕ → ToClientBody → Type 0
 WasSent l inc (told.Epoch epoch) = In (record { inc = inc; epoch = epoch }) l.notices
 WasSent l inc (told.Push epoch number body) = In (push_of inc epoch number body) l.pushes × (1 ≤ epoch) × IsTold body

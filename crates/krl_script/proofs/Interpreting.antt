@@ -72,7 +72,7 @@ delivers_more s mid s' n d many tried is =
     let one : Tries mid delivery.Delivered s' = subst (λ (x : Delivery). Tries mid x s') is tried in
     rw (add-one n) (mid, many, one)
 
--- the oldest that waits tells whether one does
+-- the oldest that waits shows whether one does
 none_waits : (oldest : Option ℕ) (xs : List ℕ) → oldest ≡ slice_get xs 0 → is_some oldest ≡ false → xs ≡ []
 none_waits oldest [] e is = refl
 none_waits oldest (x ∷ xs) e is = absurd (let bad : true ≡ false = sym (ap is_some e) ∙ is in cc)

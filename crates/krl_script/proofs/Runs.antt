@@ -105,7 +105,7 @@ some_prints s n [] = ([], None, (refl, refl))
 some_prints s n (line ∷ more) =
     some_line (line_request s.begun n line) s n (λ s' tail end. Prints s' (n + 1) more tail end) (λ s'. some_prints s' (n + 1) more)
 
--- What was written, and what may follow it: all that prints the rest completes what T says.
+-- What was written, and what may follow it: all that prints the rest completes what T states.
 abbrev pub Continues : Known → Known → Texts → Stage → ℕ → List (List ℕ) → Type 0
 Continues before after T s n ls =
     (written : List ℕ) × Appends before after written × ((tail : List ℕ) (end : End) → Prints s n ls tail end → T (written ++ tail) end)

@@ -34,7 +34,7 @@ use Rattle.krl_world.specs.Steps.{CanBegin, CannotBegin, span, named, if_runs, c
 use Rattle.krl_steps.specs.Refusals.{refused_by_client}
 use Rattle.krl_world.proofs.Refinement.Taken.{client_ok}
 
--- what is told of a step
+-- what is reported of a step
 abbrev Outcome : State → Step → Type 0
 Outcome w s = (o : Result Answer Refused) × (w' : State) × Steps w s o w'
 

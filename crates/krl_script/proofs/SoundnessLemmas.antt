@@ -48,7 +48,7 @@ nothing_goes w n c p held is no_range no_key =
     let no_key' : key_held w c p ≡ key.N = sym (ap (λ (h : RangePart × KeyPart). h.1) is) ∙ no_key in
     all_of_below n (are_compatible w p c) (λ d l. rw (no_range', no_key') refl)
 
--- what the parts say, which were read
+-- what the parts show, which were read
 pub goes_by : (w : State) (c d p : ℕ) (held : RangePart × KeyPart) (b : Bool) → held ≡ (range_held w c p, key_held w c p) → b ≡ ranges_compatible held.0 (range_held w d p) && keys_compatible held.1 (key_held w d p) → b ≡ are_compatible w p c d
 goes_by w c d p held b is e = e ∙ ap (λ (h : RangePart × KeyPart). ranges_compatible h.0 (range_held w d p) && keys_compatible h.1 (key_held w d p)) is
 
@@ -89,7 +89,7 @@ found_last f xs a b r e none not_a here = found_after f xs (a ∷ b ∷ []) r (S
 pub found_nowhere : (f : ℕ → Bool) (xs : List ℕ) (a b : ℕ) (r : Option ℕ) → r ≡ find f xs → is_some r ≡ false → f a ≡ false → f b ≡ false → None ≡ find f (xs ++ a ∷ b ∷ [])
 found_nowhere f xs a b r e none not_a not_b = found_after f xs (a ∷ b ∷ []) r None e none (rw (not_a, not_b) refl)
 
--- what was looked at, from what a function said of it
+-- what was looked at, from what a function returned of it
 pub is_false : (b c : Bool) → b ≡ c → b ≡ false → not c ≡ true
 is_false b c e h = rw (← e, h) refl
 

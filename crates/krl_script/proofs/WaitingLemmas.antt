@@ -1,4 +1,4 @@
--- The numbers of the messages that wait, and flags that say which wait no more.
+-- The numbers of the messages that wait, and flags that show which no longer wait.
 use Rattle.std.proofs.Common.{◌≡◌, ◌≢◌, ℕ, zero, suc, ◌+◌, ◌-◌, ◌≤◌, ◌<◌, Bool, true, false, not, List, take, get_or, [], ◌∷◌, ◌++◌, length, Some, refl, sym, ap, ◌∙◌, arith, ◌⊎◌, inl, inr, append_assoc, add-one}
 use Rattle.std.proofs.lemmas.Bool.Decides.{eqb_tells}
 use Rattle.std.specs.Prelude.{filter, nat_eq, slice_get, slice_set}
@@ -90,7 +90,7 @@ all_counted past past' counted counter total flags flags' is more sent w =
     let ws : waiting_after past' flags' ≡ waiting_after past flags ++ numbers (past + length flags) (total - (past + length flags)) = w ∙ ap (λ (k : ℕ). waiting_after past flags ++ numbers k counter) is ∙ ap (λ (k : ℕ). waiting_after past flags ++ numbers (past + length flags) k) n in
     same_waits _ _ _ _ s ws
 
--- one of them waits no more
+-- one of them no longer waits
 pub removed : (past number : ℕ) (flags : List Bool) → past < number → number - past ≤ length flags → waits past (slice_set flags (number - past - 1) true) ≡ without (waits past flags) number
 removed past number flags l m =
     let at : number - past - 1 < length flags = omega (arith, l, m) in
@@ -98,7 +98,7 @@ removed past number flags l m =
     same_waits _ _ _ _ (ap (λ (n : ℕ). past + n) (length-set flags (number - past - 1) true))
     (one_past past (number - past - 1) flags at ∙ ap (λ (n : ℕ). without_number n (waiting_after past flags)) is)
 
--- the first of the flags says whether its message waits
+-- the first of the flags shows whether its message waits
 pub first_waits : (past : ℕ) (flags : List Bool) → slice_get flags 0 ≢ Some true → 0 < length flags → Some (past + 1) ≡ slice_get (waiting_after past flags) 0
 first_waits past [] first l = absurd (omega (arith, l))
 first_waits past (true ∷ flags) first l = absurd (first refl)

@@ -57,8 +57,7 @@ observed_of s = record {
   is_down = is_down s.world.server;
 }
 
--- which messages wait after a step, apart from those that it sent: one that was delivered waits no
--- more
+-- which messages wait after a step, apart from those that it sent: one that was delivered no longer waits
 abbrev pub waits_since : Step → Result Answer Refused → Waits → Waits
 waits_since (step.Deliver number) outcome waits = waits_after outcome number waits
 waits_since other outcome waits = waits

@@ -84,7 +84,7 @@ rounds_of (rest.Reached n) = n
 rounds_of rest.Missed = 1172
 rounds_of (rest.Unsound n) = n
 
--- as many rounds as the ending tells, and not more than 1172, lead here
+-- as many rounds as the ending reports, and not more than 1172, lead here
 abbrev pub GoesRound : ℕ → State → State → Rest → Type 0
 GoesRound past w w' r = (rounds_of r ≤ 1172) × (next : ℕ) × Rounds w past (rounds_of r) next w'
 
@@ -118,15 +118,15 @@ nobody_waits w = all_below 4 (λ c. is_nothing (awaited_of (client_of w c)))
 
 -- How the rounds ended: in this world nobody waits, or somebody does; they never end unsound. That they end with nobody
 -- waiting is not stated here: krl_progress has the laws from which the greatest number of rounds is taken. Of 11 rounds
--- writes_outlast_recoveries says that they answer each write, if the server runs, and each client whose report it
--- misses. Of 1161 more locks_are_answered says that they answer each lock request, if nobody pins, and each client that
--- holds something or waits runs in the server's epoch.
+-- writes_outlast_recoveries states that they answer each write, if the server runs, and each client whose report it
+-- misses. Of 1161 more locks_are_answered states that they answer each lock request, if nobody pins, and each client
+-- that holds something or waits runs in the server's epoch.
 abbrev pub EndsAs : State → Rest → Type 0
 EndsAs w (rest.Reached n) = nobody_waits w ≡ true
 EndsAs w rest.Missed = nobody_waits w ≡ false
 EndsAs w (rest.Unsound n) = ⊥
 
--- what a line says of a client that waits
+-- what a line reports of a client that waits
 abbrev pub awaited_text : ℕ → Awaited → List ℕ
 awaited_text c awaited.Nothing = []
 awaited_text c awaited.Lock = codes "; client " ++ (decimal c ++ codes " waits for its lock")

@@ -28,7 +28,7 @@ pub record WroteFront (before after : Known) (T : Texts) : Type 0 where
   pub appends : Appends before after front
   pub whole : T (front ++ rest) end
 
--- How far the writer got, at each fault once the text is read. T says what may be written in all,
+-- How far the writer got, at each fault once the text is read. T states what may be written in all,
 -- and the fault at its end.
 abbrev pub Failed : Known → Known → Texts → ScriptFault → Type 0
 Failed before after T (script.Syntax n what) = WroteWhole before after T (Some (n, what))

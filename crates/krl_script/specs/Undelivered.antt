@@ -23,7 +23,7 @@ sent_more w n = record { sent = w.sent + n; waiting = w.waiting ++ numbers w.sen
 abbrev pub sent_to : Waits → ℕ → Waits
 sent_to w total = sent_more w (total - w.sent)
 
--- the message of this number waits no more
+-- the message of this number no longer waits
 abbrev pub without : Waits → ℕ → Waits
 without w number = record w { waiting = filter (λ n. not (nat_eq n number)) w.waiting }
 
@@ -31,7 +31,7 @@ without w number = record w { waiting = filter (λ n. not (nat_eq n number)) w.w
 abbrev pub none_waiting : Waits → Waits
 none_waiting w = record w { waiting = [] }
 
--- Of the messages after the n-th, in order, these flags say which wait no more: the numbers of the
+-- Of the messages after the n-th, in order, these flags show which no longer wait: the numbers of the
 -- others.
 abbrev pub waiting_after : ℕ → List Bool → List ℕ
 waiting_after n [] = []

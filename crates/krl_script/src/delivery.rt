@@ -6,8 +6,8 @@ use krl_world::Refused;
 pub enum Delivery {
     /// None waits.
     Idle,
-    /// It is delivered, and waits no more.
+    /// It is delivered, and no longer waits.
     Delivered,
-    /// It waits on.
+    /// It continues to wait.
     Refused(Refused),
 }

@@ -128,7 +128,7 @@ impl Interpreter {
         print::outcome(self.alloc, &outcome)
     }
 
-    // Delivers the message of this number, which then waits no more, unless that is refused.
+    // Delivers the message of this number, which then no longer waits, unless that is refused.
     fn deliver(&mut self, number: u64) -> Result<Result<Answer, Refused>, AllocError>
         ensures { IfOk result (λ outcome.
             Delivers (meaning self.old) number outcome (meaning self.new)) }
@@ -149,7 +149,7 @@ impl Interpreter {
         print::outcome(self.alloc, &outcome)
     }
 
-    // Delivers the oldest waiting message. One whose delivery is refused waits on.
+    // Delivers the oldest waiting message. One whose delivery is refused continues to wait.
     fn deliver_oldest(&mut self) -> Result<Delivery, AllocError>
         ensures { IfOk result (λ delivery. Tries (meaning self.old) delivery (meaning self.new)) }
     {
@@ -162,8 +162,8 @@ impl Interpreter {
         }
     }
 
-    // Delivers waiting messages, the oldest first, at most so many. The text tells of one that
-    // still waits then.
+    // Delivers waiting messages, the oldest first, at most so many. The text reports one that still
+    // waits then.
     fn settle(&mut self, most: u64, unsettled: &str) -> Result<String, AllocError>
         ensures { IfOk result (λ line. Settles most unsettled.now
             (meaning self.old) line.bytes.items (meaning self.new)) }
@@ -193,7 +193,7 @@ impl Interpreter {
         self.world = new_world;
     }
 
-    // The world has no entries, and this tells why.
+    // The world has no entries, and this reports why.
     fn refuse(&mut self, refused: Refused) -> Result<String, AllocError>
         ensures { IfOk result (λ line. (line.bytes.items ≡ refused_line refused)
             × (meaning self.new ≡ record (meaning self.old) { begun = true; world = fresh [] })) }
@@ -305,7 +305,7 @@ impl Interpreter {
         Ok(request)
     }
 
-    /// Does what a line asks for, and gives what that prints; or says the line's first fault.
+    /// Does what a line asks for, and gives what that prints; or reports the line's first fault.
     pub fn obey_line(&mut self, number: u64, line: &[u8]) -> Result<String, LineFault>
         ensures done { IfOk result (λ printed.
             ObeysLine (meaning self.old) number line.now printed.bytes.items (meaning self.new)) }

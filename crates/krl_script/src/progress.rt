@@ -1,12 +1,12 @@
 //! How far a random run is.
 
-/// Who is told how far a random run is.
+/// Receives the progress of a random run.
 pub trait Progress {
     /// Called after every 10,000th step, with the number of steps taken.
     fn taken(&mut self, steps: u64);
 }
 
-/// Nobody is told.
+/// Ignores the progress.
 #[derive(Drop)]
 pub struct Untold;
 

@@ -67,7 +67,7 @@ fn opening(alloc: Global) -> Result<Vec<(u64, Value)>, AllocError>
     Ok(entries)
 }
 
-// A message that the step delivered waits no more.
+// A message that the step delivered no longer waits.
 fn pass(waiting: &mut Undelivered, step: Step, outcome: &Result<Answer, Refused>)
     ensures { waiting.new ≡ waits_since step outcome.now waiting.old }
 {
@@ -147,7 +147,7 @@ impl RandomRun {
         Ok(outcome)
     }
 
-    // Draws the next step and takes it, and says whether all is sound after it.
+    // Draws the next step and takes it, and reports whether all is sound after it.
     fn go_on(&mut self) -> Result<bool, AllocError>
         ensures goes { IfOk result (λ sound. GoesOn (stage_of self.old) (stage_of self.new)) }
         ensures sound { IsCompatible (meaning self.old.world) → IfOk result (λ sound.
@@ -178,7 +178,7 @@ impl RandomRun {
         }
     }
 
-    // Delivers the oldest messages that wait, until few do, at most so many. Says whether all is
+    // Delivers the oldest messages that wait, until few do, at most so many. Reports whether all is
     // sound then.
     fn hurry(&mut self, most: u64) -> Result<bool, AllocError>
         ensures hurries { IfOk result (λ sound.
@@ -197,7 +197,8 @@ impl RandomRun {
         Ok(self.is_sound())
     }
 
-    // Draws the next step and takes it, continues as the pace says, and says whether all was sound.
+    // Draws the next step and takes it, continues as the pace asks, and reports whether all was
+    // sound.
     fn go_at(&mut self, pace: Pace) -> Result<bool, AllocError>
         ensures goes { IfOk result (λ sound. GoesAt pace (stage_of self.old) (stage_of self.new)) }
         ensures sound { IsCompatible (meaning self.old.world) → IfOk result (λ sound.
@@ -285,9 +286,9 @@ fn write_verdict<W: Sink>(
     write_line(writer, line.as_bytes())
 }
 
-/// Drives a world with the entries 10=1 and 20=2 through steps that are drawn, and looks after each
+/// Drives a world with the entries 10=1 and 20=2 through steps that are drawn, and after each looks
 /// at every two of the four clients and every point from 0 to 63, and at the rows of each scan.
-/// Writes the line that says that all was sound, and gives the world and `true`. A step that is
+/// Writes the line that reports that all was sound, and gives the world and `true`. A step that is
 /// refused, also for want of memory, is a step.
 ///
 /// # Errors
@@ -320,7 +321,7 @@ pub fn random_run<W: Sink, P: Progress>(
 
 /// Drives a world as [`random_run`] does, and delivers after each step the oldest messages that
 /// wait, until at most four wait, or 1,000 were delivered. So messages seldom come late, and
-/// clients do more. It looks after each step, and again after what was delivered then.
+/// clients do more. It looks at the world after each step, and again after what was delivered then.
 ///
 /// # Errors
 ///

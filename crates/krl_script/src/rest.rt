@@ -128,7 +128,7 @@ fn had_memory(outcome: &Result<Answer, Refused>) -> bool
     }
 }
 
-// Takes a step. One that is refused, but for want of memory, has nothing to do.
+// Takes a step. One that is refused, except for want of memory, has nothing to do.
 fn take(world: &mut World, step: Step) -> Result<(), AllocError>
     ensures goes { is_of_round step ≡ true → GoesByRounds (meaning world.old) (meaning world.new) }
     ensures whole { IsWhole (meaning world.new) }
@@ -304,13 +304,13 @@ fn write_verdict<W: Sink>(
     write_line(writer, line.as_bytes())
 }
 
-/// Brings a world to rest by good rounds, and writes a line that says how that ended. It first
+/// Brings a world to rest by good rounds, and writes a line that reports how that ended. It first
 /// starts the server and each of the clients 0 to 3, if they do not run. In a good round each
 /// client ticks, and each message that was sent in the round before is delivered; nobody asks for
 /// more, crashes or leaves. The rounds end once nobody waits for a lock or a write, or after 1172.
 /// Before each, and at the end, it looks at every two clients and every point from 0 to 63.
 ///
-/// Whoever waits behind a pin waits on: pins stay.
+/// A client that waits for a pin to be freed continues to wait: pins stay.
 ///
 /// # Errors
 ///

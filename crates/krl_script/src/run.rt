@@ -95,7 +95,7 @@ fn run_lines<W: Sink>(alloc: Global, text: &[u8], writer: &mut W) -> Result<(), 
 ///
 /// `Read` if a read fails, and `NoEnd` if 2,097,152 reads gave no end: nothing is written
 /// then. `Write` if the writer fails, takes nothing, or is interrupted more than 2,097,152 times
-/// in one line. `Syntax` for the first fault of the text, which the transcript's last line says
+/// in one line. `Syntax` for the first fault of the text, which the transcript's last line reports
 /// too. `OutOfMemory` at any point.
 pub fn run_script<R: Source, W: Sink>(
     alloc: Global,

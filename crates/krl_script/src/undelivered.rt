@@ -14,7 +14,7 @@ use std::marker::Model;
 pub struct Undelivered {
     // So many messages come before those of the flags. None of them waits.
     past: u64,
-    // A flag for each message after those, in order: whether it waits no more.
+    // A flag for each message after those, in order: whether it no longer waits.
     flags: VecDeque<bool>,
 }
 
@@ -32,8 +32,8 @@ impl Model for Undelivered {
     ghost invariant = { λ w. w.past + length w.flags.items < 2 ^ 64 };
 }
 
-// Takes the flags of messages that wait no more off the front, as long as there are some there.
-// Says how many messages then come before the others.
+// Takes the flags of messages that no longer wait off the front, as long as there are some there.
+// Reports how many messages then come before the others.
 fn pass(past: u64, flags: &mut VecDeque<bool>) -> u64
     requires { past + length flags.old.items < 2 ^ 64 }
     ensures sent { result + length flags.new.items ≡ past + length flags.old.items }
@@ -48,7 +48,7 @@ fn pass(past: u64, flags: &mut VecDeque<bool>) -> u64
     past
 }
 
-// How many messages these flags say to wait.
+// How many messages wait by these flags.
 fn waiting_among(flags: &VecDeque<bool>) -> usize
     ensures { (past : ℕ) → result ≡ length (waiting_after past flags.now.items) }
 {
@@ -106,7 +106,7 @@ impl Undelivered {
         waiting_among(&self.flags) > most
     }
 
-    /// The message of this number waits no more.
+    /// The message of this number no longer waits.
     #[tactic(auto, using(crate::proofs::WaitingLemmas::not_among))]
     pub fn remove(&mut self, number: u64)
         ensures { self.new ≡ without self.old number }

@@ -31,7 +31,7 @@ pub record IsAsked (s : Server) (m : ToServer) (r : Record) (request : Request) 
   pub seen : request.seen ≡ (s.sessions m.client).last_push
   pub asked : request.body ≡ b
 
--- what is to be proved in each case, by what the message says
+-- what is to be proved in each case, by what the message contains
 pub record EachSaid (s : Server) (m : ToServer) (P : Case → Type 0) : Type 0 where
   pub ignored : P Ignored
   pub registers : m.client < max_clients → incarnation_or_0 (record_of s.durable.register m.client) < m.incarnation → m.body ≡ said.Hello → P Registers
@@ -130,7 +130,7 @@ module _ (s : Server) (m : ToServer) (P : Case → Type 0) (each : EachSaid s m 
       let y = or_parts (nat_eq m.incarnation 0) (nat_lt END m.incarnation) x.1 in
       of_record (ltb-true m.client max_clients (not-false (nat_lt m.client max_clients) x.0)) (let ne = eqb-false m.incarnation 0 y.0 in omega (arith, ne)) (record_of s.durable.register m.client) refl)
 
--- the same for what does not ask what the message says
+-- the same for what does not depend on what the message contains
 pub record EachCase (s : Server) (m : ToServer) (P : Case → Type 0) : Type 0 where
   pub ignored : P Ignored
   pub registers : m.client < max_clients → incarnation_or_0 (record_of s.durable.register m.client) < m.incarnation → m.body ≡ said.Hello → P Registers

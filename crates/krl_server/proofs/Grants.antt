@@ -166,7 +166,7 @@ granted_compatible r m rows n k v vs ne queue = by_queue (rows n).queue refl
     by_queue [] e = refl
     by_queue (u ∷ us) e = raised_compatible m u k v vs (r - 1) n (granted_first rows n) (ap (λ r. r.queue) first ∙ queue) ∙ first
 
--- What a push tells of the slots
+-- What a push states of the slots
 
 -- the span of a slot begins after each slot below it
 span_behind : (m : Index) → ((q : ℕ) → END ≤ q → fin.get m q ≡ None) → (n k : ℕ) → is_slot m n ≡ true → is_slot m k ≡ true → n < k → suc n ≤ low_of m k
@@ -210,7 +210,7 @@ pub slots_there : (m : Index) (n : ℕ) (ns : List ℕ) → is_slot m n ≡ true
 slots_there m n [] here h = (here, tt)
 slots_there m n (k ∷ ks) here h = (here, slots_there m k ks h.1 h.2)
 
--- what a grant at a slot where somebody waits tells
+-- what a grant at a slot where somebody waits states
 pub record IsTaken (t : Server) (c : ℕ) (slots : List ℕ) : Type 0 where
   pub there : AllByRecursion (λ k. is_slot t.durable.index k ≡ true) slots
   pub order : Ascend (holdings t c slots)

@@ -1,4 +1,4 @@
--- The laws `steps_end`, `server_says` and `changes_replay`: each step has one outcome, and what it sends and says.
+-- The laws `steps_end`, `server_says` and `changes_replay`: each step has one outcome, and what it sends and reports.
 pub mod Ends
 pub mod Counted
 pub mod Numbers

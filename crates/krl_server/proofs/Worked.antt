@@ -115,7 +115,8 @@ row_5_modes m e = simp e
 row_5_points : (m : Index) → map.entries (map.insert m 15 (byte 5)) ≡ (10, byte 1) ∷ (15, byte 5) ∷ (20, byte 2) ∷ [] → map.entries m ≡ two → map (range_at (map.insert m 15 (byte 5)) (inserted m).server.rows 1) (10 ∷ 11 ∷ 15 ∷ 17 ∷ []) ≡ range.N ∷ range.I ∷ range.I ∷ range.I ∷ []
 row_5_points m f e = simp (e, f)
 
--- An old Release is passed over. Who waits for an entry that another reads calls it back, and is granted it then
+-- An old Release is passed over. A waiter for an entry that another client reads has that lock called back, and is
+-- granted the entry then
 
 abbrev read_gap : Index → Server
 read_gap m = server m (λ n. if nat_eq n 10 then row mode.RangeSS mode.N [] else blank_row) (λ c. if nat_eq c 0 then session 2 2 c else session 0 0 c)
@@ -183,7 +184,7 @@ row_10_case m e = simp (e, map.get-entries)
 row_10_answer : (m : Index) → map.entries (map.insert m 10 (byte 9)) ≡ (10, byte 9) ∷ (20, byte 2) ∷ [] → (effect (all_read m) put_10 (Judges 1 (write.Put 10 (byte 9)) outcome.Applied)).outs ≡ the_push 0 3 (push.Answer 1 outcome.Applied (held 0 11 mode.RangeXX (Some (byte 9)))) ∷ []
 row_10_answer m f = simp (f, map.get-entries)
 
--- A delete, then a restart and a report; and the answer once more
+-- A delete, then a restart and a report; and the answer again
 
 abbrev delete_10 : ToServer
 delete_10 = asks 0 2 (asked.Write 1 (write.Delete 10) false)

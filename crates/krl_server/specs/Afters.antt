@@ -3,14 +3,14 @@ use Rattle.std.specs.Prelude.{Bool, true, false}
 use Rattle.krl_server.specs.declared.case.After.{After}
 use Rattle.krl_server.specs.declared.case.After.TheVariants as after
 
--- those who wait are answered
+-- waiters are answered
 abbrev pub does_answer : After → Bool
 does_answer after.Nothing = false
 does_answer after.Alarm = false
 does_answer after.Answers = true
 does_answer after.Calls = true
 
--- those who block others are called back
+-- clients that block others are called back
 abbrev pub does_call : After → Bool
 does_call after.Nothing = false
 does_call after.Alarm = false

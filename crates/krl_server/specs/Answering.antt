@@ -1,4 +1,4 @@
--- Who of the first waiters is answered next, and the answering of all that can be.
+-- Which of the first waiters is answered next, and the answering of all that can be.
 use Rattle.std.specs.Prelude.{◌≡◌, ℕ, Bool, not, ◌&&◌, ◌||◌, Option, Some, None, List, [], ◌∷◌, ◌++◌, nat_lt, is_some, if◌then◌else◌}
 use Rattle.krl_modes.specs.declared.point.TheConstants.{END}
 use Rattle.krl_messages.specs.declared.to_client.ToClient.{ToClient}
@@ -35,7 +35,7 @@ abbrev pub turn_among : Server → List ℕ → Option Turn
 turn_among s [] = None
 turn_among s (n ∷ ns) = turn_at s n (s.rows n).queue (turn_among s ns)
 
--- who is answered next
+-- the waiter that is answered next
 abbrev pub next_turn : Server → Option Turn
 next_turn s = turn_among s (slots s.durable.index)
 

@@ -54,7 +54,7 @@ first_rule (Unless test met ∷ rules) other = if test then first_rule rules oth
 abbrev pub judged : Server → ℕ → WriteOp → Outcome
 judged s c op = judge s.durable.room s.durable.index op (held s.durable.index (column s.rows c) op)
 
--- the last write once more. If no write was judged there is no outcome
+-- the last write again. If no write was judged there is no outcome
 abbrev pub case_of_repeated_write : ℕ → WriteOp → Option Outcome → Case
 case_of_repeated_write number op None = Acknowledges
 case_of_repeated_write number op (Some o) = AnswersAgain number op o

@@ -83,7 +83,7 @@ abbrev pub callback_if : Server → ℕ → Waiter → ℕ → List ToClient
 callback_if s n u d =
     if is_compatible s n u d then [] else callback_to s d (span_of s.durable.index n) (cap (wanted (s.rows n) u)) ∷ []
 
--- f is what the table tells of the first waiter of slot n
+-- f is what the table shows of the first waiter of slot n
 pub record IsFirst (s : Server) (n : ℕ) (f : FirstWaiter) : Type 0 where
   pub waiter : front_of (s.rows n).queue ≡ Some f.waiter
   pub client : f.waiter.client < MAX_CLIENTS
@@ -101,7 +101,7 @@ HaveWaiters s from [] = (k : ℕ) → from ≤ k → (s.rows k).queue ≡ []
 HaveWaiters s from (n ∷ ns) =
     (from ≤ n) × (is_slot s.durable.index n ≡ true) × NobodyWaits s.rows from n × HaveWaiters s (suc n) ns
 
--- the message's case was done, before anyone who waits is answered; these are its own messages
+-- the message's case was done, before any waiter is answered; these are its own messages
 pub record IsPerformed (s : Server) (m : ToServer) (t : Server) (left : After) (outs : List ToClient) : Type 0 where
   pub server : t ≡ (effect s m (case_of s m)).server
   pub outs_are : outs ≡ (effect s m (case_of s m)).outs
@@ -138,7 +138,7 @@ pub record HasRoom (s : Server) (left : After) (box : Sent) : Type 0 where
 abbrev pub alarm_of : Server → ToServer → Option ℕ
 alarm_of s m = if alarms s m then Some m.client else None
 
--- the message was taken: the server s became t, and this was sent and said
+-- the message was taken: the server s became t, and this was sent and reported
 pub record HasStepped (s : Server) (m : ToServer) (t : Server) (out : ServerOut) : Type 0 where
   pub step : ServerStep s m t out.messages
   pub alarm : out.alarm ≡ alarm_of s m

@@ -34,7 +34,7 @@ abbrev pub case_of_unacked : Option PushBody → Case
 case_of_unacked None = Ignored
 case_of_unacked (Some body) = Repeats body
 
--- the case that was found for what the client said: how a report or a write ends shows as it is done
+-- the case that was found for what the client sent: how a report or a write ends shows as it is done
 abbrev pub meant : Server → ℕ → ToServerBody → Found → Case
 meant s c b found.Ignored = Ignored
 meant s c b found.Registers = Registers

@@ -29,7 +29,7 @@ slots_in (Some n) = n
 abbrev pub room_of : List (Option ℕ) → ℕ → ℕ
 room_of rooms c = slots_in (slice_index_or rooms c None)
 
--- there is room for the grant of each who waits
+-- there is room for the grant of each waiter
 pub record HasGrantRooms (s : Server) (rooms : List (Option ℕ)) : Type 0 where
   pub full : length rooms ≡ MAX_CLIENTS
   pub each : (n : ℕ) (u : Waiter) → In u (s.rows n).queue →

@@ -20,7 +20,7 @@ pub record Sends (old new : Sent) (outs : List ToClient) : Type 0 where
   pub sent : new.sent ≡ old.sent ++ outs
   pub room : old.room ≤ new.room
 
--- the push that is not acknowledged, once more
+-- the push that is not acknowledged, again
 abbrev pub pushed_again : Server → ℕ → Option PushBody → List ToClient
 pushed_again s c None = []
 pushed_again s c (Some body) = push_to s c (s.sessions c).last_push body ∷ []

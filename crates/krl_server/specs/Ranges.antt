@@ -1,5 +1,5 @@
--- Numbers stay within END, and lists within their bounds: so the product's types can hold every server. Who waits or is
--- missing is registered and has not left.
+-- Numbers stay within END, and lists within their bounds: so the product's types can hold every server. A client that
+-- waits or is missing is registered and has not left.
 use Rattle.std.specs.Prelude.{◌≡◌, ℕ, ◌≤◌, ◌<◌, true, false, Some, List, [], ◌∷◌, length}
 use Rattle.std.specs.FinMap as map
 use Rattle.krl_modes.specs.declared.point.TheConstants.{END}
@@ -48,7 +48,7 @@ pub record IsWithin (s : Server) : Type 0 where
   pub missing : (c : ℕ) → lists s.missing c ≡ true → IsRegistered s.durable.register c
   pub missing_once : AreApart s.missing
 
--- whoever waits is registered and has not left
+-- a client that waits is registered and has not left
 abbrev pub AreRegistered : Server → Type 0
 AreRegistered s = (n : ℕ) (u : Waiter) → In u (s.rows n).queue → IsRegistered s.durable.register u.client
 

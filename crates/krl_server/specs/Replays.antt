@@ -10,7 +10,7 @@ use Rattle.krl_server.specs.Servers.{Server}
 use Rattle.krl_server.specs.Steps.{crash, can_start, start}
 use Rattle.krl_server.specs.CodeSteps.{HasStepped}
 
--- of what a server does a host writes these down: it takes a message, and this is sent and said; or it crashes, and
+-- of what a server does a host writes these down: it takes a message, and this is sent and reported; or it crashes, and
 -- starts on what survived, with these limits
 pub data Event : Type 0 where
   Took : ToServer → ServerOut → Event
@@ -30,7 +30,7 @@ LivesThrough s (e ∷ es) t = (mid : Server) × Lives s e mid × LivesThrough mi
 abbrev pub raised : Durable → Durable
 raised d = record d { epoch = suc d.epoch }
 
--- what the host makes of an event: the change that the step says; at a start the next epoch, and the limits
+-- what the host makes of an event: the change that the step reports; at a start the next epoch, and the limits
 abbrev pub written_down : Event → Durable → Durable
 written_down (Took m out) d = changed_by out.change d
 written_down (Restarted l) d = raised (sized l d)

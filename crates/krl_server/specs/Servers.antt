@@ -11,7 +11,7 @@ pub record Server : Type 0 where
   pub durable : Durable
   pub rows : Rows
   pub sessions : ℕ → Session  -- by client
-  -- who was registered at the start, and has since neither reported, nor registered again, nor left
+  -- those that were registered at the start, and have since neither reported, nor registered again, nor left
   pub missing : List ℕ
 
 -- the session of a client to which nothing was pushed in this epoch

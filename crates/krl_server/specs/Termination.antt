@@ -25,11 +25,11 @@ unfoldable pub max_messages : ℕ
 max_messages = 4097
 
 pub record StepsEnd : Type 0 where
-  -- each message has an outcome, and one alone
+  -- each message has an outcome, and only one
   pub some : (s : Server) (m : ToServer) → (t : Server) × (outs : List ToClient) × ServerStep s m t outs
   pub one : (s t u : Server) (m : ToServer) (outs others : List ToClient) → ServerStep s m t outs →
       ServerStep s m u others → (t ≡ u) × (outs ≡ others)
-  -- each answer is to one who waits no more
+  -- each answer is to a client that no longer waits
   pub answers : (s t : Server) (outs : List ToClient) → Answered s t outs → waiting t + length outs ≤ waiting s
   pub few : (s t : Server) (m : ToServer) (outs : List ToClient) → IsSound s → IsTable s.durable.index s.rows →
       ServerStep s m t outs → length outs ≤ max_messages

@@ -1,4 +1,4 @@
-//! Answers to those who wait.
+//! Answers to waiters.
 ghost use Rattle.std.specs.Prelude.{◌≡◌, ◌<◌, ◌≤◌, ◌+◌, length, IfSome, Some, None, true, false};
 ghost use Rattle.krl_durable.specs.Index.{is_slot};
 ghost use Rattle.krl_table.specs.Waiters.{front_of};
@@ -24,7 +24,7 @@ use krl_table::Reply;
 
 impl State {
     /// Grants the slot's first waiter what it wants, on that slot and on the slots after it that it
-    /// may take beside, and sends it the grant.
+    /// may take too, and sends it the grant.
     fn grant(&mut self, slot: u64, waiter: &Waiter, room: GrantRoom, outbox: &mut Outbox)
         requires formed { IsFormed self.old }
         requires client { waiter.now.client < MAX_CLIENTS }
@@ -48,7 +48,7 @@ impl State {
         self.push(waiter.client, kept, body, outbox);
     }
 
-    /// Tells the slot's first waiter that there is no entry.
+    /// Reports to the slot's first waiter that there is no entry.
     fn tell_absent(&mut self, slot: u64, waiter: &Waiter, outbox: &mut Outbox)
         requires formed { IsFormed self.old }
         requires client { waiter.now.client < MAX_CLIENTS }
@@ -67,7 +67,7 @@ impl State {
         self.push(waiter.client, kept, body, outbox);
     }
 
-    /// Answers the slot's first waiter if that is possible, and says whether it was. If it
+    /// Answers the slot's first waiter if that is possible, and reports whether it was. If it
     /// was not, nothing changes and nothing is sent. A grant takes the room of its client.
     fn answer_first(&mut self, slot: u64, rooms: &mut GrantRooms, outbox: &mut Outbox) -> bool
         requires formed { IsFormed self.old }

@@ -25,8 +25,8 @@ impl State {
     /// lock is found free in one search, and the waiter takes no place in a queue. The last push
     /// counts as acknowledged. It takes no memory but the room for the holdings, which it is given.
     ///
-    /// It answers `false`, and nothing changes and nothing is sent, if the request has to wait
-    /// or to hear that there is no entry, and if the number of the next push is spent.
+    /// It answers `false`, and nothing changes and nothing is sent, if the request has to wait or
+    /// asks for an entry that is not there, and if the number of the next push is spent.
     fn grant_at_once(&mut self, waiter: &Waiter, room: GrantRoom, outbox: &mut Outbox) -> bool
         requires formed { IsFormed self.old }
         requires client { waiter.now.client < MAX_CLIENTS }
@@ -58,8 +58,9 @@ impl State {
     }
 
     /// The step of a lock request that can be granted at once, while the server serves. Nobody else
-    /// can be answered then: who waits at other slots still does, and is called back for. None, and
-    /// nothing has changed, if it is another message, or the request has to wait.
+    /// can be answered then: a client that waits at another slot still does, and others are called
+    /// back for it. None, and nothing has changed, if it is another message, or the request has to
+    /// wait.
     ///
     /// # Errors
     ///

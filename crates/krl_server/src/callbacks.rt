@@ -1,4 +1,4 @@
-//! Callbacks for those who wait first and are blocked.
+//! Callbacks for first waiters that are blocked.
 ghost use Rattle.std.specs.Prelude.{◌≡◌, ◌≤◌, ◌<◌, ◌+◌, length};
 ghost use Rattle.krl_table.specs.Replies.{asks_absent};
 ghost use Rattle.krl_server.specs.Callbacks.{callbacks_for, callbacks_at, callbacks};

@@ -6,7 +6,7 @@ use krl_durable::Change;
 use krl_messages::{Outcome, WriteOp};
 use krl_modes::{Mode, Point, Span};
 
-/// The case that a message meets, as far as it can be told before anything is tried.
+/// The case that a message meets, as far as it can be known before anything is tried.
 #[derive(Drop)]
 pub(crate) enum Case {
     /// Nothing happens.
@@ -45,7 +45,7 @@ pub(crate) enum Case {
         number: u64,
         op: WriteOp,
     },
-    /// The last write once more.
+    /// The last write again.
     AnswersAgain {
         number: u64,
         op: WriteOp,
@@ -58,11 +58,11 @@ pub(crate) enum Case {
 pub(crate) enum After {
     /// Nothing.
     Nothing,
-    /// Somebody has to hear of a contradiction.
+    /// A contradiction has to be reported.
     Alarm,
-    /// Those who wait are answered.
+    /// Waiters are answered.
     Answers,
-    /// Those who wait are answered, and those who block others are called back.
+    /// Waiters are answered, and clients that block others are called back.
     Calls,
 }
 
@@ -96,21 +96,21 @@ impl After {
         }
     }
 
-    /// Whether those who wait are answered.
+    /// Whether waiters are answered.
     pub(crate) fn answers(self) -> bool
         ensures { result ≡ does_answer self }
     {
         matches!(self, After::Answers | After::Calls)
     }
 
-    /// Whether those who block others are called back.
+    /// Whether clients that block others are called back.
     pub(crate) fn calls_back(self) -> bool
         ensures { result ≡ does_call self }
     {
         matches!(self, After::Calls)
     }
 
-    /// The client of whose contradiction somebody has to hear.
+    /// The client whose contradiction has to be reported.
     pub(crate) fn alarm(self, client: u64) -> Option<u64>
         ensures { result ≡ (if does_alarm self then Some client else None) }
     {

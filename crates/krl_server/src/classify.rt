@@ -139,7 +139,7 @@ impl State {
         }
     }
 
-    /// The case of what the registered incarnation says, which has not left.
+    /// The case of what is sent by the registered incarnation, which has not left.
     fn case_of_body(&self, client: u64, known: &Record, body: &ToServerBody) -> Case
         requires formed { IsFormed self.now }
         requires client { client < MAX_CLIENTS }

@@ -49,7 +49,7 @@ impl State {
         Ok(())
     }
 
-    /// The client has left: it holds nothing, waits no more, and nobody waits for its report.
+    /// The client has left: it holds nothing, no longer waits, and nobody waits for its report.
     pub(crate) fn depart(&mut self, client: u64)
         requires formed { IsFormed self.old }
         requires client { client < MAX_CLIENTS }

@@ -1,4 +1,4 @@
-//! Memory for the grants of those who wait, which is taken when they come to wait.
+//! Memory for the grants of waiters, which is taken when they begin to wait.
 ghost use Rattle.std.specs.Prelude.{◌≡◌, ◌<◌, ◌≤◌, ℕ, None, IfOk, OnOk, length, set, slice_index_or};
 ghost use Rattle.krl_modes.specs.declared.limits.TheConstants.{MAX_CLIENTS};
 ghost use Rattle.krl_server.specs.GrantRooms.{room_of};
@@ -9,7 +9,7 @@ use std::alloc::{AllocError, Global};
 use std::marker::Model;
 
 /// For each client the room for a grant, from when it comes to wait until it is granted. If it
-/// waits no more without a grant, the room is kept for the next time.
+/// stops waiting without a grant, the room is kept for the next time.
 #[derive(Drop)]
 pub(crate) struct GrantRooms {
     each: Vec<Option<GrantRoom>>,

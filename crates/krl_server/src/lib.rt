@@ -1,4 +1,4 @@
-//! The server: it judges each message, keeps the index and the table, and answers those who wait.
+//! The server: it judges each message, keeps the index and the table, and answers waiters.
 #![tactic(auto)]
 
 mod answering;

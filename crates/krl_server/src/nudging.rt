@@ -1,4 +1,4 @@
-//! A nudge: what moves a client that seems stuck is sent once more.
+//! A nudge: what moves a client that seems stuck is sent again.
 ghost use Rattle.std.specs.Prelude.{◌≡◌, ◌≤◌, ◌<◌, true, IfOk, IfSome};
 ghost use Rattle.krl_server.specs.StateMeaning.{meaning};
 ghost use Rattle.krl_server.specs.FoundCases.{IsFormed};
@@ -63,8 +63,8 @@ impl State {
         Ok(outbox.into_items())
     }
 
-    /// While it serves, the client's push that is not acknowledged is sent again, or else those are
-    /// called back who block it if it waits first.
+    /// While it serves, the client's push that is not acknowledged is sent again; otherwise, if it
+    /// waits first, the clients that block it are called back.
     fn nudge_served(&self, alloc: Global, client: u64) -> Result<Items<ToClient>, AllocError>
         requires server { IsServer self.now }
         requires client { client < MAX_CLIENTS }

@@ -7,12 +7,12 @@ use krl_messages::{Items, ToClient};
 use std::alloc::{AllocError, Global};
 use std::marker::Model;
 
-/// What a step sends and says.
+/// What a step sends and reports.
 #[derive(Drop)]
 pub struct ServerOut {
     /// The messages, in the order in which they are sent: an Epoch or an answer to a write; then
-    /// the answers to those who waited, as they were answered, least slot first; then the
-    /// callbacks, by slot and by client.
+    /// the answers to waiters, as they were answered, least slot first; then the callbacks, by slot
+    /// and by client.
     pub messages: Items<ToClient>,
     /// The client whose report contradicts what the server knows, if the message was such a report.
     /// Nothing has changed then.

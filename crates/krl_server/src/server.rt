@@ -37,7 +37,7 @@ use std::marker::Model;
 
 /// A server between two steps.
 ///
-/// This holds of every server, whoever sends it what. The table's rows stand at keys of the index,
+/// This holds of every server, whatever is sent to it. The table's rows stand at keys of the index,
 /// or at END. The modes of different clients on one slot are compatible. Each waiter stands in the
 /// queue of the slot of its point, is the only one of its client, and its client is registered and
 /// has not left. Each missing client is registered, has not left, and is missing once. Push numbers
@@ -134,14 +134,14 @@ impl Server {
     /// Takes a message, whoever sent it.
     ///
     /// Whatever comes of it, only a Hello, a Bye or a new write changes what survives, and `change`
-    /// says how. A host that keeps what survives in a store of its own writes that down before it
-    /// sends the messages.
+    /// reports how. A host that keeps what survives in a store of its own writes that down before
+    /// it sends the messages.
     ///
-    /// A write that is answered, new or once more, is answered first of all, by one push with the
-    /// next number; by none if the numbers are spent. Each push that is sent is the last one to
-    /// its client, which has to acknowledge it before the next. If the message was acted upon, a
-    /// Release apart, and the server serves then, those who block a first waiter are called back,
-    /// and nobody else ever is.
+    /// A write that is answered, for the first time or again, is answered first of all, by one push
+    /// with the next number; by none if the numbers are spent. Each push that is sent is the last
+    /// one to its client, which has to acknowledge it before the next. If the message was acted
+    /// upon, a Release apart, and the server serves then, the clients that block a first waiter are
+    /// called back, and no other ever is.
     ///
     /// A report's pieces may come in any order, and overlap. They are brought into order first if
     /// they are in none, which takes the time of a sort and memory in proportion to the report.
@@ -168,9 +168,10 @@ impl Server {
     }
 
     /// What is sent to move a client that seems stuck: while the server recovers, the epoch to a
-    /// missing client; while it serves, the client's push that is not acknowledged, or else the
-    /// callbacks to those who block it if it waits first; and nothing to any other. It changes
-    /// nothing, and answers nobody: while the server serves, nobody is left who could be answered.
+    /// missing client; while it serves, the client's push that is not acknowledged, otherwise the
+    /// callbacks to those that block it if it waits first; and nothing to any other. It changes
+    /// nothing, and answers nobody: while the server serves, no waiter is left that could be
+    /// answered.
     ///
     /// # Errors
     ///
@@ -206,7 +207,7 @@ impl Server {
     }
 
     /// Whether the server recovers: it still waits for reports. It takes no memory. The clause
-    /// `every` says what holds of every server.
+    /// `every` states what holds of every server.
     pub fn phase(&self) -> Phase
         ensures phase { result ≡ phase_of (meaning self.now).missing }
         ensures every { IsServer self.now }

@@ -13,7 +13,7 @@ pub struct Session {
     pub last_push: u64,
     /// That push, until it is acknowledged.
     pub unacked: Option<PushBody>,
-    /// The number of the last request that was taken, or 0. A stranger who asks under a client's
+    /// The number of the last request that was taken, or 0. A stranger that asks under a client's
     /// name may drive it past END.
     pub last_request: u64,
 }

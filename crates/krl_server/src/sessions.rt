@@ -103,7 +103,7 @@ impl Sessions {
         session.last_request = req;
     }
 
-    /// The client's last push has this number and says this, and is not acknowledged.
+    /// The client's last push has this number and this body, and is not acknowledged.
     pub(crate) fn note_push(&mut self, client: u64, number: u64, body: PushBody)
         requires { client < length self.old }
         ensures { self.new ≡ set self.old client

@@ -31,11 +31,11 @@ use std::alloc::{AllocError, Global};
 pub struct State {
     /// What survives a restart.
     pub(crate) durable: Durable,
-    /// Who holds which mode on which slot, and who waits there.
+    /// Which client holds which mode on which slot, and the waiters there.
     pub(crate) table: Table,
     /// What was pushed and asked, by client.
     pub(crate) sessions: Sessions,
-    /// Who is missing.
+    /// The clients that are missing.
     pub(crate) missing: Missing,
 }
 
@@ -97,7 +97,7 @@ impl State {
         }
     }
 
-    /// The client's push that is not acknowledged, once more.
+    /// The client's push that is not acknowledged, again.
     ///
     /// # Errors
     ///
@@ -152,8 +152,8 @@ impl State {
         }
     }
 
-    /// As `holding`, by searches that begin at the fingers, one among the entries and one among the
-    /// rows. They are moved to the slot.
+    /// Like `holding`, by searches that begin at the fingers, one among the entries and one among
+    /// the rows. They are moved to the slot.
     fn holding_by(&self, slot: u64, client: u64, entries: &mut Finger, rows: &mut Finger) -> Holding
         requires formed { IsFormed self.now }
         requires slot { is_slot self.now.durable.index slot ≡ true }

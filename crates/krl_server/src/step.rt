@@ -1,4 +1,4 @@
-//! A step: a message is judged, done, and whoever can be answered is.
+//! A step: a message is judged and done, and each waiter that can be answered is.
 ghost use Rattle.std.specs.Prelude.{◌≡◌, ◌≤◌, ◌<◌, ◌+◌, [], length, IfOk, OnOk, OnErr};
 ghost use Rattle.krl_server.specs.StateMeaning.{meaning};
 ghost use Rattle.krl_server.specs.FoundCases.{meant, case_of_pieces, IsFormed};
@@ -42,8 +42,8 @@ impl State {
         count
     }
 
-    /// How many messages a step can send: its own, an answer to each who waits, and a callback to
-    /// each other client for each who still waits.
+    /// How many messages a step can send: its own, an answer to each waiter, and a callback to each
+    /// other client for each that still waits.
     fn room(&self, case: &Case) -> usize
         requires { IsFormed self.now }
         ensures { result ≡ room_for (waiting_clients (meaning self.now)) case.now }
@@ -89,7 +89,7 @@ impl State {
         }
     }
 
-    /// Does what the case says.
+    /// Does what the case asks for.
     ///
     /// # Errors
     ///
@@ -263,7 +263,7 @@ impl State {
         rooms.reserve(alloc, message.client, slots_asked(&self.durable, point, hi))
     }
 
-    /// One step of this case: it is done, and then whoever can be answered is.
+    /// One step of this case: it is done, and then each waiter that can be answered is.
     ///
     /// # Errors
     ///
@@ -296,8 +296,8 @@ impl State {
         })
     }
 
-    /// Does what is left to be done, while the server serves: it answers all who can be answered,
-    /// and calls back those who block others.
+    /// Does what is left to be done, while the server serves: it answers all waiters that can be
+    /// answered, and calls back the clients that block others.
     fn finish(&mut self, after: After, rooms: &mut GrantRooms, outbox: &mut Outbox)
         requires formed { IsFormed self.old }
         requires sound { IsSound (meaning self.old) }

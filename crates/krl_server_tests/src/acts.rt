@@ -1,4 +1,4 @@
-//! What a server is told, act by act, and what may come of it.
+//! What a server receives, act by act, and what may come of it.
 use krl_messages::{Outcome, Value};
 use krl_modes::{KeyPart, Mode, RangePart};
 
@@ -6,7 +6,7 @@ use krl_modes::{KeyPart, Mode, RangePart};
 #[derive(Clone, Copy)]
 pub struct Who(pub u64, pub u64);
 
-// What a server is told or asked, with spans by their ends.
+// What a server receives or is asked, with spans by their ends.
 #[derive(Clone, Copy)]
 pub enum Act {
     Hello(Who),
@@ -47,7 +47,7 @@ pub enum Change {
 #[derive(Clone, Copy)]
 pub struct Held(pub u64, pub u64, pub Mode, pub Option<&'static str>);
 
-// What a client is told.
+// What a client receives.
 #[derive(Clone, Copy)]
 pub enum Told {
     Epoch(Who, u64),

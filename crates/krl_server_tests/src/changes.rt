@@ -1,4 +1,4 @@
-//! What each message changes in what survives, as the step says it.
+//! What each message changes in what survives, as the step reports it.
 use crate::acts::{Act, Asked, Change as Write, Who};
 use crate::again::CALLS;
 use crate::named::{A, A2, B, DELETE, LOCK_5};
@@ -9,7 +9,7 @@ use krl_modes::Mode;
 use krl_server::Server;
 use std::alloc::Global;
 
-// What a step says of what survives.
+// What a step reports of what survives.
 #[derive(Clone, Copy)]
 pub enum Says {
     Nothing,
@@ -20,7 +20,7 @@ pub enum Says {
     Judged(u64, u64, Write, Outcome),
 }
 
-// On 10=1 and 20=2: clients that register, ask, write, say a write again, and leave.
+// On 10=1 and 20=2: clients that register, ask, write, repeat a write, and leave.
 pub static CHANGES: [(Act, Says); 16] = [
     (Act::Bye(A), Says::Nothing),
     (Act::Hello(A), Says::Registered(A)),
@@ -90,7 +90,7 @@ fn is_change(change: Option<Change>, expected: Says) -> bool {
     }
 }
 
-// Whether the step says this, at once or after refusals of memory.
+// Whether the step reports this, at once or after refusals of memory.
 fn is_said(alloc: Global, server: &mut Server, message: &ToServer, expected: Says) -> bool {
     for _ in 0..CALLS {
         if let Ok(out) = server.step(alloc, message) {
@@ -100,7 +100,7 @@ fn is_said(alloc: Global, server: &mut Server, message: &ToServer, expected: Say
     false
 }
 
-// Whether each act's step says what its row has.
+// Whether each act's step reports what its row has.
 pub fn all_say(alloc: Global, server: &mut Server, rows: &[(Act, Says)]) -> bool {
     for (act, expected) in rows {
         let Some(message) = message(alloc, *act) else {

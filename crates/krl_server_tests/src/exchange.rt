@@ -63,7 +63,7 @@ pub static EXCHANGE: [(Act, Gives); 23] = [
     ),
 ];
 
-// On 10=1: two wait at one slot, and the first in line alone calls others back.
+// On 10=1: two wait at one slot, and only the first in line calls others back.
 pub static CROWD: [(Act, Gives); 9] = [
     (Act::Hello(A), Gives::Told(&[Told::Epoch(A, 1)])),
     (Act::Hello(B), Gives::Told(&[Told::Epoch(B, 1)])),

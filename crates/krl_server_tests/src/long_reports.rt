@@ -86,7 +86,7 @@ fn taken(rt: &(impl CpuClock + AllocGlobal), order: Order) -> Option<(Duration, 
 }
 
 // Whether the client holds something at so many slots once it has reported in this order, and the
-// report took no more than some times what one in order takes.
+// report took no more than a few times what one in order takes.
 pub fn is_taken_in_time(rt: &(impl CpuClock + AllocGlobal), order: Order, expected: u64) -> bool {
     let Some((least, _)) = taken(rt, Order::Ascending) else {
         return false;

@@ -1,4 +1,4 @@
-//! What a server hears after a restart.
+//! What a server receives after a restart.
 use crate::acts::{Act, Asked, Gives, Told};
 use crate::named::{A, B, B2, C, C2, LOCK_3, LOCK_5, SHARED};
 use krl_modes::{END, KeyPart, Mode, RangePart};

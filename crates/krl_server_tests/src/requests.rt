@@ -113,8 +113,8 @@ fn try_message(alloc: Global, act: Act) -> Result<Option<ToServer>, AllocError> 
     }))
 }
 
-// What the server is told, asked for again if memory is refused. None if the act is no
-// message.
+// The message that the server receives. It is made again if memory is refused. None if the act is
+// no message.
 pub fn message(alloc: Global, act: Act) -> Option<ToServer> {
     for _ in 0..CALLS {
         if let Ok(message) = try_message(alloc, act) {

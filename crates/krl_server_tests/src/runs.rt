@@ -9,7 +9,7 @@ use krl_messages::{ToServer, Value};
 use krl_server::{Phase, Server, ServerOut};
 use std::alloc::Global;
 
-// Whether this comes of the step, if `stays` says whether nothing has changed.
+// Whether this comes of the step, if `stays` states whether nothing has changed.
 fn is_given(server: &Server, stays: bool, out: &ServerOut, client: u64, expected: &Gives) -> bool {
     let epoch = server.durable().epoch();
     let messages = out.messages.as_slice();
@@ -97,7 +97,7 @@ fn acts(alloc: Global, server: &mut Server, act: Act, expected: &Gives) -> bool 
     }
 }
 
-// Whether each act gives what its row says.
+// Whether each act gives what its row states.
 pub fn all_give(alloc: Global, server: &mut Server, rows: &[(Act, Gives)]) -> bool {
     for (act, expected) in rows {
         if !acts(alloc, server, *act, expected) {

@@ -36,7 +36,8 @@ struct Nudges {
     client_3: Option<Items<ToClient>>,
 }
 
-// What a server shows: what survives, its phase, who is missing, and what it sends if it is nudged.
+// What a server shows: what survives, its phase, the missing clients, and what it sends if it is
+// nudged.
 #[derive(PartialEq, Drop)]
 pub struct Shows {
     survives: Survives,

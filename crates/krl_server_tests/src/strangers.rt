@@ -57,7 +57,7 @@ pub static STRANGERS: [(Act, Gives); 43] = [
         Act::Report(B, 2, &[(0, 11, RangePart::X)], &[(10, KeyPart::X)]),
         Gives::Only(&[Told::Epoch(B, 1)]),
     ),
-    // It is not missing, though what it says contradicts A's lock.
+    // It is not missing, though what it reports contradicts A's lock.
     (
         Act::Report(B, 1, &[(0, 11, RangePart::X)], &[(10, KeyPart::X)]),
         Gives::Only(&[]),

@@ -23,7 +23,7 @@ pub static TAKES: [(Act, Gives); 19] = [
         Act::Asks(A, 1, 2, Asked::Take(3, Change::Delete(10))),
         Gives::Told(&[Told::Answer(A, 3, 3, Outcome::NotHeld, Held(0, 11, Mode::N, None))]),
     ),
-    // A put, and the same once more, whether it says that it takes its lock or not.
+    // A put, and the same again, whether it states that it takes its lock or not.
     (
         Act::Asks(A, 1, 3, Asked::Take(4, Change::Put(10, "3"))),
         Gives::Told(&[Told::Answer(A, 4, 4, Outcome::Applied, Held(0, 11, Mode::X, Some("3")))]),

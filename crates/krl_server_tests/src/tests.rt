@@ -1,4 +1,4 @@
-//! A server that is told everything by hand. Each run ends alike, whichever one or two allocations
+//! A server that is driven by hand. Each run ends alike, whichever one or two allocations
 //! in a row fail.
 ghost use Rattle.std.specs.Prelude.{◌≤◌, nat_eq};
 ghost use Rattle.std.specs.List.{AllByRecursion, IsDistinct};
@@ -132,7 +132,7 @@ fn with_limits(alloc: Global, durable: &Durable, limits: &Limits) -> Option<Dura
     None
 }
 
-// What survives a server that begins with this, gives what each row says, and then crashes; None
+// What survives a server that begins with this, gives what each row states, and then crashes; None
 // if it does not start, or gives something else.
 fn survives(alloc: Global, durable: Option<Durable>, rows: &[(Act, Gives)]) -> Option<Durable> {
     let mut server = started(alloc, durable?)?;
@@ -143,7 +143,7 @@ fn survives(alloc: Global, durable: Option<Durable>, rows: &[(Act, Gives)]) -> O
     }
 }
 
-// Whether a server that begins with this gives what each row says.
+// Whether a server that begins with this gives what each row states.
 fn gives(alloc: Global, durable: Option<Durable>, rows: &[(Act, Gives)]) -> bool {
     survives(alloc, durable, rows).is_some()
 }
@@ -158,7 +158,7 @@ fn gives_on_two(alloc: Global, rows: &[(Act, Gives)]) -> bool {
     gives(alloc, unused(alloc, &two_entries()), rows)
 }
 
-// Whether it gives what the first rows say, and then, after a crash, what the others say.
+// Whether it gives what the first rows state, and then, after a crash, what the others state.
 fn gives_over_a_crash(
     alloc: Global,
     entries: &[(u64, Value)],
@@ -189,7 +189,7 @@ fn a_write_takes_a_free_lock(rt: HostRuntime) {
     assert!(rt; takes_free_locks(rt.alloc()));
 }
 
-// Whether each step of a server on both entries says what it changed.
+// Whether each step of a server on both entries reports what it changed.
 fn says_each_change(alloc: Global) -> bool {
     let Some(durable) = unused(alloc, &two_entries()) else {
         return false;

@@ -1,4 +1,4 @@
-//! Whether messages to clients are the ones that are told.
+//! Whether messages to clients are the ones that are expected.
 use crate::acts::{Held, Told, Who, value};
 use krl_messages::{Holding, Outcome, PushBody, ToClient, ToClientBody};
 use krl_modes::Span;
@@ -57,7 +57,7 @@ fn is_answered(push: &PushBody, number: u64, outcome: Outcome, expected: Held) -
     }
 }
 
-// Whether a push of this number is the one that is told.
+// Whether a push of this number is the one that is expected.
 fn is_pushed(number: u64, push: &PushBody, told: Told) -> bool {
     match told {
         Told::Grant(_, pushed, req, held) => pushed == number && is_granted(push, req, &[held]),
@@ -72,7 +72,7 @@ fn is_pushed(number: u64, push: &PushBody, told: Told) -> bool {
     }
 }
 
-// Whether this is said by a server of the epoch.
+// Whether this is sent by a server of the epoch.
 fn is_said(epoch: u64, body: &ToClientBody, told: Told) -> bool {
     match body {
         ToClientBody::Epoch { epoch: said } => {

@@ -196,7 +196,7 @@ pub static LAST_NUMBER: [(Act, Gives); 7] = [
         Gives::Told(&[Told::Answer(A, 1, END, Outcome::Applied, FIRST)]),
     ),
     (Act::Entries, Gives::Entries(&[(10, "1")])),
-    // It is passed over, though it says that A has seen the push.
+    // It is passed over, though it states that A has seen the push.
     (
         Act::Asks(A, 2, 1, Asked::Write(END + 1, Change::Delete(10))),
         Gives::Told(&[]),

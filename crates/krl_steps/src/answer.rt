@@ -4,7 +4,7 @@ use krl_cache::Rows;
 /// What a step that was taken answers.
 #[derive(Drop)]
 pub enum Answer {
-    /// The step was taken, and has nothing to say.
+    /// The step was taken, and has nothing to report.
     Done,
     /// The number of the new pin.
     Pinned(u64),

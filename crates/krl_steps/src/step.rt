@@ -2,7 +2,7 @@
 use krl_messages::WriteOp;
 use krl_modes::Mode;
 
-/// What a client is told to do.
+/// A command to a client.
 #[derive(Clone, Copy)]
 pub enum Command {
     /// Ask the server for the mode on the slot of the point, and on the slots after it that begin
@@ -59,8 +59,8 @@ pub enum Step {
     Command(u64, Command),
     /// The client of this number sends again what is not answered.
     Tick(u64),
-    /// The server sends the client of this number again what it has not heard, or calls back those
-    /// who block it.
+    /// The server sends the client of this number again what it has not answered, or calls back
+    /// those that block it.
     Nudge(u64),
     /// The client of this number begins to run, with a new incarnation.
     StartClient(u64),

@@ -1,4 +1,4 @@
--- Kept rows, and what they stand for: the slots, the extents' rows, who waits and who holds.
+-- Kept rows, and what they stand for: the slots, the extents' rows, the waiters and the holders.
 pub mod RowChanges
 pub mod Below
 pub mod NewSlotModes

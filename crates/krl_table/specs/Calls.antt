@@ -80,7 +80,7 @@ abbrev pub grant_first : Row → List Waiter → Row
 grant_first row [] = row
 grant_first row (u ∷ us) = record { modes = set_mode row.modes u.client (wanted row u); queue = us }
 
--- the slot's first waiter gets what it wants there, and waits no more
+-- the slot's first waiter gets what it wants there, and no longer waits
 abbrev pub granted_first : Rows → ℕ → Rows
 granted_first rows n = set_row rows n (grant_first (rows n) (rows n).queue)
 
@@ -93,11 +93,11 @@ abbrev pub raised_on : Rows → List ℕ → Waiter → Rows
 raised_on rows [] u = rows
 raised_on rows (n ∷ ns) u = raised_on (raised rows n u) ns u
 
--- the others, if the first waits no more
+-- the others, if the first no longer waits
 abbrev pub behind_first : List Waiter → List Waiter
 behind_first [] = []
 behind_first (u ∷ us) = us
 
--- drop_front: the slot's first waiter waits no more
+-- drop_front: the slot's first waiter no longer waits
 abbrev pub dropped : Rows → ℕ → Rows
 dropped rows n = set_row rows n (with_queue (rows n) (behind_first (rows n).queue))

@@ -1,4 +1,4 @@
--- What a first waiter can be told, and who is granted at once.
+-- What a first waiter can be answered, and which is granted at once.
 use Rattle.std.specs.Prelude.{ℕ, Bool, not, ◌&&◌, nat_eq, nat_lt, List, [], ◌∷◌, Option, Some, None, if◌then◌else◌}
 use Rattle.krl_modes.specs.declared.point.TheConstants.{END}
 use Rattle.krl_modes.specs.Modes.{needs_entry}
@@ -11,7 +11,7 @@ use Rattle.krl_table.specs.Calls.{wanted}
 use Rattle.krl_table.specs.Replies.{asks_absent, is_wanted_compatible}
 use Rattle.krl_table.specs.Grants.{nobody_waits}
 
--- what a waiter can be told, if its client has acknowledged every push
+-- what a waiter can be answered, if its client has acknowledged every push
 abbrev pub reply_to : Index → Rows → ℕ → Waiter → Option Reply
 reply_to m rows n u =
     if asks_absent m u then Some reply.Absent else (if is_wanted_compatible rows n u then Some reply.Grant else None)
@@ -20,7 +20,7 @@ abbrev pub first_reply : Index → Rows → ℕ → List Waiter → Option Reply
 first_reply m rows n [] = None
 first_reply m rows n (u ∷ us) = reply_to m rows n u
 
--- answerable: what the slot's first waiter can be told
+-- answerable: what the slot's first waiter can be answered
 abbrev pub answerable : Index → Rows → ℕ → Bool → Option Reply
 answerable m rows n acked = if acked then first_reply m rows n (rows n).queue else None
 

@@ -44,6 +44,6 @@ abbrev pub granted_by : ℕ → Index → Rows → ℕ → List Waiter → Rows
 granted_by r m rows n [] = rows
 granted_by r m rows n (u ∷ us) = raised_on (granted_first rows n) (taken_after m (granted_first rows n) n u (r - 1)) u
 
--- grant: the slot's first waiter gets what it wants on each of them, and waits no more
+-- grant: the slot's first waiter gets what it wants on each of them, and no longer waits
 abbrev pub granted : ℕ → Index → Rows → ℕ → Rows
 granted r m rows n = granted_by r m rows n (rows n).queue

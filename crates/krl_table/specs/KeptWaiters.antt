@@ -31,7 +31,7 @@ abbrev pub lesser_point : Option ℕ → ℕ → Option ℕ
 lesser_point None q = Some q
 lesser_point (Some p) q = Some (min p q)
 
--- the lesser of a point and the waiter's, which counts at or above low alone
+-- the lesser of a point and the waiter's, which counts only at or above low
 abbrev pub lesser : Option ℕ → Option Waiter → ℕ → Option ℕ
 lesser least None low = least
 lesser least (Some u) low = if nat_lt u.point low then least else lesser_point least u.point

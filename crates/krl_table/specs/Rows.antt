@@ -1,4 +1,4 @@
--- The rows of the table: on each slot a mode for each client, and those who wait.
+-- The rows of the table: on each slot a mode for each client, and the waiters.
 use Rattle.std.specs.Prelude.{ℕ, zero, suc, Bool, true, ◌&&◌, ◌||◌, nat_eq, List, [], is_some, if◌then◌else◌}
 use Rattle.std.specs.List.{list_any}
 use Rattle.krl_modes.specs.declared.mode.Mode.{Mode}

@@ -39,7 +39,7 @@ impl Extents {
         self.by_client[client as usize] = extent;
     }
 
-    /// Who may hold or wait at the first slot may do so at the second from now on.
+    /// A client that may hold or wait at the first slot may do so at the second from now on.
     pub(crate) fn follow(&mut self, from: u64, to: u64)
         ensures wider { AreWider self.old.by_client self.new.by_client }
         ensures there { (c : ℕ) → c < MAX_CLIENTS → Lies (extent_in self.old.by_client c) from

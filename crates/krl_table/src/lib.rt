@@ -1,4 +1,4 @@
-//! The table of the server: who holds which mode on which slot, and who waits there.
+//! The table of the server: which client holds which mode on which slot, and the waiters there.
 #![tactic(auto)]
 
 mod all_rows;

@@ -13,7 +13,7 @@ pub(crate) fn lets_insert(mode: Mode) -> bool
     RangePart::I.at_most(range)
 }
 
-/// Whether the gap is its holder's alone.
+/// Whether only its holder has the gap.
 pub(crate) fn is_range_x(mode: Mode) -> bool
     ensures { result ≡ is_range_X (range_of mode) }
 {
@@ -21,7 +21,7 @@ pub(crate) fn is_range_x(mode: Mode) -> bool
     RangePart::X.at_most(range)
 }
 
-/// Whether the entry is its holder's alone.
+/// Whether only its holder has the entry.
 pub(crate) fn is_key_x(mode: Mode) -> bool
     ensures { result ≡ is_key_X (key_of mode) }
 {

@@ -1,5 +1,5 @@
-//! What lists of pieces say of a slot, and where the next of them begins. Of a list that ascends
-//! only the pieces are read that can say something.
+//! What lists of pieces state of a slot, and where the next of them begins. Of a list that ascends,
+//! only those pieces are read that can state something.
 ghost use Rattle.std.specs.Prelude.{◌≡◌, ◌<◌, ◌≤◌, ◌⊎◌, ◌↔◌, ℕ, true, nat_eq, IsTrue};
 ghost use Rattle.std.specs.Prelude.{if◌then◌else◌};
 ghost use Rattle.krl_modes.specs.declared.part.RangePart.TheVariants as range;

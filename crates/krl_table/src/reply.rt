@@ -1,4 +1,4 @@
-//! What a first waiter can be told.
+//! What a first waiter can be answered.
 ghost use Rattle.std.specs.Prelude.{◌≡◌};
 ghost use Rattle.krl_table.specs.FirstReplies.{lacks_entry};
 

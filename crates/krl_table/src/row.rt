@@ -22,7 +22,7 @@ use krl_queue::{WaitList, WaitNode, Waiter};
 pub struct SlotRow {
     /// The mode of each client there.
     pub(crate) modes: [Mode; MAX_CLIENTS],
-    /// Who waits there.
+    /// The waiters there.
     pub(crate) queue: WaitList,
 }
 
@@ -113,7 +113,7 @@ impl SlotRow {
         }
     }
 
-    /// The first waiter gets what it wants, and waits no more.
+    /// The first waiter gets what it wants, and no longer waits.
     pub(crate) fn grant(&mut self) -> Option<Waiter>
         requires { IfSome (front_of self.old.queue) (λ u. u.client < MAX_CLIENTS) }
         ensures row { row_of self.new ≡ grant_first (row_of self.old) self.old.queue }
@@ -160,7 +160,7 @@ impl SlotRow {
         self.is_compatible_there(waiter.client, wanted)
     }
 
-    /// What the first waiter can be told, who waits on this slot.
+    /// What the first waiter on this slot can be answered.
     pub(crate) fn reply(&self, slot: u64) -> Option<Reply>
         requires { IfSome (front_of self.now.queue) (λ u. u.client < MAX_CLIENTS) }
         ensures { result ≡ row_reply slot (row_of self.now) }

@@ -119,7 +119,7 @@ pub(crate) fn enqueue(rows: &mut ReservedMap<SlotRow>, slot: u64, node: WaitNode
     put(rows, slot, row);
 }
 
-/// The first waiter there gets what it wants, and waits no more.
+/// The first waiter there gets what it wants, and no longer waits.
 pub(crate) fn grant(rows: &mut ReservedMap<SlotRow>, slot: u64) -> Option<Waiter>
     requires there { IsSome (map.get rows.old.map slot) }
     requires client { IfSome (front_of (rows_of rows.old.map slot).queue)
@@ -162,7 +162,7 @@ pub(crate) fn drop_front(rows: &mut ReservedMap<SlotRow>, slot: u64) -> Option<W
     waiter
 }
 
-/// Parts the row of the slot: the new row at the key, which its writer has alone, gets the waiters
+/// Parts the row of the slot: the new row at the key, which only its writer has, gets the waiters
 /// up to there.
 pub(crate) fn part(rows: &mut ReservedMap<SlotRow>, slot: u64, key: Point, client: u64)
     requires there { IsSome (map.get rows.old.map slot) }

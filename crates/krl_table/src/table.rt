@@ -113,7 +113,7 @@ impl Table {
         }
     }
 
-    /// As `mode`, by a search that begins at the finger, and moves it to the slot.
+    /// Like `mode`, by a search that begins at the finger, and moves it to the slot.
     pub fn mode_by(&self, slot: u64, client: u64, finger: &mut Finger) -> Mode
         requires { client < MAX_CLIENTS }
         ensures { result ≡ mode_at (rows_of self.now.map) slot client }
@@ -157,7 +157,7 @@ impl Table {
         })
     }
 
-    /// How the client waits. The clause `sound` says what holds of every table.
+    /// How the client waits. The clause `sound` states what holds of every table.
     pub fn waiter_of(&self, client: u64) -> Option<Waiter>
         requires { client < MAX_CLIENTS }
         ensures waiter { (m : Index) → IsOver m self.now.map
@@ -207,8 +207,8 @@ impl Table {
         all_rows::lower(&mut self.rows, client, from, span.hi(), keep);
     }
 
-    /// The client holds nothing, and waits no more. It looks at the rows that are kept between the
-    /// first and the last slot at which it held or waited since it was cleared.
+    /// The client holds nothing, and no longer waits. It looks at the rows that are kept between
+    /// the first and the last slot at which it held or waited since it was cleared.
     pub fn clear(&mut self, client: u64)
         requires { client < MAX_CLIENTS }
         ensures cleared { (n : ℕ) → rows_of self.new.map n
@@ -244,7 +244,7 @@ impl Table {
         self.extents.note(client, slot);
     }
 
-    /// The slot's first waiter waits no more.
+    /// The slot's first waiter no longer waits.
     pub fn drop_front(&mut self, slot: u64)
         ensures dropped { (n : ℕ) → rows_of self.new.map n ≡ dropped (rows_of self.old.map) slot n }
         ensures slots { (m : Index) → IsOver m self.old.map → IsOver m self.new.map }

@@ -59,7 +59,7 @@ impl Waiting {
         self.count = count;
     }
 
-    /// The waiter's client waits no more, if there is one.
+    /// The waiter's client no longer waits, if there is one.
     pub(crate) fn leave(&mut self, waiter: &Option<Waiter>)
         requires { IfSome waiter.now (λ w. w.client < MAX_CLIENTS) }
         ensures { self.new.by_client ≡ unlisted self.old.by_client waiter.now }
@@ -69,7 +69,7 @@ impl Waiting {
         }
     }
 
-    /// The client waits no more.
+    /// The client no longer waits.
     pub(crate) fn clear(&mut self, client: u64)
         requires { client < MAX_CLIENTS }
         ensures { self.new.by_client ≡ set self.old.by_client client None }
@@ -100,7 +100,7 @@ impl Waiting {
     }
 }
 
-/// The lesser of the point and the waiter's, which counts at or above `low` alone.
+/// The lesser of the point and the waiter's, which counts only at or above `low`.
 fn lesser(least: Option<Point>, waiter: &Option<Waiter>, low: u64) -> Option<Point>
     ensures { result ≡ lesser least waiter.now low }
 {

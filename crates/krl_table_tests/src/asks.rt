@@ -29,9 +29,9 @@ pub enum Ask {
     Drops(u64),
     /// The client goes.
     Clears(u64),
-    /// The writer inserts the key, and is told so.
+    /// The writer inserts the key, and receives the outcome.
     Inserts(u64, Outcome),
-    /// The writer deletes the key, and is told so.
+    /// The writer deletes the key, and receives the outcome.
     Deletes(u64, Outcome),
     /// The client's report is taken in.
     Adopts(u64, Report),
@@ -45,7 +45,7 @@ pub enum Ask {
     IsNoSlot(u64),
     /// The client is first at the slot.
     IsFirst(u64, u64),
-    /// The client is first at the slot, whose span begins there, and finds this mode alone.
+    /// The client is first at the slot, whose span begins there, and finds only this mode.
     Finds(u64, u64, u64, Alone),
     /// Nobody waits at the slot.
     FindsNobody(u64),
@@ -57,7 +57,7 @@ pub enum Ask {
     WaitsNowhere(u64),
 }
 
-/// Whether the table shows what the row says. A row that does something is no such row.
+/// Whether the table shows what the row states. A row that does something is no such row.
 fn shows(bench: &Bench, ask: Ask) -> bool {
     match ask {
         Ask::Holds(client, at, mode) => bench.mode(client, at) == Some(mode),

@@ -6,7 +6,7 @@ use krl_modes::{END, KeyPart, RangePart, TOP};
 use krl_table::{in_order, is_in_order};
 use std::alloc::Global;
 
-/// Each report, and the one in order that says the same.
+/// Each report, and the one in order that states the same.
 pub static ORDERS: [(Report, Report); 6] = [
     (Report(&[], &[]), Report(&[], &[])),
     // The last first.

@@ -104,7 +104,7 @@ static AT_ONCE: [Ask; 16] = [
     Ask::TakesAtOnce(2, 15, 16, Mode::S, 0),
     Ask::TakesAtOnce(2, 20, 21, Mode::S, 1),
     Ask::Holds(2, 20, Mode::S),
-    // Nobody goes past one who waits.
+    // No client goes past one that waits.
     Ask::Waits(3, 15, Mode::RangeXX),
     Ask::IsQuiet(false),
     Ask::TakesAtOnce(4, 15, 16, Mode::RangeSS, 0),

@@ -191,7 +191,7 @@ tables_of_modes =
 abbrev pub unsettled_line : List ℕ
 unsettled_line = line_of (codes "unsettled")
 
--- a fault as a transcript tells it
+-- a fault as a transcript reports it
 abbrev pub fault_text : SyntaxFault → List ℕ
 fault_text TextTooLong = codes "text too long"
 fault_text TooManyLines = codes "too many lines"

@@ -1,5 +1,5 @@
--- What reads and writes tell of bytes, and when they fail. A reader or a writer that does not tell its bytes is read or
--- written as `None`.
+-- What reads and writes state of bytes, and when they fail. A reader or a writer that does not state its bytes is read
+-- or written as `None`.
 use Rattle.std.specs.Prelude.{◌≡◌, ◌≢◌, ℕ, ◌+◌, ◌<◌, ◌≤◌, ⊤, List, length, Option, None, Some, Result, Ok, Err}
 use Rattle.std.specs.IoError.{error_kind}
 use Rattle.std_io.specs.declared.io.error.Error.{Error}
@@ -9,7 +9,7 @@ use Rattle.krl_text.specs.declared.fault.ScriptFault.{ScriptFault}
 use Rattle.krl_text.specs.declared.fault.ScriptFault.TheVariants as script
 use Rattle.krl_text.specs.Limits.{max_interruptions, max_text}
 
--- the bytes that a reader has left or a writer holds, if it tells them
+-- the bytes that a reader has left or a writer holds, if it states them
 abbrev pub Known : Type 0
 Known = Option (List ℕ)
 

@@ -49,12 +49,12 @@ abbrev pub or_fault : {A : Type 0} → SyntaxFault → Option A → Result A Syn
 or_fault what None = Err what
 or_fault what (Some x) = Ok x
 
--- What a function failed by is what is said of the text, unless memory ran out.
+-- What a function failed by is what is stated of the text, unless memory ran out.
 abbrev pub Fails : {A : Type 0} → LineFault → Result A SyntaxFault → Type 0
 Fails line_fault.OutOfMemory said = Unit {0}
 Fails (line_fault.Syntax what) said = said ≡ Err what
 
--- What a function returned is what is said of the text, unless memory ran out.
+-- What a function returned is what is stated of the text, unless memory ran out.
 abbrev pub Gives : {A : Type 0} → Result A LineFault → Result A SyntaxFault → Type 0
 Gives (Ok x) said = said ≡ Ok x
 Gives (Err e) said = Fails e said
@@ -228,7 +228,7 @@ valued_request w c k v = request.Step (step.Command c (command.Write (valued_cha
 abbrev pub taking_request : Valued → ℕ → ℕ → Value → Request
 taking_request w c k v = request.Step (step.Command c (command.Take (valued_change w k v)))
 
--- what a word tells a client to do, with two numbers
+-- the command of a word to a client, with two numbers
 abbrev pub client_and_two_command : ClientAndTwo → ℕ → ℕ → Command
 client_and_two_command client_and_two.Scan lo hi = command.Scan lo hi
 client_and_two_command client_and_two.Forget lo hi = command.Lower lo hi mode.N
@@ -371,12 +371,11 @@ makes_world (request.Seed entries) = true
 makes_world (request.Fill n) = true
 makes_world other = false
 
--- a request that makes a world may stand before every other one alone
+-- a request that makes a world may stand only before every other one
 abbrev pub in_time : Bool → Request → Result Request SyntaxFault
 in_time begun request = if begun && makes_world request then Err LateSeed else Ok request
 
--- What the line of number n, counted from 1, asks for, or its first fault; begun says that the
--- world is made.
+-- What the line of number n, counted from 1, asks for, or its first fault; begun states that the world is made.
 unfoldable pub line_request : Bool → ℕ → List ℕ → Result Request SyntaxFault
 line_request begun n line =
     if nat_lt max_lines n then Err TooManyLines

@@ -11,7 +11,7 @@ use thiserror::Error;
 /// What is wrong with a text or a line of it. Each prints as its text in a transcript.
 #[derive(Clone, Copy, Debug, PartialEq, Eq)]
 pub enum SyntaxFault {
-    /// The text has more than `MAX_TEXT` bytes. It is said of line 0, and no line is run.
+    /// The text has more than `MAX_TEXT` bytes. It is reported of line 0, and no line is run.
     TextTooLong,
     /// The line comes after the first `MAX_LINES`.
     TooManyLines,
@@ -36,7 +36,7 @@ pub enum SyntaxFault {
 }
 
 impl SyntaxFault {
-    /// The fault as a transcript tells it.
+    /// The fault as a transcript reports it.
     pub fn text(self) -> &'static str
         ensures { result.now ≡ fault_text self }
     {
@@ -102,7 +102,7 @@ pub enum ScriptFault {
     /// The script's own growth, or the making of its world, found no memory.
     #[error("out of memory")]
     OutOfMemory,
-    /// A line, counted from 1, has this fault, which the transcript's last line says too.
+    /// A line, counted from 1, has this fault, which the transcript's last line reports too.
     #[error("line {line}: {what}")]
     Syntax { line: u64, what: SyntaxFault },
 }

@@ -214,7 +214,7 @@ fn seed(alloc: Global, arguments: &[&[u8]]) -> Result<Request, LineFault>
     Ok(Request::Seed(entries))
 }
 
-// How far a lock is asked for: to where the fourth argument says, or one past its point. Past the
+// How far a lock is asked for: to where the fourth argument states, or one past its point. Past the
 // last point there is none, and such a lock is refused for its point.
 fn reach(point: u64, arguments: &[&[u8]]) -> Result<u64, LineFault>
     ensures { Gives result (reach_of point (map (λ word. word.now) arguments.now)) }

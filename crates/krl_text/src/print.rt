@@ -163,7 +163,7 @@ pub fn modes(alloc: Global) -> Result<String, AllocError>
     Ok(lines)
 }
 
-/// The text alone.
+/// Only the text.
 pub fn text(alloc: Global, text: &str) -> Result<String, AllocError>
     ensures { IfOk result (λ line. line.bytes.items ≡ text.now) }
 {

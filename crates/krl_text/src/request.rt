@@ -82,7 +82,7 @@ pub enum Request {
 impl Request {
     ghost use Rattle.krl_text.specs.Words.{makes_world};
 
-    /// Whether the request makes a world, and so may stand before every other one alone.
+    /// Whether the request makes a world, and so may stand only before every other one.
     pub fn makes_world(&self) -> bool
         ensures { result ≡ makes_world self.now }
     {

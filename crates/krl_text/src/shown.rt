@@ -1,4 +1,4 @@
-//! The lines that tell what was read of a world.
+//! The lines that report what was read of a world.
 ghost use Rattle.std.specs.Prelude.{◌≡◌, ◌++◌, codes, IfOk, OnOk};
 ghost use Rattle.std.specs.List.{flat_map};
 ghost use Rattle.krl_blocks.specs.Laid.{flat};

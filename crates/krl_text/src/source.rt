@@ -12,7 +12,7 @@ pub trait Source: Read {
     // How many reads from here on may be interrupted, if no read fails in another way.
     ghost interruptions: { Self → Option ℕ };
 
-    // How many reads were made, if the reader tells.
+    // How many reads were made, if the reader states it.
     ghost reads: { Self → Option ℕ };
 
     /// Reads as `read` does.
@@ -26,10 +26,10 @@ pub trait Source: Read {
 
 /// A writer, and how its writes may fail.
 ///
-/// An instance says how many interruptions are to come, or says no number. If it says one, each
-/// write does one of two things. It takes at least one byte, if it is given one, and as many
+/// An instance states how many interruptions are to come, or states no number. If it states one,
+/// each write does one of two things. It takes at least one byte, if it is given one, and as many
 /// interruptions are still to come. Or it is interrupted: then at least one was to come, and one
-/// fewer is to come now. An instance that says no number promises none of this.
+/// fewer is to come now. An instance that states no number promises none of this.
 pub trait Sink: Write {
     // How many writes from here on may be interrupted, if no write fails in another way.
     ghost interruptions: { Self → Option ℕ };

@@ -204,7 +204,7 @@ impl ClientAndTwo {
         }
     }
 
-    // What the client is told to do.
+    // The command to the client.
     fn command(self, second: u64, third: u64) -> Command
         ensures { result ≡ client_and_two_command self second third }
     {
@@ -228,7 +228,7 @@ impl ClientAndTwo {
     }
 }
 
-/// The first word of a line, which says what the line asks for, by the arguments that it takes.
+/// The first word of a line, which states what the line asks for, by the arguments that it takes.
 #[derive(Clone, Copy)]
 pub enum Word {
     /// `seed`, and pairs of a key and its value.

@@ -51,7 +51,7 @@ module _ {X : Type 0} (item : List ℕ → Result (X × List ℕ) Fault) where
       let one : with_front front (items_at item (count - i) bytes) ≡ Ok (front, bytes) = rw k (at_end front bytes) in
       sym so_far ∙ one
 
--- the same of holdings, each of which says where the next may begin
+-- the same of holdings, each of which determines where the next may begin
 pub holdings_fail : (f : Fault) (count : ℕ) (bytes : List ℕ) → 1 ≤ count → holding_from 0 bytes ≡ Err f
     → holdings_from count 0 bytes ≡ Err f
 unfolding holdings_from

@@ -45,7 +45,7 @@ answer_takes bytes x fits e =
     let t = three_take number_codec outcome_codec holding_codec push.Answer bytes x fits e in
     subst (λ (y : PushBody). Reads 19 bytes (y, x.1)) t.3 (t.4, (refl, (t.5, t.7)))
 
--- the kind is what the test says
+-- the kind is what the test shows
 at_kind : (k n : ℕ) (bytes : List ℕ) (x : PushBody × List ℕ) → k ≡ n → Reads n bytes x → Reads k bytes x
 at_kind k n bytes x e t = subst (λ (i : ℕ). Reads i bytes x) (sym e) t
 

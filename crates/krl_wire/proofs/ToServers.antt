@@ -75,7 +75,7 @@ release_takes bytes x fits e =
     let t = two_take span_codec mode_codec request.Release bytes x fits e in
     subst (λ (y : RequestBody). Reads 7 bytes (y, x.1)) t.2 (t.3, (refl, t.4))
 
--- the kind is what the test says
+-- the kind is what the test shows
 at_kind : (k n : ℕ) (bytes : List ℕ) (x : RequestBody × List ℕ) → k ≡ n → Reads n bytes x → Reads k bytes x
 at_kind k n bytes x e t = subst (λ (i : ℕ). Reads i bytes x) (sym e) t
 

@@ -112,7 +112,7 @@ write_kind (write.Insert k v) true = 9
 write_kind (write.Put k v) true = 10
 write_kind (write.Delete k) true = 11
 
--- the kind of each message to the server, and what it says after its head
+-- the kind of each message to the server, and what it has after its head
 abbrev pub request_kind : RequestBody → ℕ
 request_kind (asked.Lock req point hi m) = 3
 request_kind (asked.Write n change takes) = write_kind change takes
@@ -143,7 +143,7 @@ to_server_body (said.Request r) = number r.epoch ++ number r.seen ++ request_bod
 abbrev pub to_server : ToServer → List ℕ
 to_server m = 1 ∷ to_server_kind m.body ∷ number m.client ++ number m.incarnation ++ to_server_body m.body
 
--- the kind of each message to a client, and what it says after its head
+-- the kind of each message to a client, and what it has after its head
 abbrev pub push_kind : PushBody → ℕ
 push_kind (push.Grant req hs) = 17
 push_kind (push.Absent req point) = 18

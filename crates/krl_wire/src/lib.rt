@@ -2,7 +2,7 @@
 //!
 //! Version 1. A number has eight bytes and the count of a report's list four, the lowest first; a
 //! tag, a flag and any other count are one byte. A message is the version, its kind, the client's
-//! number, the incarnation, and what its kind says.
+//! number, the incarnation, and the fields of its kind.
 #![tactic(auto)]
 
 mod fault;

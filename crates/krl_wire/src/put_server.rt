@@ -87,7 +87,7 @@ fn put_lock(out: &mut Vec<u8>, req: u64, point: u64, hi: u64, mode: Mode) -> Res
     put_mode(out, mode)
 }
 
-// What an insert and a put say.
+// The fields of an insert and a put.
 fn put_change(out: &mut Vec<u8>, number: u64, key: u64, value: &Value) -> Result<(), AllocError>
     ensures { OnOk result (out.new.items ≡ out.old.items
         ++ (spelling.number number ++ spelling.number key ++ spelling.value value.now)) }

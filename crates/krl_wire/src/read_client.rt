@@ -103,7 +103,7 @@ fn callback(reader: &mut Reader<'_>) -> Result<ToClientBody, Fault>
     Ok(ToClientBody::Callback { epoch, span, keep })
 }
 
-// What a message of this kind says after its head. The kind is 16 to 20.
+// What a message of this kind has after its head. The kind is 16 to 20.
 #[tactic(auto, unfolding(crate::specs::Reading::to_client_body_at))]
 fn to_client_body(
     reader: &mut Reader<'_>,

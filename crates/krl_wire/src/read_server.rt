@@ -112,7 +112,7 @@ fn report(reader: &mut Reader<'_>, alloc: Global) -> Result<ToServerBody, ReadEr
     Ok(ToServerBody::Report { epoch, pieces })
 }
 
-// What a message of this kind says after its head. The kind is 0 to 11.
+// What a message of this kind has after its head. The kind is 0 to 11.
 #[tactic(auto, unfolding(crate::specs::Reading::to_server_body_at))]
 fn to_server_body(
     reader: &mut Reader<'_>,

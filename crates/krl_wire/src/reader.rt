@@ -13,7 +13,7 @@ use krl_modes::{MAX_VALUE_BYTES, Mode, Span};
 use std::marker::Model;
 
 /// The bytes that are not read yet. Each call reads a field off their front. What is left after a
-/// fault is not said.
+/// fault is not specified.
 #[derive(Drop)]
 pub struct Reader<'a> {
     rest: &'a [u8],

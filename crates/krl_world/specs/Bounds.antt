@@ -71,7 +71,7 @@ abbrev pub step_clears : State → Step → ℕ → Bool
 step_clears w (step.Deliver i) c = clears_in w.server (message_at w.sent i) c
 step_clears w other c = false
 
--- while nobody serves the bound stays, but for those clients
+-- while nobody serves the bound stays, except for those clients
 abbrev pub cleared : (ℕ → Bool) → Bound → Bound
 cleared gone b = record {
   range_at = λ c p. if gone c then range.N else b.range_at c p;
@@ -79,7 +79,7 @@ cleared gone b = record {
   index = b.index;
 }
 
--- the table of a server that serves, or else what was kept
+-- the table of a server that serves, otherwise what was kept
 abbrev pub bound_at : ServerPlace → Bound → Bound
 bound_at (Up s) kept = if is_recovering s.missing then kept else table_of s
 bound_at (Down d) kept = kept

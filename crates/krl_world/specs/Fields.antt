@@ -11,7 +11,7 @@ use Rattle.krl_world.specs.declared.message.Message.{Message}
 use Rattle.krl_steps.specs.declared.applied_write.AppliedWrite.{AppliedWrite}
 use Rattle.krl_world.specs.States.{ServerPlace, Up, Down, ClientPlace, State}
 
--- what the fields say, apart from its memory
+-- what the fields hold, apart from its memory
 pub record Fields : Type 0 where
   pub opening : Durable
   pub server : KeptNode

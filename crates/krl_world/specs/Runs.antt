@@ -1,4 +1,4 @@
--- Runs that come to where something happens, so that what holds of all runs is not said in vain.
+-- Runs that come to where something happens, so that what holds of all runs is not vacuous.
 use Rattle.std.specs.Prelude.{◌≡◌, ◌≤◌, ℕ, true, [], ◌∷◌, None, Ok}
 use Rattle.std.specs.FinMap as map
 use Rattle.krl_modes.specs.declared.mode.Mode.TheVariants as mode
@@ -33,7 +33,7 @@ ScansWhileDown =
     (w : State) × (d : Durable) × IsReachable w × (w.server ≡ Down d)
     × Steps w (step.Command 0 (command.Scan 0 11)) (Ok (answered.Rows ((10, 1 ∷ []) ∷ []))) w
 
--- the push of this epoch and number that tells the client the outcome of its write
+-- the push of this epoch and number that reports to the client the outcome of its write
 abbrev pub answer_message : ℕ → ℕ → ℕ → ℕ → ℕ → Outcome → Holding → Message
 answer_message c incarnation epoch push_number number o h =
     message.ToClient (record {
@@ -42,13 +42,14 @@ answer_message c incarnation epoch push_number number o h =
       body = told.Push epoch push_number (push.Answer number o h);
     })
 
--- a client was told that its insert is Applied, and it stands in the list of writes
+-- a client received Applied for its insert, and it stands in the list of writes
 abbrev pub WritesSomewhere : Type 0
 WritesSomewhere = (w : State) × (h : Holding) × IsReachable w × In (answer_message 0 1 1 2 1 outcome.Applied h) w.sent
     × (w.writes ≡ record { client = 0; incarnation = 1; number = 1; op = write.Insert 15 (5 ∷ []) } ∷ [])
 
 -- one run through all this: a client that read a gap was called back; the server crashed, started again and serves with
--- what both its clients reported; and the client that got the gap alone deleted the key there, and was told Applied
+-- what both its clients reported; and the client that became the gap's only holder deleted the key there, and received
+-- Applied
 pub record HasComeThrough (w : State) : Type 0 where
   pub reached : IsReachable w
   pub called_back : In (message.ToClient (record {

@@ -65,7 +65,7 @@ CannotBegin entries r = (e : EntriesRefused) × Refuses standard_room entries e 
 abbrev pub CannotOpen : Durable → Refused → Type 0
 CannotOpen d r = (r ≡ refused.OutOfMemory) ⊎ ((r ≡ refused.Spent) × (server.can_start d ≡ false))
 
--- why no world begins with what survived when values were numbers: it can't be migrated; or else there is no epoch for
+-- why no world begins with what survived when values were numbers: it can't be migrated; or there is no epoch for
 -- the start; or memory was not there
 abbrev pub CannotMigrate : DurableV1 → Refused → Type 0
 CannotMigrate d r =
@@ -169,7 +169,7 @@ Delivers w None w' = ⊥
 
 -- Commands
 
--- what a client says of a scan is the answer
+-- what a client answers to a scan is the answer
 abbrev pub ScanAnswers : Client → Bounds → Answer → Type 0
 ScanAnswers k s (answered.Rows rows) = Commands.Answers k s (scan_answer.Rows rows)
 ScanAnswers k s (answered.Miss p) = Commands.Answers k s (scan_answer.Miss p)

@@ -10,7 +10,7 @@ ghost use Rattle.krl_world.specs.Bounds.{Bound, HasBound, IsBounded, HoldsOverRe
 
 /// After every list of steps no two clients hold incompatible parts at one point, each scan that is
 /// answered from a cache is that range of the index, and each numbered write changed the index at
-/// most once, and once if its client was told Applied.
+/// most once, and once if its client received Applied.
 pub fn headline()
     ensures { (w : State) → IsReachable w → Headline w }
 {}
@@ -25,9 +25,9 @@ pub fn bound_is_the_table()
     ensures { BoundIsTable }
 {}
 
-/// What clients believe, and what live pushes say, is within the bound table of each run; so is
-/// what a recovering server hears and rebuilds, no message has an epoch above the durable one, and
-/// no message alarms the server.
+/// What clients believe, and what live pushes state, is within the bound table of each run; so is
+/// what a recovering server receives and rebuilds, no message has an epoch above the durable one,
+/// and no message alarms the server.
 pub fn within_the_bound()
     ensures bounded { (w : State) (b : Bound) → HasBound w b → IsBounded w b }
     ensures restarts { (w : State) (b : Bound) → HasBound w b → HoldsOverRestarts w b }
@@ -69,7 +69,7 @@ pub fn scans_while_down()
     ensures { ScansWhileDown }
 {}
 
-/// Some run comes to a world in which a client was told that its insert is Applied, and it stands
+/// Some run comes to a world in which a client received Applied for its insert, and it stands
 /// in the list of writes.
 pub fn writes_somewhere()
     ensures { WritesSomewhere }

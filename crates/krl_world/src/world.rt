@@ -116,7 +116,8 @@ impl World {
     }
 
     /// Takes steps one after another, and gives what each answered, refusals too. Each step keeps
-    /// what [`World::step`] promises; what is promised of the last world of a run is said here too.
+    /// what [`World::step`] promises; what is promised of the last world of a run is stated here
+    /// too.
     ///
     /// # Errors
     ///

@@ -1,4 +1,4 @@
-//! Scripts on a reader and writers that tell their bytes, or how often they are interrupted.
+//! Scripts on a reader and writers that state their bytes, or how often they are interrupted.
 ghost use Rattle.std.specs.Prelude.{None, Some, length};
 ghost use Rattle.std.specs.Io.{ReadsAtMost, WritesAtMost};
 ghost use Rattle.std.specs.Io.KnownBytes.{ReadConsumes};
@@ -14,7 +14,7 @@ static SCRIPT: &str =
 
 static TRANSCRIPT: &str = "rows 10=x0a\nfault line 7: unknown word\n";
 
-/// Gives up to three bytes a read, and tells which are left. It is interrupted some times first,
+/// Gives up to three bytes a read, and states which are left. It is interrupted a few times first,
 /// and fails in no other way.
 #[derive(Drop)]
 struct Dripping<'a> {
@@ -60,7 +60,7 @@ impl Source for Dripping<'_> {
     }
 }
 
-/// Takes one byte a write, and sees whether it is what is to come. It is interrupted some times
+/// Takes one byte a write, and sees whether it is what is to come. It is interrupted a few times
 /// first, and fails in no other way.
 #[derive(Drop)]
 struct Matching<'a> {
@@ -106,8 +106,7 @@ impl Sink for Matching<'_> {
     }
 }
 
-/// Keeps what is written, and tells it. It is interrupted some times first, and may want for
-/// memory.
+/// Keeps what is written, and states it. It is interrupted a few times first, and may lack memory.
 #[derive(Drop)]
 struct Keeping {
     bytes: Vec<u8>,

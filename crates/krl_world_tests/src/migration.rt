@@ -38,7 +38,7 @@ const HERE: Record = Record {
     outcome: None,
 };
 
-/// Who has left, in order of registration.
+/// The clients that have left, in order of registration.
 static ALL_LEFT: [(u64, Record); 2] = [(0, GONE), (9, WRITER)];
 
 /// The first of them has not left.

@@ -7,7 +7,7 @@ use krl_script::{Progress, ScriptFault, Untold, busy_run, random_run};
 use krl_text::{AnyWriter, MAX_STEPS};
 use std::alloc::{AllocError, Global};
 
-/// Counts how often it is told of steps, and keeps the last number.
+/// Counts how often steps are reported to it, and keeps the last number.
 #[derive(Drop)]
 struct Counted {
     times: u64,
@@ -136,7 +136,7 @@ fn a_write_that_fails_ends_the_run(rt: HostRuntime) {
     assert!(rt; !is_cut(rt.alloc(), line, line.len()));
 }
 
-/// Whether a run of 20001 steps ends, and tells of the 10000th and the 20000th.
+/// Whether a run of 20001 steps ends, and reports the 10000th and the 20000th.
 fn tells_every_10000th(alloc: Global) -> bool {
     let mut told = Counted { times: 0, last: 0 };
     let mut taken = AnyWriter(writer("random 3 20001 sound\n", 1000, 1000));

@@ -218,7 +218,7 @@ fn run_once(alloc: Global, run: &Run) -> Result<bool, bool> {
 }
 
 // Whether a run that is made again as long as memory is refused is right in the end. A refused
-// run, an `Err`, says whether what it left is right.
+// run, an `Err`, reports whether what it left is right.
 fn is_right_at_last(alloc: Global, run: &Run) -> bool {
     for _ in 0..CALLS {
         match run_once(alloc, run) {

@@ -48,7 +48,7 @@ fn ends(alloc: Global, world: &mut World, rest: Rest, line: &str) -> bool {
     is_told && taken.0.is_right && taken.0.rest.is_empty()
 }
 
-/// Whether client 1 waits behind a pin of client 0, and is answered once it is freed. In five
+/// Whether client 1 waits for a pin of client 0, and is answered once the pin is freed. In five
 /// rounds client 1 asks again, the server calls client 0 back, client 0 gives way, the server
 /// grants, and the grant arrives.
 fn waits_for_a_pin(alloc: Global) -> Result<bool, Refused> {
@@ -68,8 +68,8 @@ fn a_pin_keeps_a_world_from_rest(rt: HostRuntime) {
     assert!(rt; matches!(waits_for_a_pin(rt.alloc()), Ok(true)));
 }
 
-/// Whether client 1 waits no more though its messages were lost, client 0 crashed and the server
-/// too. In three rounds client 1 speaks in the old epoch, the server answers with the new one, and
+/// Whether client 1 no longer waits though its messages were lost, client 0 crashed and the server
+/// too. In three rounds client 1 sends in the old epoch, the server answers with the new one, and
 /// client 1 joins it: that drops its lock request.
 fn starts_what_is_down(alloc: Global) -> Result<bool, Refused> {
     let mut world = held(alloc)?;
@@ -111,8 +111,9 @@ fn a_lost_write_is_said_again(rt: HostRuntime) {
 }
 
 /// Whether client 0's lost write is judged though the server crashed. In three rounds clients 0 and
-/// 1 join the new epoch. In the fourth the server hears their reports, and serves again. The write
-/// that client 0 says in that round is judged in the fifth, and its answer arrives in the sixth.
+/// 1 join the new epoch. In the fourth the server receives their reports, and serves again. The
+/// write that client 0 sends in that round is judged in the fifth, and its answer arrives in the
+/// sixth.
 fn outlasts_a_recovery(alloc: Global) -> Result<bool, Refused> {
     let mut world = held(alloc)?;
     puts(&mut world);

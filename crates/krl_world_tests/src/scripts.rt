@@ -11,7 +11,7 @@ static FIRST: &str =
 static TRANSCRIPT: &str = "rows 10=1\nmiss 11\n";
 
 /// Scripts with their transcripts: the first one; one with inserts of two clients; one in which the
-/// server crashes before a client is told of its insert; and a lock of a range over values of
+/// server crashes before a client learns of its insert; and a lock of a range over values of
 /// bytes.
 static SCRIPTS: [(&str, &str); 4] = [
     (
@@ -41,8 +41,8 @@ static SCRIPTS: [(&str, &str); 4] = [
     ),
 ];
 
-/// Gives a byte a read. It is interrupted some times before the first byte, and perhaps once before
-/// each; after so many good reads it fails.
+/// Gives a byte a read. It is interrupted a few times before the first byte, and perhaps once
+/// before each; after so many good reads it fails.
 #[derive(Drop)]
 struct Dripping<'a> {
     text: &'a [u8],
@@ -84,7 +84,7 @@ impl Read for Dripping<'_> {
     }
 }
 
-/// Takes some bytes a write, and sees whether they are what is to come. It is interrupted some
+/// Takes some bytes a write, and sees whether they are what is to come. It is interrupted a few
 /// times before the first write, and fails once it has no room.
 #[derive(Drop)]
 pub struct Narrow<'a> {

@@ -5,7 +5,7 @@ use Rattle.krl_modes.specs.declared.part.KeyPart.TheVariants as key
 use Rattle.krl_failover.specs.Fenced.{Kept, IsHere}
 use Rattle.krl_machine.proofs.RowChanges.{Below}
 
--- what krl_machine did not need to say of one server
+-- what krl_machine did not need to state of one server
 pub record Extra (s : Shared) (l : Link) : Type 0 where
   pub heads : (a : Head) → In a l.heads → a.inc ≤ l.reg
   pub reports : (x : Report) → In x l.reports → x.inc ≤ l.reg

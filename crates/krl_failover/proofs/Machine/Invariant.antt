@@ -42,7 +42,7 @@ kept_at {old = old} {new = new} {e = e} {c = c} {z = z} t f d P here rest = eq_c
     (λ b. subst P (sym (t.rest f d (inr b))) (rest (inr b))))
     (λ a. subst P (sym (t.rest f d (inl a))) (rest (inl a)))
 
--- a change of one link that keeps its rows' agreement, its applied writes and what is said of it
+-- a change of one link that keeps its rows' agreement, its applied writes and what is stated of it
 module _ (index : ℕ → Option Value) (f : Fenced) (c : ℕ) (l : Link) (links : ℕ → Link) (v : FencedInv index f) (ch : Changed f.world.links links c l) where
   pub changed_world : Inv f.world.shared l → ((q : ℕ) → Below (l.top_range q) (l.top_key q) ((f.world.links c).top_range q) ((f.world.links c).top_key q)) → WorldInv (record f.world { links = links })
   changed_world i low = record {

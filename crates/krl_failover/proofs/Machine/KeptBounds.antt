@@ -1,4 +1,4 @@
--- The steps of a link keep what is said of the bound, and of old servers that recover.
+-- The steps of a link keep what is stated of the bound, and of old servers that recover.
 use Rattle.krl_failover.proofs.Machine.Names.{◌≡◌, ◌≢◌, ℕ, ◌≤◌, ◌<◌, ◌∷◌, false, None, ◌⊎◌, inl, inr, refl, sym, ap, subst, ◌∙◌, ⊎_elim, true≢false, arith, each_more, In, KeyAtMost, Recovering, Notice, Push, Release, Report, Shared, Link, LinkStep, IsRebuilt, off_slot}
 use Rattle.krl_failover.proofs.Machine.Names.{starts, crashes, leaves, joins, accepts, lowers, reports_again, registers, notifies, sees_off, takes_report, takes_release, refuses, pushes}
 use Rattle.krl_modes.specs.declared.part.RangePart.TheVariants as range
@@ -11,7 +11,7 @@ use Rattle.krl_failover.specs.Fenced.{Kept}
 use Rattle.krl_machine.proofs.RowChanges.{Below}
 use Rattle.krl_failover.proofs.Machine.Basics.{Extra, Old, Top, Gather}
 
--- one more report, which says what the client believes
+-- one more report, which states what the client believes
 module _ (s : Shared) (l : Link) (b : ℕ) (z : Kept) (n : ℕ) (i : Inv s l) (t : Top s l b z) where
   mine : Report
   mine = record { inc = l.inc; epoch = n; range = l.range; key = l.key }

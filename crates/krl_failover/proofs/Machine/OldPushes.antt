@@ -12,7 +12,7 @@ use Rattle.krl_failover.proofs.Machine.Invariant.{Past, FencedInv, link_at, kept
 push_gather : (s : Shared) (l : Link) (p : Push) (e : ℕ) (z : Kept) → Gather s l e z → Gather s (record l { pushes = p ∷ l.pushes }) e z
 push_gather s l p e z g = record { new = g.new; present = g.present; high = g.high; later = g.later }
 
--- A push of any old server, once it is known to be in order if it is live, and what is said of the bound
+-- A push of any old server, once it is known to be in order if it is live, and what is stated of the bound
 
 module _ (index : ℕ → Option Value) (f : Fenced) (e c : ℕ) (p : Push) (links : ℕ → Link) (old : ℕ → ℕ → Kept) (one : 1 ≤ e) (lt : e < f.world.shared.epoch)
     (may : MayPush (f.world.links c) e (f.old e c) p) (v : FencedInv index f) (ok : IsLive (f.world.links c) p → LiveOk f.world.shared (f.world.links c) p)

@@ -38,7 +38,7 @@ notice_inv s l e z lt o i = record {
 
 -- A push
 
--- what a new push says of one point
+-- what a new push states of one point
 new_said : (s : Shared) (l : Link) (q : ℕ) (t : Said) → Inv s l → MaySay s l q t → LiveAt s l q t
 new_said s l q t i (at_slot slot r k entry) = record {
   low = rw r (rw k ((omega arith, omega arith), omega arith));

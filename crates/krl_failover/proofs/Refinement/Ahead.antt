@@ -40,7 +40,7 @@ link_row s l m rec (sees_off b at on e) = record { reg = omega arith; here = λ 
 link_row s l m rec (takes_release r range key at ok acked slots row) = absurd (not_both ok.serving rec)
 link_row s l m rec _ = row_same l _ refl refl (refl, refl)
 
--- and it is blank of who has left
+-- and it is blank of the clients that have left
 abbrev pub IsBlankLeft : Link → Type 0
 IsBlankLeft l = l.left ≡ true → IsBlankRow l
 

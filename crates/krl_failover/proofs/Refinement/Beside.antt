@@ -3,7 +3,7 @@ use Rattle.krl_failover.proofs.Refinement.Names.{◌≡◌, ◌≢◌, ℕ, ◌<
 use Rattle.krl_failover.proofs.Refinement.Names.{record_of, Link, Changed, no_range, no_key, eq_cases, Session, Server, lists, Grows, ServerPart, server_part, grows_not, grows_on}
 use Rattle.krl_failover.proofs.Refinement.Names.{Kept, Fenced, IsHere, Turned, FencedSteps, stays_so, on_then, CountsAre, IsHeardBy, BoundIs, RebuiltIs, ShowsOld}
 
--- what the store's server keeps of a client, but for the bound
+-- what the store's server keeps of a client, except for the bound
 abbrev pub store_part : Link → ServerPart
 store_part l = server_part (record l { top_range = no_range; top_key = no_key })
 
@@ -41,7 +41,7 @@ beside_self e f = record {
   gone = λ c g. (refl, refl);
 }
 
--- who is here is here before
+-- a client that is here is here before
 here_before : (e : ℕ) (f g : Fenced) (c : ℕ) → Beside e f g → IsHere (g.world.links c) (g.old e c) → IsHere (f.world.links c) (f.old e c)
 here_before e f g c b h = (sym (b.reg c) ∙ h.0 ∙ ap (λ x. x.reg) (b.part c), sym (ap (λ x. x.left) (b.part c)) ∙ h.1)
 

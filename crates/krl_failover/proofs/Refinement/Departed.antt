@@ -1,4 +1,4 @@
--- Who has left holds nothing.
+-- A client that has left holds nothing.
 use Rattle.std.specs.Prelude.{◌-◌}
 use Rattle.krl_failover.proofs.Refinement.Names.{◌≡◌, ◌≢◌, ℕ, suc, true, false, nat_lt, Some, List, ◌∷◌, if◌then◌else◌, refl, sym, ap, subst, ◌∙◌, same_Some, END, Outcome, WriteOp, ToServer, ToClient, PushBody, In, Waiter, Record}
 use Rattle.krl_failover.proofs.Refinement.Names.{record_of, Row, Rows, mode_at, set_row, arith, eq_cases, ne_eqb, Server, Done, acknowledged, pushes, IsSound, if_case}
@@ -39,7 +39,7 @@ use Rattle.krl_failover.specs.Follows.{HoldsNothing, AreEmpty}
 abbrev EmptyIn : Register → Rows → Type 0
 EmptyIn es rows = (d : ℕ) (r : Record) → record_of es d ≡ Some r → r.left ≡ true → HoldsNothing rows d
 
--- who held nothing holds nothing
+-- a client that held nothing holds nothing
 abbrev StayEmpty : Rows → Rows → ℕ → Type 0
 StayEmpty rows to c = (d : ℕ) → d ≢ c → HoldsNothing rows d → HoldsNothing to d
 
@@ -115,7 +115,7 @@ effect_empty s m h =
 
 -- Answers
 
--- whoever waits has not left
+-- a client that waits has not left
 abbrev pub AreHere : Server → Type 0
 AreHere s = (n : ℕ) (u : Waiter) → In u (s.rows n).queue → (r : Record) → record_of s.durable.register u.client ≡ Some r → r.left ≡ false
 
@@ -179,6 +179,6 @@ ends_empty done kind t outs (at_once e) i here h = h
 ends_empty done kind t outs (recovers e) i here h = h
 ends_empty done kind t outs (serves t' answers a b c) i here h = answered_empty done.server t answers c i here h
 
--- after a message, if whoever waits after its case has not left
+-- after a message, if a client that waits after its case has not left
 pub step_empty : (s t : Server) (m : ToServer) (outs : List ToClient) → IsSound s → AreHere (effect s m (case_of s m)).server → ServerStep s m t outs → AreEmpty s → AreEmpty t
 step_empty s t m outs i here step h = ends_empty (effect s m (case_of s m)) (kind_of (case_of s m)) t outs step (effect_sound s m i) here (effect_empty s m h)

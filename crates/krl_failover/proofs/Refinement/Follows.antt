@@ -35,7 +35,7 @@ use Rattle.krl_failover.proofs.Refinement.Departed.{AreHere, step_empty}
 inv_of : (first : ℕ → Option Value) (f : Fenced) (s : Server) (of : ℕ → Link) (log : List Logged) → Mirrors first f s of log → WorldInv (world_of s of log)
 inv_of first f s of log h = subst WorldInv h.world (fenced_inv first END f h.reached).world
 
--- Who has left holds nothing
+-- A client that has left holds nothing
 
 known_left : (o : Option Record) (l : Link) → IsRecord o l → l.left ≡ true → (r : Record) × (o ≡ Some r) × (r.left ≡ true)
 known_left None l h left = absurd (not_both l.left left h.left)
@@ -44,7 +44,7 @@ known_left (Some r) l h left = (r, refl, sym h.left ∙ left)
 not_left : (o : Option Record) (l : Link) → IsRecord o l → l.left ≡ false → (r : Record) → o ≡ Some r → r.left ≡ false
 not_left o l h here r e = sym (subst (λ x. IsRecord x l) e h).left ∙ here
 
--- whoever waits has not left
+-- a client that waits has not left
 here_of : (s : Server) (of : ℕ → Link) → Shows s of → AreHere s
 here_of s of h n u at r e = let x = h.heard n u at in not_left (record_of s.durable.register u.client) (of u.client) (h.link u.client).known x.4 r e
 

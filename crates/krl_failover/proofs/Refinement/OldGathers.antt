@@ -34,7 +34,7 @@ finished_by l z (is_gone why out) = l
 abbrev finished : Link → Kept → Link
 finished l z = finished_by l z (whereabouts l z)
 
--- what is said of it, if it is here and if it is gone
+-- what is stated of it, if it is here and if it is gone
 finished_cases : (P : Link → Type 0) (l : Link) (z : Kept) → (IsHere l z → P (record l { top_range = z.new_range; top_key = z.new_key })) → ((IsHere l z → ⊥) → P l) → P (finished l z)
 finished_cases P l z here gone = by_place (whereabouts l z)
   where

@@ -29,7 +29,7 @@ whereabouts l z = eq_cases z.reg l.reg (λ e. by_left l.left refl e) (λ ne. is_
     by_left false f e = is_here (e, f)
     by_left true f e = is_gone (inr f) (λ h. let x = sym f ∙ h.1 in absurd (cc))
 
--- what a push must say: of the bound if it is the server's table, and of the last write
+-- what a push must state: of the bound if it is the server's table, and of the last write
 pub record Fits (f : Fenced) (e c : ℕ) (p : Push) : Type 0 where
   pub says : e ≡ f.bound → IsHere (f.world.links c) (f.old e c) → (q : ℕ) (t : Said) → p.says q ≡ Some t → MaySay (seen_by f e) (f.world.links c) q t
   pub answer : (p.answers ≡ 0) ⊎ AnswersKept (f.world.links c) (f.old e c) p

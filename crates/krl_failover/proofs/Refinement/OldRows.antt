@@ -1,4 +1,4 @@
--- The rows of an old server's table in the machine: what a push says of them, and how they change.
+-- The rows of an old server's table in the machine: what a push states of them, and how they change.
 use Rattle.krl_failover.proofs.Refinement.Names.{◌≡◌, ◌≢◌, ℕ, ◌<◌, ◌≤◌, not, Some, List, [], ◌∷◌, refl, sym, ap, subst, ◌∙◌, arith, AllByRecursion, END, key_of}
 use Rattle.krl_failover.proofs.Refinement.Names.{RangePart, KeyPart, Value, Option, In, Waiter, Rows, mode_at, column, range_at, key_at, Said, Shared, Link, MaySay, IsSlot, Server, Session, silent, with_rows, IsSound}
 use Rattle.krl_failover.proofs.Refinement.Names.{put, put_changed, eq_cases, is_some, WasSent, Kept, Fenced, IsHere, seen_by, FencedStep, stays_so, on_then, IsHeardBy, BoundIs, ShowsOld}
@@ -38,7 +38,7 @@ entry_shown o key.S h = refl
 entry_shown o key.U h = refl
 entry_shown o key.X h = refl
 
--- what the client holds on slots is what a push may say
+-- what the client holds on slots is what a push may state
 module _ (s : Server) (i : IsSound s) (c : ℕ) (l : Link) (epoch : ℕ) (phase : links.Phase) (k : refines.Shows (seen_in s.durable.index epoch phase) l (column s.rows c)) where
   abbrev seen : Shared
   seen = seen_in s.durable.index epoch phase

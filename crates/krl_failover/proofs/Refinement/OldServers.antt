@@ -64,7 +64,7 @@ mirrors_beside first e f g store of log h b lt reached =
       };
       sound = h.sound;
       empty = h.empty;
-      -- an old server leaves the bound of those who have left
+      -- an old server leaves the bound of the clients that have left
       blank = λ c left q.
           let before : (f.world.links c).left ≡ true = sym (ap (λ x. x.left) (b.part c)) ∙ left in
           let rows_c = b.gone c (λ x. absurd (not_left (f.world.links c).left before x.1)) in

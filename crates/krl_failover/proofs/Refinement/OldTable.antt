@@ -1,4 +1,4 @@
--- An old server raises a row for a grant, or lowers one as a release says.
+-- An old server raises a row for a grant, or lowers one as a release states.
 use Rattle.krl_failover.proofs.Refinement.Names.{◌≡◌, ◌≢◌, ℕ, suc, ◌<◌, ◌≤◌, ◌⊎◌, inl, inr, ⊎_elim, true, refl, sym, ap, subst, ◌∙◌, arith, and_parts, END, Bounds, Mode, range_of, key_of, RangePart, KeyPart}
 use Rattle.krl_failover.proofs.Refinement.Names.{In, Waiter, Row, Rows, mode_at, column, set_row, Head, Release, Shared, IsSlot, IsRow, put, put_changed, eq_cases, Server, silent, with_rows}
 use Rattle.krl_failover.proofs.Refinement.Names.{IsSound, Fenced, IsHere, seen_by, FencedStep, IsHeardBy, ShowsOld}

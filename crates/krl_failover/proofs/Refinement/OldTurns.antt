@@ -59,7 +59,7 @@ goes_both s t f outs later u same a b = record {
       (in_both outs later o at);
 }
 
--- the first waiter of a slot is told Absent, or has its grant
+-- the first waiter of a slot receives Absent, or has its grant
 module _ (s : Server) (f : Fenced) (i : IsSound s) (can : CanPush s f) (h : ShowsOld s f) (n : ℕ) (u : Waiter) (us : List Waiter) (queue : (s.rows n).queue ≡ u ∷ us) (may : can_push (s.sessions u.client) ≡ true) where
   abbrev c : ℕ
   c = u.client
@@ -116,7 +116,7 @@ module _ (s : Server) (f : Fenced) (i : IsSound s) (can : CanPush s f) (h : Show
       by_test true e = refl
       by_test false e = let x = is_slot_false m i.near k e in absurd (slot x.0 x.1)
 
-  -- what a push tells of slots
+  -- what a push states of slots
   slots_told : (ns : List ℕ) (low epoch : ℕ) (phase : Rattle.krl_machine.specs.Links.Phase) → AreSlotsAfter m low ns → AllByRecursion (λ k. (k ≤ END) × IsSlot (seen_in m epoch phase) k) ns
   slots_told [] low epoch phase h = tt
   slots_told (k ∷ ns) low epoch phase h = ((slot_near m i.near k h.1, is_slot_true m i.near k h.1), slots_told ns k epoch phase h.2)

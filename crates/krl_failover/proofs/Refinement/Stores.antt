@@ -48,7 +48,7 @@ pub reached_on : (index : ℕ → Option Value) (end : ℕ) (f g : Fenced) → F
 reached_on index end f g r stays_so = r
 reached_on index end f g r (on_then {g = m} a b) = went m g (reached_on index end f m r a) b
 
--- the bound is blank of who has left
+-- the bound is blank of the clients that have left
 abbrev pub IsBlankWorld : World → Type 0
 IsBlankWorld w = (c : ℕ) → IsBlankLeft (w.links c)
 

@@ -28,7 +28,7 @@ use Rattle.krl_failover.proofs.Worlds.Openings.{fenced_of}
 use Rattle.krl_failover.proofs.Worlds.Shown.{Shown, same_up}
 use Rattle.krl_failover.proofs.Worlds.Taken.{move_shown}
 
--- a scan of one point says what a scan of many says there
+-- a scan of one point reports what a scan of many reports there
 
 abbrev first_value : List (ℕ × Value) → Option Value
 first_value [] = None

@@ -35,14 +35,14 @@ pub enum Ask {
     /// The epoch rises.
     Rises,
     /// The write of the client, which registers first if it has not, is judged so and noted. The
-    /// third says whether the client has the lock.
+    /// third states whether the client has the lock.
     Writes(u64, Change, bool, Outcome),
     /// The write of client 1 is Applied, and the entry is there or gone.
     Applies(Change),
     /// The write would be judged so.
     Judges(Change, bool, Outcome),
     Epoch(u64),
-    /// Those who have not left, in the order in which they first registered.
+    /// Those that have not left, in the order in which they first registered.
     Missing(&'static [u64]),
     Recorded(u64, Option<Record>),
     /// The entries of the first run, whose values are numbers.
@@ -196,7 +196,7 @@ fn spans(durable: &Durable, slot: u64, lo: u64, hi: u64) -> bool {
     slot <= END && durable.span_of(slot).lo() == lo && durable.span_of(slot).hi() == hi
 }
 
-// Whether it shows what the row says. A row that does something is no such row.
+// Whether it shows what the row states. A row that does something is no such row.
 fn shows(durable: &Durable, alloc: Global, ask: Ask) -> bool {
     match ask {
         Ask::Judges(change, held, outcome) => judges(durable, change, held, outcome),

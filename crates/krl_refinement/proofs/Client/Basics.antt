@@ -1,4 +1,4 @@
--- Links that grow; what a refusal that isn't due says; points of a span.
+-- Links that grow; what a refusal that isn't due shows; points of a span.
 use Rattle.std.proofs.Common.{◌≡◌, ℕ, ◌≤◌, ◌<◌, ◌-◌, Bool, true, false, Option, Some, None, ◌⊎◌, inl, inr, refl, arith, if◌then◌else◌}
 use Rattle.krl_refinement.proofs.Names.{RangePart, KeyPart, Mode, range_meet, key_meet, range_of, key_of, Bounds, contains, Link, Lowered, untouched, lowered, inside_span, Grows}
 use Rattle.krl_cache.proofs.Truths.{outside_span}

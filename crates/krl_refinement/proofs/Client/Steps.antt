@@ -95,7 +95,7 @@ may_write : (k : Client) (change : WriteOp) → write_refusal k change ≡ None 
 may_write k change e = let p1 = passed _ _ _ e in let p2 = passed _ _ _ p1.1 in let p3 = passed _ _ _ p2.1 in let p4 = passed _ _ _ p3.1 in
     record { joined = not-false _ p2.0; free = None-if_not_some (outstanding k.written) p3.0; may = λ c l h. may_issue c k l change h (not-false _ p4.0) }
 
--- a write that takes its lock needs nothing, but for a delete, which takes none
+-- a write that takes its lock needs nothing, except for a delete, which takes none
 may_issue_taking : (c : ℕ) (k : Client) (l : Link) (change : WriteOp) → ShowsClient c k l.client → (takes_lock change || holds_for k.belief change) ≡ true → MayIssue l (op_of change)
 may_issue_taking c k l (op.Insert n v) h e = tt
 may_issue_taking c k l (op.Put n v) h e = tt

@@ -84,7 +84,7 @@ pub recovering_phase : (cs : List ℕ) → is_recovering cs ≡ true → machine
 recovering_phase [] e = absurd (cc)
 recovering_phase (c ∷ cs) e = refl
 
--- who is missing is missing while the server recovers
+-- a client that is missing is missing while the server recovers
 pub listed_phase : (ms : List ℕ) (c : ℕ) → lists ms c ≡ true → machine_phase ms ≡ links.Recovering
 listed_phase [] c e = absurd (cc)
 listed_phase (d ∷ ds) c e = refl

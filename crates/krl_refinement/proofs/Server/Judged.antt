@@ -1,4 +1,4 @@
--- The answer to a write, of which the durable record says already how it was judged.
+-- The answer to a write, of which the durable record already shows how it was judged.
 use Rattle.krl_refinement.proofs.Names.{◌≡◌, ℕ, ◌≤◌, ◌<◌, Bool, true, false, Option, Some, None, List, [], ◌∷◌, inl, inr, refl, sym, ap, subst, ◌∙◌, arith, AllByRecursion, END, KeyPart, key_of}
 use Rattle.krl_refinement.proofs.Names.{WriteOp, Outcome, Value, op_key, is_applied, In, slot_of, column, mode_at, Head, Write, Link, Passes, IsSlot, MaySay, Logged, put, put_changed, Server, shown}
 use Rattle.krl_refinement.proofs.Names.{holding, holdings, acknowledged, answers, IsSound, slot_here, slot_high, span_here, session_here, pushes_serve, acknowledged_sound, op_of, LinkShows, Shows}
@@ -29,7 +29,7 @@ entry_shown o key.S h = refl
 entry_shown o key.U h = refl
 entry_shown o key.X h = refl
 
--- what the client holds on slots is what a push may say
+-- what the client holds on slots is what a push may state
 module _ (s : Server) (i : IsSound s) (c : ℕ) (l : Link) (k : LinkShows s c l) (serving : (view s).phase ≡ links.Serving) where
   each_says : (ns : List ℕ) → AllByRecursion (λ n. (n ≤ END) × IsSlot (view s) n) ns → AllByRecursion (λ h. (q : ℕ) → h.span.lo ≤ q → q < h.span.hi → MaySay (view s) l q (said_at h q)) (holdings s c ns)
   each_says [] slots = tt
@@ -48,7 +48,7 @@ key_same (write.Insert k v) = refl
 key_same (write.Put k v) = refl
 key_same (write.Delete k) = refl
 
--- the server's answer to a write, if the durable record says so already
+-- the server's answer to a write, if the durable record already shows it
 pub answers_on : (s : Server) (of : ℕ → Link) (log : List Logged) (cleared : ℕ → Bool) (c : ℕ) (a : Head) (number : ℕ) (op : WriteOp) (o : Outcome) → IsSound s → (view s).phase ≡ links.Serving → (s.sessions c).unacked ≡ None → In (let w : Write = record { head = a; number = number; op = op_of op } in w) (of c).writes → In a (of c).heads → a.inc ≡ (of c).reg → a.epoch ≡ s.durable.epoch → (of c).left ≡ false → number ≡ (of c).done → 1 ≤ number → is_applied o ≡ (of c).applied → op_key op < END → Shows s of → Goes s of log cleared (answers s c number op o) log
 answers_on s of log cleared c a number op o i serving free at head inc epoch left last some applied under h =
     let n = slot_of s.durable.index (op_key op) in

@@ -1,4 +1,4 @@
--- Acknowledging, telling the epoch, repeating a push, and the next push to a client.
+-- Acknowledging, sending the epoch, repeating a push, and the next push to a client.
 use Rattle.krl_refinement.proofs.Names.{◌≡◌, ℕ, suc, ◌≤◌, Bool, true, false, not, Option, Some, None, List, [], ◌∷◌, ◌⊎◌, inl, refl, sym, ap, subst, ◌∙◌, none-some, same_Some, END, PushBody, In}
 use Rattle.krl_refinement.proofs.Names.{Record, record_of, Head, Notice, Shared, Link, Passes, MaySay, AnswersLast, next, idle, notifies, takes_head, Logged, Steps, none, put, put_changed}
 use Rattle.krl_refinement.proofs.Names.{heard_kept, link_steps, Session, Server, is_recovering, silent, epoch_to, push_to, with_session, acknowledged, pushes, if_case, not_both, BoundStays, WasSent}
@@ -67,7 +67,7 @@ acknowledges s of log cleared c a at ok h = record {
   bound = λ g. absurd (not_both (is_recovering s.missing) g (not_recovering s.missing ok.serving));
 }
 
--- what a push must say of the row
+-- what a push must state of the row
 pub record Fits (s : Shared) (l : Link) (p : links.Push) : Type 0 where
   pub says : (q : ℕ) (t : links.Said) → p.says q ≡ Some t → MaySay s l q t
   pub answer : (p.answers ≡ 0) ⊎ AnswersLast l p

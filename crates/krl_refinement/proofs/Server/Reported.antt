@@ -10,7 +10,7 @@ use Rattle.krl_refinement.proofs.Server.Meaning.{seen_in}
 join_both : (a b d : RangePart) → RangeAtMost b d → RangeAtMost (range_join a b) (range_join a d)
 join_both a b d h = let x = join_right a d in join_least a b (range_join a d) (join_left a d) (omega (arith, h, x), omega (arith, h, x))
 
--- what is said of a point of the span is at most what is reported of the span
+-- what is stated of a point of the span is at most what is reported of the span
 said_below : (xs : List RangePiece) (span : Bounds) (q : ℕ) → span.lo ≤ q → q < span.hi → RangeAtMost (range_said xs q) (reported_range xs span)
 said_below [] span q a b = (omega arith, omega arith)
 said_below (x ∷ xs) span q a b = by_test (contains x.span q) (meets x.span span) refl refl (said_below xs span q a b)
@@ -28,7 +28,7 @@ said_more x xs q = by_test (contains x.span q)
     by_test true = join_right x.part (range_said xs q)
     by_test false = (omega arith, omega arith)
 
--- a part that is at least what is said of each point of the span is at least what is reported of the span
+-- a part that is at least what is stated of each point of the span is at least what is reported of the span
 reported_least : (xs : List RangePiece) (span : Bounds) (a : RangePart) → IsWhole span → AllByRecursion (λ x. IsWhole x.span) xs → ((q : ℕ) → span.lo ≤ q → q < span.hi → RangeAtMost (range_said xs q) a) → RangeAtMost (reported_range xs span) a
 reported_least [] span a some whole h = (omega arith, omega arith)
 reported_least (x ∷ xs) span a some whole h = by_test (meets x.span span) refl (reported_least xs span a some whole.1 (λ q b c. let m = said_more x xs q in let t = h q b c in (omega (arith, m, t), omega (arith, m, t))))

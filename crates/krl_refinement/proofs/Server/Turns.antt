@@ -108,7 +108,7 @@ raises_more s of log u lt inv serving rows n there may r =
       here = x.here ∙ ap (λ (l : Link). let m : Link = record l { top_range = x.range; top_key = x.key } in m) r.here;
     }
 
--- the first waiter of a slot is told Absent, or has its grant
+-- the first waiter of a slot receives Absent, or has its grant
 module _ (s : Server) (i : IsSound s) (n : ℕ) (u : Waiter) (us : List Waiter) (queue : (s.rows n).queue ≡ u ∷ us) where
   abbrev drop_row : Row
   drop_row = with_queue (s.rows n) us
@@ -142,7 +142,7 @@ module _ (s : Server) (i : IsSound s) (n : ℕ) (u : Waiter) (us : List Waiter) 
       by_test true e = refl
       by_test false e = let x = is_slot_false s.durable.index i.near k (subst (λ y. is_slot y k ≡ false) same e) in absurd (slot x.0 x.1)
 
-  -- what a push tells of slots
+  -- what a push states of slots
   slots_told : (ns : List ℕ) (low : ℕ) → AreSlotsAfter s.durable.index low ns → AllByRecursion (λ k. (k ≤ END) × IsSlot (view s) k) ns
   slots_told [] low h = tt
   slots_told (k ∷ ns) low h = ((slot_near s.durable.index i.near k h.1, is_slot_true s.durable.index i.near k h.1), slots_told ns k h.2)

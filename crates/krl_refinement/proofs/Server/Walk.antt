@@ -1,5 +1,5 @@
--- What the server does with a message that was sent, but for the answers at the end of the step, is some steps of the
--- machine, and it does not report Alarm.
+-- What the server does with a message that was sent, except for the answers at the end of the step, is some steps of
+-- the machine, and it does not report Alarm.
 use Rattle.krl_refinement.proofs.Names.{◌≡◌, ◌≢◌, ℕ, suc, ◌<◌, Bool, true, false, not, ◌&&◌, Some, List, refl, sym, subst, ◌∙◌, nat_eq, eq-eqb, ne_eqb, END, Pieces, WriteOp, Outcome}
 use Rattle.krl_refinement.proofs.Names.{ToServer, op_key, is_applied, Record, conflicts, Link, Passes, Logged, WorldInv, Server, lists, effect, IsSound, not_both, IsRecord, Shows}
 use Rattle.krl_refinement.proofs.Names.{view, world_of, logged}

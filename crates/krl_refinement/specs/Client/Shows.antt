@@ -39,7 +39,7 @@ IsFrom l incarnation (said.Report epoch ps) =
     × Describes ps (record { range_at = range_said ps.ranges; key_at = reported_key ps.keys; value_at = λ p. None })
 IsFrom l incarnation (said.Request r) = Stands l incarnation (said.Request r)
 
--- the machine's push says what these holdings say
+-- the machine's push states what these holdings state
 abbrev pub Says : List Holding → Links.Push → Type 0
 Says hs p = (q : ℕ) → p.says q ≡ said_by hs q
 
@@ -48,7 +48,7 @@ Tells (push.Grant req hs) p = (p.answers ≡ 0) × Says hs p
 Tells (push.Absent req point) p = (p.answers ≡ 0) × Says [] p
 Tells (push.Answer number o h) p = (p.answers ≡ number) × Says (h ∷ []) p × (p.applied ≡ is_applied o) × (1 ≤ number)
 
--- the message to this incarnation stands in the link. Of a push the client asks less than the server says by WasSent
+-- the message to this incarnation stands in the link. Of a push the client asks less than the server states by WasSent
 abbrev pub IsTo : Link → ℕ → ToClientBody → Type 0
 IsTo l incarnation (told.Epoch epoch) = WasSent l incarnation (told.Epoch epoch)
 IsTo l incarnation (told.Push epoch number what) =

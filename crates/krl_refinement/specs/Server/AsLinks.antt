@@ -69,7 +69,7 @@ LinkShows s c l =
 abbrev pub IsHeardOf : Shared → Link → Type 0
 IsHeardOf s l = (a : Head) × In a l.heads × (a.inc ≡ l.reg) × (a.epoch ≡ s.epoch) × (l.left ≡ false)
 
--- the server is what the links say
+-- the server is what the links show
 pub record Shows (s : Server) (of : ℕ → Link) : Type 0 where
   pub link : (c : ℕ) → LinkShows s c (of c)
   pub heard : (n : ℕ) (u : Waiter) → In u (s.rows n).queue → IsHeardOf (view s) (of u.client)
@@ -78,7 +78,7 @@ pub record Shows (s : Server) (of : ℕ → Link) : Type 0 where
 abbrev pub world_of : Server → (ℕ → Link) → List Logged → World
 world_of s of log = record { shared = view s; links = of; log = log }
 
--- what a crash left is what the links say
+-- what a crash left is what the links show
 abbrev pub DurableShows : Durable → (ℕ → Link) → Type 0
 DurableShows d of = (c : ℕ) → IsRecord (record_of d.register c) (of c)
 

@@ -63,7 +63,7 @@ pub record StartFollows (d : Durable) (of : ℕ → Link) (log : List Logged) : 
   pub writes : follows.log_after ≡ log
   pub bound : is_recovering (start d).missing ≡ true → (c : ℕ) → BoundStays false (of c) (follows.after c)
 
--- in the link nothing is held, told or waited for
+-- in the link nothing is held, sent or waited for
 pub record IsIdle (l : Link) : Type 0 where
   pub missing : l.missing ≡ false
   pub last_push : l.last_push ≡ 0

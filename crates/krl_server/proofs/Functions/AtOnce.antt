@@ -54,7 +54,7 @@ module _ (m : Index) (rows : Rows) (u : Waiter) where
   can_here : is_wanted_compatible (enqueued m rows u) (slot_of m u.point) u ≡ is_wanted_compatible rows (slot_of m u.point) u
   can_here = ap (λ (r : Row). all_below max_clients (λ d. nat_eq d u.client || compatible (wanted r u) (r.modes d))) row_is
 
-  -- a grant at once is told only if nobody waits
+  -- a grant at once is sent only if nobody waits
   pub free_here : true ≡ is_granted_at_once m rows u → (rows (slot_of m u.point)).queue ≡ []
   free_here e = by_queue (rows (slot_of m u.point)).queue (and_parts (nobody_waits (rows (slot_of m u.point)).queue) (is_wanted_compatible rows (slot_of m u.point) u && not (asks_absent m u)) (sym e)).0
     where
@@ -143,7 +143,7 @@ module _ (s : Server) (u : Waiter) (table : IsTable s.durable.index s.rows) (set
   none_compatible k ne = still_none s (queues (acknowledged s u.client) u) k refl (queued_row k ne)
       (λ v at can. sym (ap can_push (other_session v.client (other_client k v at))) ∙ can) (none_here s table settled k)
 
--- The server s that takes the lock became t, and o tells the grant
+-- The server s that takes the lock became t, and o reports the grant
 pub record IsAtOnce (s : Server) (m : ToServer) (t : Server) (o : ToClient) : Type 0 where
   pub step : ServerStep s m t (o ∷ callbacks t)
   pub sound : IsSound t

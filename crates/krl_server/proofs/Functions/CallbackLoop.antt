@@ -77,7 +77,7 @@ all_called s n u d old new le h = subst (Sends old new) (by_left h.left refl) h.
     by_left zero e = sym (append-nil h.outs) ∙ ap (λ x. h.outs ++ callbacks_from s n u d x) (sym e) ∙ h.all
     by_left (suc k) e = absurd (let x = h.clients in omega (arith, x, e, le))
 
--- who asks for an entry that is there is called back for
+-- callbacks are sent for a waiter that asks for an entry that is there
 pub for_is : (s : Server) (n : ℕ) (u : Waiter) (b : Bool) → b ≡ asks_absent s.durable.index u → b ≡ false → callbacks_for s n u ≡ callbacks_from s n u 0 max_clients
 for_is s n u b e f = ap (λ b. if b then [] else callbacks_from s n u 0 max_clients) (sym e ∙ f)
 

@@ -177,7 +177,7 @@ module _ (s : Server) (m : ToServer) where
     after = ap Rattle.krl_server.specs.FoundCases.after_of e;
   }
 
--- who waits on no slot waits nowhere
+-- a client that waits on no slot waits nowhere
 pub waits_nowhere : (m : Index) (rows : Rows) (c : ℕ) → IsTable m rows → waits m rows c ≡ false → WaitsNowhere rows c
 waits_nowhere m rows c table e n = by_slot (is_slot m n) refl
   where

@@ -33,7 +33,7 @@ some_waits rows n (k ∷ ks) u (inr at) e = let ih = some_waits rows n ks u at e
 pub front_waits : (s : Server) (n : ℕ) (u : Waiter) → is_slot s.durable.index n ≡ true → front_of (s.rows n).queue ≡ Some u → 1 ≤ waiting s
 front_waits s n u there e = some_waits s.rows n (slots s.durable.index) u (slots_have s.durable.index n there) e
 
--- what a reply says
+-- what a reply states
 
 grant_says : (m : Index) (rows : Rows) (n : ℕ) (u : Waiter) → reply_to m rows n u ≡ Some reply.Grant → (asks_absent m u ≡ false) × (is_wanted_compatible rows n u ≡ true)
 grant_says m rows n u = by_tests (asks_absent m u) (is_wanted_compatible rows n u)

@@ -1,4 +1,4 @@
--- What survives is within its bounds, by what its type says.
+-- What survives is within its bounds, by what its type states.
 use Rattle.krl_server.proofs.Names.{◌≡◌, ℕ, ◌<◌, true, false, [], ◌∷◌, Some, inl, inr, sym, ap, subst, ◌∙◌, nat_eq, ltb-true, eqb-false, nat_lt, AllByRecursion, IsDistinct, In, Record, Register}
 use Rattle.krl_server.proofs.Names.{Durable, record_of, IsKept, max_clients, AreApart, clients_of, IsDurableWithin}
 use Rattle.std.proofs.lemmas.Map.Keys.{IsDistinct-head, IsDistinct-tail}

@@ -71,7 +71,7 @@ first_other s n c u e f = sym (ap (callbacks_of c s n) (front_is (s.rows n).queu
 pub first_nobody : (s : Server) (n c : ℕ) → front_of (s.rows n).queue ≡ None → [] ≡ calls_at_first s n c
 first_nobody s n c e = sym (ap (callbacks_of c s n) (front_none (s.rows n).queue e))
 
--- who is registered is a client
+-- each registered number is a client's
 pub known_low : (es : Register) (c : ℕ) → AllByRecursion (λ e. nat_lt e.0 64 ≡ true) es → is_registered (record_of es c) ≡ true → c < 64
 known_low [] c h e = absurd (cc)
 known_low (x ∷ es) c h e = by_eq (nat_eq c x.0) refl e (known_low es c h.1)

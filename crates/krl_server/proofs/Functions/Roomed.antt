@@ -1,4 +1,4 @@
--- The rooms for the grants of those who wait, and what leaves them as good.
+-- The rooms for the grants of waiters, and what leaves them as good.
 use Rattle.krl_server.proofs.Names.{◌≡◌, ◌≢◌, ℕ, ◌+◌, ◌≤◌, inl, inr, List, [], ◌∷◌, Option, Some, None, length, refl, sym, ap, subst, ◌∙◌, arith, eq-eqb, nat_eq, set, get_or-set_other, eq_cases, In, Waiter}
 use Rattle.krl_server.proofs.Names.{front_of, behind_first, dropped, granted, granted_first, taken, with_queue, grant_first, times, times_more, one, alone_here, Row, IsTable, Durable, Server, Turn, with_rows}
 use Rattle.krl_server.proofs.Names.{holdings, grants, tells_absent, answer_first, next_turn}
@@ -30,7 +30,7 @@ rooms_stay s t rooms came h = record {
 room_beside : (rooms : List (Option ℕ)) (c d : ℕ) → d ≢ c → room_of (set rooms c None) d ≡ room_of rooms d
 room_beside rooms c d ne = ap slots_in (get_or-set_other rooms c d None None ne)
 
--- the first waiter u of the slot n waits no more
+-- the first waiter u of the slot n no longer waits
 module _ (s t : Server) (n : ℕ) (u : Waiter) (us : List Waiter) (queue : (s.rows n).queue ≡ u ∷ us) (reach : t.durable.reach ≡ s.durable.reach) (here : (t.rows n).queue ≡ us) (beside : (k : ℕ) → k ≢ n → (t.rows k).queue ≡ (s.rows k).queue) where
   before : (k : ℕ) (v : Waiter) → In v (t.rows k).queue → In v (s.rows k).queue
   before k v at = eq_cases k n
@@ -99,7 +99,7 @@ module _ (s : Server) (n : ℕ) (u : Waiter) (first : front_of (s.rows n).queue 
       (λ k ne. ap (λ q. (q k).queue) rows ∙ ap (λ (x : Row). x.queue) (row_other s.rows n row k ne)))
       h
 
--- q is s with one who is the only one to wait at the slot n, and is answered
+-- q is s with a waiter that is the only one at the slot n, and is answered
 pub alone_answered : (s q : Server) (n : ℕ) (turn : Turn) → q.durable ≡ s.durable → next_turn q ≡ Some turn → turn.slot ≡ n → length (q.rows n).queue ≡ 1 → ((k : ℕ) → k ≢ n → (q.rows k).queue ≡ (s.rows k).queue) → NobodyCame s (answer_first q turn).server
 alone_answered s q n turn durable next slot alone beside = record {
   reach = ap (λ (d : Durable). d.reach) (turn_durable q turn ∙ durable);

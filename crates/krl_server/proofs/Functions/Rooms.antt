@@ -35,7 +35,7 @@ some_any p (k ∷ ks) n (inr at) e = by_test (p k) (some_any p ks n at e)
     by_test true ih = refl
     by_test false ih = ih
 
--- who stands in a queue waits
+-- a client that stands in a queue waits
 pub in_waits : (m : Index) (rows : Rows) (n : ℕ) (u : Waiter) → IsTable m rows → In u (rows n).queue → waits m rows u.client ≡ true
 in_waits m rows n u table at = some_any (λ n. is_some (first_of u.client (rows n).queue)) (slots m) n (slots_have m n (by_slot (is_slot m n) refl)) (some_first u.client (rows n).queue u at refl)
   where

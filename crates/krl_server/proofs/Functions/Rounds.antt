@@ -1,4 +1,4 @@
--- One walk upward over the slots answers all who can be answered.
+-- One walk upward over the slots answers all waiters that can be answered.
 use Rattle.krl_server.proofs.Names.{◌≡◌, ◌≢◌, ℕ, suc, ◌≤◌, ◌<◌, Bool, true, false, not, ◌&&◌, ◌||◌, Option, Some, None, List, [], ◌∷◌, ◌++◌, map, inl, inr, refl, sym, ap, subst, ◌∙◌, ⊎_elim}
 use Rattle.krl_server.proofs.Names.{append_assoc, arith, nat_eq, cases_lt, append-nil, none-some, same_Some, nat_lt, is_some, if◌then◌else◌, AllByRecursion, END, Value, ToClient, PushBody, In}
 use Rattle.krl_server.proofs.Names.{Waiter, eq_cases, Index, slots, is_slot, Row, all_below, max_clients, wanted, with_queue, behind_first, dropped, taken, granted, asks_absent}
@@ -82,7 +82,7 @@ none_among s (n ∷ ns) h = at_none s n (s.rows n).queue (turn_among s ns) (h n)
 pub next_is : (s : Server) (n : ℕ) (t : Turn) → ((q : ℕ) → END ≤ q → fin.get s.durable.index q ≡ None) → is_slot s.durable.index n ≡ true → NoneBelow s n → turn_here s n ≡ Some t → next_turn s ≡ Some t
 next_is s n t near there none e = among_first s n t (slots s.durable.index) (slots_ascend s.durable.index near) (slots_have s.durable.index n there) none e
 
--- who waits nowhere from a point on can't be answered there
+-- a client that waits nowhere from a point on can't be answered there
 pub empty_none : (s : Server) (n : ℕ) → (s.rows n).queue ≡ [] → turn_here s n ≡ None
 empty_none s n e = ap (λ q. turn_at s n q None) e
 

@@ -62,7 +62,7 @@ turned_stands s t = if_both (λ (x : Done). PushesStand x.server x.outs) (asks_a
     (pushed_stands (effects.with_rows s (dropped s.rows t.slot)) t.waiter.client _)
     (pushed_stands (effects.with_rows s (granted s.durable.reach s.durable.index s.rows t.slot)) t.waiter.client _)
 
--- who is answered has acknowledged every push
+-- a client that is answered has acknowledged every push
 all_acknowledged : (s : Server) (t : Turn) → next_turn s ≡ Some t → (s.sessions t.waiter.client).unacked ≡ None
 all_acknowledged s t e =
     let session = s.sessions t.waiter.client in

@@ -1,4 +1,4 @@
--- What a step says of its message: what survives it, whom it calls back, which write it answers.
+-- What a step reports of its message: what survives it, whom it calls back, which write it answers.
 use Rattle.krl_server.proofs.Names.{◌≡◌, ◌≢◌, ℕ, suc, ◌≤◌, ◌<◌, Bool, true, false, ◌↔◌, Some, None, List, [], ◌∷◌, ◌++◌, ◌⊎◌, inl, inr, refl, sym, ap, subst, ◌∙◌, ⊎_elim, eq-eqb, lt-ltb, le-ltb}
 use Rattle.krl_server.proofs.Names.{append-nil, nat_lt, IfSome, Result, Ok, Err, IfOk, OnErr, END, Holding, Outcome, WriteOp, Record, ToServer, ToClient, PushBody, op_key, In, in_both, in_right, slot_of, Durable}
 use Rattle.krl_server.proofs.Names.{record_of, dropped, taken, granted, asks_absent, State, ServerOut, Server, is_recovering, incarnation_or_0, meaning, Case, Ignored, Registers, Leaves, Tells}

@@ -167,7 +167,7 @@ module _ (s : Server) (m : ToServer) where
     more : waiting (effect s m (case_of s m)).server ≤ suc (waiting_clients s)
     more = let x = all_wait in let y = one_more_client s m (case_of s m) (all_came s m sound) table in omega (arith, x, y)
 
-    -- there is room for the grants of all who wait then
+    -- there is room for the grants of all that wait then
     pub rooms_left : (t : Server) (rooms : List (Option ℕ)) → t ≡ (effect s m (case_of s m)).server → HasGrantRooms s rooms → HasRoomFor s m.client f rooms → HasGrantRooms t rooms
     rooms_left t rooms server h room = subst (λ x. HasGrantRooms x rooms) (sym server) (record {
       full = h.full;

@@ -5,7 +5,7 @@ use Rattle.krl_server.proofs.Names.{count_below}
 use Rattle.std.proofs.lemmas.Bool.{ltb-true, or_parts, not-false}
 use Rattle.krl_server.proofs.Outputs.Numbers.{sixty_four}
 
--- who waits has a waiter
+-- a client that waits has a waiter
 pub waiter_waits : (m : Index) (rows : Rows) (c : ℕ) → is_some (waiter_of m rows c) ≡ waits m rows c
 waiter_waits m rows c = by_slots (slots m)
   where

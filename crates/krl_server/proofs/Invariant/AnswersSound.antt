@@ -16,14 +16,14 @@ acknowledged_sound s c i = record { near = i.near; begun = i.begun; strangers = 
 pub pushes_sound : (s : Server) (c : ℕ) (body : PushBody) → IsSound s → IsSound (pushes s c body).server
 pushes_sound s c body i = if_both (λ (x : Done). IsSound x.server) (nat_lt (s.sessions c).last_push END) _ _ (record { near = i.near; begun = i.begun; strangers = i.strangers; placed = i.placed; clients = i.clients }) i
 
--- a push leaves who is missing
+-- a push leaves the missing clients as they are
 pub pushes_missing : (s : Server) (c : ℕ) (body : PushBody) → (pushes s c body).server.missing ≡ s.missing
 pushes_missing s c body = if_both (λ (x : Done). x.server.missing ≡ s.missing) (nat_lt (s.sessions c).last_push END) _ _ refl refl
 
 pub pushes_serve : (s : Server) (c : ℕ) (body : PushBody) → is_recovering s.missing ≡ false → is_recovering (pushes s c body).server.missing ≡ false
 pushes_serve s c body e = ap is_recovering (pushes_missing s c body) ∙ e
 
--- one row of the client c is another, and who waits afterwards waited before
+-- one row of the client c is another, and a client that waits afterwards waited before
 pub one_sound : (s : Server) → IsSound s → (c n : ℕ) (row : Row) → ((d : ℕ) → d ≢ c → row.modes d ≡ mode_at s.rows n d) → ((m : ℕ) (v : Waiter) → In v (set_row s.rows n row m).queue → In v (s.rows m).queue) → c < max_clients → IsSound (with_rows s (set_row s.rows n row))
 one_sound s i c n row rest stayed lt = record {
   near = i.near;
@@ -33,12 +33,12 @@ one_sound s i c n row rest stayed lt = record {
   clients = λ m v at. i.clients m v (stayed m v at);
 }
 
--- the first waiter of a slot waits no more
+-- the first waiter of a slot no longer waits
 module _ (s : Server) (i : IsSound s) (n : ℕ) (u : Waiter) (us : List Waiter) (queue : (s.rows n).queue ≡ u ∷ us) where
   pub at_first : In u (s.rows n).queue
   at_first = subst (In u) (sym queue) (inl refl)
 
-  -- who waits afterwards waited before, on the same slot
+  -- a client that waits afterwards waited before, on the same slot
   pub stayed_on : (row : Row) → row.queue ≡ us → (m : ℕ) (v : Waiter) → In v (set_row s.rows n row m).queue → In v (s.rows m).queue
   stayed_on row e m v h = ⊎_elim (λ (x : (m ≡ n) × In v row.queue). subst (λ y. In v (s.rows y).queue) (sym x.0) (subst (In v) (sym queue) (inr (subst (In v) e x.1)))) (λ (old : In v (s.rows m).queue). old) (in_row s.rows n row m v h)
 
@@ -91,7 +91,7 @@ turn_missing s t = if_both (λ (x : Done). x.server.missing ≡ s.missing) (asks
     (pushes_missing (with_rows s (dropped s.rows t.slot)) t.waiter.client (push.Absent t.waiter.req t.waiter.point))
     (pushes_missing (with_rows s (granted s.durable.reach s.durable.index s.rows t.slot)) t.waiter.client (push.Grant t.waiter.req (holdings (with_rows s (granted s.durable.reach s.durable.index s.rows t.slot)) t.waiter.client (taken s.durable.reach s.durable.index s.rows t.slot))))
 
--- an answer leaves who is missing
+-- an answer leaves the missing clients as they are
 pub answered_up : (s t : Server) (outs : List ToClient) → Answered s t outs → is_recovering s.missing ≡ false → is_recovering t.missing ≡ false
 answered_up s t outs (stops s' e) up = up
 answered_up s t outs (goes_on s' t' turn later e rest) up = answered_up (answer_first s turn).server t later rest (ap is_recovering (turn_missing s turn) ∙ up)

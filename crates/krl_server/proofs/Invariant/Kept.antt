@@ -1,4 +1,4 @@
--- Each step of a server keeps its table and its register in order, and leaves nobody who could be answered.
+-- Each step of a server keeps its table and its register in order, and leaves no waiter that could be answered.
 use Rattle.krl_server.proofs.Names.{◌≡◌, ℕ, suc, ◌<◌, true, not, Some, None, List, [], ◌∷◌, refl, sym, ap, subst, ◌∙◌, arith, ne_eqb, and_parts, same_Some, nat_lt, END, WriteOp, Outcome, ToServer}
 use Rattle.krl_server.proofs.Names.{ToClient, PushBody, eq_cases, Record, slot_of, slots, Durable, Register, record_of, with_record, new_record, left_by, HasOutcomes, op_key, noted, applied_by}
 use Rattle.krl_server.proofs.Names.{HasOutcome, blank_rows, max_clients, cleared, dropped, behind_first, taken, granted, asks_absent, is_wanted_compatible, IsTable, or_true, Server, is_recovering}

@@ -13,7 +13,7 @@ two_rows rows n k j at_n at_k P f g h = eq_cases j k
     (λ e. subst P (sym (ap (set_row (set_row rows n at_n) k at_k) e ∙ row_here (set_row rows n at_n) k at_k)) (f e))
     (λ ne. subst P (sym (row_other (set_row rows n at_n) k at_k j ne)) (eq_cases j n (λ e. subst P (sym (ap (set_row rows n at_n) e ∙ row_here rows n at_n)) (g ne e)) (λ no. subst P (sym (row_other rows n at_n j no)) (h ne no))))
 
--- so for those who wait there
+-- so for those that wait there
 queue_cases : (rows : Rows) (n k j : ℕ) (at_n at_k : Row) (u : Waiter) (P : Type 0) → (j ≡ k → In u at_k.queue → P) → (j ≢ k → j ≡ n → In u at_n.queue → P) → (j ≢ k → j ≢ n → In u (rows j).queue → P) → In u (set_row (set_row rows n at_n) k at_k j).queue → P
 queue_cases rows n k j at_n at_k u P f g h = two_rows rows n k j at_n at_k (λ r. In u r.queue → P) f g h
 

@@ -43,7 +43,7 @@ row_came rows n row less m u at = ⊎_elim
     (λ (old : In u (rows m).queue). old)
     (in_row rows n row m u at)
 
--- who waits after an answer waited before
+-- a client that waits after an answer waited before
 turn_came : (s : Server) (t : Turn) (m : ℕ) (u : Waiter) → In u ((answer_first s t).server.rows m).queue → In u (s.rows m).queue
 turn_came s t m u = if_both (λ (x : Done). In u (x.server.rows m).queue → In u (s.rows m).queue) (asks_absent s.durable.index t.waiter) (tells_absent s t) (grants s t)
     (λ at. row_came s.rows t.slot (with_queue (s.rows t.slot) (behind_first (s.rows t.slot).queue)) (behind_in (s.rows t.slot).queue) m u
@@ -69,7 +69,7 @@ module _ (s : Server) (m : ToServer) (h : AreRegistered s) where
       (λ (new : (asks k ≡ true) × (u.client ≡ m.client) × IsAsked m u k). subst (IsRegistered s.durable.register) (sym new.1) (r, from.known, from.here))
       (came n u at))
 
-  -- who waits after the sender's waiter is taken away is another client, whose record stays
+  -- a client that waits after the sender's waiter is taken away is another one, whose record stays
   cleared_here : (x : Record) (n : ℕ) (u : Waiter) → In u (cleared s.rows m.client n).queue → IsRegistered (with_record s.durable.register m.client x) u.client
   cleared_here x n u at = let y = in_unqueue (s.rows n).queue m.client u at in other_here s.durable.register m.client u.client x y.1 (h n u y.0)
 

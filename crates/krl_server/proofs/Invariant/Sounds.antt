@@ -15,7 +15,7 @@ use Rattle.krl_server.proofs.Turns.{in_row}
 use Rattle.krl_server.proofs.Invariant.RowsSound.{lowered_sound, adopts_sound}
 use Rattle.krl_server.proofs.Cased.{IsFrom, by_case}
 
--- a client's modes become N, and it waits no more
+-- a client's modes become N, and it no longer waits
 cleared_strangers : (rows : Rows) (c n d : ℕ) → mode_at rows n d ≡ mode.N → mode_at (cleared rows c) n d ≡ mode.N
 cleared_strangers rows c n d e = eq_cases d c (λ f. subst (λ x. mode_at (cleared rows c) n x ≡ mode.N) (sym f) (mode_here (rows n).modes c mode.N)) (λ ne. mode_other (rows n).modes c d mode.N ne ∙ e)
 

@@ -71,7 +71,7 @@ cleared_kept m rows c k = record {
 
 -- Queues
 
--- who waits nowhere
+-- a client that waits nowhere
 nowhere : (m : Index) (rows : Rows) (c : ℕ) → IsKept m rows → waits m rows c ≡ false → (n : ℕ) → times c (rows n).queue ≡ 0
 nowhere m rows c k e n = by_slot (is_slot m n) refl
   where

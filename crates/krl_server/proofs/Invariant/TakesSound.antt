@@ -18,7 +18,7 @@ use Rattle.krl_server.proofs.Grants.{raised_queue}
 use Rattle.krl_server.proofs.Invariant.WritesSound.{change_may}
 use Rattle.krl_server.proofs.Invariant.AnswersSound.{one_sound}
 
--- what may_take says
+-- what may_take states
 pub record MayTake (s : Server) (c : ℕ) (op : WriteOp) : Type 0 where
   pub lock : takes_lock op ≡ true
   pub applied : judge s.durable.room s.durable.index op true ≡ outcome.Applied

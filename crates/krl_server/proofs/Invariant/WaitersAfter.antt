@@ -33,7 +33,7 @@ abbrev pub IsAsked : ToServer → Waiter → Case → Type 0
 IsAsked m u (Waits req point hi g) = u ≡ record { client = m.client; req = req; point = point; hi = hi; mode = g }
 IsAsked m u other = ⊥
 
--- who waits after the case waited before, or has asked by it
+-- a client that waits after the case waited before, or has asked by it
 abbrev pub Came : Server → ToServer → Case → Type 0
 Came s m k = (n : ℕ) (u : Waiter) → In u ((effect s m k).server.rows n).queue → ((j : ℕ) × In u (s.rows j).queue) ⊎ ((asks k ≡ true) × (u.client ≡ m.client) × IsAsked m u k)
 

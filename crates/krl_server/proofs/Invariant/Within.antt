@@ -96,7 +96,7 @@ unlisted_apart (e ∷ es) c h = by_eq (nat_eq c e) (unlisted_apart es c h.1)
     by_eq true ih = ih
     by_eq false ih = ((λ at. h.0 (unlisted_in es c e at)), ih)
 
--- who is still missing was, and is another than c
+-- a client that is still missing was missing before, and is another than c
 still_missing : (ms : List ℕ) (c d : ℕ) → lists (unlist ms c) d ≡ true → (d ≢ c) × (lists ms d ≡ true)
 still_missing ms c d e = let ne : d ≢ c = λ f. not_both (lists (unlist ms c) d) e (ap (lists (unlist ms c)) f ∙ unlist_here ms c) in (ne, sym (unlist_other ms c d ne) ∙ e)
 

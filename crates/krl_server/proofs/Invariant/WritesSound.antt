@@ -44,7 +44,7 @@ refusal_is s c op o r known not =
 abbrev pub with_write : Server → ℕ → Record → Index → Rows → Server
 with_write s c r index rows = record (acknowledged s c) { durable = record s.durable { index = index; register = with_record s.durable.register c (noted r outcome.Applied) }; rows = rows }
 
--- What Applied says of the write
+-- What Applied states of the write
 
 pub insert_may : (present may full : Bool) → judged_insert present may full ≡ outcome.Applied → (present ≡ false) × (may ≡ true)
 insert_may true may full e = absurd (cc)

@@ -112,7 +112,7 @@ slots_are rows n (k ∷ ns) h =
     let add = sum_add n (λ c. times c (rows k).queue) (λ c. times_on rows c ns) in
     omega (arith, ih, here, add)
 
--- who waits in a queue is found there
+-- a client that waits in a queue is found there
 found : (c : ℕ) (us : List Waiter) → 1 ≤ times c us → is_some (first_of c us) ≡ true
 found c us le = by_first (first_of c us) refl
   where

@@ -40,7 +40,7 @@ turn_few s t = if_both (λ (x : Done). length x.outs ≤ 1) (asks_absent s.durab
 pub turn_durable : (s : Server) (t : Turn) → (answer_first s t).server.durable ≡ s.durable
 turn_durable s t = if_both (λ (x : Done). x.server.durable ≡ s.durable) (asks_absent s.durable.index t.waiter) (tells_absent s t) (grants s t) (pushes_durable (with_rows s (dropped s.rows t.slot)) t.waiter.client _) (pushes_durable (with_rows s (granted s.durable.reach s.durable.index s.rows t.slot)) t.waiter.client _)
 
--- each row waits for as many as before, but for the turn's slot, which waits for one less
+-- each row waits for as many as before, except for the turn's slot, which waits for one less
 pub record Shorter (old new : Rows) (slot : ℕ) : Type 0 where
   pub here : suc (length (new slot).queue) ≤ length (old slot).queue
   pub rest : (n : ℕ) → n ≢ slot → length (new n).queue ≤ length (old n).queue

@@ -1,4 +1,4 @@
--- What a step says of its change: it makes what survives, and so do the changes of many steps.
+-- What a step reports of its change: it makes what survives, and so do the changes of many steps.
 use Rattle.krl_server.proofs.Names.{◌≡◌, ℕ, suc, ◌<◌, Bool, true, false, Option, Some, None, List, [], ◌∷◌, refl, sym, ap, subst, ◌∙◌, arith, WriteOp, Outcome, ToServer, ToClient, op_key, Record}
 use Rattle.krl_server.proofs.Names.{slot_of, Durable, record_of, with_record, new_record, registered, left_by, departed, index_after, applied, ServerOut, Server, incarnation_or_0, Case, case_of}
 use Rattle.krl_server.proofs.Names.{holding, acknowledged, effect, kind_of, ServerStep, HasStepped, last_of}

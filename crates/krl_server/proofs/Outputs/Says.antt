@@ -52,7 +52,7 @@ module _ (s : Server) (n : ℕ) (u : Waiter) where
       (λ ne. let later = from_has (suc d) k e (omega (arith, ne, low)) (omega (arith, high)) f in
       if_both (λ xs. In (call e) xs) (is_compatible s n u d) (callbacks_from s n u (suc d) k) (call d ∷ callbacks_from s n u (suc d) k) later (inr later))
 
--- what the machine's words say of one slot
+-- what the machine's words state of one slot
 blocked : (s : Server) (n : ℕ) (u : Waiter) (d : ℕ) → is_compatible s n u d ≡ false → (d ≢ u.client) × (compatible (wanted (s.rows n) u) (mode_at s.rows n d) ≡ false)
 blocked s n u d e = let x = or_parts (nat_eq d u.client) (compatible (wanted (s.rows n) u) (mode_at s.rows n d)) e in (eqb-false d u.client x.0, x.1)
 

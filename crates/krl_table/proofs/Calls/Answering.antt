@@ -1,4 +1,4 @@
--- What a slot's first waiter can be told, by only the slot's row.
+-- What a slot's first waiter can be answered, by only the slot's row.
 use Rattle.krl_table.proofs.Names.{◌≡◌, ℕ, ◌≤◌, ◌<◌, Bool, true, false, not, ◌&&◌, ◌||◌, List, [], ◌∷◌, Some, None, IfSome, inl, refl, sym, ap, subst, ◌∙◌, arith, nat_eq, eq-eqb, ne_eqb, ltb-true}
 use Rattle.krl_table.proofs.Names.{ltb-false, is_some, nat_lt, if◌then◌else◌, get, END, needs_entry, In, Waiter, Index, IsSlotOf, Row, is_compatible_in_row, front_of, wanted, asks_absent}
 use Rattle.krl_table.proofs.Names.{lacks_entry, is_wanted_compatible, first_reply, first_reply_on, row_reply, Kept, rows_of, IsOver}

@@ -24,7 +24,7 @@ module _ (m : Index) (rows : Rows) (u : Waiter) (n : ℕ) (at : slot_of m u.poin
   none : (rows n).queue ≡ []
   none = no_queue (rows n).queue free
 
-  -- it is alone there
+  -- it is the only one there
   alone : queue_with (rows n) u ≡ u ∷ []
   alone = ap (λ q. if at_most ((rows n).modes u.client) mode.N then q ++ u ∷ [] else u ∷ q) none ∙ either (at_most ((rows n).modes u.client) mode.N)
     where

@@ -23,7 +23,7 @@ module _ (t u : Kept) (k : ℕ) (row : Row) (w : Waiter) (ws : List Waiter) (sou
   fewer_here : (v : Waiter) → In v row.queue → In v (rows_of t k).queue
   fewer_here v at = subst (In v) (sym queue) (inr (subst (In v) rest at))
 
-  -- who waits now waited before
+  -- a client that waits now waited before
   before : (n : ℕ) (v : Waiter) → In v (rows_of u n).queue → In v (rows_of t n).queue
   before n v at = eq_cases n k
       (λ e. subst (λ y. In v (rows_of t y).queue) (sym e) (subst (In v) (sym queue) (inr (subst (In v) at_k (subst (λ y. In v (rows_of u y).queue) e at)))))
@@ -134,7 +134,7 @@ module _ (t u : Kept) (k : ℕ) (w : Waiter) (sound : IsSound t) (s : IsSet t u 
   queue_off : (n : ℕ) → n ≢ k → (rows_of u n).queue ≡ (rows_of t n).queue
   queue_off n ne = ap (λ (r : Row). r.queue) (other_row t u k row s n ne)
 
-  -- it, or who waited before
+  -- it, or a waiter that waited before
   now : (n : ℕ) (v : Waiter) → In v (rows_of u n).queue → ((v ≡ w) × (n ≡ k)) ⊎ In v (rows_of t n).queue
   now n v at = eq_cases n k
       (λ f. ⊎_elim (λ (g : v ≡ w). inl (g, f)) (λ (x : In v (rows_of t k).queue). inr (subst (λ y. In v (rows_of t y).queue) (sym f) x)) (in_queue_with (rows_of t k) w v (subst (In v) queue_at (subst (λ y. In v (rows_of u y).queue) f at))))

@@ -36,7 +36,7 @@ times_parted c k (u ∷ us) = by_test (nat_le u.point k) (nat_lt k u.point) (gri
 pub one_same : (a b : ℕ) → nat_eq a b ≡ nat_eq b a
 one_same a b = grind (arith, nat_tests)
 
--- who doesn't wait there stands there no time
+-- a client that doesn't wait there stands there no time
 pub none_times : (c : ℕ) (us : List Waiter) → first_of c us ≡ None → times c us ≡ 0
 none_times c [] e = omega arith
 none_times c (u ∷ us) e = by_test (nat_eq u.client c) refl (none_times c us) e
@@ -103,7 +103,7 @@ alone_moved t t' n k apart h sum less i j ne = eq_cases i n
         (λ e. subst (λ y. t' k + t' y ≤ 1) (sym e) (omega (arith, sum, x)))
         (λ nj. let a = less j nj nk in let y = h n j (λ f. nj (sym f)) in let z = h k j (λ f. nk (sym f)) in omega (arith, sum, x, a, y, z))
 
--- who stands there is counted
+-- a waiter that stands there is counted
 pub in_times : (us : List Waiter) (u : Waiter) → In u us → 1 ≤ times u.client us
 in_times [] u at = absurd at
 in_times (v ∷ vs) u (inl e) = let one_is : one (nat_eq u.client v.client) ≡ 1 = ap one (Rattle.std.proofs.Common.eq-eqb u.client v.client (ap (λ w. w.client) e)) in omega (arith, times_more u.client v vs, one_is)

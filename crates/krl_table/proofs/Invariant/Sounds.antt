@@ -104,7 +104,7 @@ listed_moved waiting t u came goes l = record {
   there = λ c v e. let x = l.there c v e in (x.0, goes x.1.0 v x.1.1);
 }
 
--- one client waits no more
+-- one client no longer waits
 pub listed_less : (waiting : List (Option Waiter)) (t u : Kept) (c : ℕ) → c < 64 → ((n : ℕ) (v : Waiter) → In v (rows_of u n).queue → In v (rows_of t n).queue × (v.client ≢ c)) → ((n : ℕ) (v : Waiter) → In v (rows_of t n).queue → v.client ≢ c → In v (rows_of u n).queue) → AreListed waiting t → AreListed (set waiting c None) u
 listed_less waiting t u c lt less stay l = record {
   full = length-set waiting c None ∙ l.full;

@@ -96,7 +96,7 @@ module _ (es fs : List Extent) (t u : Kept) (k s c : ℕ) (wider : AreWider es f
   abbrev old : Row
   old = with_queue (rows_of t s) (beyond k (rows_of t s).queue)
 
-  -- who writes holds something
+  -- a client that writes holds something
   writer : IsFreeOf (rows_of t s) c → ⊥
   writer f = let bad : lets_insert (range_of mode.N) ≡ true = subst (λ g. lets_insert (range_of g) ≡ true) f.0 may in absurd (cc)
 

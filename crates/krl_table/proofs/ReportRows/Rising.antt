@@ -50,7 +50,7 @@ off_behind low (x ∷ xs) at p le h = (inr (inl (omega (arith, le, h.0))), off_b
 pub ranges_off_from : (xs : List RangePiece) (i : ℕ) (x : RangePiece) (at p : ℕ) → i < length xs → x ≡ slice_index_or xs i x → p ≤ x.span.lo → RangesRise 0 xs → RangesOff (drop i xs) at p
 ranges_off_from xs i x at p lt e le h = off_behind x.span.lo (drop i xs) at p le (ranges_at xs i x lt e h)
 
--- a span that ends at or below the point says nothing from there on
+-- a span that ends at or below the point states nothing from there on
 pub range_passed : (x : RangePiece) (xs : List RangePiece) (at : ℕ) → x.span.hi ≤ at → SameRanges at xs (x ∷ xs)
 range_passed x xs at le span from = sym (ap (λ t. if t then range_join x.part (reported_range xs span) else reported_range xs span) (misses (nat_lt x.span.lo span.hi) (nat_lt span.lo x.span.hi) before))
   where

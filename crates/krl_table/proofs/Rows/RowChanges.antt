@@ -71,7 +71,7 @@ insert_other t k r n ne = get-put t k r n ∙ ap (λ b. cond b (Some r) (get t n
 pub insert_same : (t : Kept) (k : ℕ) (r : SlotRow) → get (insert t k r) k ≡ Some r
 insert_same t k r = get-put t k r k ∙ ap (λ b. cond b (Some r) (get t k)) (eq-eqb k k refl)
 
--- what all tests for N say of a row in which nobody waits
+-- what all tests for N show of a row in which nobody waits
 pub blank_is : (r : SlotRow) → r.queue ≡ [] → ((c : ℕ) → mode_of r.modes c ≡ mode.N) → row_of r ≡ blank_row
 blank_is r none all i = record { modes = fun_ext all i; queue = none i }
 
@@ -105,7 +105,7 @@ both_set t v u i a j b apart x y = record {
       (λ nj. x.used r (ap (get v) (sym (⊎_elim (λ (f : n ≡ i). f) (λ (f : n ≡ j). absurd (nj f)) which)) ∙ sym (y.others n nj) ∙ e));
 }
 
--- two rows are set, after the second's was changed alone
+-- two rows are set, after only the second was changed
 pub both_after : (t v u : Kept) (i : ℕ) (a : Row) (j : ℕ) (b : Row) → ((n : ℕ) → n ≢ j → get v n ≡ get t n) → AreSet v u i a j b → AreSet t u i a j b
 both_after t v u i a j b same h = record {
   first = h.first;
@@ -153,7 +153,7 @@ by_two t u i a j b h P x y rest n = eq_cases n i
     (λ e. subst P (sym (ap (rows_of u) e ∙ h.second)) y)
     (λ nj. subst P (sym (ap row_there (h.others n ni nj))) (rest n)))
 
--- and who waited in one of the two waits in one of them
+-- and a client that waited in one of the two waits in one of them
 pub goes_two : (t u : Kept) (i : ℕ) (a : Row) (j : ℕ) (b : Row) → AreSet t u i a j b → (w : Waiter) → (In w (rows_of t i).queue → In w a.queue ⊎ In w b.queue) → (In w (rows_of t j).queue → In w a.queue ⊎ In w b.queue) → (n : ℕ) → In w (rows_of t n).queue → (k : ℕ) × In w (rows_of u k).queue
 goes_two t u i a j b h w x y n = eq_cases n i
     (λ e at. there (x (subst (λ k. In w (rows_of t k).queue) e at)))

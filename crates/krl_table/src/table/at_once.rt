@@ -39,7 +39,7 @@ impl Table {
 
     /// Gives the client what `enqueue` of the waiter, and then `grant` on the slot of its point,
     /// would give it, without a place in the queue: if nobody waits on that slot, and
-    /// `answerable` would then tell the waiter that it can be granted. It answers the slots that
+    /// `answerable` would then answer that the waiter can be granted. It answers the slots that
     /// were taken, in ascending order. It takes no memory.
     ///
     /// None, and nothing changes, if somebody waits there, if what the waiter wants is not

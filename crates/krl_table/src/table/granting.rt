@@ -42,7 +42,7 @@ fn lacks_entry(slot: u64, waiter: &Waiter) -> bool
 
 impl Table {
     /// The slot's first waiter gets what it wants, which is compatible with what all others hold
-    /// there, and waits no more. The grant continues over the slots after it that begin below the
+    /// there, and no longer waits. The grant continues over the slots after it that begin below the
     /// end of what the waiter asks for, as far as the reach of what survives. It ends before the
     /// first slot where somebody waits, or where what it asks for is not compatible with what
     /// others hold, or which is END if the waiter asks only for an entry. It answers the slots that
@@ -68,7 +68,7 @@ impl Table {
         taken
     }
 
-    /// The slot's first waiter gets what it wants there, and waits no more.
+    /// The slot's first waiter gets what it wants there, and no longer waits.
     fn grant_first(&mut self, slot: u64)
         requires there { IsSome (map.get self.old.map slot) }
         requires is_compatible_there { IfSome (front_of (rows_of self.old.map slot).queue)

@@ -1,4 +1,4 @@
-//! What a client that asks can be told.
+//! What a client that asks can be answered.
 ghost use Rattle.std.specs.Prelude.{◌≡◌, ◌<◌, true, Some, IfSome};
 ghost use Rattle.krl_modes.specs.declared.point.TheConstants.{END};
 ghost use Rattle.krl_messages.specs.Writes.{op_key};
@@ -20,8 +20,8 @@ use krl_durable::Durable;
 use krl_messages::WriteOp;
 
 impl Table {
-    /// What the slot's first waiter can be told. `acked` says whether its client has acknowledged
-    /// every push.
+    /// What the slot's first waiter can be answered. `acked` states whether its client has
+    /// acknowledged every push.
     ///
     /// The clause `grants` is what `grant` asks.
     pub fn answerable(&self, slot: u64, acked: bool) -> Option<Reply>

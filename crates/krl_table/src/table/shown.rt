@@ -1,4 +1,4 @@
-//! What a client holds, and whom it waits behind.
+//! What a client holds, and which clients wait before it.
 ghost use Rattle.std.specs.Prelude.{◌≡◌, ◌≢◌, ◌<◌, ℕ, true, false, [], None, MatchOption};
 ghost use Rattle.std.specs.FinMap as map;
 ghost use Rattle.krl_modes.specs.declared.point.TheConstants.{END};

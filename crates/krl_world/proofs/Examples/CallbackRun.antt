@@ -1,4 +1,5 @@
--- On from the first run: another client wants the same gap alone, so the first is called back, and the other is granted it.
+-- On from the first run: another client wants the same gap exclusively, so the first is called back, and the other is
+-- granted it.
 use Rattle.krl_world.proofs.Names.{◌≡◌, Some, None, List, [], ◌∷◌, refl, sym, ap, ToServer, ToClient, Index, max_clients, Server, Registers, Waits, Lowers, case_of, effect, Turn, next_turn}
 use Rattle.krl_world.proofs.Names.{answer_first, callbacks, ServerStep, Client, locked, lowered, says_report, says_ack, accepted, Step, Up, State, seated, served, with_client, opened, span}
 use Rattle.krl_world.proofs.Names.{applies, Takes, Runs}

@@ -1,4 +1,4 @@
--- Another run, step by step: a client locks the gap below 20, inserts 15 there, and is told Applied.
+-- Another run, step by step: a client locks the gap below 20, inserts 15 there, and receives Applied.
 use Rattle.krl_world.proofs.Names.{◌≡◌, ◌∙◌, Some, List, [], ◌∷◌, refl, sym, ap, inl, inr, nat_cmp, nat_cmp_total, put, In, case_of, Client, locked, wrote, says_ack, accepted, AppliedWrite, Step, Up}
 use Rattle.krl_world.specs.Steps as steps
 use Rattle.krl_world.proofs.Reaching.{runs_reached}

@@ -23,7 +23,7 @@ key_by k p false u true e f g = grind (arith, nat_tests)
 pub told_gap : Describes (pieces_of range.S key.S) (adopt gap no_belief)
 told_gap = record { ranges_in_order = (omega arith, omega arith, omega arith, tt); merged = (λ e. absurd (cc), tt, tt); keys_in_order = (omega arith, omega arith, refl, tt); ranges = λ p. refl; keys = λ p. key_by key.S p (contains (span 0 11) p) (nat_eq (suc p) 11) (nat_eq p 10) refl refl refl }
 
--- the same gap, held alone
+-- the same gap, held exclusively
 abbrev pub gap_alone : Holding
 gap_alone = record { span = span 0 11; mode = mode.RangeXX; value = Some (1 ∷ []) }
 

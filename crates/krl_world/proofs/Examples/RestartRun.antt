@@ -1,5 +1,5 @@
--- On from there: the server crashes and starts again, both clients report, it serves, and a client that holds a key and the
--- gaps at both of its sides alone deletes it, and is told Applied.
+-- On from there: the server crashes and starts again, both clients report, it serves, and the only holder of a key and
+-- of the gaps at both of its sides deletes it, and receives Applied.
 use Rattle.krl_world.proofs.Names.{◌≡◌, ◌≤◌, ℕ, zero, suc, ◌∙◌, Bool, true, false, cond, Some, None, List, [], ◌∷◌, ◌++◌, inl, inr, refl, sym, ap, arith, nat_cmp, eq_by_cmp, nat_cmp_total, put}
 use Rattle.krl_world.proofs.Names.{nat_tests, Value, Holding, Pieces, ToServer, ToClient, PushBody, In, Index, is_slot, standard_room, max_clients, Server, Rebuilds, Waits, Judges, case_of, effect}
 use Rattle.krl_world.proofs.Names.{Turn, next_turn, answer_first, callbacks, ServerStep, start, Client, locked, wrote, says_ack, accepted, AppliedWrite, Step, Up, Down, State, fresh, served}

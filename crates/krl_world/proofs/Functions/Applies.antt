@@ -1,4 +1,4 @@
--- The write that is noted is the one that the server applied: the step says it.
+-- The write that is noted is the one that the server applied: the step reports it.
 use Rattle.krl_world.proofs.Names.{◌≡◌, List, ◌++◌, refl, ap, ◌∙◌, ToServer, Server, Case, Ignored, Registers, Leaves, Tells, Alarms}
 use Rattle.krl_world.proofs.Names.{Rebuilds, Repeats, Acknowledges, Lowers, Waits, Judges, TakesLock, AnswersAgain, case_of, HasStepped, AppliedWrite, applies, applied_in, HasServed, Message, from_server}
 use Rattle.krl_server.specs.declared.out.ServerOut.{ServerOut}
@@ -20,7 +20,7 @@ noted_is_applied m (Judges number op o) = refl
 noted_is_applied m (TakesLock number op) = refl
 noted_is_applied m (AnswersAgain number op o) = refl
 
--- a message is read: what was sent and what is noted, by what the step sends and says
+-- a message is read: what was sent and what is noted, by what the step sends and reports
 pub served_by : (s t : Server) (m : ToServer) (out : ServerOut) (old new : List Message) (before after : List AppliedWrite) → HasStepped s m t out → new ≡ old ++ from_server out.messages → after ≡ before ++ applied_in m out.change → HasServed s m t old new before after
 served_by s t m out old new before after h e f = record {
   outs = out.messages;

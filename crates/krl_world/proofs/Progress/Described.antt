@@ -14,7 +14,8 @@ use Rattle.krl_world.proofs.Promises.CompatibilityAndScans.{end_is}
 abbrev IsWithin : Belief → Type 0
 IsWithin b = (p : ℕ) → END < p → (b.range_at p ≡ range.N) × (b.key_at p ≡ key.N)
 
--- pieces say nothing of values, so they describe a belief as they describe it with some value wherever an entry is read
+-- pieces state nothing of values, so they describe a belief as they describe it with some value wherever an entry is
+-- read
 
 some_value : Bool → KeyPart → Option Value
 some_value true k = None

@@ -40,7 +40,7 @@ held_key c p (Some k) g l b h e x = key_within _ _ _ _ (h.1.key p) e x
 
 -- Live pushes
 
--- what several holdings say of a point in the span of one of them, if no point lies in two
+-- what several holdings state of a point in the span of one of them, if no point lies in two
 
 outside_span : (lo hi q : ℕ) → q < lo → (nat_le lo q && nat_lt q hi) ≡ false
 outside_span lo hi q lt = grind (arith, nat_tests)

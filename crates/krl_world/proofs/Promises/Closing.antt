@@ -52,7 +52,7 @@ still_nobody s m g h = by_said s m (λ k. NobodyWaits (effect s m k).server) (re
   answers_again = λ r request number op takes o a under some last is. served_not s g a.served.serves;
 })
 
--- whoever recovers after a message recovered before
+-- a server that recovers after a message recovered before
 recovery_before : (s : Server) (m : ToServer) → is_recovering (effect s m (case_of s m)).server.missing ≡ true → is_recovering s.missing ≡ true
 recovery_before s m g = by_test (is_recovering s.missing) refl
   where

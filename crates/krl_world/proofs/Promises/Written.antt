@@ -102,7 +102,7 @@ due_is : (m : Index) (es : List Logged) → machine.IsProper (map.get m) es → 
 due_is m [] h = tt
 due_is m (e ∷ es) h = due_snoc m (oldest_first es) (as_applied e) (due_is m es h.1) (due_same e.wrote.op (replayed m (oldest_first es)) (machine.replay (map.get m) es) (λ q. sym (replayed_is m es q)) h.0)
 
--- What was asked and told
+-- What was asked and answered
 
 or_applied : (o : Outcome) → (is_applied o ≡ false → ⊥) → o ≡ outcome.Applied
 or_applied outcome.Applied n = refl

@@ -42,7 +42,7 @@ key_kept : (t : Bool) (a b k : KeyPart) → a ≡ b → k ≡ (if t then key.N e
 key_kept true a b k e f = f
 key_kept false a b k e f = f ∙ e
 
--- if it does not, they stay, but for clients that were cleared
+-- if it does not, they stay, except for clients that were cleared
 kept_bound : (of to : ℕ → Link) (gone : ℕ → Bool) (b : Bound) → HaveBound of b → ((c : ℕ) → BoundStays (gone c) (of c) (to c)) → HaveBound to (cleared gone b)
 kept_bound of to gone b h stays c p = (range_kept (gone c) ((of c).top_range p) (b.range_at c p) ((to c).top_range p) (h c p).0 ((stays c).range p), key_kept (gone c) ((of c).top_key p) (b.key_at c p) ((to c).top_key p) (h c p).1 ((stays c).key p))
 

@@ -11,7 +11,7 @@ use Rattle.krl_steps.specs.declared.refused.Refused.TheVariants as refused
 use Rattle.krl_world.proofs.Refinement.Mirrors.{machine_of, shared_of, Mirrors, Goes, place_goes}
 use Rattle.krl_world.proofs.Refinement.Serves.{reads_goes, nudge_goes, crash_goes, start_goes}
 
--- What a refusal that isn't due says
+-- What a refusal that isn't due shows
 
 pub client_ok : (c : ℕ) (r : Option Refused) → of_client c r ≡ None → r ≡ None
 client_ok c r e = by_test (nat_lt 63 c) e

@@ -102,7 +102,7 @@ module _ (s : System) (limits : Limits) (m : Machines) where
       let rest = lease_runs g.0 w' d j es g.2 in
       both_runs limits (m d j) first.0 rest.0 (w.leases d j) (g.0.leases d j) (w'.leases d j) first.1 rest.1
 
--- Who is evicted stays so
+-- A client that is evicted stays so
 
 not_unknown : {A : Type 0} → Evicted ≡ Unknown → A
 not_unknown e = absurd (differ e)

@@ -36,7 +36,7 @@ ScansAreIndex s =
     AllAgree limits m → IsReached s limits m v → Reads s v c i lo hi rows → Runs s limits m v es w →
     MayHandOver s m w c i → rows ≡ range (index_of (s.view v.world)) lo hi
 
--- each such world is reached by moves of the system, and has what the headline says
+-- each such world is reached by moves of the system, and has what the headline states
 abbrev pub WorldsAreReached : System → Type 0
 WorldsAreReached s =
     (limits : Limits) (m : Machines) (w : Leased s) → IsReached s limits m w →

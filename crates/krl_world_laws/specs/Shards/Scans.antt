@@ -32,7 +32,7 @@ abbrev pub IsTogether : List ℕ → Moment → Index → Type 0
 IsTogether bounds w m =
     (i k : ℕ) → i ≤ last_shard bounds → IsPointOf (span_of bounds i) k → map.get m k ≡ map.get (index_of (w i)) k
 
--- each index has keys of its own shard only: whoever sends writes sends none elsewhere
+-- each index has keys of its own shard only: no write is sent elsewhere
 abbrev pub KeepToShards : List ℕ → Moment → Type 0
 KeepToShards bounds w =
     (i k : ℕ) (v : Value) → i ≤ last_shard bounds → map.get (index_of (w i)) k ≡ Some v → IsPointOf (span_of bounds i) k

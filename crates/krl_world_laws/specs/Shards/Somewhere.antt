@@ -1,4 +1,4 @@
--- Scans over several servers that come to something, so that what holds of all is not said in vain.
+-- Scans over several servers that come to something, so that what holds of all is not vacuous.
 use Rattle.std.specs.Prelude.{◌≡◌, ℕ, List, [], ◌∷◌}
 use Rattle.krl_durable.specs.Index.{Index, range}
 use Rattle.krl_shards.specs.declared.part.Part.{Part}

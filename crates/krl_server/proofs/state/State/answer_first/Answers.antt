@@ -58,7 +58,7 @@ pub returns-in-None-clause-blocked : goal.returns-in-None-clause-blocked
 returns-in-None-clause-blocked c is_false = not_answerable (meaning c.args.self.now) c.args.slot c.in-Some.waiter (sym c.front.ensures.front ∙ c.in-Some.is) c.can_push-acked.result (c.can_push-acked.ensures ∙ ap can_push c.session.ensures)
     (sym c.in-None.is ∙ c.answerable.ensures.answer c.args.self.now.durable.index c.requires.formed.over)
 
--- there is a room for each who waits
+-- there is a room for each waiter
 no_room : (rooms : List (Option ℕ)) (c reach point hi : ℕ) → 1 ≤ reach → slice_index_or rooms c None ≡ None → slots_asked reach point hi ≤ room_of rooms c → ⊥
 no_room rooms c reach point hi some e h = let none = ap slots_in e in omega (arith, some, h, none)
 

@@ -7,7 +7,7 @@ use Rattle.krl_table.proofs.Calls.Merges.{its_gap, its_next, under, merge_rows, 
 use Rattle.krl_table.proofs.Invariant.Within.{merge_within}
 use Rattle.krl_table.proofs.table.Table.merge.Goals as goal
 
--- who has a gap alone holds something
+-- the only holder of a gap holds something
 holds : (g : Mode) → range_of g ≡ range.X → g ≡ mode.N → ⊥
 holds g e f = let bad : range_of mode.N ≡ range.X = subst (λ x. range_of x ≡ range.X) f e in absurd (let clash : range.N ≡ range.X = bad in cc)
 

@@ -7,7 +7,7 @@ use Rattle.krl_table.proofs.Calls.Splits.{apart, split_rows, split_listed, split
 use Rattle.krl_table.proofs.Invariant.Within.{split_within}
 use Rattle.krl_table.proofs.table.Table.split.Goals as goal
 
--- who may insert holds something
+-- a client that may insert holds something
 holds : (g : Mode) → lets_insert (range_of g) ≡ true → g ≡ mode.N → ⊥
 holds g e f = let bad : lets_insert (range_of mode.N) ≡ true = subst (λ x. lets_insert (range_of x) ≡ true) f e in absurd (cc)
 
