@@ -162,7 +162,7 @@ by_chain() {
         }' | sort -rn | cut -d ' ' -f 2
 }
 
-# Calls rt in the folder $1 with the words after $2, and keeps what it says as $2.log. If it fails, the end of that
+# Calls rt in the folder $1 with the words after $2, and keeps its output as $2.log. If it fails, the end of that
 # is shown. All processors work for the crate for which the others wait; another takes what they leave.
 call_rt() {
     folder=$1 log=$work/$2.log lower=10
@@ -218,7 +218,7 @@ take() {
 prove() {
     tell "$2"
     call_rt "$1/crates/$2" "$2" lib || {
-        say "$2 is not proved; the lines above say why"
+        say "$2 is not proved; the lines above show why"
         return 1
     }
 }
@@ -306,7 +306,7 @@ prove_and_build() {
     prove_below krl
     # A script of no lines writes nothing, so the run that rt makes after the build can't be seen.
     call_rt "$crate" krl run -- script || {
-        say "the program is not built; the lines above say why"
+        say "the program is not built; the lines above show why"
         exit 1
     }
     touch "$program"

@@ -4,9 +4,9 @@
 # kit, and `handles`, what it may use. It sets `built`, the program, and makes `room`, a folder that goes when the
 # benchmark ends.
 #
-# The program is no crate of crates.txt, so that the gate proves no benchmark, and its name does not end in .rt, since
-# the gate stops at such a file outside the crates: this makes a repository of the crates that it needs in `room`, with
-# what they keep proved.
+# The program is not a crate of crates.txt, so that the gate proves no benchmark, and its name does not end in .rt,
+# since the gate stops at such a file outside the crates: this makes a repository of the crates that it needs in `room`,
+# with what they keep proved.
 here=$(cd "$(dirname "$0")" && pwd)
 while [ ! -e "$here/built.sh" ]; do here=$(dirname "$here"); done
 top=$(cd "$here/.." && pwd)

@@ -1,4 +1,4 @@
-# The server crashes when it has applied a delete and before the client is told. Until the client is told
+# The server crashes when it has applied a delete and before the client learns it. Until the client learns it,
 # it keeps the gap across the deleted key, and another client waits.
 seed 10=1 20=2
 client 0

@@ -1,5 +1,5 @@
 # Client 0 reads the gap up to 10 and the entry 10.
-# Beside it client 1 reads the entry, and may change it next.
+# Next to it, client 1 reads the entry, and may change it next.
 seed 10=1 20=2
 client 0
 client 1

@@ -41,7 +41,7 @@ make_library() {
     say "there is no faster way, as the kit makes no library that is not proved"
     prove_below krl_embed
     call_rt "$top/crates/krl_embed" krl_embed lib || {
-        say "the library is not made; the lines above say why"
+        say "the library is not made; the lines above show why"
         exit 1
     }
     touch "$library"
@@ -58,7 +58,7 @@ build_host() {
     fi
     (cd "$top/hosts" && exec cargo build --release --package "$@") </dev/null >"$work/cargo.log" 2>&1 || {
         tail -n 40 "$work/cargo.log" >&2
-        say "$1 is not built; the lines above say why"
+        say "$1 is not built; the lines above show why"
         exit 1
     }
     touch "$target/release/$1"
@@ -101,7 +101,7 @@ build_if_older() {
     build_host "$host"
 }
 
-# Where help is asked for of a program that is not built, says where else it is: nobody waits for a proof to read it.
+# If help is asked for of a program that is not built, names where else it is: nobody waits for a proof to read it.
 tell_without_help() {
     say "the help of $1 is its own, and it is not built yet: '$2' builds it, the first time in some 20 minutes"
     say "until then see $3"

@@ -38,7 +38,7 @@ static void want(bool holds, const char *what) {
 
 static int changes;
 
-/* So many bytes may be taken; 0 also if some wait and none of them may leave. */
+/* How many bytes may be taken; 0 also if some wait and none of them may leave. */
 static uint64_t ready(krl_handle *handle) {
     krl_reply reply = krl_take(handle, NULL, 0);
     return reply.code == KRL_TOO_SHORT ? reply.detail : 0;
@@ -47,7 +47,7 @@ static uint64_t ready(krl_handle *handle) {
 /* The server's notes, each of which is confirmed as soon as it was reported. */
 static uint64_t notes;
 
-/* One note was reported, and before that so many bytes could be taken: they still can, and no more than they. */
+/* One note was reported, and before that this many bytes could be taken: they still can, and no more than they. */
 static void keep(krl_handle *server, uint64_t before) {
     krl_reply reply = krl_confirm(server, 0);
     want(reply.code == KRL_DONE && reply.detail == ++notes, "a note");
@@ -91,8 +91,8 @@ static void talk(krl_handle *client, krl_handle *server) {
     }
 }
 
-/* A client's first message goes to the server, which reports that the client has registered. Answers whether it said
- * something: it says nothing if memory is refused for that. */
+/* A client's first message goes to the server, which reports that the client has registered. Answers whether it
+ * reported something: it reports nothing if memory is refused for that. */
 static bool registers(krl_handle *server, uint64_t number) {
     krl_handle client = {0};
     uint8_t bytes[256];

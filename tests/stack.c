@@ -1,5 +1,5 @@
-/* How many bytes of stack each call of the library takes, on a thread whose stack is painted before. Says the most, and
- * ends with status 1 if that is above what krl.h promises. A thread's own start counts too, some 4,000 bytes. */
+/* How many bytes of stack each call of the library takes, on a thread whose stack is painted before. Prints the most,
+ * and ends with status 1 if that is above what krl.h promises. A thread's own start counts too, some 4,000 bytes. */
 #define _GNU_SOURCE
 #include "krl.h"
 #include <pthread.h>

@@ -12,7 +12,7 @@
 # if two runs answer differently. A scan of one piece is of slots whose gaps are read alike; of 100 pieces, of
 # slots whose gaps are held with S and X by turns.
 #
-# The program is no crate of crates.txt, so that the gate proves no benchmark, and its name does not end in
+# The program is not a crate of crates.txt, so that the gate proves no benchmark, and its name does not end in
 # .rt, since the gate stops at such a file outside the crates: this script makes a repository of the
 # crates that it needs in a folder of its own, and removes it.
 set -eu

@@ -6,8 +6,8 @@
 #
 # DRIVE is krl_drive and SERVER is krl-server, as tests/hosts builds them; ROUNDS are 12 by default. It takes etcd, and
 # as root it has network namespaces. Nothing else should run on the machine: a lease is two seconds, and a busy machine
-# delays who waits for one. It ends with status 1 if a run failed or found something wrong: the folder of that run
-# stays, and is named.
+# delays a server that waits for one to end. It ends with status 1 if a run failed or found something wrong: the folder
+# of that run stays, and is named.
 set -eu
 
 drive=$1 server=$2 runs=$3

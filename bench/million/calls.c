@@ -153,7 +153,7 @@ static uint64_t tell(const struct message *messages, uint64_t count)
     return applied;
 }
 
-/* Tells the messages of the batch, and prints the time. */
+/* Hands over the messages of the batch, and prints the time. */
 static void time_batch(const char *kind, uint64_t count, uint64_t answered, uint64_t applied)
 {
     uint64_t begun = nanos_of(CLOCK_PROCESS_CPUTIME_ID);

@@ -195,7 +195,7 @@ static void read_all(void)
     }
 }
 
-/* What a cache shows is no evidence of the index of the server that has started again: each client reads it again. */
+/* What a cache shows is not evidence of the index of the server that has started again: each client reads it again. */
 static void read_anew(void)
 {
     for (uint64_t number = 0; number < CLIENTS; number++)

@@ -49,7 +49,7 @@ compile phases.c phases
 compile calls.c krl
 rustc --edition 2024 -O -o "$room/rust" "$here/twin.rs"
 
-# Says which round begins.
+# Prints which round begins.
 tell() {
     echo "million: $1, round $2 of $rounds" >&2
 }

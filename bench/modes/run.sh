@@ -8,7 +8,7 @@
 # processor time of each counts. A line gives the function, the nanoseconds of a call in Rattle and in
 # Rust, with the loop round it, and their ratio. It stops if the two programs' sums differ.
 #
-# The program is no crate of crates.txt, so that the gate proves no benchmark, and its name does not end in
+# The program is not a crate of crates.txt, so that the gate proves no benchmark, and its name does not end in
 # .rt, since the gate stops at such a file outside the crates: this script makes a repository of the two
 # crates in a folder of its own, and removes it.
 set -eu

@@ -7,7 +7,7 @@
 #                                      CARGO_TARGET_DIR see tests/hosts
 #
 # The server, both clients and their messages are in one process, without a network. The two worlds take turns, and
-# each figure is the best round. The threads scan at places that no processor can guess, among 1,000 rows. Beside the
+# each figure is the best round. The threads scan at places that no processor can guess, among 1,000 rows. Next to the
 # writer a round counts in which it came to 8,000 callbacks a second or more.
 set -eu
 cd "$(dirname -- "$0")/../../hosts"

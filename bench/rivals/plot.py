@@ -2,7 +2,7 @@
 """Draws how long reads and writes take as more clients make them: plot.py LOAD.csv PLOT.svg
 
 LOAD.csv is what `run.sh load` prints. Each point is a number of clients: how many calls a second they made, and how
-long one took: the middle one (a full line) and 99 of a hundred (a dashed one). Both axes are logarithmic.
+long one took: the middle one (a full line) and the 99th percentile (a dashed one). Both axes are logarithmic.
 """
 import csv
 import math
@@ -69,7 +69,7 @@ def main():
         x, y = MARGIN + place * 150, HEIGHT + 100
         out.append(f'<rect x="{x}" y="{y - 9}" width="10" height="10" fill="{color}"/>')
         out.append(f'<text x="{x + 16}" y="{y}">{system}</text>')
-    note = "a full line: the middle call; a dashed one: 99 of a hundred"
+    note = "a full line: the middle call; a dashed one: the 99th percentile"
     out.append(f'<text x="{MARGIN}" y="{HEIGHT + 120}">{note}</text></svg>')
     with open(sys.argv[2], "w", encoding="utf-8") as file:
         file.write("\n".join(out) + "\n")

@@ -95,7 +95,7 @@ serve() {
     running="$running $!"
 }
 
-# Says which version is measured.
+# Prints which version is measured.
 version() {
     echo "measured: $*"
 }

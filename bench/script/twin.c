@@ -1,6 +1,6 @@
 /* The twin of `krl script` in C, written from docs/PROTOCOL.md: a script on standard input, its transcript on standard
  * output, each line written before the next is run. It has every word but `modes`, no more entries than a line of
- * `seed` has room for, and takes every request for memory to be met. */
+ * `seed` has room for, and assumes that every request for memory is met. */
 #include <stdint.h>
 #include <stdio.h>
 #include <stdlib.h>
@@ -44,7 +44,7 @@ static struct mode join(struct mode a, struct mode b) {
 static struct { uint64_t key, value; } entry[MAX_ENTRIES];
 static int entries;
 
-/* What each client was told (`held`) and what the server granted it, by slot. */
+/* What each client has learned (`held`) and what the server granted it, by slot. */
 static struct client {
     int runs, joined, waits;
     struct mode held[MAX_ENTRIES + 1], granted[MAX_ENTRIES + 1];

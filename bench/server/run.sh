@@ -17,6 +17,6 @@
 #   report-of-1000     one of the 64 reports of 1,000 ranges each that follow
 #   report-ascending, report-descending, report-shuffled    a report of as many ranges as there are entries, side by
 #                      side, in this order; the twin does not send these
-#   report-nested      the same with ranges of which each goes on to the end
+#   report-nested      the same with ranges of which each continues to the end
 exec "$(dirname -- "$0")/../both_sizes" server krl_modes krl_messages krl_blocks krl_queue krl_durable krl_table \
     krl_server

@@ -1,5 +1,5 @@
 # A release overtakes the delete that was sent before it. The delete needs the gap after its key, so it
-# is told NotHeld and nothing changes. Message 11 is the release.
+# is answered NotHeld and nothing changes. Message 11 is the release.
 seed 10=1 20=2
 client 0
 settle

@@ -1,4 +1,4 @@
-# What each message causes, one at a time: a delete that was applied before the server crashed is told again, and then a
+# What each message causes, one at a time: a delete that was applied before the server crashed is answered again, and then a
 # lock that waited after it is granted. A delivery of a number that was not sent yet is refused, and so shows how many
 # messages there are.
 seed 10=1 20=2

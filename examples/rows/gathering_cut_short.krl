@@ -1,4 +1,4 @@
-# The server crashes again while the next one gathers; the one after it hears both clients.
+# The server crashes again while the next one gathers; the one after it takes the reports of both clients.
 seed 10=1 20=2
 client 0
 client 1

@@ -1,4 +1,4 @@
-# A grant that a client hears after it has joined a later epoch is passed over. Message 8 is that grant.
+# A grant that a client receives after it has joined a later epoch is passed over. Message 8 is that grant.
 seed 10=1 20=2
 client 0
 client 1

@@ -1,4 +1,4 @@
-# The server crashes when it has applied an insert and before the client is told. The next server hears
+# The server crashes when it has applied an insert and before the client learns it. The next server takes
 # both reports, and answers the insert from its record.
 seed 10=1 20=2
 client 0

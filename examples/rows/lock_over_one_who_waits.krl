@@ -1,5 +1,5 @@
-# Somebody waits at the second of four slots that are asked for: the grant ends before that slot, though those after it
-# are free. It ends there too once the one who waited holds the entry, and goes over all of them once it is given back.
+# A client waits at the second of four slots that are asked for: the grant ends before that slot, though those after it
+# are free. It ends there too once that client holds the entry, and goes over all of them once it is given back.
 seed 10=1 20=2 30=3
 client 0
 client 1

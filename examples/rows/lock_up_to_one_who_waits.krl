@@ -1,5 +1,5 @@
-# Somebody waits at the second slot, for what a pin keeps from it: the grant ends before that slot, though its mode could
-# stand there. The one who waits gets what it wants once the pin is gone.
+# A client waits at the second slot, for what a pin keeps from it: the grant ends before that slot, though its mode could
+# be granted there. That client gets what it wants once the pin is gone.
 seed 10=1 20=2
 client 0
 client 1

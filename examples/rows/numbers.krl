@@ -1,4 +1,4 @@
-# Numbers of each length are read and printed, with zeros before them too; a span that ends above TOP is none. The last
+# Numbers of each length are read and printed, with zeros before them too; a span that ends above TOP is not valid. The last
 # number has 21 digits.
 client 0
 scan 0 1 TOP

@@ -1,4 +1,4 @@
-# All 64 clients read the same slot. The last 32 scan their own caches. Number 64 is no client.
+# All 64 clients read the same slot. The last 32 scan their own caches. Number 64 is not a client.
 seed 10=1 20=2
 client 0
 client 1

@@ -1,4 +1,4 @@
-# All 64 clients start: what each is refused before it runs, before it has joined and while it waits. Number 64 is no client.
+# All 64 clients start: what each is refused before it runs, before it has joined and while it waits. Number 64 is not a client.
 seed 10=1 20=2
 scan 0 0 11
 scan 1 0 11

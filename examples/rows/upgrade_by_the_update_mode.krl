@@ -1,4 +1,4 @@
-# One client at a time holds U. Whoever has it before it pins may ask to change the entry: the other one, which asks for
+# One client at a time holds U. A client that has it before it pins may ask to change the entry: the other one, which asks for
 # U too, holds nothing there, and waits after it.
 seed 10=1 20=2
 client 0

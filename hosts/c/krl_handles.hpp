@@ -270,7 +270,7 @@ class client : public handle {
         detail::done("krl_client_open", krl_client_open(get(), number, incarnation));
     }
 
-    /* Hears a message: `code::gone` after the client has left, and `code::bad_message` for bytes that are none. */
+    /* Takes a message: `code::gone` after the client has left, and `code::bad_message` for bytes that are not one. */
     code step(message heard) {
         krl_reply reply = krl_client_step(get(), heard.data(), heard.size());
         if (reply.code == KRL_BAD_MESSAGE)
@@ -350,7 +350,7 @@ class shared_client {
         return detail::scan(
             room, [&](row *at, std::size_t count) { return krl_reader_scan(&reader, lo, hi, at, count); });
     }
-    /* Calls `use` with the client while nobody scans. What leaves is taken here too: then nothing that the client
+    /* Calls `use` with the client while no thread scans. What leaves is taken here too: then nothing that the client
      * gives up leaves while a scan still sees it. */
     template <class Use> decltype(auto) with(Use &&use) {
         std::unique_lock<std::shared_mutex> alone(turns_);
@@ -382,7 +382,7 @@ class server : public handle {
     std::uint64_t epoch() const noexcept { return epoch_; }
 
     /* Judges a message: what has changed has to be on the disk, and confirmed, before anything that rests on it can be
-     * taken. Bytes that are no message, and reports that contradict what the server knows, are thrown as an error. */
+     * taken. Bytes that are not a message, and reports that contradict what the server knows, throw an error. */
     [[nodiscard]] krl_change step(message heard) {
         krl_stepped stepped = krl_server_step(get(), heard.data(), heard.size());
         detail::done("krl_server_step", stepped.reply);

@@ -143,7 +143,7 @@ static bool hears(const uint8_t *message)
         return true;
     krl_take_over asks = { .registered = of->registered };
     asks.incarnation = number_at(message + KRL_INCARNATION_AT);
-    /* Without leases who starts a client vouches that the one before is over. */
+    /* Without leases, starting a client vouches that the one before is over. */
     asks.is_vouched = terms.length == KRL_FOR_EVER;
     return krl_until_hears(of->until, &asks, server_clock());
 }
@@ -180,7 +180,7 @@ static uint64_t hear_sign(int number, uint64_t incarnation, uint64_t length)
     return terms.length;
 }
 
-/* Says a sign, and takes the terms that answer it. It answers whether there were some. */
+/* Sends a sign, and takes the terms that answer it. It answers whether there were some. */
 static bool say_sign(int number)
 {
     client *of = &clients[number];

@@ -28,7 +28,7 @@ class Reader:
         self._rest = rest
 
     def take(self, count: int) -> bytes:
-        """So many bytes.
+        """This many bytes.
 
         Raises `ValueError` if there are fewer.
         """

@@ -93,7 +93,7 @@ def grants() -> Iterator[dict[str, Any]]:
 
 
 def faulty() -> Iterator[tuple[str, bytes]]:
-    """Strings that are no message, with who reads them."""
+    """Strings that are not messages, with their readers."""
     lock = encode(message("Lock", **ASKED, request=5, point=10, hi=258, mode="S"))
     holdings = [HELD, {**HELD, "span": [11, 12]}]
     grant = encode(message("Grant", **PUSHED, request=5, holdings=holdings))
@@ -123,7 +123,7 @@ def faulty() -> Iterator[tuple[str, bytes]]:
 
 
 def faulty_reports() -> Iterator[bytes]:
-    """Reports with a part that is none, and with counts that promise more than there is."""
+    """Reports with an invalid part, and with counts that promise more than there is."""
     report = encode(message("Report", epoch=1, ranges=[[[0, 11], "I"]], keys=[[10, "U"]]))
     yield report[:46] + b"\4" + report[47:]
     yield report[:-1] + b"\4"

@@ -27,7 +27,7 @@ fn main() {
     link(&kit, "libc_c");
 }
 
-/// A check takes no library: so one that is missing is no error before something is linked.
+/// A check takes no library: so one that is missing is not an error before something is linked.
 fn warn_without(library: &Path, remedy: &str) {
     println!("cargo:rerun-if-changed={}", library.display());
     if !library.exists() {

@@ -1,4 +1,4 @@
-//! Clients that read ranges and write to them, at once: 95 of a hundred calls read.
+//! Clients that read ranges and write to them at the same time: 95 percent of the calls read.
 //!
 //! Each key is written by only one client, by ascending values. So a row is stale that shows a
 //! value older than the last one that was acknowledged before the read began.
@@ -58,7 +58,7 @@ impl Calls {
         self.by_time.iter_mut().zip(&other.by_time).for_each(|(sum, more)| *sum += more);
     }
 
-    /// So many of a hundred calls took at most this long, to a tenth of it.
+    /// This percentage of the calls took at most this long, to a tenth of it.
     pub fn percentile(&self, percent: u64) -> Duration {
         let (mut seen, enough) = (0, self.count * percent / 100);
         let step = self.by_time.iter().position(|count| {

@@ -1,4 +1,4 @@
-// The twin in Rust of main.rt.txt: the same server over the maps of Rust's library, told the same messages, and the
+// The twin in Rust of main.rt.txt: the same server over the maps of Rust's library, with the same messages and the
 // same lines. It has what these messages need.
 #[path = "../../clock.rs"]
 mod clock;

@@ -20,7 +20,7 @@ static void print(const krlc_rows *rows) {
 
 static int greet(krlc_client *client, krlc_rows *rows) {
     krlc_error error;
-    /* An answer such as KRLC_EXISTS is no error. */
+    /* An answer such as KRLC_EXISTS is not an error. */
     if (krlc_insert(client, 15, "hello", 5, 0, &error) > KRLC_ANSWERS)
         return fail(&error);
     if (krlc_read(client, 10, 20, rows, 0, &error) != KRLC_OK)

@@ -119,9 +119,9 @@ typedef enum krlc_code {
     KRLC_TOO_LONG = 19,
     /* The client's number is above 63. */
     KRLC_BAD_NUMBER = 20,
-    /* The servers are written in no way that addresses are. */
+    /* The text of the servers is not a list of addresses. */
     KRLC_BAD_ADDRESS = 21,
-    /* The map of shards cannot be read, or is none. */
+    /* The map of shards cannot be read, or is not one. */
     KRLC_BAD_MAP = 22,
     /* A file for TLS cannot be read or does not fit the others; or the library was built without TLS. */
     KRLC_BAD_TLS = 23,
@@ -296,7 +296,7 @@ typedef struct krlc_status {
     uint64_t epoch;
     /* The client's incarnation: each is greater than the one before, and each end of a lease begins another. */
     uint64_t incarnation;
-    /* For how many milliseconds the client may still answer from its cache if it hears nothing more of the server, or
+    /* For how many milliseconds the client may still answer from its cache if it hears nothing more from the server, or
      * KRLC_FOR_EVER from a server without leases. */
     uint64_t lease_left_ms;
     /* Whether there is a connection at this moment. */
@@ -306,7 +306,7 @@ typedef struct krlc_status {
 /* The KRLC_VERSION of the library: a program that loads it compares it with the header's. */
 uint32_t krlc_version(void);
 
-/* The name of a code, as "KRLC_TIMED_OUT"; "?" for a number that is no code. It is never freed. */
+/* The name of a code, such as "KRLC_TIMED_OUT"; "?" for a number that is not a code. It is never freed. */
 const char *krlc_code_name(uint32_t code);
 
 /* Whether a write that returned this code may have been applied, or may still be: a read of the key shows it. */
@@ -353,7 +353,7 @@ uint32_t krlc_number(krlc_client *client);
 /* How many shards the client has joined: 1 without a map. 0 if the client cannot be used. */
 size_t krlc_joined(krlc_client *client);
 
-/* The status at one of these, from 0 on. Errors: KRLC_MISUSE, also for a place that is none. */
+/* The status at one of these, from 0 on. Errors: KRLC_MISUSE, also for a place beyond them. */
 KRLC_NODISCARD uint32_t krlc_status_at(krlc_client *client, size_t place, krlc_status *status, krlc_error *error);
 
 /* Reads. The rows of an answer are the range of the table at one moment of the call, in the order of their keys. An
@@ -414,9 +414,9 @@ KRLC_NODISCARD uint32_t krlc_set(krlc_client *client, uint64_t key, const void *
 KRLC_NODISCARD uint32_t krlc_delete(krlc_client *client, uint64_t key, uint64_t timeout_ms, krlc_error *error);
 
 /* Makes several writes in one wait, one after the other: their outcomes are written to `writes`. A write whose outcome
- * is KRLC_EXISTS, KRLC_ABSENT or KRLC_FULL ends no other one, and the call returns KRLC_OK. It is no transaction: other
- * clients may see the first writes without the others, also after a crash, and may write in between. With a map, the
- * writes of each shard are made in their order, and those of all shards at the same time. All writes together take
+ * is KRLC_EXISTS, KRLC_ABSENT or KRLC_FULL ends no other one, and the call returns KRLC_OK. It is not a transaction:
+ * other clients may see the first writes without the others, also after a crash, and may write in between. With a map,
+ * the writes of each shard are made in their order, and those of all shards at the same time. All writes together take
  * `timeout_ms` at most. Errors: those of `krlc_insert`, for the first write that was not judged; and KRLC_MISUSE,
  * KRLC_TOO_LONG and KRLC_BAD_KEY before any write is made. After an error at each server at most one write is
  * KRLC_UNKNOWN: a read of its key shows it. Those that are KRLC_NOT_MADE change nothing. */

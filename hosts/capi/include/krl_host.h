@@ -105,12 +105,12 @@ void krlh_free(krlh_client *client);
 size_t krlh_server(krlh_client *client);
 
 /* A connection is made. This writes the lock file, and waits for the disk. Errors: KRLC_MISUSE if there is a connection
- * already; KRLC_DISCONNECT if the lock file cannot be written, or the clock has not gone on since the connection
- * before. */
+ * already; KRLC_DISCONNECT if the lock file cannot be written, or the clock has not advanced since the previous
+ * connection. */
 KRLC_NODISCARD uint32_t krlh_connected(krlh_client *client, uint64_t now, krlc_error *error);
 
-/* Bytes have come, cut anywhere. Errors: KRLC_MISUSE without a connection; KRLC_DISCONNECT: what came is no message, or
- * the server refuses the client. */
+/* Bytes have come, cut anywhere. Errors: KRLC_MISUSE without a connection; KRLC_DISCONNECT: what came is not a message,
+ * or the server refuses the client. */
 KRLC_NODISCARD uint32_t krlh_received(krlh_client *client, uint64_t now, const void *bytes, size_t length,
                                       krlc_error *error);
 

@@ -177,7 +177,7 @@ mod tests {
             let code = Code::from(&refused);
             assert_eq!(code.is_unknown_outcome(), refused.is_unknown_outcome(), "{refused:?}");
         }
-        // What no call should return is taken for the worst.
+        // A code that no call should return counts as the worst.
         assert!(Code::from(&Error::Other(LibraryCode::Busy)).is_unknown_outcome());
     }
 

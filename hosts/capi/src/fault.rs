@@ -39,7 +39,7 @@ impl Fault {
         Fault::new(Code::Misuse, sentence)
     }
 
-    /// One that these words begin, and the error ends.
+    /// A sentence that begins with these words and ends with the error.
     pub fn about(code: Code, what: &str, error: &impl Display) -> Fault {
         Fault::new(code, format!("{what}: {error}"))
     }

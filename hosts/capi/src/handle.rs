@@ -1,7 +1,7 @@
 //! What C holds by a pointer.
 //!
 //! A handle's memory is never given back to the system, so that a call which takes a freed one
-//! finds that out, and does not read what somebody else has there now.
+//! detects that, and does not read memory that is now used for something else.
 use crate::code::Code;
 use crate::fault::Fault;
 use crate::fork::Process;
@@ -12,7 +12,7 @@ use std::ptr;
 use std::sync::atomic::{AtomicBool, Ordering};
 use std::sync::{Mutex, MutexGuard, PoisonError};
 
-/// So many freed handles of a kind are kept before the oldest is used again.
+/// This many freed handles of a kind are kept before the oldest is used again.
 pub const KEPT: usize = 1000;
 
 /// A handle, open or freed.

@@ -1,5 +1,5 @@
-//! Compares `include/krl_client.h` and `include/krl_host.h` with the calls, the structs and the codes of this library:
-//! a C compiler judges what the headers declare by what stands here.
+//! Compares `include/krl_client.h` and `include/krl_host.h` with the calls, the structs and the
+//! codes of this library: a C compiler compares what the headers declare with what is here.
 use crate::calls::krlc_version;
 use crate::code::Code;
 use crate::fault::{ErrorRoom, MAX_SENTENCE_BYTES};

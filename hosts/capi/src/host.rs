@@ -42,7 +42,7 @@ pub struct CallBack {
 // the callback runs within them.
 unsafe impl Send for CallBack {}
 
-/// A client, of which one thread at a time makes calls; and its cache, for all threads.
+/// A client, on which one thread at a time makes calls; and its cache, for all threads.
 #[derive(Debug)]
 pub struct Host {
     state: Mutex<State>,
@@ -82,7 +82,7 @@ pub enum Asked {
     Held(Call<Held>),
 }
 
-/// What comes of a call.
+/// What becomes of a call.
 struct Answered {
     code: Code,
     rows: Vec<Row>,

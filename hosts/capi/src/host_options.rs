@@ -8,7 +8,7 @@ use krl::sans_io::Begin;
 use std::ffi::c_char;
 use std::path::Path;
 
-/// So many servers may stand by over a store.
+/// This many servers may stand by over a store.
 const MAX_SERVERS: u32 = 64;
 
 /// The `krlh_options` of the header.
@@ -24,7 +24,7 @@ pub struct HostOptions {
     pub seed: u64,
 }
 
-/// The options that the caller has, of which an earlier version of the header has fewer.
+/// The options that the caller has. An earlier version of the header has fewer.
 ///
 /// # Safety
 ///

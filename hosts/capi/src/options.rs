@@ -53,7 +53,7 @@ pub struct Wish<'o> {
     tls: Tls,
 }
 
-/// One number, or several of which the first that is free is taken.
+/// One number; or several, of which the first free one is taken.
 #[derive(Debug)]
 enum Number {
     One(u8),
@@ -66,7 +66,7 @@ enum Place {
     Sharded(ShardMap),
 }
 
-/// The options that the caller has, of which an earlier version of the header has fewer.
+/// The options that the caller has. An earlier version of the header has fewer.
 ///
 /// # Safety
 ///

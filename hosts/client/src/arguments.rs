@@ -34,7 +34,7 @@ to 63. Without --number the first free one from 63 down to 56 is taken, so
 eight commands run at once. Lock files in $XDG_STATE_HOME/krl, or
 ~/.local/state/krl, show which are free for this user on this machine. If the
 server reports that another user or machine has a number, the next one is tried
-after a second: give --number, or KRL_NUMBER, to each of them, as 40-47.
+after a second: give --number, or KRL_NUMBER, to each, such as 40-47.
 --number auto takes any free number.
 
 The command of hold finds the incarnation of the client in KRL_INCARNATION.
@@ -88,8 +88,8 @@ pub struct Arguments {
 #[derive(Clone, Debug, Args)]
 #[command(next_help_heading = "Options of every command")]
 pub struct Options {
-    /// Where the server listens: 127.0.0.1:7400, tls:db1:7400, or unix: and a path. Commas stand
-    /// between several
+    /// Where the server listens: 127.0.0.1:7400, tls:db1:7400, or unix: and a path. Several are
+    /// separated by commas
     #[arg(
         long,
         global = true,
@@ -131,14 +131,15 @@ pub struct Options {
     /// By TLS: the name of the table, if certificates have one
     #[arg(long, global = true, env = "KRL_TABLE", value_name = "NAME")]
     pub table: Option<TableName>,
-    /// The client's number, 0 to 63, or two as in 40-47, or auto for all: the greatest free one of
-    /// them is taken
+    /// The client's number, 0 to 63; or a range, such as 40-47, or auto for all numbers: the
+    /// greatest free one is taken
     #[arg(long, global = true, env = "KRL_NUMBER", value_name = "NUMBER", default_value = "56-63")]
     pub number: Numbers,
-    /// The lock file, in place of one in the user's folder. It needs a --number that is one
+    /// The lock file, in place of one in the user's folder. It needs a --number that is a single
+    /// number
     #[arg(long, global = true, env = "KRL_LOCK_FILE", value_name = "FILE")]
     pub lock_file: Option<PathBuf>,
-    /// How long a call waits for an answer, as 10s, 500ms or 1min
+    /// How long calls wait for answers, such as 10s, 500ms or 1min
     #[arg(
         long,
         global = true,
@@ -148,7 +149,7 @@ pub struct Options {
         value_parser = humantime::parse_duration
     )]
     pub timeout: Duration,
-    /// Answers are lines of text, or a JSON value a line
+    /// Answers are lines of text, or one JSON value a line
     #[arg(long, global = true, env = "KRL_FORMAT", value_enum, default_value_t = Format::Text)]
     format: Format,
     /// The same as --format json
@@ -178,8 +179,7 @@ impl Options {
         }))
     }
 
-    /// How answers are printed. `--json` is the more particular word, even if `KRL_FORMAT` has
-    /// another value.
+    /// How answers are printed. `--json` takes precedence, even if `KRL_FORMAT` has another value.
     pub fn format(&self) -> Format {
         if self.json { Format::Json } else { self.format }
     }
@@ -226,7 +226,7 @@ pub enum Command {
     Bench(BenchWords),
     /// Write the rows of a file of CSV or JSON lines to the table
     Import(ImportWords),
-    /// Print a script by which a shell completes the words of krl-client
+    /// Print a script for a shell that completes the words of krl-client
     Completion {
         /// The shell
         shell: Shell,
@@ -396,7 +396,7 @@ pub struct ImportWords {
     /// What is done with a row whose key has a row in the table
     #[arg(long, value_enum, default_value = "refuse")]
     pub existing: Existing,
-    /// By how many clients the rows are written at once
+    /// How many clients write the rows at the same time
     #[arg(long, value_name = "COUNT", default_value_t = 1, value_parser = clap::value_parser!(u8).range(1..=64))]
     pub clients: u8,
 }

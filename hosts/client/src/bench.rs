@@ -61,7 +61,7 @@ fn refuse_clients(options: &Options, words: &BenchWords) -> Result<(), Failure> 
     }
     Err(Failure::Usage(format!(
         "{} clients need as many numbers, and {} to {} are {count}: give fewer --clients or more \
-         numbers, as --number 0-63",
+         numbers, such as --number 0-63",
         words.clients,
         numbers.start(),
         numbers.end()

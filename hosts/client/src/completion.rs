@@ -1,4 +1,4 @@
-//! Scripts by which shells complete the words of the program.
+//! Scripts for shells, which complete the words of the program.
 use crate::arguments::Arguments;
 use crate::failure::Failure;
 use crate::output;

@@ -6,7 +6,7 @@ use krl_rows::Progress;
 use std::ops::Range;
 
 /// Deletes the rows that the range has at one moment, one after the other. Those that others delete
-/// before are not counted, and those that others make meanwhile stay.
+/// before are not counted, and those that others insert meanwhile stay.
 pub fn delete(context: &Context<'_>, keys: Range<u64>) -> Result<(), Failure> {
     let table = &context.session.table;
     let rows = table.read(keys)?;

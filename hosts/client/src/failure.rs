@@ -47,7 +47,8 @@ impl Failure {
         }
     }
 
-    /// Reports on standard error what failed. If nobody reads the output any more, that is no news.
+    /// Reports on standard error what failed. If nobody reads the output any more, that is not
+    /// reported.
     pub fn tell(&self) {
         match self {
             Failure::Output(error) if error.kind() == io::ErrorKind::BrokenPipe => {}
@@ -68,8 +69,8 @@ impl fmt::Display for Failure {
             Failure::NotHeld(ended) => write!(
                 f,
                 "the range was not held until the command had ended ({ended}): others may have \
-                 changed it meanwhile, since no word of the server came in time, or its store went \
-                 back"
+                 changed it meanwhile, since nothing came from the server in time, or its store \
+                 went back"
             ),
         }
     }
@@ -181,7 +182,7 @@ impl Failure {
                 why @ (Refusal::LeaseRuns { .. } | Refusal::Incarnation { .. }),
             ) => Failure::NoAnswer(format!(
                 "number {number} is in use: give another one by --number, or wait if its process \
-                 is gone. Told by the server: {why}"
+                 is gone. The server reports: {why}"
             )),
             JoinError::Unserved(why) => Failure::NoAnswer(why.to_string()),
             JoinError::LockFile { error: LockFileError::Taken, .. } => Failure::NotJoined(format!(

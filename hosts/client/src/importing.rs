@@ -43,7 +43,7 @@ pub fn import(options: &Options, words: &ImportWords, signals: &Signals) -> Resu
     Ok(0)
 }
 
-/// Each client writes a part of the lines, whose keys lie next to one another. It answers how many
+/// Each client writes a part of the lines, whose keys lie next to each other. It answers how many
 /// rows were written and how many the table kept.
 fn write_all(
     sessions: &[Session],

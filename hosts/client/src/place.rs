@@ -9,7 +9,7 @@ use std::ops::Range;
 #[derive(Clone, Debug)]
 pub enum Place {
     One(Servers),
-    /// The servers of a map, of which only those are joined that have some of these keys.
+    /// The servers of a map. Only those are joined that have some of these keys.
     Sharded(ShardMap, Range<u64>),
 }
 

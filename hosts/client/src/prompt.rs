@@ -14,8 +14,8 @@ use std::path::PathBuf;
 
 const PROMPT: &str = "krl> ";
 
-/// The longest line, in bytes. What is longer is no command: it may be another file, or an endless
-/// one.
+/// The longest line, in bytes. What is longer is not a command: it may be another file, or an
+/// endless one.
 const LONGEST_LINE: usize = 4096;
 
 /// Runs a command of a line.
@@ -181,7 +181,7 @@ mod tests {
         assert_eq!(run_text("get 5\r\nget 6"), (0, 2));
     }
 
-    /// Bytes without an end of a line, of which it knows how many were read.
+    /// Bytes without an end of a line. It counts how many were read.
     struct Endless(usize);
 
     impl Read for Endless {

@@ -88,7 +88,7 @@ impl Session {
         });
         if !unheard.is_empty() {
             tell(&format!(
-                "the server did not hear that client {} left: others may wait for what it held \
+                "the server did not learn that client {} left: others may wait for what it held \
                  until a client of its number joins again",
                 unheard.join(", ")
             ));
@@ -96,7 +96,7 @@ impl Session {
     }
 }
 
-/// What came of a number that is one of several.
+/// What became of a number that is one of several.
 enum Tried {
     Joined(Session),
     /// Another process of this user has it.

@@ -15,7 +15,7 @@ use std::time::{Duration, Instant};
 /// How long a process that a signal ends waits for each thing that it still has to do.
 pub const FAREWELL: Duration = Duration::from_secs(1);
 
-/// Who takes the signals.
+/// What takes the signals.
 #[derive(Clone, Copy, Debug)]
 enum Taker {
     /// The process ends.
@@ -132,7 +132,7 @@ fn send(signal: i32, command: Pid) {
         return;
     }
     if let Ok(signal) = Signal::try_from(signal) {
-        // A command that has just ended takes no signal, and that is no news.
+        // A command that has just ended takes no signal, and that is not an error.
         let _ = kill(command, signal);
     }
 }

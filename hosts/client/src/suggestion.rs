@@ -3,7 +3,7 @@ use clap::error::{ContextKind, ContextValue, ErrorKind};
 use clap::{Command, Error};
 use std::iter::once;
 
-/// So many letters may be wrong, too many, missing, or in the place of their neighbors.
+/// This many letters may be wrong, superfluous, missing, or in the place of their neighbors.
 const WRONG: usize = 1;
 
 /// The name of a command that a wrong one is nearly, if clap itself has no suggestion: it finds none

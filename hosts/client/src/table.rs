@@ -14,7 +14,7 @@ pub enum Table {
     Sharded(Arc<ShardedClient>),
 }
 
-/// The same, for one who does not keep it.
+/// The same, for a holder that does not keep it alive.
 pub enum WeakTable {
     One(Weak<Client>),
     Sharded(Weak<ShardedClient>),

@@ -1,4 +1,4 @@
-//! What a user at a terminal hears while the program waits.
+//! What a user at a terminal learns while the program waits.
 use crate::output::tell;
 use std::io::{self, IsTerminal};
 use std::sync::mpsc::{RecvTimeoutError, channel};

@@ -40,7 +40,7 @@ pub fn watch(context: &Context<'_>, keys: &Range<u64>, count: Option<u64>) -> Re
     ended
 }
 
-/// The rows of the range once they are others, or `None` if a signal came before.
+/// The rows of the range once they have changed, or `None` if a signal came before.
 fn next_change(
     table: &Table,
     keys: &Range<u64>,
@@ -53,7 +53,7 @@ fn next_change(
         }
         match table.read(keys.clone()) {
             Ok(read) if read != rows => return Ok(Some(read)),
-            // It is as it was, or somebody has it still.
+            // It is as it was, or another client still has it.
             Ok(_) => {}
             Err(refused) if is_waiting(refused.error) => {}
             Err(refused) => return Err(refused),

@@ -15,7 +15,7 @@ pub const ALL: Range<u64> = 0..TOP;
 /// A key: 0 to 2^63 - 2.
 pub fn key(word: &str) -> Result<u64, Failure> {
     point(word).filter(|key| *key < END).ok_or_else(|| {
-        Failure::Usage(format!("'{word}' is no key: a number of 0 to 2^63 - 2 is expected"))
+        Failure::Usage(format!("'{word}' is no key: a number from 0 to 2^63 - 2 is expected"))
     })
 }
 
@@ -71,7 +71,9 @@ impl FromStr for Numbers {
         bounds
             .filter(|(least, greatest)| least <= greatest && *greatest <= MAX_NUMBER)
             .map(|(least, greatest)| Numbers(least..=greatest))
-            .ok_or_else(|| "a number of 0 to 63, two as in 56-63, or auto is expected".into())
+            .ok_or_else(|| {
+                "a number from 0 to 63, a range such as 56-63, or auto is expected".into()
+            })
     }
 }
 

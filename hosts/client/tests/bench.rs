@@ -112,7 +112,7 @@ fn a_signal_ends_it_soon_though_the_server_is_away() {
     // A call that waits has three seconds, and the clients do not leave one after the other.
     assert!(begun.elapsed() < Duration::from_secs(20), "{:?}", begun.elapsed());
     assert_eq!(ended.status, 3, "{ended:?}");
-    assert!(ended.errors.contains("the server did not hear that client 63, 62, "), "{ended:?}");
+    assert!(ended.errors.contains("the server did not learn that client 63, 62, "), "{ended:?}");
 }
 
 #[test]
@@ -126,7 +126,7 @@ fn what_a_benchmark_cannot_do_is_a_usage() {
         (&["--threads", "0"], "0 is not in 1..=256"),
         (&["--seconds", "0"], "0 is not in 1..=86400"),
         (&["--warm-up", "3601"], "3601 is not in 0..=3600"),
-        (&["--mix", "95,6"], "two numbers with the sum 100 are expected, as 95,5"),
+        (&["--mix", "95,6"], "two numbers with the sum 100 are expected, such as 95,5"),
         (&["--skew", "normal"], "uniform, zipf, or zipf:EXPONENT of 0 to 10 is expected"),
         (&["--skew", "zipf:11"], "uniform, zipf, or zipf:EXPONENT of 0 to 10 is expected"),
         (&["--keys", "65537"], "65537 is not in 1..=65536"),

@@ -108,7 +108,7 @@ fn ping_tells_the_server_and_the_epoch() {
 fn words_that_cannot_be_understood_are_status_2() {
     let world = World::new("words");
     for (words, told) in [
-        (&["get", "ten"][..], "'ten' is no key: a number of 0 to 2^63 - 2 is expected"),
+        (&["get", "ten"][..], "'ten' is no key: a number from 0 to 2^63 - 2 is expected"),
         (&["get", "9223372036854775807"], "is no key"),
         (&["scan", "20", "10"], "'20 10' is no range: LO HI or LO..HI is expected"),
         (&["scan", "10"], "'10' is no range"),
@@ -121,7 +121,7 @@ fn words_that_cannot_be_understood_are_status_2() {
         (&["--server", "nowhere", "get", "1"], "--server"),
         (
             &["--number", "64", "get", "1"],
-            "a number of 0 to 63, two as in 56-63, or auto is expected",
+            "a number from 0 to 63, a range such as 56-63, or auto is expected",
         ),
         (&["--timeout", "soon", "get", "1"], "--timeout"),
         (&["--lock-file", "file", "get", "1"], "--lock-file needs --number and one number"),

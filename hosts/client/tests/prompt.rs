@@ -20,7 +20,7 @@ struct Prompt {
     seen: String,
 }
 
-/// The file of a descriptor that nobody else has.
+/// The file of a descriptor that nothing else has.
 fn file(descriptor: RawFd) -> File {
     // SAFETY: the descriptor was just opened or duplicated for this, and nothing else closes it.
     unsafe { File::from_raw_fd(descriptor) }

@@ -1,4 +1,4 @@
-//! The program over two servers, of which each has a part of the keys.
+//! The program over two servers, each with a part of the keys.
 mod support;
 
 use krl::Server;

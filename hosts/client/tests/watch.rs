@@ -34,7 +34,7 @@ fn a_watch_prints_the_range_and_each_change() {
     assert_eq!(next(&mut lines, 2), ["# change 0, rows 1", "15=a"]);
     assert_eq!(client.put(15, value("c")), Ok(Outcome::Applied));
     assert_eq!(next(&mut lines, 2), ["# change 1, rows 1", "15=c"]);
-    // What lies outside of the range is no change.
+    // What lies outside the range is not a change.
     assert_eq!(client.put(25, value("d")), Ok(Outcome::Applied));
     assert_eq!(client.insert(12, value("e")), Ok(Outcome::Applied));
     assert_eq!(next(&mut lines, 3), ["# change 2, rows 2", "12=e", "15=c"]);
@@ -101,7 +101,7 @@ fn ctrl_c_ends_a_watch_with_status_0_and_gives_the_range_back() {
         assert_eq!(said, serde_json::json!({ "change": 0, "rows": [] }));
         signal(&program, ending);
         assert_eq!(program.wait().unwrap().code(), Some(0));
-        // Whoever had ended without a Bye would keep this one waiting.
+        // A client that had ended without a Bye would keep this one waiting.
         assert_eq!(client.insert(15, value("a")), Ok(Outcome::Applied));
         assert_eq!(client.delete(15), Ok(Outcome::Applied));
     }

@@ -1,4 +1,4 @@
-//! Measurements, by hand: a server over SQLite and its clients in one process, over TCP on this
+//! Measurements, run by hand: a server over SQLite and its clients in one process, over TCP on this
 //! machine.
 use crate::Found;
 use krl::{
@@ -19,7 +19,7 @@ const SCAN: u64 = 100;
 /// How many ranges are read for the first time.
 const FIRST_SCANS: u64 = ROWS / SCAN - 1;
 
-/// So many clients read at once: all that there can be.
+/// How many clients read at the same time: all that there can be.
 const CROWD: u8 = 64;
 
 /// How long writers write, and how long the crowd reads.
@@ -129,7 +129,7 @@ fn crowd(at: &Address, folder: &Path) -> Done {
             scope.spawn(move || {
                 let end = Instant::now() + WRITING;
                 while Instant::now() < end {
-                    // Who is refused reads less, and the figure shows it.
+                    // A client that is refused reads less, and the figure shows it.
                     let _ = client.read(range(place)).and_then(|_| client.forget(range(place)));
                 }
             });
@@ -139,7 +139,7 @@ fn crowd(at: &Address, folder: &Path) -> Done {
     Ok(())
 }
 
-/// So many clients put values to rows of their own. It answers how many writes were applied.
+/// This many clients put values to rows of their own. It answers how many writes were applied.
 fn write_all(at: &Address, folder: &Path, writers: u8) -> Result<u64, Box<dyn Error>> {
     let clients: Result<Vec<_>, _> = (0..writers).map(|number| join(at, number, folder)).collect();
     let clients = clients?;

@@ -1,5 +1,5 @@
-//! Measurements of stores, by hand: servers over SQLite, over etcd and over PostgreSQL, and etcd by
-//! itself, in turns. The cluster has three nodes on this machine, and all use its one disk.
+//! Measurements of stores, run by hand: servers over SQLite, over etcd and over PostgreSQL, and
+//! etcd by itself, in turns. The cluster has three nodes on this machine, and all use its one disk.
 use crate::Found;
 use crate::applied::applied;
 use crate::cluster::Cluster;

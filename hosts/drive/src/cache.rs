@@ -1,5 +1,5 @@
 //! The drive of caches of a table: processes read and write a table of PostgreSQL through caches,
-//! and they, krl's server and the database die and stand still.
+//! and they, krl's server and the database are killed and stopped.
 mod check;
 mod notes;
 mod worker;
@@ -31,7 +31,7 @@ const KEYS: u64 = 40;
 /// How many processes read and write.
 const WORKERS: u8 = 3;
 
-/// Who fills krl, and reads everything at the end.
+/// Which client fills krl, and reads everything at the end.
 const OPERATOR: u8 = 31;
 
 const LEASE: Duration = Duration::from_secs(2);
@@ -42,10 +42,10 @@ const IDLE_IN_TRANSACTION: Duration = Duration::from_secs(4);
 /// How long calls of workers continue to try.
 const TIMEOUT: Duration = Duration::from_secs(8);
 
-/// At the end nothing more befalls the workers for this long: what is left undone is mended then.
+/// At the end there are no more faults for this long: what is left undone is mended then.
 const CALM: Duration = Duration::from_secs(6);
 
-/// The table, with some rows of before the caches, and the history of its changes.
+/// The table, with some rows from before the caches, and the history of its changes.
 const TABLE: &str = "
     CREATE TABLE item (id bigint PRIMARY KEY, content bigint NOT NULL, before bigint,
         padding bytea NOT NULL);
@@ -96,7 +96,7 @@ struct Drive {
     faults: Faults,
 }
 
-/// How often something has befallen somebody.
+/// How many faults there were.
 #[derive(Debug, Default)]
 struct Faults {
     killed: u64,
@@ -169,7 +169,7 @@ impl Drive {
         Ok(Worker { process, spawn, goes_on: None })
     }
 
-    /// Something befalls a worker, the server or the database.
+    /// Makes a fault of a worker, the server or the database.
     fn befall(&mut self) -> Result<(), Box<dyn Error>> {
         let place = self.draws.place(self.workers.len());
         match self.draws.below(8) {
@@ -204,7 +204,7 @@ impl Drive {
         Ok(())
     }
 
-    /// Starts again who has ended, and lets continue who was stopped.
+    /// Starts the processes again that have ended, and lets those continue that were stopped.
     fn tend_for(&mut self, time: Duration) -> Result<(), Box<dyn Error>> {
         let end = Instant::now() + time;
         while Instant::now() < end {

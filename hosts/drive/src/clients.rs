@@ -141,8 +141,7 @@ impl Clients {
         Ok(())
     }
 
-    /// How many lines that one of the clients of other programs has noted which has noted the
-    /// fewest, if there are such clients.
+    /// The fewest lines that a client of another program has noted, if there are such clients.
     pub fn least_noted_by_others(&self) -> std::io::Result<Option<usize>> {
         let noted = |number: &u8| notes(&self.folder, *number).map(|notes| notes.len());
         let noted: Vec<usize> = self.others.keys().map(noted).collect::<std::io::Result<_>>()?;

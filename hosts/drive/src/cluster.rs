@@ -83,7 +83,7 @@ impl Cluster {
         address(&self.clients_at)
     }
 
-    /// The same, for somebody who asks the node of this place last: it may be out of reach.
+    /// The same, for a client that asks the node of this place last: it may be out of reach.
     pub fn address_last(&self, place: usize) -> EtcdAddress {
         let mut nodes = self.clients_at.clone();
         nodes.rotate_left((place + 1) % NODES);
@@ -100,7 +100,7 @@ impl Cluster {
     }
 }
 
-/// The table of the drive, for somebody who reaches the nodes here.
+/// The table of the drive, for a process that reaches the nodes here.
 pub fn address(nodes: &[SocketAddr]) -> EtcdAddress {
     let endpoints = nodes.iter().map(ToString::to_string).collect();
     EtcdAddress { endpoints, prefix: PREFIX.to_string(), is_secure: false }

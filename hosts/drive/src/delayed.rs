@@ -1,4 +1,5 @@
-//! A network between clients and a server that loses nothing, and delays all by the same time.
+//! A network between clients and a server that loses nothing, and delays everything by the same
+//! time.
 use std::io::{self, Read, Write};
 use std::net::{Shutdown, SocketAddr, TcpListener, TcpStream};
 use std::sync::mpsc::{Receiver, Sender, channel};

@@ -35,7 +35,7 @@ const FROZEN: Duration = Duration::from_millis(700);
 /// one wrote meanwhile is what the next one loads.
 const BESIDE: Duration = Duration::from_millis(25);
 
-/// A server asks the next node after a second: by then it has asked again, and gone on.
+/// A server asks the next node after a second: by then it has asked again, and continued.
 const ASKED_AGAIN: Duration = Duration::from_millis(1600);
 
 /// How long the drive waits for something that a server asks all the time.
@@ -113,7 +113,7 @@ impl Drive {
     }
 
     /// Waits until a write was answered that was begun from now on: by a server that serves, once
-    /// it has heard of each client, or has evicted it.
+    /// it has each client's report, or has evicted it.
     fn wait_for_a_write(&self) -> Done {
         let (from, end) = (now(), Instant::now() + ENDING);
         while Instant::now() < end {
@@ -234,7 +234,7 @@ impl Drive {
         Ok(self.servers.start_again(old)?)
     }
 
-    /// Waits until something is held of a server of these places, and returns of which.
+    /// Waits until a request of a server of these places is held, and returns whose.
     fn wait_until_held(&self, places: &[usize]) -> Result<usize, Box<dyn Error>> {
         const LOOK: Duration = Duration::from_millis(5);
         let looks = ASKED.as_millis() / LOOK.as_millis();
@@ -245,7 +245,7 @@ impl Drive {
     }
 }
 
-/// Says of each fault when another server served, and when the first write was answered that was
+/// Prints of each fault when another server served, and when the first write was answered that was
 /// begun after it; and of all faults of a kind the middle and the worst.
 fn report(folder: &Path, told: &[Told]) -> Done {
     let answers = answers(folder)?;

@@ -1,4 +1,4 @@
-//! What befalls servers that stand by, and their store.
+//! Faults of servers that stand by, and of their store.
 use std::str::FromStr;
 
 #[derive(Clone, Copy, Debug, PartialEq, Eq, PartialOrd, Ord)]

@@ -22,7 +22,7 @@ const KEY: u64 = 50;
 const MANY_ROWS: Range<u64> = 2000..2128;
 const OTHER_ROWS: Range<u64> = 3000..3128;
 
-/// A run ends when the hasty client has been granted so much, or after this time.
+/// A run ends when the hasty client has been granted this much, or after this time.
 const GRANTS: u64 = 10_000;
 const LONGEST: Duration = Duration::from_secs(6);
 
@@ -145,7 +145,8 @@ struct Measured {
     stall: Duration,
 }
 
-/// A habit is measured so often at most: what other programs of the machine do is no fault.
+/// A habit is measured this many times at most: what other programs of the machine do is not a
+/// fault.
 const ATTEMPTS: u32 = 3;
 
 /// Measures each habit. The patient client may not wait for many round trips, at least in one of a

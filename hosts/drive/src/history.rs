@@ -98,7 +98,7 @@ impl History {
                     eprintln!("WRONG: {key} was read as {value:?} between {from} and {to}");
                 }
             }
-            // A row of a key that nobody ever wrote, or out of the range.
+            // A row of a key that no client ever wrote, or outside the range.
             let strange = found
                 .keys()
                 .filter(|key| !(lo..hi).contains(key) || !self.writes.contains_key(key));

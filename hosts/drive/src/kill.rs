@@ -35,11 +35,11 @@ const TLS: &str = "tls:";
 /// How many milliseconds a lease has if there are some: a killed client starts again sooner.
 const LEASE: u64 = 2000;
 
-/// A round over TLS is so much longer: each start of the server is followed by a hand-shake of each
-/// client.
+/// A round over TLS is this much longer: each start of the server is followed by a hand-shake of
+/// each client.
 const LONGER_BY_TLS: u32 = 3;
 
-/// And so much longer if messages are lost: a lost greeting is sent again after 200 milliseconds.
+/// And this much longer if messages are lost: a lost greeting is sent again after 200 milliseconds.
 const LONGER_BY_LOSS: u32 = 2;
 
 /// Each client of another program has to note this many lines: one that does nothing shows nothing.
@@ -51,8 +51,8 @@ pub fn beside(folder: &Path, rounds: u64, program: &Path, net: &str) -> Found {
     drive(folder, rounds, "sqlite", net, others.into())
 }
 
-/// The clients 0 to 3 are those of four programs, in this order, of which `-` stands for this one,
-/// and everything else is as in `run`.
+/// The clients 0 to 3 are those of four programs, in this order, where `-` stands for this one, and
+/// everything else is as in `run`.
 pub fn among(folder: &Path, rounds: u64, net: &str, programs: [&str; 4]) -> Found {
     let others = (0..).zip(programs).filter(|(_, program)| *program != "-");
     let others = others.map(|(number, program)| (number, PathBuf::from(program)));

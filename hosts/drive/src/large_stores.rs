@@ -22,7 +22,7 @@ const STEP: u64 = 1 << 40;
 const BATCHES: u64 = 8;
 const BATCH: u64 = 2_000;
 
-/// How many clients write to each server, and how often each of them does.
+/// How many clients write to each server, and how many times each of them writes.
 const WRITERS: u8 = 16;
 const WRITES: u64 = 50;
 

@@ -1,5 +1,5 @@
 //! Long reports in the worst orders. A server that has started again waits for the report of each
-//! client, and nobody may wait longer since one of them has no order.
+//! client, and nobody may wait longer because one of them has no order.
 use crate::Found;
 use krl::{Address, Client, Listener, MemoryStore, Record, Server, Snapshot, Value};
 use std::error::Error;
@@ -12,7 +12,7 @@ use std::time::{Duration, Instant};
 /// How long a read may wait for the report.
 const SOON: Duration = Duration::from_secs(5);
 
-/// So many ranges are reported, one for each row.
+/// This many ranges are reported, one for each row.
 const RANGES: u64 = 65_536;
 
 /// The client that the server waits for, and its incarnation.
@@ -90,7 +90,7 @@ fn full_table() -> Snapshot {
     }
 }
 
-/// Says one message on a connection of its own, which stays open.
+/// Sends one message on a connection of its own, which stays open.
 fn say(at: SocketAddr, message: &[u8]) -> Result<TcpStream, Box<dyn Error>> {
     let mut stream = TcpStream::connect(at)?;
     stream.write_all(&(message.len() as u64).to_le_bytes())?;

@@ -78,12 +78,12 @@ impl Machines {
         Path::new("/run/netns").join(self.name(place))
     }
 
-    /// The machine and the others hear nothing of one another. Clients reach all of them.
+    /// The machine and the others cannot reach each other. Clients reach all of them.
     pub fn cut(&self, place: usize) -> Result<(), Box<dyn Error>> {
         self.routes(place, "add")
     }
 
-    /// The machine hears nobody, and nobody hears it.
+    /// The machine reaches nobody, and nobody reaches it.
     pub fn isolate(&self, place: usize) -> Result<(), Box<dyn Error>> {
         ip(&["link", "set", &self.cable(place), "down"])
     }

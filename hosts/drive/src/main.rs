@@ -23,9 +23,9 @@
 //! krl_drive trips FOLDER [tcp|unix]                               measures next to an echo
 //! ```
 //!
-//! FAULTS are names as `kill,freeze,cut`: see `fault.rs`. Each server of `failover` has a machine
-//! of its own, a network namespace, if this user can make one, and not if one HOW is `here`. Its
-//! clients have leases, and not if one is `leaseless`.
+//! FAULTS are names such as `kill,freeze,cut`: see `fault.rs`. Each server of `failover` has a
+//! machine of its own, a network namespace, if this user can make one, and not if one HOW is
+//! `here`. Its clients have leases, and not if one is `leaseless`.
 //!
 //! The status is 0 if all is well, 3 if something wrong was read or lost, and 1 if the
 //! drive itself failed.

@@ -1,5 +1,5 @@
-//! What a longer reach of a server saves a reader, and what it costs a writer, by hand: servers of
-//! several reaches in one process, by turns, so that a busy machine is as busy for each.
+//! What a longer reach of a server saves a reader, and what it costs a writer, run by hand: servers
+//! of several reaches in one process, by turns, so that a busy machine is as busy for each.
 use crate::Found;
 use krl::{Client, Listener, MemoryStore, Reach, Row, Server, Value};
 use std::error::Error;
@@ -15,7 +15,7 @@ const ROWS: u64 = 10_000;
 /// How many rows a scan has, and how many a writer takes.
 const SCAN: u64 = 100;
 
-/// How often each is measured. All rows are read in some of these turns only.
+/// How many times each is measured. All rows are read in some of these turns only.
 const TURNS: u64 = 100;
 const READS_ALL_EVERY: u64 = 10;
 

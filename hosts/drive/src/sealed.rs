@@ -36,7 +36,7 @@ impl Sealed {
         Ok((sealed, number.ok_or("a certificate of no client")?))
     }
 
-    /// Speaks to the server as the client of this number.
+    /// Connects to the server as the client of this number.
     pub fn connect(stream: TcpStream, number: u8) -> Result<Sealed, Box<dyn Error>> {
         let config = certificates::of(&format!("client-{number}"))?;
         Ok(Sealed::shake(stream, TlsSession::connect(&config)?)?)

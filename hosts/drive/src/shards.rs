@@ -1,5 +1,5 @@
-//! Two servers, each with a part of the keys, of which one is killed now and then while clients of
-//! both read and write.
+//! Two servers, each with a part of the keys. One is killed now and then while clients of both read
+//! and write.
 //!
 //! A writer gives a row of each shard the next number, the left row first. So at each moment the
 //! left number is the right one, or one more; and no scan of both may find anything else.
@@ -53,14 +53,14 @@ struct Run {
     wrong: AtomicU64,
 }
 
-/// How often a reader was answered.
+/// How many times a reader was answered.
 #[derive(Default)]
 struct Count {
     cached: u64,
     read: u64,
 }
 
-/// Says that the run is over, even if it fails.
+/// Signals that the run is over, even if it fails.
 struct Over<'r>(&'r Run);
 
 impl Drop for Over<'_> {

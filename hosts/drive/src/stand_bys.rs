@@ -1,4 +1,4 @@
-//! Three servers that stand by for one another, a cluster of etcd, and a relay between each server
+//! Three servers that stand by for each other, a cluster of etcd, and a relay between each server
 //! and the cluster.
 use crate::clients::{ENDING, Process};
 use crate::cluster::{self, Cluster, NODES};

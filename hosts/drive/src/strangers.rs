@@ -61,7 +61,7 @@ fn beside_strangers(folder: &std::path::Path) -> Found {
     client.leave()?;
     other.leave()?;
     server.stop()?;
-    // The one that is no message, and nothing else, was a string to be judged.
+    // The one that is not a message, and nothing else, was a string to be judged.
     Ok(grown < MAX_MEMORY && status.refused == 1)
 }
 
@@ -78,7 +78,7 @@ fn send(at: SocketAddr, bytes: &[u8]) -> Result<Vec<TcpStream>, Box<dyn Error>> 
     Ok(vec![stream])
 }
 
-/// Says it, and waits until the server ends the connection.
+/// Sends it, and waits until the server ends the connection.
 fn is_shut(at: SocketAddr, bytes: &[u8]) -> Result<Vec<TcpStream>, Box<dyn Error>> {
     let mut stream = connect(at)?;
     stream.write_all(bytes)?;

@@ -1,4 +1,5 @@
-//! Who wants a range whose holder was killed or stopped has it soon after the end of its lease.
+//! A client that wants a range whose holder was killed or stopped has it soon after the end of the
+//! holder's lease.
 use crate::Found;
 use crate::applied::applied;
 use crate::clients::{Process, this};

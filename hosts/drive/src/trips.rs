@@ -1,5 +1,5 @@
-//! What a message and its answer take, by hand: next to an echo over the same kind of socket, by
-//! turns, so that a busy machine is as busy for both.
+//! What a message and its answer take, run by hand: next to an echo over the same kind of socket,
+//! by turns, so that a busy machine is as busy for both.
 use crate::Found;
 use krl::{
     Address, Change, Client, Listener, MemoryStore, Outcome, Row, Server, Store, Value, Write,
@@ -30,7 +30,7 @@ const SCANS: u64 = 20;
 /// The bytes of an echo: about those of a request.
 const ECHO: usize = 40;
 
-/// So many clients read at once: all that there can be.
+/// How many clients read at the same time: all that there can be.
 const CROWD: u8 = 64;
 
 /// How long the crowd reads.
@@ -63,7 +63,7 @@ fn row(place: u64) -> Change {
     Change::Judged { client: 0, number: 0, write, outcome: Outcome::Applied }
 }
 
-/// A stream on which the other side sends again what it hears.
+/// A stream on which the other side sends back what it receives.
 type Echo = Box<dyn FnMut() -> std::io::Result<()>>;
 
 fn echo_over_tcp() -> Done<Echo> {
@@ -175,7 +175,7 @@ fn crowd(server: &Server, folder: &Path) -> Done<()> {
 fn read_again(client: &Client, keys: &Range<u64>) {
     let end = Instant::now() + READING;
     while Instant::now() < end {
-        // Who is refused reads less, and the figure shows it.
+        // A client that is refused reads less, and the figure shows it.
         let _ = client.read(keys.clone()).and_then(|_| client.forget(keys.clone()));
     }
 }

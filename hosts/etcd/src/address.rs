@@ -10,7 +10,7 @@ use std::str::FromStr;
 pub struct EtcdAddress {
     /// The endpoints, each a host and a port.
     pub endpoints: Vec<String>,
-    /// As `/krl/orders`, with no slash after it.
+    /// Such as `/krl/orders`, with no slash after it.
     pub prefix: String,
     /// Whether the endpoints speak TLS.
     pub is_secure: bool,
@@ -28,7 +28,7 @@ pub struct Credentials {
     pub certificate: Option<(PathBuf, PathBuf)>,
 }
 
-/// A text that is no address of etcd.
+/// A text that is not an address of etcd.
 #[derive(Clone, Copy, Debug, PartialEq, Eq)]
 pub struct BadEtcdAddress;
 

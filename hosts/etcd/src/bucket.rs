@@ -6,7 +6,7 @@ use std::collections::BTreeMap;
 /// 2,600 bytes.
 pub(crate) const FEWEST: usize = 1024;
 
-/// So many rows, or fewer, are in a bucket of a greater room that is full. A write of one row
+/// This many rows, or fewer, are in a bucket of a greater room that is full. A write of one row
 /// stores its whole bucket, and etcd keeps each revision for some minutes.
 const ROWS_OF_A_GREAT_ROOM: usize = 16;
 
@@ -37,7 +37,7 @@ pub(crate) struct Buckets {
 }
 
 impl Buckets {
-    /// So many empty ones, of a store with this salt.
+    /// This many empty ones, of a store with this salt.
     pub fn empty(salt: u64, count: usize) -> Buckets {
         Buckets { salt, buckets: vec![Bucket::new(); count] }
     }
@@ -80,7 +80,7 @@ impl Buckets {
         number
     }
 
-    /// The number of the bucket of which the next one that is added takes rows.
+    /// The number of the bucket from which the next one that is added takes rows.
     pub fn splits_next(&self) -> usize {
         self.count() - (self.count() + 1).next_power_of_two() / 2
     }

@@ -15,8 +15,7 @@ use std::time::{Duration, Instant};
 const CONNECT: Duration = Duration::from_millis(500);
 const ATTEMPT: Duration = Duration::from_secs(1);
 
-/// How long for a call of which the request or the answer may be large, and what a large request
-/// has.
+/// How long a call may take whose request or answer may be large, and what a large request has.
 const LARGE_ATTEMPT: Duration = Duration::from_secs(5);
 const LARGE_BYTES: usize = 1 << 16;
 

@@ -14,7 +14,7 @@ use std::time::{Duration, Instant};
 /// How long the cluster is asked for each transaction.
 const TIMEOUT: Duration = Duration::from_secs(60);
 
-/// How the head of a place begins that is not whole.
+/// How the head of an unfinished place begins.
 const UNFINISHED: &str = "unfinished ";
 
 /// The place of a new store, and what stands in its head until it is whole: no server loads that.
@@ -60,7 +60,7 @@ fn table_of(snapshot: &Snapshot, salt: u64) -> Table {
 }
 
 /// What keeps the first start of the store that was copied. No batch that was committed since is
-/// here: who has seen more than that start finds an older store.
+/// here: a client that has seen more than that start finds an older store.
 fn first_start(first_start: u128) -> (u64, Head) {
     let fence = Fence { owner: first_start, ..Fence::default() };
     (0, Head { fence, ..Head::EMPTY })
@@ -121,7 +121,7 @@ impl Place<'_> {
         if is_done {
             return Ok(());
         }
-        Err(Failure::Refused(format!("somebody else makes a store at {}", self.prefix)))
+        Err(Failure::Refused(format!("another process makes a store at {}", self.prefix)))
     }
 
     /// All keys of the table, but for the head.

@@ -16,7 +16,7 @@ use std::time::{Duration, Instant};
 /// How often a server that stands by looks.
 const LOOK: Duration = Duration::from_millis(100);
 
-/// How long an answer is waited for that is only for people.
+/// How long it waits for an answer that is only informative.
 const ASK: Duration = Duration::from_secs(5);
 
 /// The shortest lease that etcd keeps to.
@@ -108,8 +108,9 @@ impl Election {
         Ok(None)
     }
 
-    /// Takes the place if nobody has it, and answers the lease then. Who only looks writes nothing:
-    /// a transaction would be written to the log of each node, also where it changes nothing.
+    /// Takes the place if nobody has it, and answers the lease then. A server that only looks
+    /// writes nothing: a transaction would be written to the log of each node, also where it
+    /// changes nothing.
     fn try_once(
         &self,
         etcd: &mut Etcd,

@@ -1,7 +1,7 @@
 //! What an operator has to know if etcd, or TLS below it, refuses what a server shows.
 use crate::address::{Credentials, EtcdAddress};
 
-/// What stands in an error of TLS of which another attempt at the same node comes to nothing.
+/// What an error of TLS contains after which another attempt at the same node fails too.
 const UNTRUSTED: &str = "certificate verify failed";
 const HANDSHAKE: &str = "native_tls connect failed";
 /// How a connection ends if the node doesn't know what it was sent: which of them depends on how
@@ -15,7 +15,7 @@ const UNKNOWN_CLIENT: [&str; 4] = [
     "alert handshake failure",
 ];
 
-/// What stands in a refusal of etcd.
+/// What a refusal of etcd contains.
 const WRONG_PASSWORD: &str = "invalid user ID or password";
 const NO_USER: &str = "user name is empty";
 const NO_USERS: &str = "authentication is not enabled";
@@ -33,7 +33,7 @@ pub(crate) fn connection(why: &str, given: &Given) -> Option<String> {
     }
 }
 
-/// Why an attempt at a node came to nothing, with what may be the matter.
+/// Why an attempt at a node failed, with what may be wrong.
 pub(crate) fn attempt(why: String) -> String {
     if !ENDED.iter().any(|end| why.contains(end)) {
         why
@@ -44,7 +44,7 @@ pub(crate) fn attempt(why: String) -> String {
     }
 }
 
-/// What etcd's refusal means for who asked.
+/// What etcd's refusal means for the server.
 pub(crate) fn refusal(why: &str, given: &Given) -> String {
     let user = given.user.as_deref().unwrap_or("that was not given");
     if why.contains(WRONG_PASSWORD) {

@@ -18,12 +18,12 @@ pub(crate) struct Head {
 }
 
 /// The forms of what is stored. A store of another form is refused. The first one has no number of
-/// buckets, and servers of before the second one read it.
+/// buckets, and servers from before the second one read it.
 const FORM: &str = "krl1";
 const FORM_WITH_BUCKETS: &str = "krl2";
 
 impl Head {
-    /// The head of a store that nobody has committed anything to.
+    /// The head of a store to which nothing has been committed.
     pub const EMPTY: Head = Head {
         fence: Fence { epoch: 0, owner: 0, transaction: 0, commits: 0 },
         salt: 0,

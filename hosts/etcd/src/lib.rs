@@ -1,8 +1,8 @@
 //! A store of krl in etcd, and the election of the server that serves from it.
 //!
 //! What survives a server lies in a cluster of etcd, on several machines, and a server on any
-//! machine may serve from it. **Which one may, the store decides**: every transaction compares one
-//! key, which each transaction sets again, so that of two servers that both believe to serve the
+//! machine may serve from it. **The store decides which one may**: every transaction compares one
+//! key, which each transaction sets again. So if two servers both believe that they serve, the
 //! older one's first change is refused, and it ends. No lease, clock or message between servers is
 //! needed for that. The [`Election`] only determines when another server should try.
 mod address;

@@ -31,7 +31,7 @@ const KEYS_OF_A_CHANGE: usize = 2;
 const PAGE_BYTES: usize = 1 << 20;
 const FEWEST_KEYS: usize = 64;
 
-/// A load is tried so often, if what it reads is compacted away.
+/// How many times a load is tried, if what it reads is compacted away.
 const LOADS: u32 = 4;
 
 /// How long a load continues to ask for one part, and how long a commit, by default.
@@ -78,7 +78,7 @@ impl EtcdStore {
         })
     }
 
-    /// Makes a store of the snapshot at an address where there is none, such as of a backup. No
+    /// Makes a store of the snapshot, such as a backup's, at an address where there is none. No
     /// server serves it before it is whole.
     ///
     /// # Errors
@@ -250,7 +250,7 @@ impl EtcdStore {
         self.table.note_record(change);
     }
 
-    /// How many bytes the part has more with the change, at most.
+    /// How many more bytes the part has with the change, at most.
     fn bytes_of(&self, change: &Change) -> usize {
         let Change::Judged { write, outcome: Outcome::Applied, .. } = change else { return 0 };
         let rows = self.table.buckets.get(self.table.buckets.number_of(write.key()));

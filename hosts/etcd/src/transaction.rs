@@ -72,8 +72,8 @@ pub(crate) struct Part {
     pub past: Option<Head>,
 }
 
-/// The keys of a transaction that are no bucket and no client: the head, the one that was, what is
-/// known of leases, the room.
+/// The keys of a transaction that are neither a bucket nor a client: the head, the one that was,
+/// what is known of leases, the room.
 const OTHER_KEYS: usize = 4;
 
 impl Part {
@@ -99,7 +99,7 @@ impl Part {
 }
 
 /// Asks whether the cluster takes the largest transaction, by one that changes nothing: what it
-/// compares is never so.
+/// compares is never true.
 pub(crate) fn probe(etcd: &mut Etcd, prefix: &str, end: Instant) -> Result<(), Failure> {
     let name = "0".repeat(MAX_BYTES / MAX_KEYS);
     let deletes =

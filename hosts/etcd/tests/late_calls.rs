@@ -1,5 +1,5 @@
-//! Calls that come late, and starts that cross. They start a node of etcd, and a relay holds calls
-//! of it back.
+//! Calls that come late, and starts that cross. They start a node of etcd, and a relay holds back
+//! calls to it.
 use krl::store_tests::{REGISTER, is_deposed, put};
 use krl::{Change, Store, StoreError, Value};
 use krl_etcd::{Credentials, EtcdAddress, EtcdStore};

@@ -62,7 +62,7 @@ fn a_node_without_tls_is_told() {
     assert!(reason.ends_with("reached by etcd://"), "{reason}");
 }
 
-/// Has the cluster ask for a user from now on: `root`, or `krl`, who may use the keys of `krl`.
+/// Has the cluster ask for a user from now on: `root`; or `krl`, which may use the keys of `krl`.
 fn enable_users(cluster: &Cluster) {
     let ask = |path: &str, body: Json| cluster.ask(path, &body);
     for (name, password) in [("root", "of all"), ("krl", "of krl")] {

@@ -21,7 +21,7 @@ pub struct PostgresAddress {
     security: Security,
 }
 
-/// Why a text is no address of PostgreSQL. None of these shows a password.
+/// Why a text is not an address of PostgreSQL. None of these shows a password.
 #[derive(Clone, Debug, PartialEq, Eq)]
 #[non_exhaustive]
 pub enum BadPostgresAddress {
@@ -35,7 +35,7 @@ pub enum BadPostgresAddress {
     NoDatabase,
     /// A host is not this machine, and there is no `sslmode`.
     NoMode,
-    /// `sslmode` is none of `verify-full`, `verify-ca`, `require` and `disable`.
+    /// `sslmode` is not one of `verify-full`, `verify-ca`, `require` and `disable`.
     Mode,
     /// It has one of `sslcert` and `sslkey` without the other.
     CertificateOrKey,

@@ -66,7 +66,7 @@ impl Connector {
     }
 }
 
-/// Carries a connection until it ends. How it ended, who asks hears.
+/// Carries a connection until it ends. How it ended is reported to the caller whose query fails.
 async fn carry(connection: impl Future<Output = Result<(), Error>>) {
     let _ = connection.await;
 }

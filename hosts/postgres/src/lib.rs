@@ -1,7 +1,8 @@
 //! A store of krl in PostgreSQL.
 //!
 //! Each commit compares one row, the head, and sets it again in one statement with what it changes.
-//! Of two servers that both believe to serve, the older one's first change is refused, and it ends.
+//! If two servers both believe that they serve, the older one's first change is refused, and it
+//! ends.
 //!
 //! **The store is only as safe as the failover of the database.** A replica that is promoted and
 //! lacks a transaction that was answered takes that back, and the epoch may fall: then nothing that

@@ -14,11 +14,11 @@ use tokio_postgres::{Client, Error, IsolationLevel, Row, Statement};
 /// The pause before another attempt.
 const PAUSE: Duration = Duration::from_millis(50);
 
-/// So many attempts are made if each one's connection is silent: a connection that the database, or
-/// the network, has lost without a word is left for a new one.
+/// This many attempts are made if each one's connection is silent: a connection that the database,
+/// or the network, has lost without notice is left for a new one.
 const ATTEMPTS: u32 = 3;
 
-/// What stands in an error of TLS of which another attempt comes to nothing.
+/// What an error of TLS contains after which another attempt fails too.
 const REFUSED_BY_TLS: [&str; 2] = ["certificate verify failed", "server does not support TLS"];
 
 /// All that is stored, as it was at one moment.

@@ -12,7 +12,7 @@ use tokio::io::{AsyncRead, AsyncWrite, ReadBuf};
 use tokio_openssl::SslStream;
 use tokio_postgres::tls::{ChannelBinding, MakeTlsConnect, TlsConnect, TlsStream};
 
-/// What of the database's certificate is checked, as `sslmode` of PostgreSQL's own programs.
+/// What is checked of the database's certificate, as with `sslmode` in PostgreSQL's own programs.
 #[derive(Clone, Copy, Debug, PartialEq, Eq)]
 pub(crate) enum Mode {
     /// There is no TLS.
@@ -37,8 +37,8 @@ pub(crate) struct Security {
 }
 
 impl Mode {
-    /// The mode of this name. `allow` and `prefer` are none: a connection may be plain in them,
-    /// without a word.
+    /// The mode of this name. `allow` and `prefer` are not modes here: with them a connection may
+    /// be plain without notice.
     pub fn parse(name: &str) -> Option<Mode> {
         match name {
             "disable" => Some(Mode::Disable),

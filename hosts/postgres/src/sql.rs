@@ -1,12 +1,12 @@
 //! What is asked of the database.
 
-/// Whether all tables are there. Who asks needs no right to make any.
+/// Whether all tables are there. The question needs no right to make any.
 pub(crate) const HAS_TABLES: &str = "
     SELECT bool_and(to_regclass('krl.' || name) IS NOT NULL)
     FROM unnest(ARRAY['head', 'start', 'entry', 'client', 'lease', 'room']) AS name";
 
-/// The tables, unless they are there. Numbers of 64 bits without a sign stand as those with one.
-/// The lock makes one of two servers that start over a new database wait for the other.
+/// The tables, unless they are there. Unsigned numbers of 64 bits are stored as signed ones. The
+/// lock makes one of two servers that start over a new database wait for the other.
 pub(crate) const TABLES: &str = "
     BEGIN;
     SELECT pg_advisory_xact_lock(7097964914);
@@ -50,7 +50,7 @@ pub(crate) const LEASES: &str = "SELECT longest, unleased FROM krl.lease";
 pub(crate) const ROOM: &str = "SELECT most_rows FROM krl.room";
 
 /// Commits a batch if the head is as it should be, and makes the format this version's, so that no
-/// server of before the room was kept passes it over. It is one statement, and so one transaction:
+/// server from before the room was kept ignores it. It is one statement, and so one transaction:
 /// the head's row is locked by it, and compared again once another one has let it go.
 pub(crate) const COMMIT: &str = "
     WITH fence AS (

@@ -75,7 +75,7 @@ impl PostgresStore {
     }
 
     /// Connects to the database, and tries again until it answers. Each time that it does not,
-    /// `goes_on` hears why, and answers whether to try again. False if it is not to continue.
+    /// `goes_on` gets the reason, and answers whether to try again. False if it is not to continue.
     ///
     /// # Errors
     ///
@@ -91,7 +91,7 @@ impl PostgresStore {
         }
     }
 
-    /// Makes a store of the snapshot in a database that has none, such as of a backup.
+    /// Makes a store of the snapshot, such as a backup's, in a database that has none.
     ///
     /// # Errors
     ///

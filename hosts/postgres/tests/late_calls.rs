@@ -1,4 +1,4 @@
-//! Commits that wait for one another, that come late, and whose answers get lost. They start a
+//! Commits that wait for each other, that come late, and whose answers get lost. They start a
 //! server of PostgreSQL.
 use krl::store_tests::{REGISTER, is_deposed, put};
 use krl::{Change, Store, StoreError, Value};
@@ -8,7 +8,7 @@ use krl_testing::deaf_relay::DeafRelay;
 use std::thread;
 use std::time::Duration;
 
-/// Lets everybody wait who wants to change the head, until the transaction ends.
+/// Makes every other transaction that changes the head wait until this one ends.
 const LOCK_HEAD: &str = "BEGIN; SELECT * FROM krl.head FOR UPDATE;";
 
 /// What a server of another epoch does as it starts.

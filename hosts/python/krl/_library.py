@@ -1,7 +1,7 @@
 """The calls of ``libkrl_client.so``, as ``krl_client.h`` declares and describes them, and threads
-that make those which wait. A thread that waits within the library hears no signal, and Python runs
-handlers of signals, such as that of Ctrl-C, only on the main thread. So another thread makes the
-waiting calls of the main thread, and those of an event loop."""
+that make those which wait. A thread that waits within the library handles no signal, and Python
+runs handlers of signals, such as that of Ctrl-C, only on the main thread. So another thread makes
+the waiting calls of the main thread, and those of an event loop."""
 
 import ctypes
 import functools
@@ -24,7 +24,7 @@ T = TypeVar("T")
 # The file, if it is neither in the package nor where the system looks, and the version that it has.
 NAMED_BY, VERSION = "KRL_CLIENT_LIBRARY", "0.1"
 
-# Codes of the header. Those up to ANSWERS are no errors.
+# Codes of the header. Those up to ANSWERS are not errors.
 OK, MISS, ANSWERS, MISUSE, BAD_TLS = 0, 5, 15, 16, 23
 JOIN_ERRORS: dict[int, type[JoinError]] = {24: LockFileError, 29: LockFileTaken}
 JOIN_ERRORS |= dict.fromkeys((MISUSE, 17, 20, 21, 22, BAD_TLS), BadOption)

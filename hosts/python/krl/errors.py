@@ -26,7 +26,7 @@ class LibraryError(Error): """``libkrl_client.so`` was not found, or has another
 class JoinError(Error): """The client did not join. ``__cause__`` is what ended it, if one did."""
 class LockFileError(JoinError): """The lock file cannot be used, or another process has it."""
 class LockFileTaken(LockFileError): """Another process has it, or those of all numbers."""
-class BadOption(JoinError, ValueError): """A number, an address, a map, a file or a time is none."""
+class BadOption(JoinError, ValueError): """A number, address, map, file or time is not valid."""
 
 
 class Refused(Error):
@@ -47,7 +47,7 @@ class Refused(Error):
         Refused.kinds[code] = cls
 
 
-class BadRange(Refused, ValueError, code=17): """The range is none, or is empty and may not be."""
+class BadRange(Refused, ValueError, code=17): """The range is invalid, or must not be empty."""
 class BadKey(Refused, ValueError, code=18): """The key is not from 0 to 2^63 - 2."""
 class BadValue(Refused, ValueError, code=19): """The value has more than 32 bytes."""
 class Pinned(Refused, code=25): """The range meets a pin of this client."""

@@ -20,8 +20,8 @@ def place() -> tuple[int, int]:
 
 
 def interrupt() -> None:
-    """Interrupts the main thread as soon as it stands still, which is while it waits. A signal that
-    comes just before the wait may be heard only after it, so it is sent until one is heard."""
+    """Interrupts the main thread as soon as it sleeps, which is while it waits. A signal that comes
+    just before the wait may be handled only after it, so it is sent until one is handled."""
     before = None
     while not is_heard.is_set():
         if (now := place()) == before:

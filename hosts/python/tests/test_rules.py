@@ -1,4 +1,4 @@
-"""The client passes scripts of the conformance kit: what the library hears comes as it should.
+"""The client passes scripts of the conformance kit: what the library receives comes as it should.
 
 `tests/hosts` plays all of them to the client in Rust, which is the same.
 """

@@ -36,7 +36,7 @@ enum Why {
 ///
 /// # Errors
 ///
-/// If the file can't be read, has something that is no row, or has two rows of one key.
+/// If the file can't be read, has something that is not a row, or has two rows of one key.
 pub fn read_file(path: &Path, format: FileFormat, values: ValueForm) -> Result<Vec<Line>, BadFile> {
     let lines = read(path, format, values).and_then(without_twice);
     lines.map_err(|why| BadFile { path: path.to_path_buf(), why })

@@ -1,4 +1,4 @@
-//! How far a long work has come, for people.
+//! How far a long task has come, for people.
 use indicatif::{ProgressBar, ProgressDrawTarget, ProgressStyle};
 use std::borrow::Cow;
 use std::io::Read;
@@ -6,13 +6,13 @@ use std::io::Read;
 /// How often the line is drawn at most, in times a second.
 const PER_SECOND: u8 = 10;
 
-/// A line on standard error that shows how far a work has come. It is shown only at a terminal, and
+/// A line on standard error that shows how far a task has come. It is shown only at a terminal, and
 /// is gone when this is.
 #[derive(Debug)]
 pub struct Progress(ProgressBar);
 
 impl Progress {
-    /// Of work of this many steps, or of an unknown number.
+    /// Of a task of this many steps, or of an unknown number.
     pub fn new(what: impl Into<Cow<'static, str>>, steps: Option<u64>) -> Progress {
         let with_bar = "{msg} {wide_bar} {percent}% {eta}";
         let style = if steps.is_some() { with_bar } else { "{msg} {pos} {elapsed}" };

@@ -133,7 +133,7 @@ fn key_of_number(key: u64) -> Option<u64> {
 }
 
 fn bad_key(key: &dyn fmt::Display) -> String {
-    format!("'{key}' is no key: a number of 0 to 2^63 - 2 is expected")
+    format!("'{key}' is no key: a number from 0 to 2^63 - 2 is expected")
 }
 
 /// The row of the next line that is not empty.
@@ -202,7 +202,7 @@ mod tests {
         Row { key, value: Value::try_from(value).unwrap() }
     }
 
-    /// The rows of a text, and why it went no further, if it did not.
+    /// The rows of a text, and why reading ended early, if it did.
     fn read(text: &[u8], format: FileFormat) -> (Vec<Row>, Option<String>) {
         let (mut rows, mut why) = (Vec::new(), None);
         for read in RowReader::new(text, format, ValueForm::Text) {
@@ -260,7 +260,7 @@ mod tests {
         for (row, told) in [
             ("2\n3,a", "line 3: it has 1 columns, and two are expected: key,value"),
             ("2,a,b\n3,a", "line 3: it has 3 columns"),
-            ("-2,a\n3,a", "line 3: '-2' is no key: a number of 0 to 2^63 - 2 is expected"),
+            ("-2,a\n3,a", "line 3: '-2' is no key: a number from 0 to 2^63 - 2 is expected"),
             ("9223372036854775807,a", "line 3: '9223372036854775807' is no key"),
             ("key,a\n", "line 3: 'key' is no key"),
             ("2,hex:1", "line 3: 'hex:1' is no value"),

@@ -8,7 +8,7 @@ const LONGEST: usize = 4096;
 /// Reads a file, and fails in the midst of a line that is too long.
 pub(crate) struct ShortLines<R> {
     file: R,
-    /// So many bytes have come since the last end of a line.
+    /// How many bytes have come since the last end of a line.
     length: usize,
 }
 

@@ -7,7 +7,7 @@ use std::fmt::{self, Write};
 /// How a value without a prefix is read, and how values are shown.
 #[derive(Clone, Copy, Debug, PartialEq, Eq)]
 pub enum ValueForm {
-    /// Text. What is no text is shown with a prefix.
+    /// Text. What is not text is shown with a prefix.
     Text,
     /// Hexadecimal digits.
     Hex,
@@ -16,7 +16,7 @@ pub enum ValueForm {
     Number,
 }
 
-/// A word that is no value: why, and what is expected.
+/// A word that is not a value: why, and what is expected.
 #[derive(Clone, Debug, PartialEq, Eq)]
 pub struct BadValue(String);
 
@@ -37,7 +37,7 @@ impl ValueForm {
     ///
     /// # Errors
     ///
-    /// If it is no word of this form, or has more than 32 bytes.
+    /// If it is not a word of this form, or has more than 32 bytes.
     pub fn read(self, word: &str) -> Result<Value, BadValue> {
         let bytes = self.bytes_of(word)?;
         Value::try_from(&bytes[..]).map_err(|_| {
@@ -111,7 +111,7 @@ fn bytes_of_number(digits: &str, word: &str) -> Result<Vec<u8>, BadValue> {
     let is_number = !digits.is_empty() && digits.bytes().all(|digit| digit.is_ascii_digit());
     let number = digits.parse::<u64>().ok().filter(|_| is_number);
     let number = number.ok_or_else(|| {
-        BadValue(format!("'{word}' is no value: a number of 0 to 2^64 - 1 is expected"))
+        BadValue(format!("'{word}' is no value: a number from 0 to 2^64 - 1 is expected"))
     })?;
     Ok(number.to_be_bytes().into())
 }
@@ -186,7 +186,7 @@ mod tests {
         let fails = |form: ValueForm, word: &str| form.read(word).unwrap_err().to_string();
         assert!(fails(ValueForm::Text, "hex:abc").contains("even number of hexadecimal digits"));
         assert!(fails(ValueForm::Text, "hex:+1").contains("'hex:+1' is no value"));
-        assert!(fails(ValueForm::Text, "u64:").contains("a number of 0 to 2^64 - 1"));
+        assert!(fails(ValueForm::Text, "u64:").contains("a number from 0 to 2^64 - 1"));
         assert!(fails(ValueForm::Number, "+5").contains("'+5' is no value"));
         assert!(fails(ValueForm::Number, "18446744073709551616").contains("2^64 - 1"));
         assert!(fails(ValueForm::Hex, "one").contains("'one' is no value"));

@@ -74,7 +74,7 @@ impl<W: Write> RowWriter<W> {
     }
 }
 
-/// The error of the writer below, of which callers want to know the kind.
+/// The error of the writer below, whose kind callers want to know.
 fn io_error(error: csv::Error) -> io::Error {
     match error.into_kind() {
         csv::ErrorKind::Io(error) => error,

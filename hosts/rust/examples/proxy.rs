@@ -42,12 +42,13 @@ fn main() -> Done<()> {
     }
 }
 
-/// Answers all who connect, each in its own thread. They share the client and its cache.
+/// Answers everybody who connects, each in a thread of its own. They share the client and its
+/// cache.
 fn serve(client: &Client, listener: &UnixListener) -> Done<()> {
     thread::scope(|scope| {
         for stream in listener.incoming() {
             let stream = stream?;
-            // Who goes away ends only its own connection.
+            // A process that goes away ends only its own connection.
             scope.spawn(move || answer_all(client, &stream));
         }
         Ok(())
@@ -78,7 +79,7 @@ fn write_row(out: &mut impl Write, row: &Row) -> io::Result<()> {
     writeln!(out)
 }
 
-/// Whoever asks the proxy.
+/// A process that asks the proxy.
 struct Proxy {
     stream: UnixStream,
     answers: BufReader<UnixStream>,
@@ -105,7 +106,7 @@ impl Proxy {
     }
 }
 
-/// Says how long the middle one of many equal questions takes.
+/// Prints how long the middle one of many equal questions takes.
 fn time(proxy: &mut Proxy, question: &str) -> Done<()> {
     let mut times: Vec<Duration> = Vec::with_capacity(QUESTIONS);
     let mut rows = 0;

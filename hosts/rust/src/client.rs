@@ -46,7 +46,7 @@ use std::time::{Duration, Instant};
 /// A clone is the same client: it has the same cache, the same pins and the same timeout.
 ///
 /// If the server's store went back, since an older copy of it was brought back, the client drops
-/// its cache as if it had crashed, and joins again: those who wait just then get
+/// its cache as if it had crashed, and joins again: calls that wait just then end with
 /// [`Error::StoreWentBack`]. Until it has joined, `cached` answers `None`, and other calls wait. A
 /// store without a history reports nothing about it.
 ///
@@ -54,8 +54,8 @@ use std::time::{Duration, Instant};
 /// cache too, and calls that wait just then end with `Unserved` by [`Refusal::OtherStore`]. It
 /// joins again when it finds a server of its own store, and no other one.
 ///
-/// A server with leases lets the client answer from its cache only for a limited time after
-/// the client's last word. When its lease ends the client drops its cache and joins again, as above:
+/// A server with leases lets the client answer from its cache only for a limited time after the
+/// client's last sign. When its lease ends the client drops its cache and joins again, as above:
 /// only a write that is on its way ends with [`Error::LeaseEnded`], and all other calls continue.
 ///
 /// When its last clone and its last pin are dropped, the client sends Bye, and waits a second at
@@ -152,7 +152,7 @@ impl Client {
     /// server's table at one moment of the call, also while the server is down. An empty range has
     /// no rows.
     ///
-    /// Threads that make this call, or one of the next two, do not wait for one another.
+    /// Threads that make this call, or one of the next two, do not wait for each other.
     ///
     /// # Errors
     ///
@@ -247,10 +247,10 @@ impl Client {
     /// was judged. A write that changes nothing, since its outcome is `Exists`, `Absent` or `Full`,
     /// ends no other one.
     ///
-    /// **It is no transaction**: each is a write of its own. Other clients may see the first ones
-    /// without the others, also after a crash between them, and may write in between. Writes of
-    /// other threads of this client come in between too. All of them together take the timeout at
-    /// most.
+    /// **It is not a transaction**: each is a write of its own. Other clients may see the first
+    /// ones without the others, also after a crash between them, and may write in between. Writes
+    /// of other threads of this client come in between too. All of them together take the timeout
+    /// at most.
     ///
     /// The client has one write on its way at a time, and sends the next one as soon as the server
     /// has kept the one before: nobody else has to be woken for it. To take the locks of many
@@ -286,7 +286,7 @@ impl Client {
     ///
     /// Pin what you read by this or by [`Client::pin_for_read`], and what you will write by
     /// [`Client::pin_for_update`]: two clients that pin the same rows to read them, and then write
-    /// them, keep one another waiting until one of them drops its pin.
+    /// them, keep each other waiting until one of them drops its pin.
     ///
     /// # Errors
     ///
@@ -304,7 +304,7 @@ impl Client {
     /// too.
     ///
     /// It takes the range in ascending order and pins what it has got, so clients that pin one
-    /// range each do not wait for one another forever. A client that pins several should take them
+    /// range each do not wait for each other forever. A client that pins several should take them
     /// in ascending order.
     ///
     /// # Errors
@@ -328,10 +328,10 @@ impl Client {
     /// reads there: if two such clients then pin it for an update, or write there, each may wait
     /// for the other one until it times out.
     ///
-    /// Who decides by these rows what to write writes by [`Pin::put`], [`Pin::insert`] and
+    /// A caller that decides by these rows what to write uses [`Pin::put`], [`Pin::insert`] and
     /// [`Pin::delete`]. A client has one request for a lock at a time: if several threads pin and
     /// write through one client, they should take turns or pin by [`Client::pin_for_write`], or two
-    /// such processes may wait for one another.
+    /// such processes may wait for each other.
     ///
     /// # Errors
     ///
@@ -358,7 +358,7 @@ impl Client {
     /// its entries and gaps, and the slot after them, in the mode `RangeX-X`. So a write in the
     /// range asks for no lock any more. That is for several threads that pin and write through one
     /// client: a write waits for no request of another thread, and no two such processes wait for
-    /// one another. Other clients that read the range wait from this call until the pin is dropped.
+    /// each other. Other clients that read the range wait from this call until the pin is dropped.
     ///
     /// A delete needs the gap after its key too: to delete the last key of a range without a
     /// request, pin one key more.
@@ -436,14 +436,14 @@ impl Client {
     }
 
     /// The client's incarnation, of which the next one is greater: each end of a lease begins
-    /// another one. Who acts on something outside may take it for a fence there.
+    /// another one. A program that acts on something outside may use it as a fence there.
     #[must_use]
     pub fn incarnation(&self) -> u64 {
         self.link().with_jobs(|jobs| jobs.incarnation())
     }
 
-    /// How long the client may still answer from its cache if it hears nothing more of the server;
-    /// or `None` if forever, as from a server without leases.
+    /// How long the client may still answer from its cache if it hears nothing more from the
+    /// server; or `None` if forever, as with a server without leases.
     #[must_use]
     pub fn lease_left(&self) -> Option<Duration> {
         self.link().with_jobs(|jobs| jobs.lease_left())
@@ -463,8 +463,8 @@ impl Client {
 
     /// The spans of keys that the server has called back from the client since the last call of
     /// this, the oldest first and each once: other clients wanted to change something there, or to
-    /// read what this one has written. It is a hint for whoever reads ahead. The last 256 spans are
-    /// kept.
+    /// read what this one has written. It is a hint for callers that read ahead. The last 256 spans
+    /// are kept.
     #[must_use]
     pub fn take_called_back(&self) -> Vec<Range<u64>> {
         self.link().with_jobs(Jobs::take_called_back)

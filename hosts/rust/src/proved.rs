@@ -1,4 +1,4 @@
-//! The library of the rules, whose functions are proved, behind types that keep what it asks for.
+//! The library of the rules, whose functions are proved, within types that keep what it asks for.
 pub(crate) mod client_handle;
 pub(crate) mod ffi;
 pub(crate) mod gate;

@@ -1,5 +1,5 @@
-//! A client without sockets, threads and clocks, for hosts that have their own: bytes come in,
-//! bytes go out, and each call gets the time. The lock file of its number is inside.
+//! A client without sockets, threads and clocks, for hosts that have their own: bytes go in, bytes
+//! come out, and each call gets the time. The lock file of its number is inside.
 //!
 //! `hosts/capi` has it for C, by `krl_host.h`. Nothing here is a part of the interface in Rust,
 //! whose client is [`crate::Client`].
@@ -26,7 +26,7 @@ use std::time::Duration;
 pub use crate::client::jobs::{Held, Purpose};
 
 /// A client. A moment is a time by a clock that continues while the machine is suspended, and never
-/// back.
+/// goes back.
 pub struct Client {
     session: Session,
     lock_file: LockFile,
@@ -44,7 +44,7 @@ pub struct Begin<'p> {
     pub number: u8,
     /// The lock file of this number.
     pub lock_file: &'p Path,
-    /// How many servers stand by over the store, of which it connects to one at a time.
+    /// How many servers stand by over the store. It connects to one at a time.
     pub servers: usize,
     /// The shard that it takes them for, if not for servers of all keys.
     pub shard: Option<ShardBounds>,
@@ -52,7 +52,7 @@ pub struct Begin<'p> {
     pub seed: u64,
 }
 
-/// Something that a client was asked.
+/// Something that a client was asked to do.
 pub struct Call<T>(Asked<T>);
 
 /// What the cache knows, for any number of threads.

@@ -63,9 +63,9 @@ impl Server {
         self.reach
     }
 
-    /// What it looks like now, or a few milliseconds ago. Who waits for whom, and what a client
-    /// holds, is as of 50 milliseconds ago at most, unless counting a large table takes longer. Of
-    /// a client that has left, or was evicted, nothing is shown.
+    /// What it looks like now, or a few milliseconds ago. Which clients wait for which, and what a
+    /// client holds, is at most 50 milliseconds old, unless counting a large table takes longer.
+    /// Nothing is shown of a client that has left or was evicted.
     #[must_use]
     pub fn status(&self) -> Status {
         self.status.lock().unwrap_or_else(PoisonError::into_inner).clone()

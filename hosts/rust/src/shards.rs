@@ -1,4 +1,4 @@
-//! Several servers, each of which has a part of the keys, and a client of them all.
+//! Several servers, each with a part of the keys, and a client of them all.
 pub(crate) mod batch;
 pub(crate) mod builder;
 pub(crate) mod client;

@@ -16,7 +16,7 @@ use crate::wire::host_frame::{self, FromClient, FromServer};
 use crate::wire::message::Message;
 use std::io;
 
-/// What a frame is to somebody who only looks on.
+/// What a frame is to an observer.
 #[derive(Clone, Copy, Debug, PartialEq, Eq)]
 pub enum FrameKind {
     /// A message of the library, or the frame of no bytes, which answers a Bye.
@@ -25,7 +25,7 @@ pub enum FrameKind {
     WentBack,
     /// The server's host refuses a client that has seen another store.
     OtherStore,
-    /// Another word of a host.
+    /// Another frame of a host.
     Host,
 }
 

@@ -17,7 +17,7 @@ use std::time::Duration;
 /// What survives a server.
 ///
 /// Several servers may have values for one store. What a value commits rests on what it has loaded
-/// and committed itself: if anybody else has committed something meanwhile, it is refused as
+/// and committed itself: if another one has committed something meanwhile, it is refused as
 /// [`StoreError::Deposed`]. That is all that keeps an older server from changing what a newer one
 /// serves: the first that a server commits is [`Change::Started`], and from then on every older
 /// one's changes are refused. A store that lets one process at a time open it has that by itself.
@@ -88,7 +88,7 @@ pub trait Store: Send {
     ///
     /// # Errors
     ///
-    /// `Deposed` if somebody else has committed something: from then on nothing is kept. A store of
+    /// `Deposed` if another value has committed something: from then on nothing is kept. A store of
     /// several machines may have kept them before, if the answer to its first attempt was lost.
     /// `Unanswered` if it is not known whether they are kept. `Failed` if they are not.
     fn commit(&mut self, changes: &[Change]) -> Result<(), StoreError>;
@@ -104,8 +104,8 @@ pub trait Store: Send {
     /// Each start of a server that is committed, and how many batches were committed since. A store
     /// that has a history draws the random bits of a start as it commits [`Change::Started`], and
     /// counts each batch as it commits it, in one transaction with the changes. By it the clients
-    /// notice a copy from before that is brought back. A store without one has `None`, and then
-    /// nobody notices.
+    /// notice an earlier copy that is brought back. A store without one has `None`, and then nobody
+    /// notices.
     ///
     /// # Errors
     ///

@@ -57,7 +57,7 @@ fn block_on_all<T>(futures: impl IntoIterator<Item = impl Future<Output = T>>) -
 struct Eager {
     /// None once it has ended.
     running: Mutex<Option<Pin<Box<dyn Future<Output = ()> + Send>>>>,
-    /// How often it was woken since it was last seen to wait.
+    /// How many times it was woken since it was last seen to wait.
     wakes: AtomicUsize,
 }
 
@@ -80,7 +80,7 @@ impl Eager {
 impl Wake for Eager {
     fn wake(self: Arc<Eager>) {
         if self.wakes.fetch_add(1, Ordering::SeqCst) > 0 {
-            // Whoever polls it just now does so again.
+            // The thread that polls it just now does so again.
             return;
         }
         let waker = Waker::from(Arc::clone(&self));
@@ -153,7 +153,7 @@ fn a_task_may_call_the_client_within_the_call_that_wakes_it() {
     let server = server();
     let client = client(&server, 0, "eager");
     let (ended, end) = mpsc::channel();
-    // If the task hangs, so does the thread of its client. So the client is its own.
+    // If the task hangs, so does the thread of its client. So it has a client of its own.
     Eager::start(async move {
         let inserted = client.insert(15, Value::from(1)).await;
         let (rows, pin) = client.pin_for_update(10..20).await.unwrap();

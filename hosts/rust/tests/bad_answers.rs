@@ -1,5 +1,5 @@
-//! Connections that hear what no server sends, or that one side rejects: what a client makes of one
-//! of them, and of several.
+//! Connections on which something comes that no server sends, or that one side rejects: what a
+//! client makes of one of them, and of several.
 mod secure;
 
 use krl::{Address, Client, ClientBuilder, Error, JoinError, Outcome, Server, TlsConfig, Value};

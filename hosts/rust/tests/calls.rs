@@ -300,8 +300,8 @@ fn an_evicted_client_keeps_nobody_waiting() {
     let (address, living) = (server.address().clone(), folder.join(&server, 1));
     assert_eq!(living.insert(10, value("a")), Ok(Outcome::Applied));
     assert!(evict(address.clone(), 1, folder.lock(1)).is_err(), "its process lives");
-    // A client that is gone without a Bye: this one's thread continues, but nobody hears it after
-    // the eviction.
+    // A client that is gone without a Bye: this one's thread continues, but nothing takes its
+    // messages after the eviction.
     evict(address, 1, folder.0.join("lost.lock")).unwrap();
     let other = folder.join(&server, 2);
     assert_eq!(other.put(10, value("b")), Ok(Outcome::Applied));
@@ -328,7 +328,7 @@ fn threads_share_a_client() {
     assert_eq!(client.read(0..1000).unwrap().len(), 100);
 }
 
-/// How often the thread of this name has slept, as the system counts it.
+/// How many times the thread of this name has slept, as the system counts it.
 fn sleeps(thread: &str) -> u64 {
     let tasks = std::fs::read_dir("/proc/self/task").unwrap();
     let read = |task: &Path, file| std::fs::read_to_string(task.join(file)).unwrap_or_default();

@@ -84,7 +84,7 @@ fn a_server_tells_what_happens_once() {
     let client = Client::join(server.address(), 3, folder.join("client.lock")).unwrap();
     lines.expect(1, &["INFO", "a client has joined", "client=3"]);
     assert_eq!(client.insert(1, Value::from(1)), Ok(Outcome::Applied));
-    // A Hello of an older incarnation, again and again, and a string that is no message.
+    // A Hello of an older incarnation, again and again, and a string that is not a message.
     let mut stranger = TcpStream::connect(server.address().to_string()).unwrap();
     let hello = [&[18, 0, 0, 0, 0, 0, 0, 0, 1, 0, 3][..], &[0; 7], &[1], &[0; 7]].concat();
     for _ in 0..50 {

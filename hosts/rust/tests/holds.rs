@@ -81,8 +81,8 @@ fn one_client_at_a_time_pins_a_range_for_update() {
     world.insert_rows((0..30).map(|place| 10 * place));
     let (rows, pin) = first.pin_for_update(50..300).unwrap();
     assert_eq!(rows.len(), 25);
-    // The first entry, one in the middle, the last one, and the gap after it. Whoever has waited
-    // for nothing waits still, so each is another client.
+    // The first entry, one in the middle, the last one, and the gap after it. A client that got
+    // nothing still waits, so each is another client.
     for (number, keys) in (4..).zip([45..51, 150..151, 290..300, 295..300]) {
         let other = world.join_impatient(number);
         let refused = other.pin_for_update(keys.clone()).err();
@@ -120,7 +120,7 @@ fn those_who_pin_for_update_and_write_do_not_block_one_another() {
         let (rows, pin) = client.pin_for_update(10..20).unwrap();
         let count = u64::from_be_bytes(rows[0].value.as_ref().try_into().unwrap());
         assert_eq!(client.put(15, Value::from(count + 1)), Ok(Outcome::Applied));
-        // Whoever comes back at once keeps nobody out: what was called back is given back.
+        // A client that comes back at once keeps nobody out: what was called back is given back.
         drop(pin);
     };
     thread::scope(|scope| {
@@ -164,7 +164,7 @@ fn those_who_read_before_they_pin_for_update_do_not_block_one_another() {
     });
 }
 
-/// Each waits for the other one's pin. The one that hears first that its time is over has written
+/// Each waits for the other one's pin. The one that learns first that its time is over has written
 /// nothing, and both continue when the pins are gone.
 #[test]
 fn those_who_pin_for_read_and_write_block_one_another_and_lose_nothing() {

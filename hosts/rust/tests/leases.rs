@@ -59,7 +59,7 @@ fn row(key: u64, value: u64) -> Row {
     Row { key, value: Value::from(value) }
 }
 
-/// Waits until it is so, for a minute at most.
+/// Waits until it is true, for a minute at most.
 fn wait_until(is_so: impl Fn() -> bool) -> bool {
     let end = Instant::now() + Duration::from_secs(60);
     while !is_so() && Instant::now() < end {
@@ -234,7 +234,7 @@ fn a_host_that_says_no_signs_is_served_and_left_to_an_operator() {
     thread::sleep(3 * T);
     let status = server.status();
     assert_eq!((status.evicted, &status.unleased[..]), (0, &[50][..]), "{status}");
-    // The operator's word counts.
+    // The operator's vouching counts.
     evict(server.address(), 50, folder.lock_file(50)).unwrap();
     assert!(wait_until(|| server.status().unleased.is_empty()));
 }

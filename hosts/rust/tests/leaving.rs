@@ -105,7 +105,7 @@ fn one_that_has_left_stays_so_for_all_its_clones() {
         assert_eq!(again.wait_for_change(0..9, &[], LONG), Ok(Waited::Changed));
     }
     assert!(!pin.holds());
-    // The number is free, though its old client is still in somebody's hands.
+    // The number is free, though its old client still has an owner.
     let next = world.join(1);
     assert_eq!(next.read(0..9), Ok(vec![row(1, 5)]));
     next.leave().unwrap();

@@ -1,4 +1,4 @@
-//! A copy of the store from before is brought back while a client lives that has shown who it is.
+//! An earlier copy of the store is brought back while a client lives that has shown who it is.
 mod secure;
 
 use krl::{Access, Address, Client, Listener, Outcome, Row, ServeError, Server, SqliteStore};
@@ -16,7 +16,7 @@ struct Place {
 }
 
 impl Place {
-    /// A place at an address of its own of the loopback: nobody else takes a port there between two
+    /// A place at a loopback address of its own: nothing else takes a port there between two
     /// servers.
     fn new(name: &str, network: u8) -> Place {
         let setup = Setup::new(name);
@@ -43,8 +43,8 @@ impl Place {
         std::fs::copy(self.file(from), self.file(to)).unwrap();
     }
 
-    /// A client of this number that has the value 2 in its cache, where `copy.db` has the 1 of
-    /// before. No server runs.
+    /// A client of this number that has the value 2 in its cache, where `copy.db` has the earlier
+    /// 1. No server runs.
     fn client_of_a_later_store(&mut self, number: u8) -> Client {
         let server = self.serve();
         let config = self.setup.config(&[&format!("krl:client:{number}")]);
@@ -64,7 +64,7 @@ fn row(number: u64) -> Row {
     Row { key: 1, value: Value::from(number) }
 }
 
-/// Waits until it is so, for a minute at most.
+/// Waits until it is true, for a minute at most.
 fn wait_until(is_so: impl Fn() -> bool) -> bool {
     let end = Instant::now() + Duration::from_secs(60);
     while !is_so() && Instant::now() < end {

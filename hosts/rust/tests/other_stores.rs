@@ -15,7 +15,7 @@ struct Place {
 }
 
 impl Place {
-    /// A place at an address of its own of the loopback: nobody else takes a port there between two
+    /// A place at a loopback address of its own: nothing else takes a port there between two
     /// servers.
     fn new(name: &str, network: u8) -> Place {
         let setup = Setup::new(name);

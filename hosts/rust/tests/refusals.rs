@@ -43,7 +43,7 @@ fn refused(reason: u8, numbers: [u64; 2]) -> Vec<u8> {
     bytes
 }
 
-/// What a peer hears that sends these frames after its host's Hello.
+/// What a peer receives that sends these frames after its host's Hello.
 fn heard(server: &Server, said: &[Vec<u8>]) -> Vec<u8> {
     let mut peer = Peer::new(server);
     peer.say(&HOST_HELLO);
@@ -73,8 +73,8 @@ fn a_message_of_another_version() {
     assert_eq!(heard(&server, &[no_message]), [], "its version is the right one");
 }
 
-/// A host that names no version, or another one, is refused before its client is heard: it would
-/// take no long grant.
+/// A host that names no version, or another one, is refused before anything of its client is
+/// judged: it would take no long grant.
 #[test]
 fn a_host_of_another_version() {
     let server = server(MemoryStore::default());

@@ -1,4 +1,4 @@
-//! A copy of the store from before is brought back while a client lives.
+//! An earlier copy of the store is brought back while a client lives.
 mod peer;
 
 use krl::{
@@ -61,7 +61,7 @@ fn row(key: u64, number: u64) -> Row {
     Row { key, value: Value::from(number) }
 }
 
-/// Waits until it is so, for a minute at most.
+/// Waits until it is true, for a minute at most.
 fn wait_until(is_so: impl Fn() -> bool) -> bool {
     let end = Instant::now() + Duration::from_secs(60);
     while !is_so() && Instant::now() < end {
@@ -93,7 +93,7 @@ impl Drop for Over<'_> {
 }
 
 /// The client has the row of the value 2 in its cache, and the store at this place has 1 instead.
-/// From when it has heard from the server on, the client never answers the 2 again.
+/// Once it has heard from the server, the client never answers the 2 again.
 fn notices(place: &Place, client: &Client) {
     let (asked, ends) = (Barrier::new(3), AtomicBool::new(false));
     assert_eq!(
@@ -281,7 +281,7 @@ fn a_client_that_leaves_a_store_that_went_back() {
     });
 }
 
-/// The Hello of a host that has seen so much, and the word that the store lacks it.
+/// The Hello of a host that has seen this much, and the frame that the store lacks it.
 fn host_hello(start: u128, commits: u64) -> Vec<u8> {
     let body = [&[0, 0][..], &start.to_le_bytes(), &commits.to_le_bytes(), &[3]].concat();
     [&(body.len() as u64).to_le_bytes()[..], &body].concat()
@@ -303,7 +303,7 @@ fn nothing_is_taken_of_a_connection_whose_host_has_seen_more() {
     assert_eq!(server.status().taken, 0, "the library's Hello is lost");
 }
 
-/// A Error by the reason 9, which has no numbers.
+/// A refusal for the reason 9, which has no numbers.
 const OTHER_STORE: [u8; 11] = [19, 0, 0, 0, 0, 0, 0, 0, 0, 17, 9];
 
 #[test]

@@ -1,4 +1,4 @@
-//! Whoever sends a message of another incarnation gets nothing of what is the client's.
+//! A peer that sends a message of another incarnation gets nothing of the client's.
 mod peer;
 
 use krl::{Client, MemoryStore, Outcome, Server, Value};

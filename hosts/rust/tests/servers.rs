@@ -15,7 +15,7 @@ fn lock_file(name: &str) -> PathBuf {
     std::env::temp_dir().join(format!("krl-servers-{}-{name}.lock", std::process::id()))
 }
 
-/// Waits until it is so, for a minute at most.
+/// Waits until it is true, for a minute at most.
 fn wait_until(is_so: impl Fn() -> bool) -> bool {
     let end = Instant::now() + Duration::from_secs(60);
     while !is_so() && Instant::now() < end {
@@ -141,8 +141,8 @@ impl Store for Behind {
     }
 }
 
-/// A client that has seen more than an older server has makes it ask who has the store. It ends
-/// then, and raises no alarm: the store did not go back.
+/// A client that has seen more than an older server has makes that server ask who has the store. It
+/// ends then, and raises no alarm: the store did not go back.
 #[test]
 fn a_server_behind_another_one_ends_and_raises_no_alarm() {
     let lock = lock_file("behind");
@@ -220,8 +220,8 @@ fn who_asks_an_idle_server_is_answered_at_once() {
         assert_eq!(monitor.snapshot().unwrap().rows.len(), 0);
         begun.elapsed()
     };
-    // The server turns by itself each 50 milliseconds. One that answered then would hold up each of
-    // these but the first for that long; a busy machine leaves some out.
+    // The server makes a turn by itself every 50 milliseconds. One that answered then would hold up
+    // each of these but the first for that long; a busy machine leaves some out.
     let times: Vec<_> = (0..20).map(|_| ask()).collect();
     let least = times[1..].iter().min().unwrap();
     assert!(*least < Duration::from_millis(25), "{times:?}");

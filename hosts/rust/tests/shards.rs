@@ -209,8 +209,8 @@ fn a_write_is_bound_to_the_pin_at_the_shard_of_its_key() {
     assert_eq!(client.read(0..400), Ok(vec![row(10, 1), row(200, 2)]));
 }
 
-/// A client that waits for a point has pinned nothing from there on: so nobody who has that point
-/// waits for the client.
+/// A client that waits for a point has pinned nothing from there on: so no client that has that
+/// point waits for this one.
 #[test]
 fn a_call_waits_for_a_time_of_its_own() {
     let world = World::new("within");

@@ -1,5 +1,5 @@
-//! Connections that stay open and carry nothing, as behind a proxy or an address translator that has
-//! lost them, and connections that end before anything comes.
+//! Connections that stay open and carry nothing, as through a proxy or an address translator that
+//! has lost them, and connections that end before anything comes.
 
 use krl::{Address, Client, Leases, MemoryStore, Outcome, Server, Value};
 use krl_testing::relay::{Plan, Relay};

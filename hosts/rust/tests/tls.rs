@@ -118,7 +118,7 @@ fn credulous(setup: &Setup, names: Option<&[&str]>) -> SslConnectorBuilder {
     connector
 }
 
-/// What a peer hears that sends this by TLS, if its hand-shake succeeds.
+/// What a peer receives that sends this by TLS, if its hand-shake succeeds.
 fn heard_by_tls(connector: SslConnectorBuilder, at: SocketAddr, said: &[u8]) -> Vec<u8> {
     let stream = TcpStream::connect(at).unwrap();
     stream.set_read_timeout(Some(AT_ONCE)).unwrap();
@@ -256,7 +256,7 @@ fn idle_strangers_keep_nobody_out() {
 fn who_says_a_byte_now_and_then_is_turned_away_by_the_deadline() {
     let setup = Setup::new("slow");
     let server = serve(&setup);
-    // The head of a record of a hand-shake, of which the rest never comes.
+    // The head of a record of a hand-shake, whose rest never comes.
     let mut stream = TcpStream::connect(at(&server)).unwrap();
     stream.set_read_timeout(Some(Duration::from_millis(300))).unwrap();
     stream.write_all(&[22, 3, 1, 0x10, 0, 1]).unwrap();

@@ -1,4 +1,5 @@
-//! Who is there: the page on clients as text and as JSON, and the command that asks for it.
+//! Which clients are there: the page on clients as text and as JSON, and the command that asks for
+//! it.
 use crate::command_line::FormatOptions;
 use crate::http::{self, StatusPort};
 use crate::locks;

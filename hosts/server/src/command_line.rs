@@ -101,7 +101,7 @@ server that stands by, or waits for reports of clients, is alive and not ready."
         address: String,
         #[command(flatten)]
         tls: TlsOptions,
-        /// Ask whether it answers requests of clients, and not only whether its loop turns
+        /// Ask whether it answers clients' requests, and not only whether its loop runs
         #[arg(long)]
         ready: bool,
     },
@@ -112,9 +112,9 @@ Print who holds which slots of a range, in which mode, and who waits there.
 A slot is the key of a row and the gap below it; the last slot has the gap after all rows. Without
 a range the whole table is meant.")]
     Locks(LocksOptions),
-    /// End a client for good whose process is dead
+    /// End for good a client whose process is dead
     #[command(long_about = "\
-End a client for good whose process is dead.
+End for good a client whose process is dead.
 
 What the client held is free then, and a server that starts again does not wait for it. A client
 that has a lease is evicted when that ends, and the server does so by itself: this command waits for
@@ -155,9 +155,9 @@ the epoch is 4294967296 greater than in the backup, so that no client has seen i
     Restore {
         /// The backup. It is only read, and no server may run on it
         file: PathBuf,
-        /// The new store: a file, a place in a cluster as <etcd://10.0.0.1:2379/krl/orders>, or a
-        /// database as <postgres://krl@10.0.0.1/orders?sslmode=verify-full>. What exists is never
-        /// replaced
+        /// The new store: a file; a place in a cluster, such as <etcd://10.0.0.1:2379/krl/orders>;
+        /// or a database, such as <postgres://krl@10.0.0.1/orders?sslmode=verify-full>. What exists
+        /// is never replaced
         #[arg(long, value_name = "NEW")]
         store: StorePlace,
         /// Every client's process has ended
@@ -211,8 +211,8 @@ While a server serves the store, krl-client import does the same, row by row.")]
     Import {
         /// The file: JSON lines if its name ends in .jsonl, .ndjson or .json, otherwise CSV
         file: PathBuf,
-        /// The store: a file of SQLite, which is made if there is none; or a new place in a
-        /// cluster, as <etcd://10.0.0.1:2379/krl/orders>, or a database that has no table yet, as
+        /// The store: a file of SQLite, which is made if there is none; a new place in a cluster,
+        /// such as <etcd://10.0.0.1:2379/krl/orders>; or a database that has no table yet, such as
         /// <postgres://krl@10.0.0.1/orders?sslmode=verify-full>
         #[arg(long, value_name = "STORE")]
         store: StorePlace,
@@ -247,11 +247,11 @@ valid now and for that many days.")]
         /// The store, which no server may run on; or a file of certificates, as PEM. It is only
         /// read
         file: PathBuf,
-        /// For how many days from now on certificates have to be valid
+        /// How many days from now certificates have to be valid
         #[arg(long, default_value_t = 0)]
         days: u32,
     },
-    /// Print a script by which a shell completes the words of krl-server
+    /// Print a script for a shell that completes the words of krl-server
     Completion {
         /// The shell
         shell: Shell,
@@ -316,7 +316,7 @@ pub struct TlsOptions {
     /// The key of that certificate, as PEM
     #[arg(long, env = "KRL_TLS_KEY", value_name = "FILE")]
     pub tls_key: Option<String>,
-    /// The name of the table, if certificates have it after an @, as krl:client:3@orders
+    /// The name of the table, if certificates have it after an @, such as krl:client:3@orders
     #[arg(long, env = "KRL_TABLE", value_name = "NAME")]
     pub table: Option<String>,
 }
@@ -357,9 +357,9 @@ pub struct ServeOptions {
     pub tls: TlsOptions,
     #[command(flatten)]
     pub access: AccessOptions,
-    /// What keeps the table: a file of SQLite, which is made if there is none; or a cluster, as
+    /// What keeps the table: a file of SQLite, which is made if there is none; a cluster, such as
     /// etcd://10.0.0.1:2379,10.0.0.2:2379/krl/orders, over which several servers may run: one
-    /// serves, and the others stand by; or a database, as
+    /// serves, and the others stand by; or a database, such as
     /// <postgres://krl@10.0.0.1/orders?sslmode=verify-full>
     #[arg(long, env = "KRL_STORE", value_name = "STORE")]
     pub store: Option<String>,
@@ -380,8 +380,8 @@ pub struct ServeOptions {
     /// first time asks once per that many slots
     #[arg(long, env = "KRL_REACH", value_name = "SLOTS")]
     pub reach: Option<String>,
-    /// The shard that the server serves, as FIRST..END@VERSION: its keys, and the version of the
-    /// map. Clients of another map are refused
+    /// The shard that the server serves, FIRST..END@VERSION: its keys, and the version of the map.
+    /// Clients of another map are refused
     #[arg(long, env = "KRL_SHARD", value_name = "SHARD")]
     pub shard: Option<String>,
     /// Where clients reach this server, if that is not where it listens. It is kept in the store
@@ -393,8 +393,8 @@ pub struct ServeOptions {
     /// Where the status is served by HTTP: 127.0.0.1:7401, tls:10.0.0.5:7401 for operators, or off
     #[arg(long, env = "KRL_STATUS", value_name = "ADDRESS")]
     pub status: Option<String>,
-    /// The status ports of the other servers, of those that stand by and of other shards, with a
-    /// space between any two: the page of this server shows them too
+    /// The status ports of the other servers, of those that stand by and of other shards, separated
+    /// by spaces: the page of this server shows them too
     #[arg(long, env = "KRL_OTHERS", value_name = "ADDRESSES")]
     pub others: Option<String>,
     /// The least severe events that are logged: error, warn, info, debug or trace
@@ -403,11 +403,11 @@ pub struct ServeOptions {
     /// How events are logged to standard error: text or json
     #[arg(long, env = "KRL_LOG_FORMAT", value_name = "FORMAT")]
     pub log_format: Option<String>,
-    /// How long a client may answer from its cache after its last word, such as 10s or 500ms. One
+    /// How long a client may answer from its cache after its last sign, such as 10s or 500ms. One
     /// that is silent for longer is evicted. Or off: then only an operator evicts a client
     #[arg(long, env = "KRL_LEASE", value_name = "LENGTH")]
     pub lease: Option<String>,
-    /// How much further this machine's clock may go than a client's meanwhile, in percent
+    /// How much further this machine's clock may advance than a client's meanwhile, in percent
     #[arg(long, env = "KRL_DRIFT", value_name = "PERCENT")]
     pub drift: Option<String>,
     /// A configuration file in TOML. Its keys are the names of these options

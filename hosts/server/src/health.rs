@@ -1,4 +1,4 @@
-//! Whether a server is well, for those who ask by a command.
+//! Whether a server is well, as a command asks.
 use crate::http::{self, StatusPort};
 use crate::output;
 use crate::pages::{TEXT, WAIT};
@@ -9,7 +9,7 @@ use std::process::ExitCode;
 /// What is asked of a server.
 #[derive(Clone, Copy, Debug, PartialEq, Eq)]
 pub enum Asked {
-    /// Whether its loop turns.
+    /// Whether its loop runs.
     Alive,
     /// Whether it answers requests of clients.
     Ready,

@@ -48,7 +48,7 @@ impl Question {
         Ok(Question { points, limit })
     }
 
-    /// The question of a request: `lo=10&hi=20&limit=100`, of which each may be left out.
+    /// The question of a request: `lo=10&hi=20&limit=100`; each part may be left out.
     pub fn of_query(query: &str) -> Result<Question, String> {
         let (mut points, mut limit) = (0..TOP, LIMIT);
         for (name, value) in parse(query.as_bytes()) {
@@ -62,7 +62,7 @@ impl Question {
         Question::new(points, limit)
     }
 
-    /// The points that a request for a picture names: `lo=10&hi=20`, of which each may be left out.
+    /// The points that a request for a picture names: `lo=10&hi=20`; each part may be left out.
     pub fn points_of_query(query: &str) -> Result<Range<u64>, String> {
         match parse(query.as_bytes()).find(|(name, _)| name != "lo" && name != "hi") {
             Some((name, _)) => Err(format!("'{name}' is unknown: there is lo and hi")),
@@ -104,7 +104,7 @@ impl Question {
         }));
         lines.extend(locks.waits.iter().map(waiting));
         if !locks.is_of_one_moment {
-            lines.push("the server went on meanwhile: this is not of one moment".to_string());
+            lines.push("the server continued meanwhile: this is not of one moment".to_string());
         }
         if let Some(next) = locks.next {
             let hi = self.points.end;

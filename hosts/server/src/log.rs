@@ -65,8 +65,8 @@ pub fn start(settings: &Settings) -> io::Result<Log> {
     Ok(Log(started.is_ok().then_some(queue)))
 }
 
-/// Which events are shown at this level: of krl all up to it, and of the libraries that it uses
-/// none below a warning.
+/// Which events are shown at this level: those of krl up to it, and warnings and errors of the
+/// libraries that it uses.
 fn shown_at(level: LevelFilter) -> Targets {
     Targets::new().with_target("krl", level).with_default(level.min(LevelFilter::WARN))
 }
@@ -128,7 +128,7 @@ fn write_all(orders: &Receiver<Order>, mut output: impl Write) {
                 }
             },
             Order::Finish(reply) => {
-                // Who waits no longer needs no answer.
+                // A caller that waits no longer needs no answer.
                 let _ = reply.send(());
             }
         }
@@ -158,7 +158,7 @@ mod tests {
     use super::*;
     use std::sync::mpsc::channel;
 
-    /// An output that fails, or takes a line only when it is let.
+    /// An output that fails, or takes a line only when it may.
     struct Gate {
         lets: Receiver<bool>,
         took: std::sync::mpsc::Sender<Vec<u8>>,
@@ -197,7 +197,7 @@ mod tests {
         let (took, taken) = channel();
         let mut queue = Queue::new(Gate { lets, took }).unwrap();
         let before = lost();
-        // The thread has taken one line at most, and stands.
+        // The thread has taken one line at most, and is stopped.
         for _ in 0..MAX_WAITING + 10 {
             queue.write_all(b"line").unwrap();
         }

@@ -1,4 +1,4 @@
-//! Clients that wait for long, in the log.
+//! Clients that wait for a long time, in the log.
 use crate::role::{Role, State};
 use krl::Wait;
 use std::collections::BTreeMap;
@@ -72,7 +72,7 @@ impl News {
                 let seconds = waited.as_secs();
                 tracing::warn!(
                     client, waits_for = %others, mode = mode.name(), lo = point, hi, seconds,
-                    "a client has waited for long"
+                    "a client has waited for a long time"
                 );
             }
             News::HasEnded { client, waited } => {

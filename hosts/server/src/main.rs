@@ -128,8 +128,8 @@ fn evict(
     lock_file: &Path,
 ) -> Result<(), Box<dyn Error>> {
     output::report(&format!(
-        "client {number} must be dead: one that still runs would answer from its cache what is \
-         not so"
+        "client {number} must be dead: one that still runs would answer outdated rows from \
+         its cache"
     ));
     let mut servers: Servers =
         address.parse().map_err(|error| BadSetting::new(format!("'{address}': {error}")))?;

@@ -1,6 +1,6 @@
 //! Where a request comes from: a web page of another site must not read or order anything.
 //!
-//! A browser lets a page talk to the name that the page came from. Whoever owns that name may have
+//! A browser lets a page talk to the name that the page came from. The owner of that name may have
 //! it resolve to 127.0.0.1 a moment later, and the page talks to this port then. But the browser
 //! still names that site as the host of its requests.
 use crate::pages::Asker;

@@ -4,7 +4,8 @@ use std::fmt;
 use std::io::{self, ErrorKind, Write};
 use std::process::ExitCode;
 
-/// The exit status of a command that nobody reads any more, as of one that SIGPIPE ended.
+/// The exit status of a command whose output nobody reads any more, like that of one that SIGPIPE
+/// ended.
 const BROKEN_PIPE: u8 = 128 + 13;
 
 /// Standard output can't be written.
@@ -37,7 +38,7 @@ pub fn report(text: &str) {
 }
 
 impl NotPrinted {
-    /// The exit status, and whether to report why: that nobody reads the output is no news.
+    /// The exit status, and whether to report why: that nobody reads the output is not reported.
     pub fn exit_status(&self) -> (ExitCode, bool) {
         match self.error.kind() {
             ErrorKind::BrokenPipe => (ExitCode::from(BROKEN_PIPE), false),

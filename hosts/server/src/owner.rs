@@ -23,7 +23,7 @@ pub enum NotOwned {
     File { path: PathBuf, error: io::Error },
 }
 
-/// How long a server waits for who only looks whether the store is served.
+/// How long a server waits for a process that only looks whether the store is served.
 const LOOKS: Duration = Duration::from_millis(100);
 
 /// The longest line that is read from the file.
@@ -63,7 +63,7 @@ fn lock_within(file: &File, patience: Duration) -> Result<(), TryLockError> {
     }
 }
 
-/// Who serves the store now, if somebody does.
+/// The process that serves the store now, if one does.
 pub fn served_by(store: &Path) -> Option<String> {
     let file = File::open(path_of(store)).ok()?;
     match file.try_lock_shared() {

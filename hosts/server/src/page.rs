@@ -50,7 +50,7 @@ pub static POLICY: LazyLock<String> = LazyLock::new(|| {
 pub async fn html(shown: &Shown, monitor: &Monitor, points: Range<u64>) -> String {
     let epoch = monitor.status().epoch;
     let held = shown.looks.at(monitor, epoch, &points).await;
-    // The rest is as young as can be: a look may have waited for its time.
+    // The rest is as recent as possible: a look may have waited for its time.
     let (status, now) = (monitor.status(), Instant::now());
     let tls = shown.certificate.as_ref();
     let overview = Overview {

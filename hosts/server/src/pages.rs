@@ -98,9 +98,9 @@ pub struct Shown {
 /// Who asks.
 #[derive(Clone, Copy, Debug, PartialEq, Eq)]
 pub enum Asker {
-    /// One who has shown an operator's certificate.
+    /// A peer that has shown an operator's certificate.
     Operator,
-    /// Whoever can connect from this address.
+    /// Anybody who can connect from this address.
     Unknown(IpAddr),
 }
 
@@ -148,7 +148,7 @@ pub async fn answer(
     response(page)
 }
 
-/// What is answered to one who has shown a certificate, and not an operator's.
+/// What is answered to a peer that has shown a certificate, and not an operator's.
 pub fn refused(peer: Identity) -> Response<Body> {
     let text =
         format!("this port is for operators only, and this certificate is of the client {peer}\n");
@@ -170,7 +170,8 @@ fn response(page: Page) -> Response<Body> {
     response
 }
 
-/// What keeps a web page of another site from showing an answer as its own, or as a script of its.
+/// What keeps a web page of another site from showing an answer as its own, or using it as a
+/// script.
 fn guards(kind: &str) -> impl Iterator<Item = (&'static str, &'static str)> {
     let policy = match kind {
         HTML => Some(page::POLICY.as_str()),
@@ -287,8 +288,8 @@ fn page(path: &str, accepts: &str, shown: &Shown, monitor: &Monitor) -> Page {
     }
 }
 
-/// Whether who asks may have the server write a file: an operator may, and who is on the server's
-/// machine, where the file will be.
+/// Whether the asker may have the server write a file: an operator may, and a process on the
+/// server's machine, where the file will be.
 fn may_order(asker: Asker) -> bool {
     match asker {
         Asker::Operator => true,
@@ -296,7 +297,7 @@ fn may_order(asker: Asker) -> bool {
     }
 }
 
-/// Whether the server's loop continues, and if it stands, where.
+/// Whether the server's loop continues, and if not, where it hangs.
 fn health(liveness: Liveness) -> Page {
     let is_alive = liveness.is_alive();
     let status = if is_alive { StatusCode::OK } else { StatusCode::SERVICE_UNAVAILABLE };

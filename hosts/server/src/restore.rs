@@ -10,8 +10,8 @@ use krl_postgres::PostgresStore;
 use std::error::Error;
 use std::path::Path;
 
-/// How far the epoch of a restored store lies after that of the backup: no server has started so
-/// often since the backup was made.
+/// How far the epoch of a restored store lies after that of the backup: no server has started this
+/// many times since the backup was made.
 const FAR: u64 = 1 << 32;
 
 /// Why the operator has to confirm that all clients are stopped.
@@ -62,7 +62,7 @@ pub fn restore(backup: &Path, store: &StorePlace, are_stopped: bool) -> Result<(
 }
 
 /// What a server may serve in place of what was kept after the snapshot, if no client lives. Its
-/// epoch is one that no client has seen, and no client is waited for: whoever joins does so again.
+/// epoch is one that no client has seen, and no client is waited for: every client joins again.
 fn restored(mut snapshot: Snapshot) -> Result<Snapshot, String> {
     let epoch = snapshot.epoch;
     let raised = epoch.checked_add(FAR).filter(|epoch| *epoch < END);

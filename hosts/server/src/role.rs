@@ -73,7 +73,7 @@ impl State {
 impl fmt::Display for State {
     fn fmt(&self, f: &mut fmt::Formatter<'_>) -> fmt::Result {
         match self {
-            State::Starts => f.write_str("starts: it looks who serves"),
+            State::Starts => f.write_str("starts: it looks which server serves"),
             State::StandsBy { leader } => write!(f, "stands by: the server at {leader} serves"),
             State::Serves { .. } => f.write_str("serves"),
         }

@@ -32,7 +32,7 @@ pub struct Sealed {
 /// Shakes hands.
 pub async fn open(mut socket: TcpStream, mut session: TlsSession) -> io::Result<Opened> {
     let shaken = shake(&mut socket, &mut session).await;
-    // The other side hears why, if it was refused.
+    // The other side learns why, if it was refused.
     let sealed = session.take_sealed()?;
     socket.write_all(&sealed).await?;
     let (first, peer) = shaken?;
@@ -96,7 +96,7 @@ impl Ways {
         loop {
             let count = from_socket.read(&mut came).await?;
             if count == 0 {
-                // One that is closed hears no end.
+                // One that is closed gets no end.
                 let _ = to_plain.shutdown().await;
                 return Ok(());
             }

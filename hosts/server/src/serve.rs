@@ -145,7 +145,8 @@ impl Unanswered {
     }
 }
 
-/// Serves what a store has, until a signal comes. Nothing stands by: who loses the store ends.
+/// Serves what a store has, until a signal comes. Nothing stands by: a server that loses the store
+/// ends.
 fn serve_store(
     settings: &Settings,
     store: impl Store + 'static,
@@ -251,7 +252,7 @@ pub fn until_it_ends(
     Ok(ended)
 }
 
-/// Tells the service manager, if there is one.
+/// Notifies the service manager, if there is one.
 fn tell(state: &[NotifyState]) {
     if let Err(error) = sd_notify::notify(false, state) {
         tracing::warn!(%error, "the service manager was not notified");

@@ -101,7 +101,7 @@ pub fn credentials_of_environment() -> Credentials {
     }
 }
 
-/// The store's user and the password, which stand in no command line and no file.
+/// The store's user and the password, which appear in no command line and no file.
 pub fn user() -> Option<(String, String)> {
     let password = std::env::var("KRL_STORE_PASSWORD").unwrap_or_default();
     std::env::var("KRL_STORE_USER").ok().map(|user| (user, password))

@@ -180,7 +180,7 @@ async fn carry(sealed: Sealed, answers: impl Future<Output = ()>) {
     }
 }
 
-/// Answers who has shown a certificate, and not an operator's, that it is refused.
+/// Answers a peer that has shown a certificate, and not an operator's, that it is refused.
 async fn refuse(stream: impl AsyncRead + AsyncWrite + Unpin + Send + 'static, peer: Identity) {
     let answer = service_fn(|_| async move { Ok::<_, Infallible>(pages::refused(peer)) });
     let mut http = Http::new();
@@ -205,7 +205,7 @@ async fn answer(stream: impl AsyncRead + AsyncWrite + Unpin + Send + 'static, gu
         () = sleep(HEAD) => return,
         () = has_asked.notified() => {}
     }
-    // Who asks and goes away, or takes too long, gets no answer.
+    // A peer that asks and goes away, or takes too long, gets no answer.
     let is_late = timeout(WHOLE, &mut served).await.is_err();
     if is_late && visit.is_ordering() {
         let _ = timeout(backup::TIMEOUT, served).await;

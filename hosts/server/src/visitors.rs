@@ -98,7 +98,7 @@ impl Connections {
 }
 
 impl Visit {
-    /// The connection is no stranger any more. The oldest one that has a place loses it if there
+    /// The connection is not a stranger any more. The oldest one that has a place loses it if there
     /// are too many.
     pub fn take_place(&self) {
         self.visitors.lock().take_place(self.number);

@@ -17,7 +17,8 @@ pub fn start(role: Role) -> io::Result<()> {
     let reports = move || {
         loop {
             if is_alive(&role) {
-                // A manager that hears nothing restarts the service, which is all that can be done.
+                // A manager that gets no report restarts the service, which is all that can be
+                // done.
                 let _ = sd_notify::notify(false, &[NotifyState::Watchdog]);
             }
             thread::sleep(pause);

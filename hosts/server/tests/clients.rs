@@ -1,4 +1,4 @@
-//! Who is there in a server that runs, by its status port and by the program.
+//! Which clients are there in a server that runs, by its status port and by the program.
 mod common;
 
 use common::{Serving, errors, run, text, until};
@@ -75,7 +75,7 @@ fn rates_are_shown() {
     let mut key = 0;
     until("there are rates", || {
         key += 1;
-        // On a machine that stands still meanwhile the lease ends, which is no matter here.
+        // If the machine stalls meanwhile, the lease ends, which does not matter here.
         let _ = client.insert(key, Value::from(1));
         let status: Json = serde_json::from_str(&serving.get("/status.json").1).unwrap();
         status["rates"]["commits"].as_f64().is_some_and(|rate| rate > 0.0)

@@ -174,12 +174,12 @@ fn a_wait_of_ten_seconds_is_logged_once_and_its_end_too() {
     };
     thread::scope(|scope| {
         let writes = scope.spawn(|| waiter.within(Duration::MAX).put(15, Value::from(2)));
-        until("a wait is logged", || !lines("a client has waited for long").is_empty());
+        until("a wait is logged", || !lines("a client has waited for a long time").is_empty());
         drop(pin);
         assert_eq!(writes.join().unwrap(), Ok(Outcome::Applied));
     });
     until("its end is logged", || !lines("a long wait has ended").is_empty());
-    let begun = lines("a client has waited for long");
+    let begun = lines("a client has waited for a long time");
     assert_eq!(begun.len(), 1, "{begun:?}");
     for part in ["WARN", "client=7", "waits_for=4", "lo=15", "mode=\"X\"", "seconds=1"] {
         assert!(begun[0].contains(part), "{part}: {begun:?}");

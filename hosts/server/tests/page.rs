@@ -93,7 +93,7 @@ fn the_other_servers_of_a_table_stand_on_the_page_of_each() {
         command.arg("serve").arg("--store").arg(folder.path().join(name));
         Serving::start_by(command.args(["--shard", shard, "--others", others]))
     };
-    // Nobody listens here any more, and here somebody accepts no connection.
+    // Nothing listens here any more, and here a socket accepts no connection.
     let gone = TcpListener::bind("127.0.0.1:0").unwrap().local_addr().unwrap();
     let silent = TcpListener::bind("127.0.0.1:0").unwrap();
     let second = serve("second.db", "500..@3", "");

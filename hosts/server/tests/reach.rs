@@ -11,7 +11,7 @@ const LONG: Duration = Duration::from_secs(60);
 
 const ROWS: u64 = 100;
 
-/// A server without leases: a client holds on while no server is there.
+/// A server without leases: a client keeps what it holds while no server is there.
 fn serve(store: &Path, reach: u64, listen: &str) -> Serving {
     let mut command = program();
     command.arg("serve").arg("--store").arg(store).args(["--listen", listen, "--lease", "off"]);
@@ -44,7 +44,7 @@ fn shows(serving: &Serving, reach: u64) {
     assert!(serving.get("/").1.contains(&format!("<dd>{reach} slots</dd>")));
 }
 
-/// Each start has the reach that it is given, over the same store, and no start is held to the one
+/// Each start has the reach that it is given, over the same store, and no start is bound by the one
 /// before. A client that continues over a restart holds what it was granted before.
 #[test]
 fn each_start_has_its_own_reach() {

@@ -60,7 +60,7 @@ fn another_server_takes_the_place_of_one_that_is_killed() {
     assert!(log.contains("\"epoch\": 2") && log.contains("\"role\": \"serves\""), "{log}");
 }
 
-/// A client that only reads finds the server that serves, whatever befell the one before.
+/// A client that only reads finds the server that serves, whatever happened to the one before.
 #[test]
 fn a_client_finds_the_server_that_serves() {
     for signal in ["KILL", "STOP"] {

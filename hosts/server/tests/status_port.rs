@@ -22,7 +22,7 @@ fn strangers(at: &str, sent: &str) -> Vec<TcpStream> {
     let stranger = |_| {
         let mut stream = TcpStream::connect(at).unwrap();
         stream.set_read_timeout(Some(PATIENCE)).unwrap();
-        // One that is closed at once for another has been heard of.
+        // One that is closed at once for another has been seen.
         let _ = stream.write_all(sent.as_bytes());
         stream
     };
@@ -84,7 +84,7 @@ fn orders_that_never_come_keep_no_place() {
     let mut orders = strangers(&serving.status, head);
     is_healthy(program().args(["health", &serving.status]));
     let told: Vec<String> = orders.iter_mut().map(rest).collect();
-    // The others were closed for one another.
+    // The others were closed for each other.
     let (late, closed): (Vec<_>, Vec<_>) = told.into_iter().partition(|told| !told.is_empty());
     assert!((1..=32).contains(&late.len()) && late.len() + closed.len() == MANY, "{late:?}");
     for told in late {

@@ -137,7 +137,7 @@ fn operators_alone_see_the_status_and_order_backups() {
     let refused = run(&["status", at]);
     assert_eq!(refused.status.code(), Some(2));
     assert!(errors(&refused).contains("needs --tls-authority"), "{}", errors(&refused));
-    // Whoever speaks no TLS hears no HTTP.
+    // A peer without TLS gets no HTTP.
     let plain = run(&["status", at.strip_prefix("tls:").unwrap()]);
     assert_eq!(plain.status.code(), Some(1));
 }
@@ -185,7 +185,7 @@ fn strangers_at_the_status_port_do_not_flood_the_log() {
 #[test]
 fn an_operator_evicts_and_a_client_does_not() {
     let setup = Setup::new(&["server", "operator", "client-3", "client-4"]);
-    // With a lease the operator's word would have to wait for its end.
+    // With a lease the operator's eviction would have to wait for its end.
     let serving = setup.serve_with(&["--lease", "off"]);
     // A client that is gone without a Bye.
     std::mem::forget(setup.join(&serving, 3).unwrap());
@@ -232,7 +232,7 @@ fn a_hangup_has_the_certificates_read_again() {
 #[test]
 fn a_server_over_an_older_store_says_so_once_and_ends_with_status_3() {
     let setup = Setup::new(&["server", "client-3"]);
-    // Nobody else takes a port of this address between two servers.
+    // Nothing else takes a port of this address between two servers.
     let [low, high, ..] = std::process::id().to_le_bytes();
     let serving = setup.serve_at(&format!("tls:127.73.{high}.{low}:0"), &[]);
     let at = serving.address.to_string();

@@ -22,9 +22,9 @@ pub struct Counts {
     pub evicted: u64,
     /// Calls that were refused, or whose time was over.
     pub refused: u64,
-    /// How often a server was started.
+    /// How many times a server was started.
     pub starts: u64,
-    /// How often the store went back.
+    /// How many times the store went back.
     pub went_back: u64,
     /// Faults.
     pub faults: u64,

@@ -47,7 +47,7 @@ impl Dice {
         Duration::from_micros(self.among(microseconds))
     }
 
-    /// Whether something happens that does so many times in a thousand.
+    /// Whether something happens that happens this many times in a thousand.
     pub fn happens(&mut self, in_a_thousand: u64) -> bool {
         self.among(0..1000) < in_a_thousand
     }

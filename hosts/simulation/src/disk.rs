@@ -55,7 +55,7 @@ impl Disk {
         }
     }
 
-    /// Somebody copies it, if it keeps its history: by that a copy is told.
+    /// Somebody copies it, if it keeps its history, by which a copy is recognized.
     pub fn copy(&mut self) -> bool {
         let copied = self.starts.clone().map(|starts| (self.snapshot.clone(), starts));
         self.copy = copied.map(Box::new);

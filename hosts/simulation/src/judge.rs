@@ -1,8 +1,8 @@
-//! Compares what clients were told with what was committed.
+//! Compares what clients were answered with what was committed.
 //!
 //! A read has to show the table of one moment between its call and its answer; one that the cache
 //! answers, and one of a range that is pinned, show the table of that very moment. A write is made
-//! once at most, and if its answer says so, between its call and its answer.
+//! once at most, and if its answer states that it was, between its call and its answer.
 use krl::{Change, Outcome, Row, Value, Write};
 use std::collections::{BTreeMap, BTreeSet};
 use std::ops::Range;
@@ -28,12 +28,12 @@ enum Step {
     },
 }
 
-/// When something was so.
+/// When something was true.
 #[derive(Clone, Debug)]
 pub struct Window {
     /// From this version until now.
     pub since: Version,
-    /// Or in this table, just before the store went back: the client has not heard of that.
+    /// Or in this table, just before the store went back: the client has not learned of that.
     pub or_before: Option<Left>,
 }
 
@@ -48,7 +48,7 @@ struct Bond {
     rows: Vec<Row>,
 }
 
-/// All tables that were committed, and what was told of them.
+/// All tables that were committed, and what was answered of them.
 #[derive(Debug)]
 pub struct Judge {
     table: Table,
@@ -56,7 +56,7 @@ pub struct Judge {
     went_back: bool,
     /// Which values were written.
     made: BTreeSet<u64>,
-    /// Which values must not be written: their clients were told so.
+    /// Which values must not be written: their clients have learned that they are not.
     never: BTreeSet<u64>,
     bonds: BTreeMap<u64, Bond>,
     /// For how many rows the server has room.
@@ -92,7 +92,7 @@ impl Judge {
         self.steps.len()
     }
 
-    /// From now on a server serves that has room for so many rows.
+    /// From now on a server serves that has room for this many rows.
     pub fn has_room(&mut self, rows: usize) {
         self.rooms.push((self.version(), self.room));
         self.room = rows;
@@ -154,7 +154,7 @@ impl Judge {
         self.bonds.insert(value_of(write), Bond { keys, rows });
     }
 
-    /// A client was told that its write is not made.
+    /// A client has learned that its write is not made.
     pub fn is_not_made(&mut self, who: &str, write: Write, why: &str) {
         let value = value_of(write);
         if value != 0 && self.made.contains(&value) {
@@ -169,7 +169,7 @@ impl Judge {
         self.any(when, |table| shows(table, keys, told))
     }
 
-    /// A client was told these rows of the range.
+    /// A client has read these rows of the range.
     pub fn read(&mut self, who: &str, keys: &Range<u64>, told: &[Row], when: &Window) {
         if !self.has(keys, told, when) {
             let now = spelled(&self.table, keys);
@@ -181,7 +181,7 @@ impl Judge {
         }
     }
 
-    /// A client was told how its write was judged.
+    /// A client has learned how its write was judged.
     pub fn write(&mut self, who: &str, write: Write, told: Outcome, when: &Window) {
         let key = place(write.key());
         let is_so = match told {
@@ -200,7 +200,7 @@ impl Judge {
         }
     }
 
-    /// Whether this is so of a table of the window.
+    /// Whether this is true of a table of the window.
     fn any(&self, when: &Window, is_so: impl Fn(&Table) -> bool) -> bool {
         if is_so(&self.table) {
             return true;
@@ -243,7 +243,7 @@ impl Judge {
         let left = Left(Rc::new(before.clone()));
         self.went_back = true;
         self.made = made;
-        // What was told of the store before says nothing of this one.
+        // What was answered from the store before does not hold of this one.
         self.never.clear();
         self.bonds.clear();
         self.steps.push(Step::PutBack { before });

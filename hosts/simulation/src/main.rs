@@ -12,14 +12,14 @@ use std::time::Duration;
 /// Runs servers and clients of krl in one thread, over a network, disks and clocks that a seed
 /// draws.
 ///
-/// Each run judges what clients are told. The first seed of which something is wrong is printed,
-/// and ends the program with status 1.
+/// Each run judges what clients are answered. The first seed with which something is wrong is
+/// printed, and ends the program with status 1.
 #[derive(Debug, Parser)]
 #[command(name = "krl-simulation", version)]
 struct Words {
     #[command(flatten)]
     worlds: Worlds,
-    /// For so many seconds of a world there are faults
+    /// For this many seconds of a world there are faults
     #[arg(long, default_value_t = 20.0)]
     seconds: f64,
     /// Leave out the faults of these numbers
@@ -28,7 +28,7 @@ struct Words {
     /// The callers of these clients ask for nothing
     #[arg(long, value_name = "NUMBERS", value_delimiter = ',')]
     quiet: Vec<usize>,
-    /// Run no further world after so many events
+    /// Run no further world after this many events
     #[arg(long, default_value_t = u64::MAX, hide_default_value = true)]
     events: u64,
     /// Print what happens, a line each
@@ -37,7 +37,7 @@ struct Words {
     /// Print what happens as a picture
     #[arg(long)]
     picture: bool,
-    /// Print so many lines of what happens at most, the last ones
+    /// Print at most this many lines of what happens, the last ones
     #[arg(long, default_value_t = usize::MAX, hide_default_value = true)]
     last: usize,
     /// Search for a shorter run with the same failure, and print it
@@ -58,7 +58,7 @@ struct Worlds {
     /// The worlds of a file: a line for each, its seed first
     #[arg(long, group = "which", value_name = "PATH")]
     file: Option<PathBuf>,
-    /// Worlds of fresh seeds, for so many seconds of the processor
+    /// Worlds of fresh seeds, for this many seconds of the processor
     #[arg(long, group = "which", value_name = "SECONDS")]
     fresh: Option<u64>,
 }

@@ -7,7 +7,7 @@ use std::time::Duration;
 /// The length of a frame stands before it.
 pub const PREFIX: usize = 8;
 
-/// For so long something is still heard on a connection of which the other direction is cut.
+/// For this long something still comes on a connection whose other direction is cut.
 const STALLS: Duration = Duration::from_secs(1);
 
 /// Which end of a connection.
@@ -129,8 +129,8 @@ impl Network {
     }
 
     /// The connections between the client and this machine swallow what is sent to these sides. If
-    /// that is one of them, the other one is soon heard no more either: nobody acknowledges what it
-    /// sends.
+    /// that is one of them, soon nothing comes from the other one either: nobody acknowledges what
+    /// it sends.
     pub fn swallow(&mut self, client: usize, site: usize, sides: [bool; 2], now: Duration) {
         let between = |link: &&mut Link| link.client == client && link.site == site;
         for link in self.links.values_mut().filter(between) {
@@ -158,9 +158,9 @@ impl Network {
         self.links.get(&name).map_or(arrives, |link| arrives.max(link.busy_until[to as usize]))
     }
 
-    /// Carries what is said on a connection to this side, frame by frame. Those of hosts come whole
+    /// Carries what is sent on a connection to this side, frame by frame. Those of hosts come whole
     /// and in their order, as on any stream. Messages of the library may be lost, come twice, or
-    /// overtake one another, but not what a host said before.
+    /// overtake each other, but not what a host sent before.
     pub fn carry(&mut self, name: u64, to: Side, bytes: &[u8], now: Duration) -> Vec<Carried> {
         let Some(link) = self.links.get_mut(&name) else { return Vec::new() };
         let (dice, faults) = (&mut self.dice, &self.faults);
@@ -196,7 +196,7 @@ impl Network {
     }
 }
 
-/// The frames of what was said, each with its length.
+/// The frames of what was sent, each with its length.
 pub fn frames(bytes: &[u8]) -> impl Iterator<Item = &[u8]> {
     let mut rest = bytes;
     std::iter::from_fn(move || {

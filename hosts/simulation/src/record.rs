@@ -11,7 +11,7 @@ pub enum Node {
     Server(usize),
 }
 
-/// Whether somebody takes what is delivered.
+/// Whether what is delivered is taken.
 #[derive(Clone, Copy, Debug, PartialEq, Eq)]
 pub enum Fate {
     /// Its receiver takes it.
@@ -36,9 +36,9 @@ pub enum Happened {
 pub struct Delivery {
     /// Frames are numbered as they are sent.
     pub number: u64,
-    /// Who sent it.
+    /// Which machine sent it.
     pub from: Node,
-    /// To whom it comes.
+    /// To which machine it comes.
     pub to: Node,
     /// Whether it is taken.
     pub fate: Fate,
@@ -97,7 +97,7 @@ impl Record {
         }
     }
 
-    /// Notes a line, if lines are kept. The moment and what tells such lines apart is mixed in.
+    /// Notes a line, if lines are kept. The moment and what distinguishes such lines is mixed in.
     pub fn note(&mut self, moment: Duration, parts: &[u64], line: impl FnOnce() -> Happened) {
         self.mix(u64::try_from(moment.as_nanos()).unwrap_or(u64::MAX));
         for part in parts {

@@ -19,7 +19,7 @@ pub struct Plan {
     pub settings: Settings,
     /// What is printed of each world.
     pub shows: Shows,
-    /// No further world is run after so many events.
+    /// No further world is run after this many events.
     pub most_events: u64,
 }
 
@@ -28,7 +28,7 @@ pub struct Plan {
 pub enum Shows {
     /// Nothing but what is wrong.
     Nothing,
-    /// The last lines of what happens, so many.
+    /// The last lines of what happens, this many.
     Log(usize),
     /// The same as a picture.
     Picture(usize),
@@ -65,7 +65,7 @@ pub struct Done {
     pub took: Duration,
     /// What there was in them.
     pub counts: Counts,
-    /// The seed of which something is wrong, and how many events there were until then.
+    /// The seed with which something is wrong, and how many events there were until then.
     pub wrong: Option<(u64, u64)>,
 }
 
@@ -118,8 +118,8 @@ pub fn run_all(
     Ok(done)
 }
 
-/// Runs worlds of fresh seeds for so long by the processor, or until something is wrong. The first
-/// seed is printed.
+/// Runs worlds of fresh seeds for this long by the processor, or until something is wrong. The
+/// first seed is printed.
 ///
 /// # Errors
 ///

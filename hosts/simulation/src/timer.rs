@@ -1,8 +1,8 @@
 //! When something is due, with one event in the queue for it.
 use std::time::Duration;
 
-/// When a process continues by itself. Whoever puts it off leaves the event that is in the queue
-/// there: that one finds it out.
+/// When a process continues by itself. Putting it off leaves the event in the queue: that event
+/// finds out.
 #[derive(Clone, Copy, Debug)]
 pub struct Timer {
     due: Duration,

@@ -33,7 +33,7 @@ pub enum Fault {
     Reject,
     /// An operator evicts a client whose process is dead.
     Evict,
-    /// Somebody copies the store.
+    /// The store is copied.
     CopyStore,
     /// The copy is put in the place of the store.
     PutBack,
@@ -123,7 +123,7 @@ pub struct Weather {
     pub has_history: bool,
     /// For how many rows the first server has room, if that is few.
     pub room: Option<usize>,
-    /// In a thousand starts of a client, so many have a clock that is days ahead.
+    /// In a thousand starts of a client, this many have a clock that is days ahead.
     pub far_ahead: u64,
     /// How often a commit fails, in ten thousand, and how often it takes seconds.
     pub store_fails: u64,
@@ -208,8 +208,8 @@ impl Weather {
         if self.has_second_process {
             self.weigh(Fault::Evict, 0);
         }
-        // By its history a store that went back is told. Of one that knows leases without an end,
-        // an operator would have to evict each client.
+        // A store that went back is recognized by its history. With one that knows leases without
+        // an end, an operator would have to evict each client.
         let goes_back = self.has_history && self.terms != Terms::Each && dice.happens(250);
         self.weigh(Fault::CopyStore, if goes_back { 3 } else { 0 });
         self.weigh(Fault::PutBack, if goes_back { 2 } else { 0 });
@@ -233,7 +233,7 @@ impl Weather {
         (self.store_fails, self.store_hangs, self.far_ahead) = (0, 0, 0);
         self.network = Faults::default();
         self.faults = [0; Fault::ALL.len()];
-        // Each client reads and writes soon. Who contends all the time may wait for long.
+        // Each client reads and writes soon. A client that contends all the time may wait for long.
         self.latency = 50..2_000;
         self.pauses.fill(20_000..200_000);
         self.pin_lives = 100..20_000;

@@ -28,7 +28,7 @@ pub const BOUND: Duration = Duration::from_secs(30);
 /// No more events happen at one moment.
 const AT_ONCE: u64 = 100_000;
 
-/// For so long all continues without faults when each client is served again.
+/// For this long everything continues without faults when each client is served again.
 const CALM: Duration = Duration::from_secs(4);
 
 /// What a run is made of.
@@ -36,7 +36,7 @@ const CALM: Duration = Duration::from_secs(4);
 pub struct Settings {
     /// What all is drawn by.
     pub seed: u64,
-    /// For so long there are faults.
+    /// For this long there are faults.
     pub time: Duration,
     /// The faults of these numbers are left out.
     pub without: BTreeSet<u64>,
@@ -155,7 +155,7 @@ impl Ord for Scheduled {
     }
 }
 
-/// A machine's clock, which goes a little faster or slower than time.
+/// A machine's clock, which runs a little faster or slower than time.
 #[derive(Clone, Copy, Debug)]
 struct Clock {
     offset: u64,
@@ -211,13 +211,13 @@ struct Machine {
     signs: bool,
     errand: Errand,
     client: Option<Client>,
-    /// How often it was started.
+    /// How many times it was started.
     life: u64,
     /// Its last incarnation, or 0.
     incarnation: u64,
-    /// The last one that is on its disk: it may have been said.
+    /// The last one that is on its disk: it may have been sent.
     kept: u64,
-    /// How far its clock is ahead that people set.
+    /// How far its clock that operators set is ahead.
     ahead: Duration,
     /// Why it is not started, if it is not.
     stays_down: Option<Down>,
@@ -232,7 +232,7 @@ struct Machine {
     timer: Timer,
     /// What the table was as the store went back, if the client may still answer from that.
     before: Option<Left>,
-    /// It may have seen what the store lacks, and has not been told so.
+    /// It may have seen what the store lacks, and has not learned that.
     may_lack: bool,
     /// Connections in a row on which no message came, and when the first of them was made.
     fruitless: (u32, Duration),
@@ -276,7 +276,7 @@ pub struct World {
 }
 
 impl Clock {
-    /// A clock that goes from nine tenths to eleven tenths as fast as time: two of them differ by
+    /// A clock that runs from nine tenths to eleven tenths as fast as time: two of them differ by
     /// 22 percent at most, and leases allow for 25.
     fn draw(dice: &mut Dice) -> Clock {
         Clock { offset: dice.among(0..1_000_000_000_000), pace: dice.among(900..1101) }
@@ -431,7 +431,7 @@ impl World {
         self.queue.push(Reverse(Scheduled { moment, number: self.scheduled, event }));
     }
 
-    /// Something happens at a machine. The kind tells such lines apart.
+    /// Something happens at a machine. The kind distinguishes such lines.
     fn note(&mut self, node: Node, kind: u64, what: impl FnOnce() -> String) {
         let place = match node {
             Node::Client(client) => client as u64,
@@ -461,7 +461,7 @@ impl World {
         }
     }
 
-    /// Whether the event is none of a timer, or one of a timer that is due.
+    /// Whether the event is not a timer's, or is that of a timer that is due.
     fn fires(&mut self, event: &Event) -> bool {
         let now = self.now;
         let fired = match *event {

@@ -16,7 +16,7 @@ const DAY: i64 = 24 * 3600;
 /// How many have been certified: each has files of its own.
 static COUNT: AtomicU32 = AtomicU32::new(0);
 
-/// An authority that certifies who asks.
+/// An authority that certifies everybody who asks.
 #[derive(Debug)]
 pub struct Authority {
     certificate: X509,
@@ -47,13 +47,13 @@ impl Authority {
         Authority { certificate: builder.build(), key }
     }
 
-    /// The files of a holder with these names of the kind URI, who believes this authority. They
+    /// The files of a holder with these names of the kind URI, which believes this authority. They
     /// are valid for this many days from now on.
     pub fn certify(&self, folder: &Path, names: &[&str], days: i64) -> Files {
         self.certify_for(self, folder, names, days)
     }
 
-    /// The same, of one who believes another authority.
+    /// The same, of one that believes another authority.
     pub fn certify_for(
         &self,
         believed: &Authority,

@@ -28,7 +28,7 @@ impl Cluster {
         Cluster::start_with(None, &[])
     }
 
-    /// One with these settings, as `--max-txn-ops 100`.
+    /// One with these settings, such as `--max-txn-ops 100`.
     pub fn start_with_settings(settings: &[&str]) -> Option<Cluster> {
         Cluster::start_with(None, settings)
     }

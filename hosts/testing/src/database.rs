@@ -33,7 +33,7 @@ impl Database {
         Database::start_with(&[])
     }
 
-    /// One with these settings, as `fsync=off`.
+    /// One with these settings, such as `fsync=off`.
     pub fn start_with(settings: &[&str]) -> Option<Database> {
         let Some(programs) = programs() else {
             eprintln!("NOT RUN: there is no PostgreSQL");
@@ -178,7 +178,7 @@ impl Database {
 
 impl Drop for Database {
     fn drop(&mut self) {
-        // At once, whoever is connected.
+        // At once, whatever is connected.
         self.end("-QUIT");
         let _ = self.server.kill();
         let _ = self.server.wait();

@@ -21,7 +21,7 @@ struct Shared {
     has_lost: AtomicBool,
     /// How many connections were made.
     count: AtomicUsize,
-    /// So many of them, the first ones, swallow what comes.
+    /// This many of them, the first ones, swallow what comes.
     swallow: AtomicUsize,
 }
 
@@ -99,7 +99,8 @@ impl Shared {
         }
     }
 
-    /// Whether an answer that came just now gets lost, since one is to be lost so, or all are.
+    /// Whether an answer that came just now gets lost, since one is to be lost in this way, or all
+    /// are.
     fn loses_this(&self, how: u8) -> bool {
         let next = self.loses.compare_exchange(how, KEEPS, Ordering::SeqCst, Ordering::SeqCst);
         let loses = next.is_ok() || how == LOSES_NEXT && next == Err(LOSES_ALL);

@@ -47,7 +47,7 @@ struct State {
     holds: Holds,
     /// How many requests are held.
     held: usize,
-    /// How often all were let go.
+    /// How many times all were let go.
     round: u64,
 }
 
@@ -145,7 +145,7 @@ fn relay(server: TcpStream, node: SocketAddr, gate: &Gate) -> io::Result<()> {
         gate.pass(is_change(&request));
         node.write_all(&request)?;
     }
-    // A node whose asker goes away gives up what it was asked.
+    // A node gives up a request whose sender goes away.
     thread::sleep(ANSWER);
     node.shutdown(Shutdown::Both)
 }

@@ -12,7 +12,7 @@ use std::thread;
 pub enum Plan {
     /// It stays open, and nothing that either side sends arrives.
     Swallow,
-    /// It hears these bytes, and ends. The server knows nothing of it.
+    /// It receives these bytes, and ends. The server knows nothing of it.
     Answer(&'static [u8]),
     /// It ends.
     End,
@@ -97,7 +97,7 @@ impl Shared {
         let server = match plan {
             None => TcpStream::connect(server).ok(),
             Some(Plan::Answer(bytes)) => {
-                // Who has gone hears nothing.
+                // A side that has gone gets nothing.
                 let _ = client.write_all(bytes);
                 let _ = client.shutdown(Shutdown::Write);
                 None

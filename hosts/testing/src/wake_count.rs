@@ -1,9 +1,9 @@
-//! A task that counts how often it is woken.
+//! A task that counts how many times it is woken.
 use std::sync::Arc;
 use std::sync::atomic::{AtomicUsize, Ordering};
 use std::task::{Wake, Waker};
 
-/// How often a task was woken that does nothing else.
+/// How many times a task was woken that does nothing else.
 #[derive(Debug, Default)]
 pub struct WakeCount(AtomicUsize);
 
@@ -18,7 +18,7 @@ impl WakeCount {
         Waker::from(Arc::clone(self))
     }
 
-    /// How often it was woken.
+    /// How many times it was woken.
     pub fn get(&self) -> usize {
         self.0.load(Ordering::Relaxed)
     }

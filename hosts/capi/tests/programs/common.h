@@ -7,7 +7,7 @@
 #include <stdlib.h>
 #include <string.h>
 
-/* Ends the program if something is not so. */
+/* Ends the program if a condition is false. */
 #define WANT(holds)                                                                                \
     do {                                                                                           \
         if (!(holds)) {                                                                            \

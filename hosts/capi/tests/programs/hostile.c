@@ -1,4 +1,4 @@
-/* Calls that no program should make: null pointers, freed handles, lengths and texts that are none, and a child of
+/* Calls that no program should make: null pointers, freed handles, invalid lengths and texts, and a child of
  * `fork`. Each has to be refused, and to leave the client as it is. */
 #include "common.h"
 #include <stddef.h>

@@ -1,4 +1,4 @@
-/* Calls of krl_host.h that no program should make: null pointers, freed handles, lengths and texts that are none, calls
+/* Calls of krl_host.h that no program should make: null pointers, freed handles, invalid lengths and texts, calls
  * out of order, bytes that no server sends, and a child of `fork`. Each has to be refused, and to leave the client as
  * it is.
  */
@@ -94,7 +94,7 @@ static void options(const world *world) {
     WANT(strstr(error.sentence, "shard") != NULL && client == NULL);
 }
 
-/* Out of order, and by moments that are none. */
+/* Out of order, and by invalid moments. */
 static void order(krlh_client *client) {
     size_t length = 9;
     EXPECT(KRLC_MISUSE, krlh_received(client, 1, "", 0, &error));
@@ -107,7 +107,7 @@ static void order(krlh_client *client) {
     WANT(krlh_output(client, 0, &length) != NULL && length > 0);
     krlh_sent(client, SIZE_MAX);
     WANT(krlh_disconnected(client, UINT64_MAX) != KRLH_NEVER);
-    /* The clock has not gone on, and leases rest on that. */
+    /* The clock has not advanced, and leases rest on that. */
     EXPECT(KRLC_DISCONNECT, krlh_connected(client, UINT64_MAX, &error));
     (void)krlh_disconnected(client, UINT64_MAX);
 }

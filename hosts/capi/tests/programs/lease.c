@@ -1,5 +1,5 @@
 /* A client whose lease ends, since its server has gone away: from then on its cache has nothing, and its pin is void.
- * It prints a line when it has pinned a range, and whoever started it then ends the server. */
+ * It prints a line when it has pinned a range, and the test that started it then ends the server. */
 #include "common.h"
 #include <sched.h>
 

@@ -1,5 +1,5 @@
 /* A client whose server goes away while four threads write: the calls time out, and no signal ends the program. It
- * prints a line when it has joined, and whoever started it then ends the server. */
+ * prints a line when it has joined, and the test that started it then ends the server. */
 #include "common.h"
 #include <pthread.h>
 #include <signal.h>

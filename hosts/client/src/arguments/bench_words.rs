@@ -36,7 +36,7 @@ pub struct BenchWords {
         value_parser = clap::value_parser!(u64).range(1..=86_400)
     )]
     pub seconds: u64,
-    /// How many of a hundred calls read, and how many write
+    /// The percentages of the calls that read and of those that write
     #[arg(long, value_name = "READ,WRITE", default_value = "95,5")]
     pub mix: Mix,
     /// Rows that it makes, reads and deletes again
@@ -50,7 +50,7 @@ pub struct BenchWords {
     /// The least key of these rows
     #[arg(long, value_name = "KEY", default_value_t = 0)]
     pub first_key: u64,
-    /// Which keys are read and written: uniform, zipf, or zipf:EXPONENT, as zipf:1.5
+    /// Which keys are read and written: uniform, zipf, or zipf:EXPONENT, such as zipf:1.5
     #[arg(long, value_name = "SKEW", default_value = "uniform")]
     pub skew: Skew,
     /// Rows of each read
@@ -79,7 +79,7 @@ pub struct BenchWords {
     pub value_size: u8,
 }
 
-/// How many of a hundred calls read. The others write.
+/// The percentage of the calls that read. The others write.
 #[derive(Clone, Copy, Debug, PartialEq, Eq)]
 pub struct Mix {
     pub reads: u32,
@@ -95,7 +95,7 @@ impl std::str::FromStr for Mix {
         parts
             .filter(|(reads, writes)| reads.checked_add(*writes) == Some(100))
             .map(|(reads, _)| Mix { reads })
-            .ok_or_else(|| "two numbers with the sum 100 are expected, as 95,5".into())
+            .ok_or_else(|| "two numbers with the sum 100 are expected, such as 95,5".into())
     }
 }
 

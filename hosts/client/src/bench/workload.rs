@@ -89,7 +89,7 @@ impl Places {
     }
 }
 
-/// A thread that waits for its next call looks so often whether it is to end.
+/// How often a thread that waits for its next call looks whether it is to end.
 const LOOK: Duration = Duration::from_millis(50);
 
 /// When a thread that keeps to a rate makes its next call.

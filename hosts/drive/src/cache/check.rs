@@ -1,11 +1,11 @@
-//! Looks whether all that caches answered fits one order of the transactions.
+//! Checks whether all that caches answered fits one order of the transactions.
 //!
 //! The order of the changes of each key is known, since a trigger writes them down in the same
 //! transactions. So the question is exact: is there a moment for each transaction and each read,
 //! between its call and its answer, so that each read has seen just what the transactions before
 //! its moment have left? Each read comes after the transactions whose rows it has seen, and before
-//! those that changed these rows next. These edges must have no circle, and along them no moment
-//! may have to be later than its answer.
+//! those that changed these rows next. These edges must have no cycle, and along them no moment may
+//! have to be later than its answer.
 use std::collections::{BTreeMap, HashMap, HashSet};
 use std::fmt;
 use std::ops::Range;
@@ -204,7 +204,7 @@ impl Order {
             let end = told.and_then(|told| told.end);
             let answered = end.filter(|(_, end)| *end == End::Done).map(|(at, _)| at);
             self.verdict.transactions += 1;
-            // What was there before the caches was reported by nobody.
+            // What was there before the caches has no report.
             self.verdict.unanswered += u64::from(told.is_some() && answered.is_none());
             let to = if told.is_none() { 0 } else { answered.unwrap_or(NEVER) };
             let to = to.min(seen.get(version).copied().unwrap_or(NEVER));
@@ -274,7 +274,7 @@ impl Order {
         }
     }
 
-    /// So many changes of the key have come before a read that has this content.
+    /// How many changes of the key have come before a read that has this content.
     fn row_seen(&mut self, key: u64, content: u64, read: &Read) -> Option<usize> {
         self.verdict.rows += 1;
         let history = self.keys.get(&key);
@@ -285,7 +285,7 @@ impl Order {
         count
     }
 
-    /// So many changes of the key have come before a read without a row, if it is clear how many.
+    /// How many changes of the key have come before a read without a row, if that is clear.
     fn gap_seen(&mut self, key: u64, read: &Read) -> Option<usize> {
         let history = self.keys.get(&key);
         let counts = history.map_or(vec![0], |history| history.absent_between(read.from, read.to));

@@ -36,7 +36,7 @@ struct Worker {
     first: u64,
 }
 
-/// The process of this number, for the so-manieth time.
+/// Runs the process of this number; `spawn` counts its starts.
 pub fn run(number: &str, spawn: &str, database: &str, krl: &str, folder: &Path) -> Found {
     let (place, count): (u8, u64) = (number.parse()?, spawn.parse()?);
     let first = (u64::from(place) + 1) << 48 | count << 32;
@@ -213,7 +213,7 @@ pub fn contents(rows: &[Row<Item>]) -> Vec<(u64, u64)> {
     rows.iter().map(|row| (row.key, row.body.content.cast_unsigned())).collect()
 }
 
-/// The contents that a program reads that knows nothing of the cache.
+/// The contents that a program without the cache reads.
 pub fn stored_contents(cache: &Rows, keys: Range<u64>) -> Result<Vec<(u64, u64)>, CacheError> {
     let stored = cache.origin().load(&keys.collect::<Vec<_>>())?;
     let content = |row: &Stored<Item>| (row.key, row.body.content.cast_unsigned());

@@ -24,7 +24,7 @@ pub struct Identity {
     is_operator: bool,
 }
 
-/// A text that is no identity.
+/// A text that is not an identity.
 #[derive(Clone, Copy, Debug, PartialEq, Eq)]
 pub struct BadIdentity;
 
@@ -33,7 +33,7 @@ pub struct BadIdentity;
 #[derive(Clone, Debug, PartialEq, Eq)]
 pub struct TableName(String);
 
-/// A text that is no name of a table.
+/// A text that is not the name of a table.
 #[derive(Clone, Copy, Debug, PartialEq, Eq)]
 pub struct BadTableName;
 
@@ -91,8 +91,8 @@ impl Identity {
     }
 
     /// Whether it may send this frame: one that names one of its own clients, or, if it is an
-    /// operator, one that ends a client. Whoever may send anything may send a host's Hello, which
-    /// names no client. Only a peer that may send everything may send a string that names no
+    /// operator, one that ends a client. A peer that may send anything may send a host's Hello,
+    /// which names no client. Only a peer that may send everything may send a string that names no
     /// client: such a string is judged.
     ///
     /// A frame of a host without a known meaning may be sent: it is passed over.
@@ -202,7 +202,9 @@ impl fmt::Display for TableName {
 
 impl fmt::Display for BadIdentity {
     fn fmt(&self, f: &mut fmt::Formatter<'_>) -> fmt::Result {
-        f.write_str("an identity is client numbers from 0 to 63 and `operator`, as 3,4,operator")
+        f.write_str(
+            "an identity is client numbers from 0 to 63 and `operator`, such as 3,4,operator",
+        )
     }
 }
 

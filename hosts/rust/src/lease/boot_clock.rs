@@ -9,7 +9,7 @@ pub(crate) struct Moment(u64);
 
 const NANOSECONDS: u64 = 1_000_000_000;
 
-/// As the C library of Linux on x86-64 has it, for which the library is built.
+/// As in the C library of Linux on x86-64, for which the library is built.
 #[repr(C)]
 struct Timespec {
     seconds: i64,

@@ -6,13 +6,13 @@ use std::time::{Instant, SystemTime};
 /// The clocks of this machine at one moment. What decides by a clock takes this as a value: only
 /// the shell around the decisions reads the clocks, by [`Now::read`].
 ///
-/// Whoever takes bytes from a connection reads the clocks **after** the bytes have come: what is
+/// Code that takes bytes from a connection reads the clocks **after** the bytes have come: what is
 /// judged by a clock then is judged by a moment at which the bytes were there.
 #[derive(Clone, Copy, Debug)]
 pub(crate) struct Now {
     /// The clock of timeouts and pauses. It stands still while the machine is suspended.
     pub monotonic: Instant,
-    /// The clock of incarnations, which people set.
+    /// The clock of incarnations, which operators set.
     pub wall: SystemTime,
     /// The clock of leases. None if it can't be read.
     boot: Option<Moment>,
@@ -39,7 +39,7 @@ impl Now {
 #[cfg(feature = "sans-io")]
 impl Now {
     /// The clocks of a host at this moment by its clock of leases. A client decides nothing by the
-    /// clock that people set: its lock file reads that by itself.
+    /// clock that operators set: its lock file reads that by itself.
     pub fn of_host(moment: std::time::Duration) -> Now {
         static BEGAN: std::sync::OnceLock<Instant> = std::sync::OnceLock::new();
         let nanoseconds = u64::try_from(moment.as_nanos()).unwrap_or(u64::MAX);
@@ -69,7 +69,7 @@ impl Now {
 
 #[cfg(test)]
 impl Now {
-    /// All clocks continue by so much.
+    /// All clocks advance by this much.
     pub fn after(self, time: std::time::Duration) -> Now {
         let nanoseconds = u64::try_from(time.as_nanos()).unwrap();
         let boot = self.boot.map(|boot| Moment::of_nanoseconds(boot.nanoseconds() + nanoseconds));

@@ -8,8 +8,8 @@ use std::sync::Arc;
 use std::sync::atomic::{AtomicU64, Ordering};
 use std::time::Duration;
 
-/// A sign rides on messages that leave anyway if the last one is older than this part of the lease,
-/// and goes by itself if it is older than that part.
+/// A sign goes with messages that leave anyway if the last one is older than the first of these
+/// parts of the lease, and by itself if it is older than the second.
 const RIDES: u64 = 6;
 const GOES_ALONE: u64 = 3;
 
@@ -26,7 +26,7 @@ pub(crate) struct End(AtomicU64);
 
 impl End {
     /// Whether rows that were read from the cache may be handed over. It has to be asked **after**
-    /// the reading. A clock that can't be read is no leave.
+    /// the reading. If the clock can't be read, they may not.
     ///
     /// The clock is read before the end: terms that come between the two were taken by a lease that
     /// held then, so it held when the clock was read.
@@ -107,7 +107,7 @@ impl Lease {
     }
 
     /// The first sign on a new connection. What older connections answer no longer counts: each
-    /// server has its own length. None if the clock has not gone on since the last sign.
+    /// server has its own length. None if the clock has not advanced since the last sign.
     pub fn greet(&mut self, now: Moment) -> Option<Sign> {
         let sign = self.sign(now)?;
         self.first = Some(sign.stamp);
@@ -120,7 +120,7 @@ impl Lease {
     }
 
     /// The server of this connection answers no signs, and has no leases: an incarnation without
-    /// terms lives by a lease that does not end. One that has had terms lives on by those, since
+    /// terms lives by a lease that does not end. One that has had terms continues by those, since
     /// the server that granted them may evict it.
     pub fn go_without_terms(&mut self, now: Moment) {
         if self.state.length == 0 {

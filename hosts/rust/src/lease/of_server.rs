@@ -141,10 +141,10 @@ impl LeaseTable {
         replaces && known.older_than(incarnation).is_none()
     }
 
-    /// Which older incarnation is known to be over, or 0, and whether somebody vouches for all.
+    /// Which older incarnation is known to be over, or 0, and whether an operator vouches for all.
     ///
-    /// If the server has no leases, or the host has signed nothing, that is today's rule: who
-    /// starts a client vouches that the one before is over.
+    /// If the server has no leases, or the host has signed nothing, the rule is that of a host
+    /// without leases: starting a client vouches that the one before is over.
     fn word_for(&self, older: Option<Older>) -> (u64, u32) {
         match older {
             _ if self.terms.length == FOR_EVER => (0, 1),

@@ -11,7 +11,7 @@ pub(crate) const FOR_EVER: u64 = u64::MAX;
 const SHORTEST: Duration = Duration::from_millis(300);
 const LONGEST: Duration = Duration::from_secs(24 * 3600);
 
-/// In a hundred. Two clocks that are slewed against each other as fast as chrony ever does, 83,333
+/// In percent. Two clocks that are slewed against each other as fast as chrony ever does, 83,333
 /// parts in a million each, differ by 18.2 percent.
 pub(crate) const DRIFT: u32 = 25;
 const MAX_DRIFT: u32 = 100;
@@ -20,11 +20,11 @@ const MAX_DRIFT: u32 = 100;
 #[derive(Clone, Copy, Debug, PartialEq, Eq)]
 pub struct Leases {
     length: Duration,
-    /// How much further the server's clock may go than a client's meanwhile, in percent.
+    /// How much further the server's clock may advance than a client's meanwhile, in percent.
     drift: u32,
 }
 
-/// Why leases can't be so.
+/// Why leases can't be like this.
 #[derive(Clone, Copy, Debug, PartialEq, Eq)]
 #[non_exhaustive]
 pub enum BadLeases {

@@ -119,7 +119,7 @@ impl EventLog {
         }
     }
 
-    /// The server evicts a client by a successor. It reports so once, when that is committed.
+    /// The server evicts a client by a successor. It reports this once, when that is committed.
     pub fn evicts(&mut self, client: u8, successor: u64) {
         self.evicting.insert(client, successor);
     }
@@ -177,7 +177,7 @@ impl EventLog {
         }
     }
 
-    /// A connection sent what is no message, and is closed.
+    /// A connection sent what is not a message, and is closed.
     pub fn bad_message(&mut self, at: &At, length: usize) {
         if let Some(passed_over) = self.bad_messages.lets(Instant::now()) {
             tell!(
@@ -292,7 +292,7 @@ impl EventLog {
     }
 }
 
-/// A client has heard that its server's store went back.
+/// A client has learned that its server's store went back.
 pub(crate) fn store_went_back(server: &Address) {
     tell!(
         error,
@@ -302,7 +302,7 @@ pub(crate) fn store_went_back(server: &Address) {
     );
 }
 
-/// A client has heard that its server serves another store.
+/// A client has learned that its server serves another store.
 pub(crate) fn store_is_another_one(server: &Address) {
     tell!(
         error,
@@ -344,7 +344,8 @@ pub(crate) fn closed(at: &At, reason: &str) {
     tell!(debug, connection = at.connection, peer = %at.peer, reason, "a connection is closed");
 }
 
-/// A connection is closed by the server for a reason that people may have to do something about.
+/// A connection is closed by the server for a reason about which an operator may have to do
+/// something.
 pub(crate) fn closed_by_server(at: &At, reason: &str, why: &dyn Display, passed_over: u64) {
     tell!(
         warn,

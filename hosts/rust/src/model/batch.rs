@@ -68,7 +68,7 @@ impl From<Write> for Mutation {
     }
 }
 
-/// Why none of these writes is made, if one has a key that is none.
+/// Why none of these writes is made, if one has a key that is not valid.
 pub(crate) fn refused(writes: &[Mutation]) -> Option<Judged> {
     let has_bad_key = writes.iter().any(|write| write.key() >= END);
     has_bad_key.then(|| Judged::nothing(Error::BadKey))

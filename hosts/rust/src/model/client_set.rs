@@ -27,7 +27,7 @@ impl ClientSet {
         client < ClientNumber::COUNT && self.bits >> client & 1 == 1
     }
 
-    /// The set, and the client of this number. A number above 63 is no client's.
+    /// The set, and the client of this number. A number above 63 is not a client's.
     pub(crate) fn with(self, client: u8) -> ClientSet {
         ClientSet { bits: self.bits | 1u64.checked_shl(client.into()).unwrap_or(0) }
     }
@@ -54,7 +54,7 @@ impl ClientSet {
 }
 
 impl FromIterator<u8> for ClientSet {
-    /// The set of these clients. A number above 63 is no client's, and is passed over.
+    /// The set of these clients. A number above 63 is not a client's, and is passed over.
     fn from_iter<I: IntoIterator<Item = u8>>(clients: I) -> ClientSet {
         clients.into_iter().fold(ClientSet::default(), ClientSet::with)
     }

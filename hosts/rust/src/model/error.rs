@@ -38,7 +38,7 @@ pub enum Error {
     /// store. The client has dropped its cache and its pins, and joins again. A write was sent, and
     /// may have changed that store or not: one that was not sent ends with `NotSent`.
     StoreWentBack,
-    /// The client's lease has ended while the write was on its way: the server was not heard in
+    /// The client's lease has ended while the write was on its way: nothing came from the server in
     /// time. The client has dropped its cache and its pins, and joins again. The table has changed
     /// or not, and this write can no longer change it: a read of the key shows which.
     LeaseEnded,

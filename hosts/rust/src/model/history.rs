@@ -1,4 +1,4 @@
-//! Whether a store has what somebody has seen of one, is a copy from before, or is another store.
+//! Whether a store has what a client has seen of one, is an earlier copy, or is another store.
 use std::fmt;
 
 /// How far a store had come at one moment.
@@ -10,7 +10,7 @@ pub struct Mark {
     pub commits: u64,
 }
 
-/// How much somebody has seen of a store.
+/// How much a client has seen of a store.
 #[derive(Clone, Copy, Debug, PartialEq, Eq)]
 pub(crate) struct Seen {
     /// How far the store had come.
@@ -20,7 +20,7 @@ pub(crate) struct Seen {
     pub first_start: Option<u128>,
 }
 
-/// What a store is to somebody who has seen so much of one.
+/// What a store is to a client that has seen so much of one.
 #[derive(Clone, Copy, Debug, PartialEq, Eq)]
 pub(crate) enum Comparison {
     /// It has all of that.
@@ -82,8 +82,8 @@ impl History {
         }
     }
 
-    /// Whether the store has all that was committed by then. A copy from before has not: it lacks
-    /// that start, or some of its commits, however many of its own it has made since.
+    /// Whether the store has all that was committed by then. An earlier copy has not: it lacks that
+    /// start, or some of its commits, however many of its own it has made since.
     #[must_use]
     pub fn has(&self, mark: Mark) -> bool {
         let mut starts = self.starts.iter();
@@ -120,7 +120,7 @@ mod tests {
 
     #[test]
     fn a_copy_from_before_lacks_what_came_after() {
-        // The store was copied at this mark, and has gone on by two batches and two starts.
+        // The store was copied at this mark, and has advanced by two batches and two starts.
         let seen = [mark(3, 3), mark(3, 4), mark(9, 1), mark(11, 1)];
         let mut copy = History::new(vec![mark(7, 5), mark(3, 2)]).unwrap();
         assert!(copy.has(mark(3, 2)) && copy.has(mark(7, 5)));

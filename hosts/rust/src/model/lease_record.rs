@@ -15,8 +15,8 @@ pub struct LeaseRecord {
 }
 
 impl LeaseRecord {
-    /// That of a store in which nothing is kept of leases: whoever is registered there may answer
-    /// forever.
+    /// That of a store in which nothing is kept of leases: every client that is registered there
+    /// may answer forever.
     pub const UNKNOWN: LeaseRecord =
         LeaseRecord { longest: 0, unleased: ClientSet::of_bits(u64::MAX) };
 

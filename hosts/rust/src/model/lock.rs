@@ -38,25 +38,25 @@ modes! {
     N = 0, "N";
     /// Reads the entry.
     S = 1, "S";
-    /// Reads the entry, and is the only one who may change it next.
+    /// Reads the entry, and only this client may change it next.
     U = 2, "U";
     /// Changes the entry.
     X = 3, "X";
     /// Reads the entry and the gap.
     RangeSS = 4, "RangeS-S";
-    /// Reads the gap and the entry, and is the only one who may change the entry next.
+    /// Reads the gap and the entry, and only this client may change the entry next.
     RangeSU = 5, "RangeS-U";
     /// Inserts into the gap.
     RangeIN = 6, "RangeI-N";
     /// Inserts into the gap, and reads the entry.
     RangeIS = 7, "RangeI-S";
-    /// Inserts into the gap, reads the entry, and is the only one who may change it next.
+    /// Inserts into the gap, reads the entry, and only this client may change it next.
     RangeIU = 8, "RangeI-U";
     /// Inserts into the gap, and changes the entry.
     RangeIX = 9, "RangeI-X";
     /// Reads the gap and inserts into it, and reads the entry.
     RangeXS = 10, "RangeX-S";
-    /// Reads the gap and inserts into it, reads the entry, and is the only one who may change it next.
+    /// Reads the gap and inserts into it, reads the entry, and only this client may change it next.
     RangeXU = 11, "RangeX-U";
     /// Reads and changes the entry and the gap.
     RangeXX = 12, "RangeX-X";

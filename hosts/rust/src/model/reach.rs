@@ -10,7 +10,7 @@ use std::str::FromStr;
 #[derive(Clone, Copy, Debug, PartialEq, Eq, PartialOrd, Ord)]
 pub struct Reach(usize);
 
-/// A number of slots that is no server's reach: 0, or more than 128.
+/// A number of slots that is not a valid reach: 0, or more than 128.
 #[derive(Clone, Copy, Debug, PartialEq, Eq)]
 pub struct BadReach;
 

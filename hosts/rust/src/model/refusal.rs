@@ -10,7 +10,7 @@ pub(crate) const STREAM_VERSION: u8 = 3;
 
 /// Why a server does not serve a client. It is a hint for people: the library's rules don't rest on
 /// it, and a server of another kind may give none. Only [`Refusal::OtherStore`] is more: a client
-/// that hears it drops its cache.
+/// that receives it drops its cache.
 #[derive(Clone, Copy, Debug, PartialEq, Eq)]
 #[non_exhaustive]
 pub enum Refusal {

@@ -183,7 +183,7 @@ mod tests {
         values.sort();
         let texts = values.map(|value| String::from_utf8(value.as_bytes().to_vec()).unwrap());
         assert_eq!(texts, ["", "a", "aa", "ab", "b"]);
-        // What is past the length counts for nothing.
+        // What is past the length has no meaning.
         let (mut one, other) = (Value::try_from("a").unwrap(), Value::try_from("a").unwrap());
         one.bytes[1] = 7;
         assert_eq!(one, other);

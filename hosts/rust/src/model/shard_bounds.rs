@@ -80,8 +80,8 @@ impl fmt::Display for ShardBounds {
 impl fmt::Display for BadShardBounds {
     fn fmt(&self, f: &mut fmt::Formatter<'_>) -> fmt::Result {
         f.write_str(
-            "a shard is FIRST..END@VERSION, as 0..500000@3, or 500000..@3 if it is the last: FIRST \
-             is below END, END is at most 2^63, and the map's version is 1 or more",
+            "a shard is FIRST..END@VERSION, such as 0..500000@3, or 500000..@3 if it is the last: \
+             FIRST is below END, END is at most 2^63, and the map's version is 1 or more",
         )
     }
 }

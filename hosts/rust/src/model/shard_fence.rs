@@ -2,7 +2,7 @@
 //! messages.
 //!
 //! A client with an old map would write a key to a server that no longer has it, where nobody looks
-//! for it. So both sides compare what the server serves, before the library hears a message.
+//! for it. So both sides compare what the server serves, before the library gets a message.
 use crate::model::shard_bounds::ShardBounds;
 use std::cmp::Ordering;
 use std::fmt;
@@ -27,7 +27,7 @@ pub(crate) fn compare(
     if expected == served { Ok(()) } else { Err(OtherShard { expected, served }) }
 }
 
-/// What a client has heard of its server's shard on one connection.
+/// What a client has learned of its server's shard on one connection.
 #[derive(Debug)]
 pub(crate) struct Fence {
     expected: Option<ShardBounds>,

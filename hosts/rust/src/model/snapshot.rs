@@ -18,14 +18,14 @@ pub struct Snapshot {
     /// What is known of leases.
     pub leases: LeaseRecord,
     /// The greatest room that a server had over it. A store that no server has served keeps none,
-    /// and one of before it was kept neither.
+    /// nor does one of a version that did not keep it.
     pub room: Option<Room>,
     /// The bits of the first start of a server over the store, if there was one and the store keeps
     /// its history. A copy has the same: they distinguish an older copy from another store.
     pub first_start: Option<u128>,
 }
 
-/// What makes no shard out of two.
+/// Why two stores make no shard.
 #[derive(Clone, Copy, Debug, PartialEq, Eq)]
 #[non_exhaustive]
 pub enum NotNeighbors {
@@ -78,8 +78,8 @@ impl Snapshot {
     }
 
     /// The room of a server that starts on it and is given none: the greatest that one had before.
-    /// For a store of before it was kept it is 65,536, and it is never less than the rows need. A
-    /// store that no server has served and that has no rows has none.
+    /// For a store of a version that did not keep it, it is 65,536, and it is never less than the
+    /// rows need. A store that no server has served and that has no rows has none.
     #[must_use]
     pub fn kept_room(&self) -> Option<Room> {
         let is_new = self.epoch == 0 && self.rows.is_empty();

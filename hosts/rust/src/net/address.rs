@@ -9,12 +9,12 @@ const TLS: &str = "tls:";
 const PLAIN: &str = "plain:";
 const UNIX: &str = "unix:";
 
-/// The name of the own machine.
+/// The name of this machine.
 const LOCALHOST: &str = "localhost";
 
 /// Where a server listens. As text: `tls:10.0.0.1:7400`, `tls:db1:7400`, `unix:` and a path,
-/// `plain:10.0.0.1:7400`, or, on the own machine, `127.0.0.1:7400` or `localhost:7400`, which is
-/// plain TCP.
+/// `plain:10.0.0.1:7400`, or, on this machine, `127.0.0.1:7400` or `localhost:7400`, which is plain
+/// TCP.
 ///
 /// **By plain TCP whoever can connect can speak for any client.** So an address beyond the loopback
 /// is plain TCP only if that is explicit.
@@ -34,11 +34,11 @@ pub enum Address {
     Unix(PathBuf),
 }
 
-/// A text that is no address.
+/// A text that is not an address.
 #[derive(Clone, Copy, Debug, PartialEq, Eq)]
 #[non_exhaustive]
 pub enum BadAddress {
-    /// It is written in no way that an address is.
+    /// It does not have the form of an address.
     Form,
     /// It is beyond the loopback, and does not state whether it is of TLS or of plain TCP.
     Unsaid,
@@ -61,7 +61,7 @@ impl Address {
         }
     }
 
-    /// An address of TCP as it is written without its kind.
+    /// An address of TCP, written without its kind.
     fn of_tcp(text: &str) -> Result<Address, BadAddress> {
         text.parse().map(Address::Tcp).or_else(|_| host(text))
     }
@@ -135,8 +135,8 @@ impl fmt::Display for BadAddress {
                  tls:db1:7400, unix:/a/path, or plain:10.0.0.1:7400"
             }
             BadAddress::Unsaid => {
-                "an address of another machine begins with tls: or with plain:, as \
-                 tls:10.0.0.1:7400; by plain: whoever can connect can speak for any client"
+                "an address of another machine begins with tls: or with plain:, such \
+                 as tls:10.0.0.1:7400; by plain: anybody who can connect can speak for any client"
             }
         })
     }

@@ -15,8 +15,8 @@ const HANDSHAKE: Duration = Duration::from_secs(3);
 /// How much is read at once of a hand-shake.
 const GULP: usize = 1 << 14;
 
-/// One end of a connection, of which two threads may have one each: one reads, and one writes. None
-/// of them waits for the other side.
+/// One end of a connection. Two threads may have one each: one reads, and one writes. Neither waits
+/// for the other side.
 ///
 /// The session is locked while it works on memory, and never while a stream is read or written: so
 /// no thread waits for a server that is slow.
@@ -46,7 +46,7 @@ impl Carrier {
         Carrier::over(stream, Some(session))
     }
 
-    /// That of a stream which is connected, and whose hands are shaken.
+    /// That of a stream that is connected, and on which the hand-shake is done.
     pub fn over(stream: Stream, session: Option<TlsSession>) -> io::Result<Carrier> {
         stream.set_waiting(false)?;
         Ok(Carrier { stream, session: session.map(|session| Arc::new(Mutex::new(session))) })
@@ -60,7 +60,7 @@ impl Carrier {
         &self.stream
     }
 
-    /// Ends the connection for both sides, and wakes who reads from it.
+    /// Ends the connection for both sides, and wakes a thread that reads from it.
     pub fn shut(&self) {
         self.stream.shut();
     }

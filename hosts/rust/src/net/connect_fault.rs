@@ -138,7 +138,7 @@ impl fmt::Display for NotTaken {
 impl std::error::Error for NotTaken {}
 
 impl OtherVersion {
-    /// What callers hear of it.
+    /// What callers learn of it.
     pub fn refusal(self) -> Refusal {
         Refusal::Version { read: self.0 }
     }

@@ -2,13 +2,13 @@
 use std::io::{self, ErrorKind, Write};
 use std::time::{Duration, Instant};
 
-/// So much may wait before a batch more is lost: 39 of the longest messages.
+/// This much may wait before a further batch is lost: 39 of the longest messages.
 const MAX_WAITING: usize = 1 << 18;
 
 /// A peer that takes nothing for this long loses its connection.
 const STALL: Duration = Duration::from_secs(5);
 
-/// So much room is kept for the next batch when all is written.
+/// This much room is kept for the next batch when all is written.
 const KEPT: usize = 1 << 14;
 
 /// The bytes that a connection has not taken yet.
@@ -35,7 +35,7 @@ impl Outgoing {
         self.waits() == 0
     }
 
-    /// Whether so much waits that the peer seems stuck: then a batch more is lost.
+    /// Whether so much waits that the peer seems stuck: then a further batch is lost.
     pub fn is_full(&self) -> bool {
         self.waits() >= MAX_WAITING
     }

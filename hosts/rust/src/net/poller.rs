@@ -26,8 +26,8 @@ pub(crate) enum Ready {
     Connection(u64, Readiness),
 }
 
-/// What a connection is ready for. It is reported once when it begins: who leaves something unread
-/// or unwritten has to remember that.
+/// What a connection is ready for. It is reported once when it begins: a caller that leaves
+/// something unread or unwritten has to remember that.
 #[derive(Clone, Copy, Debug, PartialEq, Eq)]
 pub(crate) struct Readiness {
     /// Something came, or nothing more will.

@@ -10,9 +10,9 @@ use std::str::FromStr;
 /// text with commas between them, such as `tls:10.0.0.1:7400,tls:10.0.0.2:7400`.
 ///
 /// A client goes to the next one if it can't connect, if its connection ends, if the server is
-/// silent for a second though it was asked, and if a server is of an older epoch than one that the
-/// client has heard. With one address it connects again to that, and waits five seconds for a server
-/// that is silent.
+/// silent for a second though it was asked, and if a server is of an older epoch than one of which
+/// the client has learned. With one address it connects again to that, and waits five seconds for a
+/// server that is silent.
 #[derive(Clone, Debug, PartialEq, Eq)]
 pub struct Servers {
     first: Address,
@@ -59,7 +59,7 @@ impl Servers {
         std::iter::once(&self.first).chain(&self.others)
     }
 
-    /// Whether there is another one to go to.
+    /// Whether there is another one to try.
     pub(crate) fn are_several(&self) -> bool {
         !self.others.is_empty()
     }
@@ -68,7 +68,7 @@ impl Servers {
         1 + self.others.len()
     }
 
-    /// The address of this place, counted round and round.
+    /// The address at this place, counted cyclically.
     pub(crate) fn at(&self, place: usize) -> &Address {
         let place = place % self.count();
         place.checked_sub(1).map_or(&self.first, |place| &self.others[place])

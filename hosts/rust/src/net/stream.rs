@@ -100,13 +100,13 @@ impl fmt::Display for PeerAddress {
 
 impl Listener {
     /// Listens at the address. The file of a Unix socket at which nobody listens any more is
-    /// replaced. Any other file is kept, and so is a socket of which that can't be known. Only its
+    /// replaced. Any other file is kept, and so is a socket for which that can't be known. Only its
     /// user may connect to the new one, whose mode is 0600.
     ///
     /// # Errors
     ///
-    /// Those of the system: the address is in use, or is none of this machine, or this process has
-    /// no right to it.
+    /// Those of the system: the address is in use, or is not one of this machine, or this process
+    /// has no right to it.
     pub fn bind(address: &Address) -> io::Result<Listener> {
         match address {
             Address::Tcp(address) => TcpListener::bind(address).map(Listener::Tcp),
@@ -297,7 +297,7 @@ impl Stream {
         }
     }
 
-    /// Says that nothing more will be written.
+    /// Announces that nothing more will be written.
     pub fn shut_writing(&self) {
         // One that the other side has ended is shut already.
         let _ = match self {
@@ -306,7 +306,7 @@ impl Stream {
         };
     }
 
-    /// Ends the connection for both sides, and wakes who reads from it.
+    /// Ends the connection for both sides, and wakes a thread that reads from it.
     pub fn shut(&self) {
         // One that the other side has ended is shut already.
         let _ = match self {

@@ -1,7 +1,7 @@
 //! TLS 1.3, in which each side shows a certificate.
 //!
 //! A session works on memory: what came from the socket is handed to it, and what is to leave is
-//! taken from it. So it never waits, and whoever has the socket decides how to wait for it.
+//! taken from it. So it never waits, and the owner of the socket decides how to wait for it.
 mod certificate;
 mod config;
 mod pipe;
@@ -81,7 +81,7 @@ impl RefusedSubject {
         }
     }
 
-    /// As it stands in a sentence, after "the other end".
+    /// As it appears in a sentence, after "the other end".
     fn in_brackets(&self) -> String {
         self.0.get().map(|subject| format!(" ({subject})")).unwrap_or_default()
     }
@@ -108,8 +108,7 @@ impl TlsSession {
         TlsSession::new(config, Side::Accepts)
     }
 
-    /// A connection of which this side is the one. The hand-shake begins with the first bytes that
-    /// leave or come.
+    /// A connection with this side. The hand-shake begins with the first bytes that leave or come.
     pub(crate) fn new(config: &TlsConfig, side: Side) -> io::Result<TlsSession> {
         let mut ssl = Ssl::new(&config.context())?;
         let table = config.table().cloned();
@@ -171,7 +170,7 @@ impl TlsSession {
     /// # Errors
     ///
     /// `PermissionDenied`, with a sentence, if one side does not take the other's certificate;
-    /// `InvalidData` if the bytes are none of TLS 1.3, or the other side ended the session for
+    /// `InvalidData` if the bytes are not those of TLS 1.3, or the other side ended the session for
     /// another reason. What is to be written still informs the other side.
     pub fn open(&mut self, sealed: &[u8]) -> io::Result<Vec<u8>> {
         self.shake(sealed)?;
@@ -210,7 +209,7 @@ impl TlsSession {
         Ok(self.stream.get_mut().take_outgoing())
     }
 
-    /// Says to the other side that nothing more comes after what is to leave.
+    /// Announces to the other side that nothing more comes after what is to leave.
     ///
     /// # Errors
     ///
@@ -316,7 +315,7 @@ fn peer_of(certificate: &X509Ref, side: Side, table: Option<&TableName>) -> Opti
 }
 
 /// The alert by which the other side has refused this certificate, if it has. One about something
-/// else, such as an internal error, is no verdict on the certificate.
+/// else, such as an internal error, is not a verdict on the certificate.
 fn alert_of(errors: &ErrorStack) -> Option<&'static str> {
     let refused = errors.errors().iter().find(|error| is_about_certificate(error.code()));
     refused.map(|error| error.reason().unwrap_or("an alert"))

@@ -1,4 +1,4 @@
-//! A safe owner of a client's handle, and those who scan its cache at the same time.
+//! A safe owner of a client's handle, and those that scan its cache at the same time.
 use crate::lease::boot_clock::Moment;
 use crate::lease::clocks::Now;
 use crate::lease::of_client::{End, Lease};
@@ -24,7 +24,7 @@ pub(crate) enum Scan {
     Miss(u64),
     /// A write of the client to a key of the range is not answered yet.
     Pending,
-    /// The client's lease has ended: what is there no longer counts.
+    /// The client's lease has ended: what is there is no longer valid.
     Ended,
 }
 
@@ -83,7 +83,7 @@ impl Cache {
     }
 
     /// Keeps the cache as it is, as long as the answer lives: the client takes no message and no
-    /// call meanwhile. Who holds several has to take them in the order of their shards.
+    /// call meanwhile. A thread that holds several has to take them in the order of their shards.
     pub fn hold(&self) -> HeldCache<'_> {
         HeldCache(self.0.enter())
     }

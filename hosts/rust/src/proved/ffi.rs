@@ -3,7 +3,7 @@
 use crate::model::row::Row;
 use std::ffi::c_void;
 
-/// For how many rows a server has room if nothing asks for another number.
+/// For how many rows a server has room by default.
 pub const DEFAULT_ROOM: usize = 65_536;
 
 /// The most slots that one grant of a server may take.

@@ -18,7 +18,8 @@ const SPINS: u64 = 200;
 const YIELDS: u64 = 1000;
 const NAP: Duration = Duration::from_micros(50);
 
-/// So many turns a change waits until the readers are in that have waited for the one before.
+/// For how many turns a change waits for the readers that have waited for the one before to come
+/// in.
 const COURTESY: u64 = SPINS + 20;
 
 /// What shares no cache line with anything else.
@@ -39,13 +40,13 @@ struct Gate<T> {
 // `change`.
 unsafe impl<T: Send + Sync> Sync for Gate<T> {}
 
-/// The one who may change the value.
+/// The owner, who may change the value.
 pub(crate) struct Owner<T>(Arc<Gate<T>>);
 
-/// One of many who read the value.
+/// One of many readers of the value.
 pub(crate) struct Reader<T>(Arc<Gate<T>>);
 
-/// The value, as one who reads it has it. A change waits as long as this lives.
+/// The value, while it is read. A change waits as long as this lives.
 pub(crate) struct Reading<'g, T> {
     gate: &'g Gate<T>,
     _inside: Counted<'g>,
@@ -111,7 +112,7 @@ impl<T> Reader<T> {
 
 #[cfg(test)]
 impl<T> Reader<T> {
-    /// Whether a change waits until somebody who is inside has left.
+    /// Whether a change waits until a reader that is inside has left.
     pub fn keeps_a_change_waiting(&self) -> bool {
         let is_shut = self.0.is_shut.0.load(Ordering::SeqCst);
         is_shut && self.0.inside.iter().any(|inside| inside.0.load(Ordering::SeqCst) > 0)
@@ -150,7 +151,7 @@ impl<T> Gate<T> {
         }
     }
 
-    /// Lets in who has waited for the change before, if they get to run soon.
+    /// Lets in the readers that have waited for the change before, if they get to run soon.
     fn let_in(&self) {
         wait(0..COURTESY, || self.waiting.0.load(Ordering::Relaxed) == 0);
     }
@@ -176,19 +177,19 @@ impl Counted<'_> {
 
 impl Drop for Counted<'_> {
     fn drop(&mut self) {
-        // Who reads this count has seen what was done before.
+        // A thread that reads this count has seen what was done before.
         self.0.fetch_sub(1, Ordering::Release);
     }
 }
 
 impl Drop for Shut<'_> {
     fn drop(&mut self) {
-        // Who finds the gate open has seen the change.
+        // A thread that finds the gate open has seen the change.
         self.0.store(false, Ordering::Release);
     }
 }
 
-/// Waits until something is so, or for this many turns.
+/// Waits until this is true, or for this many turns.
 fn wait(turns: impl Iterator<Item = u64>, is_so: impl Fn() -> bool) {
     for turn in turns {
         if is_so() {

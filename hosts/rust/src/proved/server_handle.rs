@@ -93,7 +93,7 @@ pub(crate) fn done(reply: ffi::Reply) -> Result<u64, Code> {
 /// A server of the library.
 pub(crate) struct ServerHandle {
     handle: Handle,
-    /// So many of the notes that it has reported are on the disk.
+    /// This many of the notes that it has reported are on the disk.
     confirmed: u64,
 }
 
@@ -245,7 +245,7 @@ fn notes(changes: &[Change]) -> u64 {
     changes.iter().filter(|change| change.is_note()).count() as u64
 }
 
-/// The numbers of clients that a call wrote, if it did.
+/// The numbers of clients that a call wrote, if it wrote any.
 fn listed(reply: ffi::Reply, clients: &[u64]) -> Result<Vec<u8>, Code> {
     let count = usize::try_from(done(reply)?).map_err(|_| Code::OutOfMemory)?;
     Ok(clients.iter().take(count).filter_map(|client| u8::try_from(*client).ok()).collect())

@@ -56,31 +56,31 @@ impl<S: Store + 'static> ServerBuilder<S> {
         ServerBuilder { listener, store, options }
     }
 
-    /// Whom the server lets in: if this is not called, whoever can connect, by plain TCP on the
-    /// loopback only, and its own user over a Unix socket.
+    /// Whom the server lets in: by default everybody who can connect, by plain TCP on the loopback
+    /// only, and its own user over a Unix socket.
     pub fn access(mut self, access: Access) -> ServerBuilder<S> {
         self.options.access = access;
         self
     }
 
-    /// The most connections that are open at once: 256 if this is not called. For one more the
-    /// oldest is closed that has not identified itself; if there is none, the new one is closed as
-    /// it comes. Each client takes one.
+    /// The most connections that are open at once: 256 by default. For one more the oldest is
+    /// closed that has not identified itself; if there is none, the new one is closed as it comes.
+    /// Each client takes one.
     pub fn max_connections(mut self, count: usize) -> ServerBuilder<S> {
         self.options.max_connections = count;
         self
     }
 
     /// The leases that the server grants its clients: it evicts each client that is silent for
-    /// longer, once no cache of that client can answer any more. If this is not called it grants
-    /// none, and only an operator evicts a client.
+    /// longer, once no cache of that client can answer any more. By default it grants none, and
+    /// only an operator evicts a client.
     pub fn leases(mut self, leases: Leases) -> ServerBuilder<S> {
         self.options.leases = Some(leases);
         self
     }
 
     /// The shard that the server serves, by a map of this version: it serves clients that take it
-    /// for this, and no others. If this is not called it serves all keys, and no client of a shard.
+    /// for this, and no others. By default it serves all keys, and no client of a shard.
     pub fn shard(mut self, shard: ShardBounds) -> ServerBuilder<S> {
         self.options.shard = Some(shard);
         self
@@ -89,17 +89,17 @@ impl<S: Store + 'static> ServerBuilder<S> {
     /// For how many rows the server has room. An insert into a table that has that many is judged
     /// `Full`. The memory for them is reserved at the start, and used as rows come.
     ///
-    /// If this is not called, it is the greatest room that a server had over this store, and 65,536
-    /// over a new one. With less than that the server has the room that is given here, the store
-    /// keeps the greatest, and the log reports both.
+    /// By default it is the greatest room that a server had over this store, and 65,536 over a new
+    /// one. With less than that the server has the room that is given here, the store keeps the
+    /// greatest, and the log reports both.
     pub fn room(mut self, room: Room) -> ServerBuilder<S> {
         self.options.room = Some(room);
         self
     }
 
-    /// How many slots one grant takes at most: 128 if this is not called. A client that reads many
-    /// rows for the first time asks once per that many slots. A grant of more slots keeps the
-    /// server longer from what others ask meanwhile.
+    /// How many slots one grant takes at most: 128 by default. A client that reads many rows for
+    /// the first time asks once per that many slots. A grant of more slots keeps the server longer
+    /// from the requests of others.
     ///
     /// Each start may give another reach: the store keeps none.
     pub fn reach(mut self, reach: Reach) -> ServerBuilder<S> {
@@ -148,7 +148,7 @@ impl Server {
         Server::builder(listener, store).start()
     }
 
-    /// Says more of a server before it starts: whom it lets in, how many connections it takes, and
+    /// Configures a server before it starts: whom it lets in, how many connections it takes, and
     /// the leases that it grants.
     ///
     /// # Examples

@@ -21,7 +21,7 @@ pub(crate) enum CloseReason {
     HandshakeFailed,
     /// It began a frame that is longer than it may be.
     FrameTooLong,
-    /// It sent what is no message.
+    /// It sent what is not a message.
     BadMessage,
     /// It sent what its identity may not send.
     Denied,

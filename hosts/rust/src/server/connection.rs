@@ -1,5 +1,5 @@
-//! One connection of a server: what has come on it, what its peer is told, and what waits to be
-//! written.
+//! One connection of a server: what has come on it, what its host sends to the peer, and what waits
+//! to be written.
 use crate::access::Entry;
 use crate::access::identity::Identity;
 use crate::log::seldom::Seldom;
@@ -15,16 +15,16 @@ use std::io::{self, ErrorKind, Read, Write};
 use std::time::{Duration, Instant};
 use told::Told;
 
-/// A connection on which nothing comes for so long is closed: clients tick more often.
+/// A connection on which nothing comes for this long is closed: clients tick more often.
 const SILENCE: Duration = Duration::from_secs(30);
 
-/// What the host of a peer that takes host frames has been told.
+/// What has been sent to the host of a peer that takes host frames.
 #[derive(Debug, Default)]
 struct Host {
     refusals: [Seldom; Refusal::REASONS],
-    /// The answer to its Hello, which leaves before all else.
+    /// The answer to its Hello, which leaves before everything else.
     answer: Vec<u8>,
-    /// How far the store had come, as it was told last.
+    /// How far the store had come, as was sent last.
     seen: Option<Seen>,
 }
 
@@ -63,8 +63,8 @@ pub(crate) enum Looked {
     NotShaken(String),
 }
 
-/// A connection that is open, without its socket: who has that reads it when it is to be read, and
-/// writes what waits.
+/// A connection that is open, without its socket: the owner of that reads it when it is to be read,
+/// and writes what waits.
 #[derive(Debug)]
 pub(crate) struct Connection {
     entry: Entry,
@@ -75,11 +75,11 @@ pub(crate) struct Connection {
     heard: Instant,
     outgoing: Outgoing,
     batch: Batch,
-    /// What leaves before what the server says, as soon as it may.
+    /// What leaves before the server's messages, as soon as it may.
     told: Told,
-    /// None if the peer has not said that it takes host frames.
+    /// None if the peer has not shown that it takes host frames.
     host: Option<Host>,
-    /// Why nothing more is heard of it: then what waits is the last that is written.
+    /// Why nothing more is taken from it: then what waits is the last that is written.
     ends_for: Option<CloseReason>,
     /// Its client takes the server for what it serves.
     is_let_in: bool,
@@ -106,7 +106,7 @@ impl Connection {
         }
     }
 
-    /// The system has told that something came.
+    /// The system has reported that something came.
     pub fn is_readable(&mut self, readiness: Readiness) {
         if readiness.is_last {
             self.unread = Unread::Last;
@@ -149,7 +149,7 @@ impl Connection {
         }
     }
 
-    /// What a read that failed so found.
+    /// What a read that failed with this error found.
     fn why_unread(&self, error: &io::Error) -> Looked {
         let is_shaking = matches!(&self.entry, Entry::Unknown(session) if session.peer().is_none());
         // Any other error is the socket's.
@@ -159,7 +159,7 @@ impl Connection {
     }
 
     /// Who is at the other end, as soon as that is known: by a certificate, or by a whole frame of
-    /// one who needs none.
+    /// a peer that needs none.
     pub fn known(&self) -> Option<Identity> {
         match &self.entry {
             Entry::Known(identity) => self.has_spoken.then_some(*identity),
@@ -167,7 +167,7 @@ impl Connection {
         }
     }
 
-    /// Who is at the other end. Of whom that is not known is nobody.
+    /// Who is at the other end. One that is not known yet is nobody.
     pub fn identity(&self) -> Identity {
         match &self.entry {
             Entry::Known(identity) => *identity,
@@ -182,8 +182,8 @@ impl Connection {
         }
     }
 
-    /// Bytes in: all that comes passes here. It reads once, and says how many bytes came: none if
-    /// the other side has ended.
+    /// Bytes in: all that comes passes here. It reads once, and returns how many bytes came: none
+    /// if the other side has ended.
     pub fn fill(&mut self, stream: &mut impl Read) -> io::Result<usize> {
         match &mut self.entry {
             Entry::Known(_) => self.incoming.fill(stream),
@@ -196,8 +196,8 @@ impl Connection {
             Ok(0) => return Err(ErrorKind::UnexpectedEof.into()),
             Ok(count) => {
                 self.heard = now;
-                // A socket that gives less than it could has no more. The end is no byte: who was
-                // told of it reads until it comes.
+                // A socket that gives less than it could has no more. The end is no byte: a
+                // connection whose end was reported is read until it comes.
                 if count < GULP && self.unread == Unread::Something {
                     self.unread = Unread::Nothing;
                 }
@@ -248,8 +248,8 @@ impl Connection {
         self.reporter
     }
 
-    /// What it has to be watched for. A socket that takes all is not watched for writes: it would
-    /// be told each time that the peer reads.
+    /// What it has to be watched for. A socket that takes all is not watched for writes: each time
+    /// that the peer reads would be reported.
     pub fn watched(&self) -> Watched {
         match (self.outgoing.is_empty(), self.ends_for.is_some()) {
             (true, _) => Watched::Reads,
@@ -264,13 +264,13 @@ impl Connection {
         self.outgoing.waits()
     }
 
-    /// Hears nothing more of it, for this reason. It is over when nothing waits for a commit, and
+    /// Takes nothing more from it, for this reason. It is over when nothing waits for a commit, and
     /// all is written.
     pub fn end(&mut self, reason: CloseReason) {
         self.ends_for.get_or_insert(reason);
     }
 
-    /// Why nothing more is heard of it.
+    /// Why nothing more is taken from it.
     pub fn ends_for(&self) -> Option<CloseReason> {
         self.ends_for
     }
@@ -306,7 +306,7 @@ impl Connection {
         now.saturating_duration_since(self.heard)
     }
 
-    /// The peer's host takes host frames, and its Hello is answered so, before all else.
+    /// The peer's host takes host frames, and its Hello gets this answer before everything else.
     pub fn greet(&mut self, answer: FromServer) {
         self.host.get_or_insert_default().answer = answer.frame();
     }
@@ -331,7 +331,7 @@ impl Connection {
         self.told.waits()
     }
 
-    /// A commit begins: what the connection was told so far waits for it.
+    /// A commit begins: the host frames that were put so far wait for it.
     pub fn begin_commit(&mut self) {
         self.told.begin_commit();
     }
@@ -341,7 +341,7 @@ impl Connection {
         self.told.end_commit();
     }
 
-    /// Puts a frame of the server into the batch. So far has the store come.
+    /// Puts a frame of the server into the batch. `seen` is how far the store has come.
     pub fn say(&mut self, frame: &[u8], seen: Option<Seen>) {
         self.begin_batch(seen);
         if self.batch == Batch::Begun {
@@ -349,15 +349,15 @@ impl Connection {
         }
     }
 
-    /// Ends the batch, which has what was told and may leave, even if nothing was said.
+    /// Ends the batch, which has the host frames that may leave, even if it has no message.
     pub fn end_batch(&mut self, seen: Option<Seen>) {
         self.begin_batch(seen);
         self.batch = Batch::NotBegun;
     }
 
     /// Begins a batch, unless so much waits already that the peer seems stuck: then it is lost. To
-    /// a host it says before all else how far the store has come, if that is news. A connection
-    /// that ends serves no client, and is told nothing of the store.
+    /// a host it first sends how far the store has come, if that is news. A connection that ends
+    /// serves no client, and learns nothing of the store.
     fn begin_batch(&mut self, seen: Option<Seen>) {
         if self.batch != Batch::NotBegun {
             return;

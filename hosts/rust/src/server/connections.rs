@@ -19,11 +19,10 @@ use std::fmt::Display;
 use std::io::{self, Read, Write};
 use std::time::{Duration, Instant};
 
-/// The most connections that are open at once, unless a server is told otherwise. One more is
-/// closed as it comes.
+/// The most connections that are open at once, by default. One more is closed as it comes.
 pub(crate) const MAX_CONNECTIONS: usize = 256;
 
-/// A client speaks on a connection on which something has come within this time: each ticks more
+/// A client is active on a connection on which something has come within this time: each ticks more
 /// often, several times a second.
 const SPEAKS: Duration = Duration::from_secs(2);
 
@@ -115,17 +114,17 @@ impl Connections {
         self.now
     }
 
-    /// Whether a connection may have something to be heard or read.
+    /// Whether a connection may have something to be judged or read.
     pub fn are_busy(&self) -> bool {
         !self.ready.is_empty()
     }
 
-    /// How many connections may have something to be heard or read.
+    /// How many connections may have something to be judged or read.
     pub fn count_ready(&self) -> usize {
         self.ready.len()
     }
 
-    /// The system has told what the socket of this connection is ready for.
+    /// The system has reported what the socket of this connection is ready for.
     pub fn is_ready(&mut self, number: u64, readiness: Readiness) {
         let Some(peer) = self.open.get_mut(&number) else { return };
         if readiness.reads {
@@ -220,7 +219,7 @@ impl Connections {
         self.close_for(number, reason, &"");
     }
 
-    /// Closes a connection for this reason, of which `why` says more.
+    /// Closes a connection for this reason, which `why` describes.
     fn close_for(&mut self, number: u64, reason: CloseReason, why: &dyn Display) {
         let at = self.at(number);
         if let Some(Peer { connection, .. }) = self.open.remove(&number) {
@@ -231,7 +230,7 @@ impl Connections {
         self.routes.close(number);
     }
 
-    /// Hears nothing more of the connection, for this reason, and closes it after the commit that
+    /// Takes nothing more from the connection, for this reason, and closes it after the commit that
     /// begins next, when all is written.
     pub fn end(&mut self, number: u64, reason: CloseReason) {
         if let Some(peer) = self.in_waiting(number) {
@@ -240,8 +239,8 @@ impl Connections {
         self.routes.close(number);
     }
 
-    /// The host of this peer takes host frames, and its Hello is answered so. The answer rests on
-    /// nothing that is not committed: it leaves with the next batch, before all else.
+    /// The host of this peer takes host frames, and its Hello gets this answer. The answer rests on
+    /// nothing that is not committed: it leaves with the next batch, before everything else.
     pub fn greet(&mut self, number: u64, answer: FromServer) {
         if let Some(peer) = self.in_sending(number) {
             peer.greet(answer);
@@ -263,7 +262,8 @@ impl Connections {
         }
     }
 
-    /// A commit begins: what connections were told so far waits for it, and so do their ends.
+    /// A commit begins: the host frames that were put so far wait for it, and so do the ends of
+    /// connections.
     pub fn begin_commit(&mut self) {
         self.committing = std::mem::take(&mut self.waiting);
         for number in &self.committing {
@@ -350,8 +350,8 @@ impl Connections {
         self.open.len()
     }
 
-    /// Begins to send: what was told and may leave, and after it what the server says. So far has
-    /// the store come. Nothing that was not committed may be sent.
+    /// Begins to send: the host frames that may leave, and after them the server's messages. `seen`
+    /// is how far the store has come. Nothing that was not committed may be sent.
     pub fn send(&mut self, seen: Option<Seen>) -> Sending<'_> {
         Sending { connections: self, seen }
     }
@@ -384,8 +384,8 @@ impl Connections {
         self.close(number, CloseReason::Ended);
     }
 
-    /// Closes the connections whose peers are silent, take nothing, or do not say who they are, for
-    /// too long.
+    /// Closes the connections whose peers are silent, take nothing, or do not show who they are,
+    /// for too long.
     pub fn close_dead(&mut self) {
         let now = self.now.monotonic;
         let why_dead = |(number, peer): (&u64, &Peer)| {
@@ -401,7 +401,7 @@ impl Connections {
         }
     }
 
-    /// Hears nothing more of any connection: each is closed when all is written that was sent.
+    /// Takes nothing more from any connection: each is closed when all is written that was sent.
     pub fn end_all(&mut self) {
         for (number, peer) in &mut self.open {
             peer.connection.end(CloseReason::Ended);

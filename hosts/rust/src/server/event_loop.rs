@@ -1,5 +1,5 @@
-//! What a server decides, without its store, its sockets and a clock: it judges what has come, says
-//! what has to be committed, and only then what leaves. [`thread`] is the shell around it.
+//! What a server decides, without its store, its sockets and a clock: it judges what has come,
+//! states what has to be committed, and only then what leaves. [`thread`] is the shell around it.
 use crate::lease::clocks::Now;
 use crate::lease::of_server::LeaseTable;
 use crate::log::event_log::EventLog;
@@ -29,8 +29,8 @@ use std::mem;
 use std::sync::Arc;
 use std::time::{Duration, Instant};
 
-/// How often a client that seems stuck is told again what it may have missed, and the server is
-/// asked who waits for whom.
+/// How often a client that seems stuck gets again what it may have missed, and the server is asked
+/// which client waits for which.
 const NUDGE: Duration = Duration::from_millis(50);
 
 /// How often a server that commits nothing asks whether the store is still its own.
@@ -73,7 +73,7 @@ pub(crate) struct EventLoop {
     group: CommitGroup,
     /// The server is to end, and continues until then at most.
     until: Option<Instant>,
-    /// Why it is to end, if nobody has told it to.
+    /// Why it is to end, if nobody has asked it to.
     failure: Option<ServeError>,
     timings: Arc<Timings>,
     open: Open,
@@ -148,12 +148,12 @@ impl EventLoop {
         &mut self.connections
     }
 
-    /// The server is told to end, and continues for a while to judge what has come.
+    /// The server is asked to end, and continues for a while to judge what has come.
     pub fn stop(&mut self, now: Now) {
         self.until = Some(now.monotonic + LAST_TURNS);
     }
 
-    /// Whether it has been told to end.
+    /// Whether it has been asked to end.
     pub fn is_to_end(&self) -> bool {
         self.until.is_some()
     }
@@ -166,7 +166,7 @@ impl EventLoop {
         !self.until.is_some_and(is_over)
     }
 
-    /// Why it has ended, if nobody has told it to. It is reported once.
+    /// Why it has ended, if nobody has asked it to. It is reported once.
     pub fn take_failure(&mut self) -> Option<ServeError> {
         self.failure.take()
     }
@@ -188,7 +188,7 @@ impl EventLoop {
         self.timings.turned(began.monotonic, self.turned);
     }
 
-    /// Hears the connection whose turn it is.
+    /// Judges what the connection has whose turn it is.
     pub fn hear_next(&mut self) -> Result<Heard, ServeError> {
         match self.connections.turn() {
             Turn::Nobody => Ok(Heard::Nobody),
@@ -197,7 +197,7 @@ impl EventLoop {
         }
     }
 
-    /// Hears what a connection has.
+    /// Judges what a connection has.
     pub fn take(&mut self, turn: Turn) -> Result<(), ServeError> {
         match turn {
             Turn::Nobody | Turn::Nothing | Turn::Read(_) => {}
@@ -240,8 +240,8 @@ impl EventLoop {
         }
     }
 
-    /// Gives the server one message, and says what has to be kept. A string that is no message ends
-    /// its connection.
+    /// Gives the server one message, and returns what has to be kept. A string that is not a
+    /// message ends its connection.
     fn judge(
         &mut self,
         connection: u64,
@@ -295,7 +295,7 @@ impl EventLoop {
                 }
                 self.connections.route(client, connection);
             }
-            // The frame leaves after the change is on the disk, and tells the client that it need
+            // The frame leaves after the change is on the disk. It shows the client that it need
             // not send Bye again.
             (Sender::Left, Kind::Bye) => self.connections.tell(connection, &frames::EMPTY),
             (Sender::Left, _) => {}
@@ -347,10 +347,10 @@ impl EventLoop {
         Ok(())
     }
 
-    /// Has those called back who hold what others wait for.
+    /// Has those clients called back that hold what others wait for.
     ///
     /// The library calls nobody back after a release. If the release has let it grant something
-    /// that somebody else waits for, it would do so after the next message that acts. A client
+    /// that another client waits for, it would do so after the next message that acts. A client
     /// need not acknowledge the grant by a message of its own, so that message may come late.
     fn call_back_for_waiters(&mut self) {
         for client in self.open.waiting() {

@@ -15,7 +15,7 @@ const ATTEMPT: Duration = Duration::from_millis(100);
 /// The host's Hello is shorter than this.
 const LONGEST: usize = 64;
 
-/// Hears the first frame, answers a Hello of the peer's host with the reason, and closes the
+/// Reads the first frame, answers a Hello of the peer's host with the reason, and closes the
 /// connection.
 pub(crate) fn tell(mut stream: Stream, connections: u64) {
     let end = Instant::now() + PATIENCE;
@@ -68,7 +68,7 @@ mod tests {
     use std::os::unix::net::UnixStream;
     use std::thread;
 
-    /// What a peer hears that sends these pieces.
+    /// What a peer that sends these pieces receives.
     fn heard(pieces: &[&[u8]]) -> Vec<u8> {
         let (ours, mut theirs) = UnixStream::pair().unwrap();
         let told = thread::spawn(move || tell(Stream::Unix(ours), 5));

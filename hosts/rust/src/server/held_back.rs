@@ -7,7 +7,7 @@ use std::time::{Duration, Instant};
 /// How long a repeat is held back.
 ///
 /// A server repeats a push if a client seems not to have seen it, and a client acknowledges what it
-/// hears again. Without this, one late acknowledgement brings a repeat, the repeat another late
+/// receives again. Without this, one late acknowledgement brings a repeat, the repeat another late
 /// acknowledgement, and so on forever.
 ///
 /// A server calls back again, for each waiter, with each message that acts. A client answers each

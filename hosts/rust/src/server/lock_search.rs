@@ -12,7 +12,7 @@ const PAGE: usize = 1024;
 const LONG: Duration = Duration::from_millis(10);
 const SHORT: Duration = Duration::from_millis(1);
 
-/// Neighboring slots of which a client holds something in one mode.
+/// Neighboring slots that a client holds in one mode.
 #[derive(Clone, Copy, Debug, PartialEq, Eq, PartialOrd, Ord)]
 #[non_exhaustive]
 pub struct HeldRun {
@@ -37,8 +37,8 @@ enum Runs {
     Joined,
 }
 
-/// What is asked for: the slots that meet the points, at most this many runs of each client. It has
-/// too from which client and point on they have not been looked up yet.
+/// What is asked for: the slots that meet the points, at most this many runs of each client. It
+/// also has the client and the point from which on they have not been looked up yet.
 #[derive(Clone, Debug)]
 pub(crate) struct Search {
     points: Range<u64>,
@@ -92,7 +92,7 @@ impl HeldRun {
 }
 
 impl Search {
-    /// A search for single slots, for somebody who waits for it.
+    /// A search for single slots, for a caller that waits for it.
     pub fn of_slots(points: Range<u64>, most: usize) -> Search {
         Search::new(points, most, Runs::OfOneSlot, LONG)
     }

@@ -72,7 +72,7 @@ impl Requests {
 
     /// Has the loop end. It waits until the loop takes that, if it is busy.
     pub fn stop(&self) {
-        // One that does not hear it has ended already.
+        // One that does not take it has ended already.
         let _ = self.waiting.send(Request::Stop);
         let _ = self.waker.wake();
     }

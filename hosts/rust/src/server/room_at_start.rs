@@ -15,7 +15,7 @@ pub(crate) struct RoomAtStart {
 
 impl RoomAtStart {
     /// The room of a server that is given this one, or none: then it is the one that the store
-    /// keeps, so that nobody's insert is refused since somebody forgot to give it.
+    /// keeps, so that no insert is refused because somebody forgot to give it.
     ///
     /// # Errors
     ///

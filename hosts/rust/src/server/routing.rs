@@ -11,7 +11,7 @@ pub(crate) enum Sender {
     /// It comes from that client, which has left. Nothing more goes to it but the frame of no
     /// bytes.
     Left,
-    /// It comes from another incarnation, or from nobody that ever sent Hello. Whoever sent it gets
+    /// It comes from another incarnation, or from one that never sent Hello. Its sender gets
     /// nothing: otherwise an evicted process that still runs would take its successor's messages.
     Stranger,
 }
@@ -26,7 +26,7 @@ pub(crate) fn sender(record: Option<&Record>, incarnation: u64) -> Sender {
     }
 }
 
-/// The connection on which each client spoke last.
+/// The connection on which each client was active last.
 #[derive(Debug, Default)]
 pub(crate) struct Routes {
     connections: HashMap<u8, u64>,

@@ -35,8 +35,8 @@ struct Socket {
 }
 
 impl Sockets {
-    /// Takes connections from the listener, and tells those for which there is no room that there are
-    /// so many; and what wakes it from other threads.
+    /// Takes connections from the listener, and reports to those for which there is no room that
+    /// there are so many; and what wakes it from other threads.
     pub fn new(
         listener: Listener,
         max_connections: usize,
@@ -48,8 +48,8 @@ impl Sockets {
         Ok((Sockets { poller, listening, access, open: HashMap::new() }, waker))
     }
 
-    /// Waits until there is something to do, but not longer than this, and says when that was. It
-    /// writes what peers take of what was sent, and takes new connections. It fails if no
+    /// Waits until there is something to do, but not longer than this, and returns when that was.
+    /// It writes what peers take of what was sent, and takes new connections. It fails if no
     /// connection can be taken any more.
     pub fn wait(&mut self, connections: &mut Connections, longest: Duration) -> io::Result<Now> {
         let is_busy =
@@ -102,7 +102,7 @@ impl Sockets {
         Ok(())
     }
 
-    /// Reads once from this connection, and says what it has then.
+    /// Reads once from this connection, and returns what it has then.
     pub fn read(&mut self, connections: &mut Connections, number: u64) -> Turn {
         let Some(socket) = self.open.get_mut(&number) else { return Turn::Nothing };
         let came = connections.fill(number, &mut socket.stream);
@@ -132,7 +132,7 @@ impl Sockets {
         }
     }
 
-    /// Closes a connection. Its peer hears why, if it can: what waits is written once more.
+    /// Closes a connection. Its peer learns why, if it can: what waits is written once more.
     fn close(&mut self, closed: Closed, now: Now) {
         let Closed { number, mut connection } = closed;
         let Some(mut socket) = self.open.remove(&number) else { return };
@@ -163,8 +163,8 @@ impl Sockets {
 }
 
 impl Drop for Socket {
-    /// Reads what the peer has said after all that was heard: a stream that is closed with bytes unread
-    /// may take the last answer with it.
+    /// Reads what the peer has sent after all that was read: a stream that is closed with bytes
+    /// unread may take the last answer with it.
     fn drop(&mut self) {
         let mut rest = [0; GULP];
         let mut reads = (0..LAST_READS).map(|_| self.stream.read(&mut rest));

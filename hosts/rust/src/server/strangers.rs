@@ -1,4 +1,4 @@
-//! Connections of which nobody knows yet whose they are, and room for those of which it is known.
+//! Connections whose owners are not known yet, and room for those whose owners are known.
 use crate::access::identity::Identity;
 use std::collections::VecDeque;
 use std::net::{IpAddr, Ipv6Addr};
@@ -93,7 +93,7 @@ impl Strangers {
     }
 }
 
-/// Who has one address of the sixth version has 2^64 of them.
+/// A holder of one IPv6 address has 2^64 of them.
 fn network_of(address: IpAddr) -> IpAddr {
     match address.to_canonical() {
         IpAddr::V6(address) => IpAddr::V6(Ipv6Addr::from(u128::from(address) >> 64 << 64)),

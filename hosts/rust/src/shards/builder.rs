@@ -105,7 +105,7 @@ impl ShardedBuilder {
         failed.map_or_else(|| Ok(ShardedClient::of(joined)), Err)
     }
 
-    /// The shards that have some of the keys. They lie next to one another.
+    /// The shards that have some of the keys. They lie next to each other.
     fn places(&self) -> Option<Range<usize>> {
         let parts = self.map.parts(self.keys.clone()).ok()?;
         Some(parts.first()?.shard..parts.last()?.shard + 1)

@@ -1,4 +1,4 @@
-//! A client of several servers, each of which has a part of the keys.
+//! A client of several servers, each with a part of the keys.
 use crate::client::Client;
 use crate::client::changes::Waited;
 use crate::client::changes::{Changes, WatchedRange};
@@ -66,7 +66,7 @@ pub struct ShardStatus {
     /// The shard's place in the map, from 0.
     pub shard: usize,
     /// The epoch that the shard's client has joined: how many times its server had started by then.
-    /// Error as [`Client::epoch`] is.
+    /// An error as in [`Client::epoch`].
     pub epoch: Result<u64, Error>,
     /// Whether there is a connection just now.
     pub is_connected: bool,
@@ -165,9 +165,9 @@ impl ShardedClient {
         self.within(self.timeout()).pin_for_write(keys)
     }
 
-    /// Pins the range, when the client holds all of it: **it waits, other than [`Client::pin`]**.
+    /// Pins the range, when the client holds all of it: **unlike [`Client::pin`], it waits**.
     /// Otherwise a part would be pinned while an earlier one is still to come, and two clients
-    /// could wait for one another.
+    /// could wait for each other.
     ///
     /// # Errors
     ///
@@ -291,7 +291,7 @@ impl ShardedClient {
     ///
     /// # Errors
     ///
-    /// `BadRange` if the range is none, or has keys of a shard that is not joined.
+    /// `BadRange` if the range is not valid, or has keys of a shard that is not joined.
     pub fn wait_for_change(
         &self,
         keys: impl RangeBounds<u64>,
@@ -306,8 +306,8 @@ impl ShardedClient {
     ///
     /// # Errors
     ///
-    /// `BadRange` if the range is empty or none, or has keys of a shard that is not joined. Items
-    /// are the errors of [`ShardedClient::read`].
+    /// `BadRange` if the range is empty or not valid, or has keys of a shard that is not joined.
+    /// Items are the errors of [`ShardedClient::read`].
     pub fn changes(&self, keys: impl RangeBounds<u64>) -> Result<Changes<ShardError>, ShardError> {
         let keys = keys_of(&keys)?;
         if self.joined.parts(keys.clone())?.is_empty() {

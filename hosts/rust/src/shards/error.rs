@@ -8,8 +8,8 @@ use std::fmt;
 #[derive(Clone, Copy, Debug, PartialEq, Eq)]
 #[non_exhaustive]
 pub struct ShardError {
-    /// The shard whose client refused, from 0. `None` if no shard did: the range or the key is none,
-    /// or no moment came at which all shards were known together.
+    /// The shard whose client refused, from 0. `None` if no shard did: the range or the key is not
+    /// valid, or no moment came at which all shards were known together.
     pub shard: Option<usize>,
     /// Why.
     pub error: Error,

@@ -84,7 +84,7 @@ impl Joined {
         let mut rows = Vec::new();
         while !self.is_known(&parts, &mut rows) {
             // Nothing is pinned before each shard has answered: otherwise one that is down would
-            // keep those waiting who write at the others.
+            // keep writers at the others waiting.
             self.fetch(&parts, end)?;
             if self.is_known(&parts, &mut rows) {
                 break;

@@ -19,7 +19,7 @@ pub struct Shard {
     pub servers: Servers,
 }
 
-/// All keys, cut into shards, of which each has a server and a store of its own.
+/// All keys, cut into shards, each with a server and a store of its own.
 ///
 /// **All clients have to have the same map**: a client with another one would write keys at the wrong
 /// server, where the others don't see them. A map with a version is fenced: each server is started
@@ -55,7 +55,7 @@ impl ShardMap {
     ///
     /// # Errors
     ///
-    /// `BadShardMap`, which describes what makes none.
+    /// `BadShardMap`, which describes why they make none.
     pub fn new(shards: Vec<Shard>) -> Result<ShardMap, BadShardMap> {
         let mut firsts = shards.iter().map(|shard| shard.first);
         if firsts.next() != Some(0) {

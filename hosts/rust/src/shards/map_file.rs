@@ -6,13 +6,13 @@ use std::io;
 use std::num::NonZeroU64;
 use std::path::Path;
 
-/// Why a text is no map.
+/// Why a text is not a map.
 #[derive(Debug)]
 #[non_exhaustive]
 pub enum BadMapFile {
     /// The file can't be read.
     File(io::Error),
-    /// It is not written as a map is: what is wrong, and in which line.
+    /// It does not have the form of a map: what is wrong, and in which line.
     Form(String),
     /// Its shards make no map.
     Shards(BadShardMap),
@@ -76,7 +76,7 @@ impl ShardMap {
         ShardMap::from_toml(&std::fs::read_to_string(path).map_err(BadMapFile::File)?)
     }
 
-    /// The text of this map. That of a map without a version lacks it, and is read as none.
+    /// The text of this map. That of a map without a version lacks it, and cannot be read as a map.
     #[must_use]
     pub fn to_toml(&self) -> String {
         let version = self.version().map(|version| format!("version = {version}\n"));

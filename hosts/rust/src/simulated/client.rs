@@ -35,7 +35,7 @@ pub struct Begin {
     pub before: Before,
     /// How many servers it may connect to.
     pub servers: usize,
-    /// Whether its host signs: one of before leases does not.
+    /// Whether its host signs: an older one, without leases, does not.
     pub signs: bool,
     /// It draws its pauses by this.
     pub seed: u64,
@@ -52,7 +52,7 @@ pub enum Before {
     Vouched,
 }
 
-/// Something that a client was asked.
+/// Something that a client was asked to do.
 pub struct Call<T>(Asked<T>);
 
 /// What a client knows of a range.
@@ -156,7 +156,7 @@ impl Client {
         Ok(self.session.due_in())
     }
 
-    /// Appends what it says.
+    /// Appends what it sends.
     pub fn take(&mut self, bytes: &mut Vec<u8>, time: Duration) {
         self.at(time).take(bytes);
     }
@@ -206,7 +206,7 @@ impl Client {
         self.at(time).jobs().unpin(pin);
     }
 
-    /// Waits until what it knows of the range is no more these rows.
+    /// Waits until what it knows of the range is no longer these rows.
     pub fn watch(&mut self, keys: Range<u64>, rows: Vec<Row>, time: Duration) -> Call<()> {
         Call(self.at(time).jobs().watch(keys, rows))
     }

@@ -105,8 +105,8 @@ impl Server {
         now
     }
 
-    /// A client connects, of which a certificate shows the number, or nothing does. It answers the
-    /// connection's number, if there is room.
+    /// A client connects, whose number a certificate shows, or nothing. It answers the connection's
+    /// number, if there is room.
     pub fn connect(&mut self, client: Option<u8>, time: Duration) -> Option<u64> {
         self.at(time);
         let of_client = |number: u8| number.to_string().parse().ok();
@@ -135,7 +135,7 @@ impl Server {
         self.deliver(connection, &[], time);
     }
 
-    /// An operator tells it to end.
+    /// An operator asks it to end.
     pub fn stop(&mut self, time: Duration) {
         let now = self.at(time);
         self.events.stop(now);
@@ -239,7 +239,7 @@ impl Server {
         self.events.goes_on(was_to_end, began, judged)
     }
 
-    /// Why it has ended, if nobody has told it to. It is reported once.
+    /// Why it has ended, if nobody has asked it to. It is reported once.
     pub fn take_failure(&mut self) -> Option<ServeError> {
         self.events.take_failure()
     }

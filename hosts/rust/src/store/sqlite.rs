@@ -96,8 +96,8 @@ impl SqliteStore {
     /// Opens the file, and makes it if there is none. Another process that has it open makes
     /// this fail, and every later open of another process fails while this store lives.
     ///
-    /// The file says that it is a store, and of which version. One that an older krl made says
-    /// nothing of that yet, and says it from now on.
+    /// The file notes that it is a store, and of which version. One that an older krl made lacks
+    /// this note, and has it from now on.
     ///
     /// # Errors
     ///
@@ -151,7 +151,7 @@ impl SqliteStore {
         let connection = Connection::open(path)?;
         connection.busy_timeout(TIMEOUT)?;
         connection.pragma_update(None, "locking_mode", locking)?;
-        // A file that is no store is left as it is.
+        // A file that is not a store is left as it is.
         let found = version::look(&connection)?;
         if found == Found::Bare && !had_log {
             return Err(StoreError::says(version::BARE));
@@ -246,7 +246,7 @@ fn finish(
 }
 
 /// Refuses what rests on another state of the store than this one. The marks are compared only if
-/// SQLite reports that somebody else has committed something since.
+/// SQLite reports that another connection has committed something since.
 fn is_own(transaction: &WriteTransaction<'_>, known: Known) -> Result<(), StoreError> {
     let Known { last, .. } = known;
     if known.version == progress::data_version(transaction)? {

@@ -1,4 +1,4 @@
-//! Tests that every store has to pass, for the tests of whoever writes one.
+//! Tests that every store has to pass, for the tests of its author.
 //!
 //! Each test is given what opens the store as a server does that starts: a new value of the store,
 //! over all that was committed before. No test but those of a fence has two values at a time. A

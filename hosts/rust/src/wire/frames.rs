@@ -1,6 +1,6 @@
 //! Messages on a stream: each has its length before it, in eight bytes, the lowest first.
 //!
-//! A frame of no bytes is no message: by it a server's host reports that a Bye is kept.
+//! A frame of no bytes is not a message: by it a server's host reports that a Bye is kept.
 use crate::model::room::Room;
 use crate::proved::ffi;
 use std::io::{self, Read};
@@ -14,7 +14,7 @@ pub(crate) fn longest_to_server(room: Room) -> usize {
     LONGEST_TO_SERVER * room.rows().div_ceil(ffi::DEFAULT_ROOM)
 }
 
-/// The longest message to a server that is no report, and the longest frame of a host: an insert
+/// The longest message to a server that is not a report, and the longest frame of a host: an insert
 /// has 83 bytes. Only a report that the server admits may be longer.
 pub(crate) const LONGEST_SHORT: usize = 1 << 10;
 
@@ -38,10 +38,10 @@ const PREFIX: usize = 8;
 /// How much is read at once.
 pub(crate) const GULP: usize = 1 << 14;
 
-/// So much room is kept for the next bytes when all that came is taken.
+/// This much room is kept for the next bytes when all that came is taken.
 const KEPT: usize = 4 * GULP;
 
-/// A frame that promises more than a message has. The connection can't continue.
+/// A frame that promises more bytes than a message has. The connection can't continue.
 #[derive(Clone, Copy, Debug, PartialEq, Eq)]
 pub(crate) struct TooLong;
 

@@ -19,7 +19,7 @@ const BEFORE_VERSIONS: u8 = 1;
 /// The second byte of a server's Hello if it answers signs; otherwise it is 0.
 const ANSWERS_SIGNS: u8 = 1;
 
-/// How many bytes a mark has: it may lack the store's first start, and a client may have heard
+/// How many bytes a mark has: it may lack the store's first start, and a client may have received
 /// none.
 const MARK_LENGTHS: [usize; 3] = [0, 24, 40];
 
@@ -33,7 +33,7 @@ pub(crate) enum FromClient {
     OtherVersion,
     /// It takes the server for this shard's.
     Shard(ShardBounds),
-    /// The same, with numbers that are no shard's. No host sends it.
+    /// The same, with numbers that are not a shard's. No host sends it.
     NoShard,
 }
 
@@ -135,7 +135,7 @@ impl FromServer {
     }
 }
 
-/// What follows the kind of a client's Hello: the mark, if it has heard one, and the version.
+/// What follows the kind of a client's Hello: the mark, if it has received one, and the version.
 fn read_hello(said: &[u8]) -> FromClient {
     match said.split_last() {
         Some((&STREAM_VERSION, mark)) if MARK_LENGTHS.contains(&mark.len()) => {
@@ -305,7 +305,7 @@ mod tests {
             assert_eq!(FromServer::read(hello), refused(read), "{hello:?}");
         }
         let of_client = |said: &[u8]| FromClient::read(&[&[0, 0], said].concat());
-        // A mark of a host of before versions may end as a version does.
+        // A mark of a host from before versions may end as a version does.
         for said in [&[][..], &[3; 24], &[3; 40], &[1], &[2], &[3, 9], &[3; 26]] {
             assert_eq!(of_client(said), Some(FromClient::OtherVersion), "{said:?}");
         }

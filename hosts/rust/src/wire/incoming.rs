@@ -6,9 +6,9 @@ use crate::wire::message::Message;
 /// A frame that has come to a server, read once.
 #[derive(Clone, Copy, Debug)]
 pub(crate) enum Incoming<'f> {
-    /// A message of the library, or a string that is none: the library judges it.
+    /// A message of the library, or a string that is not one: the library judges it.
     Message(Message<'f>),
-    /// A word of the client's host, or `None` if this server does not know it.
+    /// A frame of the client's host, or `None` if this server does not know its kind.
     Host(Option<FromClient>),
     /// A sign of the client's host.
     Sign(Sign),
@@ -23,7 +23,7 @@ impl Incoming<'_> {
         Sign::read(frame).map_or_else(|| Incoming::Host(FromClient::read(frame)), Incoming::Sign)
     }
 
-    /// The client that it names as the one that speaks, if it is one.
+    /// The client that it names as its sender, if it is one.
     pub fn client(&self) -> Option<u8> {
         match self {
             Incoming::Message(message) => message.client(),

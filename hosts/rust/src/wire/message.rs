@@ -150,7 +150,7 @@ impl<'m> Message<'m> {
         reporter.filter(|_| !self.is_of_another_version())
     }
 
-    /// The epoch that a message to a client is of.
+    /// The epoch of a message to a client.
     pub fn epoch(&self) -> Option<u64> {
         number(self.bytes, EPOCH_AT)
     }

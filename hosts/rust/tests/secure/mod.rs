@@ -88,7 +88,7 @@ pub fn serve_with(shown: &TlsConfig) -> Server {
     Server::builder(listener, MemoryStore::default()).access(access).start().unwrap()
 }
 
-/// What a server looks like when all that it has heard is shown.
+/// What a server looks like when all that it has received is shown.
 pub fn settled(server: &Server) -> Status {
     thread::sleep(Duration::from_millis(100));
     server.status()

@@ -2,8 +2,8 @@
 use krl::{Change, MemoryStore, Snapshot, Store, StoreError};
 use std::sync::{Arc, Mutex};
 
-/// A store in memory that is shared by its clones. It compares nobody who commits: so one server at
-/// a time may have it.
+/// A store in memory that is shared by its clones. It does not compare who commits: so one server
+/// at a time may have it.
 #[derive(Clone, Default)]
 pub struct SharedStore(Arc<Mutex<MemoryStore>>);
 

@@ -35,7 +35,7 @@ impl World {
         builder.timeout(LONG).join().unwrap()
     }
 
-    /// A client of both servers, of which the second one has the keys from 100 on.
+    /// A client of both servers. The second one has the keys from 100 on.
     pub fn join_both(&self, number: u8) -> ShardedClient {
         let shard =
             |(first, server): (u64, &Server)| Shard { first, servers: server.address().into() };

@@ -1,4 +1,4 @@
-//! Who waits for whom in a circle.
+//! Which clients wait for each other in a circle.
 use krl::Wait;
 
 const CLIENTS: usize = 64;
@@ -34,7 +34,7 @@ impl Deadlocks {
         self.waits_for(client, other) && self.waits_for(other, client)
     }
 
-    /// The groups of clients of which each waits for each other, in ascending order.
+    /// The groups of clients in which each waits for each other, in ascending order.
     pub fn groups(&self) -> Vec<Vec<u8>> {
         let clients = || (0u8..64).filter(|client| self.has(*client));
         let group = |client: u8| clients().filter(|it| self.has_edge(client, *it)).collect();

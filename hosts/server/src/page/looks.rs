@@ -1,9 +1,9 @@
 //! Looks at who holds what, for pictures: no more than the server's loop has time for.
 //!
-//! The server goes through its whole table for each client, and a page is read again each second by
-//! anybody who watches. So all who watch share one look at each range, which a thread makes again
-//! for as long as somebody asks. After each part of it, that thread pauses for long enough that all
-//! looks take less than one percent of the loop's time.
+//! The server goes through its whole table for each client, and every viewer reads a page again
+//! each second. So all viewers share one look at each range, which a thread makes again for as long
+//! as somebody asks. After each part of it, that thread pauses for long enough that all looks take
+//! less than one percent of the loop's time.
 use krl::{HeldPage, HeldRun, HeldSearch, LocksError, Monitor};
 use std::collections::BTreeMap;
 use std::ops::Range;
@@ -31,7 +31,7 @@ const MOST_VIEWS: usize = 8;
 /// A range for which nobody has asked for this long is no longer looked at.
 const FORGOTTEN: Duration = Duration::from_secs(10);
 
-/// How long those who ask first wait for a look to be whole.
+/// How long the first viewers wait for a look to be complete.
 const FIRST: Duration = Duration::from_secs(1);
 
 /// The looks of a process at its server.
@@ -49,9 +49,10 @@ struct Shared {
 pub struct Held {
     /// The runs that meet the range, in ascending order. Those of one client do not overlap.
     pub runs: Vec<HeldRun>,
-    /// Where the points begin of which nothing is shown, if there are more runs than a picture has.
+    /// Where the points begin for which nothing is shown, if there are more runs than a picture
+    /// has.
     pub next: Option<u64>,
-    /// How long ago the client was seen that was seen the longest ago; none if not all were seen.
+    /// How old the oldest part of what was seen is; none if not all clients were seen.
     pub age: Option<Duration>,
 }
 
@@ -118,7 +119,7 @@ impl Looks {
         if !views.are_looked_at {
             let looks = self.clone();
             let looker = thread::Builder::new().name("looks".to_string());
-            // Without a thread nothing is seen until somebody asks again.
+            // Without a thread nothing is seen until a viewer asks again.
             views.are_looked_at = looker.spawn(move || looks.look()).is_ok();
         }
     }
@@ -163,8 +164,8 @@ enum Work {
 }
 
 impl Views {
-    /// Somebody asks for this range now. What the range for which nobody has asked for longest was
-    /// seen to hold is forgotten if there are too many.
+    /// Somebody asks for this range now. If there are too many ranges, what was seen of the one
+    /// that has not been asked for the longest is dropped.
     fn ask(&mut self, monitor: &Monitor, epoch: u64, points: &Range<u64>, now: Instant) {
         if let Some(view) = self.view(epoch, points) {
             view.asked = now;

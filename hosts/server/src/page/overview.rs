@@ -78,7 +78,7 @@ impl Overview<'_> {
         head.text()
     }
 
-    /// What somebody has to look at.
+    /// What an operator has to look at.
     fn alarms(&self) -> String {
         let status = self.status;
         let failure = status.failure.iter().map(|why| format!("The server has failed: {why}"));
@@ -99,7 +99,7 @@ impl Overview<'_> {
         text.text()
     }
 
-    /// Whom a server waits for that does not serve, and until when at the latest.
+    /// Which clients a recovering server waits for, and until when at the latest.
     fn recovery(&self) -> String {
         let status = self.status;
         if status.is_serving || status.failure.is_some() || status.missing.is_empty() {

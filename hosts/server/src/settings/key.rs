@@ -92,7 +92,7 @@ pub const OTHERS: Key = Key {
     variable: "KRL_OTHERS",
     id: "others",
     default: "",
-    expected: "addresses of status ports, at most 63, as 10.0.0.2:7401 tls:db3:7401",
+    expected: "addresses of status ports, at most 63, such as 10.0.0.2:7401 tls:db3:7401",
 };
 pub const LOG_LEVEL: Key = Key {
     name: "log-level",
@@ -140,7 +140,7 @@ pub const SHARD: Key = Key {
     variable: "KRL_SHARD",
     id: "shard",
     default: "",
-    expected: "FIRST..END@VERSION, as 0..500000@3, or 500000..@3 for the last shard",
+    expected: "FIRST..END@VERSION, such as 0..500000@3, or 500000..@3 for the last shard",
 };
 pub const ELECTION_LEASE: Key = Key {
     name: "election-lease",

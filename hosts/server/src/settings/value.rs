@@ -57,7 +57,7 @@ pub enum LeaseLength {
     Of(Leases),
 }
 
-/// How much further the server's clock may go than a client's, in percent.
+/// How much further the server's clock may advance than a client's, in percent.
 #[derive(Clone, Copy, Debug, PartialEq, Eq)]
 pub struct Drift(u32);
 
@@ -87,7 +87,7 @@ pub struct StatusPorts(pub Vec<String>);
 #[derive(Clone, Debug, PartialEq, Eq)]
 pub struct Users(pub Vec<(u32, Identity)>);
 
-/// Whether something is so.
+/// Whether something is true.
 #[derive(Clone, Copy, Debug, PartialEq, Eq)]
 pub enum YesNo {
     Yes,

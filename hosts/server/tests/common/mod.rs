@@ -203,7 +203,7 @@ pub fn lock_file(folder: &Path, number: u8) -> PathBuf {
     folder.join(format!("client-{number}.lock"))
 }
 
-/// Waits until it is so.
+/// Waits until it is true.
 pub fn until(what: &str, mut is_so: impl FnMut() -> bool) {
     let end = Instant::now() + Duration::from_secs(30);
     while !is_so() {

@@ -1,4 +1,4 @@
-//! What the callers of a client do, and what they are told.
+//! What the callers of a client do, and what they are answered.
 use super::{Errand, Event, World};
 use crate::calls::{self, Ended, Made, Pinned, Waiting, Watched};
 use crate::judge::{Version, Window};
@@ -192,7 +192,7 @@ impl World {
         self.look_at_leaving(client);
     }
 
-    /// What a client may be told that asked at this version.
+    /// What a client that asked at this version may be answered.
     fn window(&self, client: usize, since: Version) -> Window {
         Window { since, or_before: self.machines[client].before.clone() }
     }
@@ -396,7 +396,7 @@ impl World {
         self.kill_client(client, true);
     }
 
-    /// Whether a call may be refused so.
+    /// Whether a call may be refused with this error.
     fn judge_refusal(&mut self, client: usize, why: Error) {
         let machine = &self.machines[client];
         let is_so = match why {
@@ -422,8 +422,8 @@ impl World {
     }
 }
 
-/// Whether a server may refuse a client so. The reasons that are left out are those of other
-/// worlds.
+/// Whether a server may refuse a client for this reason. The reasons that are left out are those of
+/// other worlds.
 fn may_be_refused(refusal: Refusal) -> bool {
     match refusal {
         Refusal::Missing(clients) => clients != ClientSet::default(),

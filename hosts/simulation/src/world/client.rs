@@ -8,13 +8,13 @@ use krl::simulated::{self, Before, Begin, Client, FrameKind};
 use std::io::{self, ErrorKind};
 use std::time::Duration;
 
-/// What the clocks of people show as machines start. Incarnations are moments of them.
+/// What the clocks that operators set show as machines start. Incarnations are moments of them.
 const STARTED: u64 = 1_800_000_000_000_000_000;
 
-/// How far a clock is ahead that is set wrong.
+/// How far a clock that is set wrong is ahead.
 const FAR: Duration = Duration::from_secs(3 * 24 * 3600);
 
-/// So many connections in a row without a message take this long at least.
+/// This many connections in a row without a message take this long at least.
 const ATTEMPTS: u32 = 20;
 const TAKE_AT_LEAST: Duration = Duration::from_secs(2);
 
@@ -186,7 +186,7 @@ impl World {
         self.after(pause, Event::Connect { client, life });
     }
 
-    /// Carries what is said on a connection.
+    /// Carries what is sent on a connection.
     pub(super) fn carry(&mut self, link: u64, to: Side, bytes: &[u8]) {
         if bytes.is_empty() {
             return;
@@ -283,7 +283,7 @@ impl World {
         }
     }
 
-    /// The client continues with what it was asked, and says what it has to say.
+    /// The client continues with what it was asked, and sends what it has to send.
     pub(super) fn proceed(&mut self, client: usize) {
         let machine = &mut self.machines[client];
         let time = machine.clock.at(self.now);

@@ -8,7 +8,7 @@ use std::time::Duration;
 /// By then a server has found that another one has its store.
 const FINDS_BY: Duration = Duration::from_secs(8);
 
-/// After this time an operator sees that a client is not served, where nobody changes leases.
+/// After this time an operator sees that a client is not served, if nobody changes leases.
 const SEES: Duration = Duration::from_secs(12);
 
 impl World {
@@ -162,8 +162,8 @@ impl World {
         sites.chain(machines).fold(self.now, Duration::max)
     }
 
-    /// Nothing goes wrong any more: the network carries all, and who was started by mistake is
-    /// ended. Who stands still continues in its time, so that what waits for it comes in its order.
+    /// Nothing goes wrong any more: the network carries all, and what was started by mistake is
+    /// ended. What is stopped continues in its time, so that what waits for it comes in its order.
     pub(super) fn heal(&mut self) {
         self.record.note(self.now, &[0], || Happened::World("all is whole again".into()));
         self.healed = Some(self.all_go_on());

@@ -154,7 +154,7 @@ impl World {
         self.end_in_order(site);
     }
 
-    /// A server has ended by itself, or since it was told so.
+    /// A server has ended by itself, or since it was asked to.
     fn end_in_order(&mut self, site: usize) {
         let failure = self.sites[site].serving.as_mut().and_then(|it| it.server.take_failure());
         match failure {
@@ -229,7 +229,7 @@ impl Serving {
     }
 }
 
-/// Whether a frame among these tells a client that the store lacks what it has seen.
+/// Whether a frame among these reports to a client that the store lacks what it has seen.
 fn tells_that_it_went_back(bytes: &[u8]) -> bool {
     crate::network::frames(bytes)
         .any(|frame| FrameKind::of(&frame[crate::network::PREFIX..]) == FrameKind::WentBack)

@@ -5,14 +5,14 @@ use crate::weather::WhileCommitting;
 use krl::{Change, Outcome};
 use std::time::Duration;
 
-/// A server's clock may be behind an incarnation by so much.
+/// A server's clock may be behind an incarnation by this much.
 const FAR_AHEAD: Duration = Duration::from_secs(24 * 3600);
 
 /// What the store does with a commit.
 #[derive(Clone, Copy, Debug, PartialEq, Eq)]
 pub(super) enum Does {
     All,
-    /// It keeps so many of the changes, and then fails.
+    /// It keeps this many of the changes, and then fails.
     Only(usize),
     /// It keeps all, and its answer is lost.
     AllUnheard,
@@ -72,7 +72,7 @@ impl World {
     }
 
     /// How long the store's answer is on its way. A server that judges meanwhile may learn of a
-    /// commit when another server has had the store for long.
+    /// commit when another server has had the store for a long time.
     fn draw_answer(&mut self) -> Duration {
         let hangs = self.weather.store_hangs;
         let judges_on = self.weather.while_committing == WhileCommitting::Judge;

@@ -115,7 +115,7 @@ fn who_lives_by_a_longer_lease_is_waited_for() {
 fn whoever_is_in_a_store_without_leases_may_answer_for_ever() {
     let mut table = table(LeaseRecord::UNKNOWN, Some(ten()));
     assert_eq!((table.to_evict(at(9999)), table.unleased()), (vec![], vec![3, 5]));
-    // It reports that itself, as it has not heard the terms yet.
+    // It reports that itself, as it has not received the terms yet.
     table.sign(sign(3, 7, FOR_EVER), at(1));
     assert_eq!(table.unleased(), [3, 5]);
     table.sign(sign(3, 7, 10 * SECOND), at(2));

@@ -50,7 +50,7 @@ struct World {
     stored: LeaseRecord,
     record: Option<Record>,
     evicted: Vec<Arc<End>>,
-    /// The server hears nothing. What it sent before still comes.
+    /// The server receives nothing. What it sent before still comes.
     is_cut: bool,
     counts: Counts,
 }
@@ -75,7 +75,7 @@ impl World {
         Moment::of_nanoseconds(self.time + 5 * SECOND)
     }
 
-    /// That of the server's machine: it goes as fast as the drift allows.
+    /// That of the server's machine: it runs as fast as the drift allows.
     fn server_clock(&self) -> Moment {
         Moment::of_nanoseconds(self.time * (100 + u64::from(DRIFT)) / 100)
     }
@@ -109,7 +109,7 @@ impl World {
         serving.signs.extend(self.lease.greet(now));
     }
 
-    /// A client whose lease has ended, or that hears so, takes a greater incarnation.
+    /// A client whose lease has ended, or that learns that it has, takes a greater incarnation.
     fn begin_anew(&mut self) {
         let next = self.record.map_or(0, |record| record.incarnation) + 1;
         self.lease = Lease::new(CLIENT, next, Older::Unknown);
@@ -209,7 +209,7 @@ impl World {
             let left = Record { client, incarnation: successor, last: None, left: true };
             self.record = Some(left);
             self.counts.evicted += 1;
-            // Its process may run on. If it has begun again, its older lease has ended.
+            // Its process may continue. If it has begun again, its older lease has ended.
             if self.lease.incarnation() == incarnation {
                 self.evicted.push(self.lease.end());
             }

@@ -19,11 +19,11 @@ use std::time::{SystemTime, UNIX_EPOCH};
 /// All certificates are of one authority, and each names its holder by names of the kind URI in its
 /// subjectAltName: `krl:client:3` may speak for the client 3, `krl:operator` may evict clients and
 /// see the status, and `krl:server` is a server. One certificate may have several names. If the
-/// table has a name, each is followed by `@` and that name, as `krl:client:3@orders`, and names of
-/// other tables, or of none, count nothing.
+/// table has a name, each is followed by `@` and that name, such as `krl:client:3@orders`, and
+/// names of other tables, or of none, count nothing.
 ///
-/// **Whoever the authority certifies is believed.** It has to be krl's own, or one that lets nobody
-/// choose such names.
+/// **Everybody whom the authority certifies is believed.** It has to be krl's own, or one that lets
+/// nobody choose such names.
 ///
 /// A clone shares what was read: [`TlsConfig::reload`] changes all clones, and two configurations
 /// are equal if one is a clone of the other and both are of one table.
@@ -85,7 +85,7 @@ impl TlsConfig {
     ///
     /// # Errors
     ///
-    /// If a file can't be read, is none of these, or the key is another certificate's.
+    /// If a file can't be read, is not one of these, or the key is another certificate's.
     pub fn from_files(
         authority: impl AsRef<Path>,
         certificate: impl AsRef<Path>,
@@ -119,7 +119,7 @@ impl TlsConfig {
     }
 
     /// Reads the files again. Connections that are made from now on show and believe what they
-    /// contain now; those that stand continue.
+    /// contain now; existing ones continue.
     ///
     /// # Errors
     ///

@@ -10,16 +10,17 @@ use std::sync::atomic::{AtomicU32, Ordering};
 use std::sync::{Arc, Barrier, Mutex, OnceLock};
 use std::time::{Duration, Instant};
 
-/// So long is one round.
+/// How long one round takes.
 const ROUND: Duration = Duration::from_millis(4);
 
-/// The writer makes a callback so often. A round in which it comes to fewer than this counts not.
+/// The writer makes callbacks at this rate. A round in which it makes fewer than this does not
+/// count.
 const PACE: Duration = Duration::from_micros(100);
 const LEAST_CALLBACKS: f64 = 8_000.0;
 
 type Scans<'s> = &'s (dyn Fn(&Range<u64>, &mut Vec<Row>) -> bool + Sync);
 
-/// What one round is.
+/// What one round has.
 #[derive(Clone, Copy)]
 struct Load {
     rows: u64,

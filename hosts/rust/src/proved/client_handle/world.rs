@@ -22,7 +22,7 @@ pub(super) const LAST: Range<u64> = (ROWS - 1) * STEP..(ROWS - 1) * STEP + 1;
 /// All rows.
 pub(super) const ALL: Range<u64> = 0..LAST.end;
 
-/// The client that is scanned, as the one who changes it comes to it.
+/// The client that is scanned, as the thread that changes it has it.
 pub(super) trait Scanned {
     fn change<T>(&mut self, change: impl FnOnce(&mut ClientHandle) -> T) -> T;
 }
@@ -91,7 +91,7 @@ impl<S: Scanned> World<S> {
         }
     }
 
-    /// The server hears what the clients send.
+    /// The server receives what the clients send.
     fn hear_clients(&mut self) {
         self.frames.clear();
         self.scanned.change(|client| client.take(&mut self.frames)).unwrap();

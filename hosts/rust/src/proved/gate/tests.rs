@@ -116,7 +116,7 @@ fn a_change_waits_for_who_is_inside_and_for_nobody_else() {
             });
         });
         is_in.recv().unwrap();
-        // Readers do not wait for one another.
+        // Readers do not wait for each other.
         let beside = out.read(Pair::read);
         let change = scope.spawn(|| {
             begins.wait();

@@ -52,7 +52,7 @@ fn connection() -> (Wired, UnixStream) {
     (Wired { connection, stream }, theirs)
 }
 
-/// Sends a batch after a commit, which what was told has waited for.
+/// Sends a batch after a commit for which the host frames have waited.
 fn send(connection: &mut Wired, frame: &[u8], seen: Option<Seen>) {
     connection.begin_commit();
     connection.end_commit();
@@ -61,7 +61,7 @@ fn send(connection: &mut Wired, frame: &[u8], seen: Option<Seen>) {
     connection.write();
 }
 
-/// All that the peer hears until nothing waits.
+/// All that the peer receives until nothing waits.
 fn heard(connection: &mut Wired, peer: &mut UnixStream) -> Vec<u8> {
     let (mut bytes, mut all) = (vec![0; 1 << 16], Vec::new());
     loop {
@@ -84,7 +84,7 @@ fn a_host_hears_of_itself_then_of_the_store_and_then_all_else() {
     let hello = HELLO.frame();
     let news = FromServer::Mark(SEEN).frame();
     assert_eq!(heard(&mut connection, &mut peer), [&hello[..], &news, b"told", b"said"].concat());
-    // What it knows is not told again.
+    // What it knows is not sent again.
     send(&mut connection, b"said", Some(SEEN));
     assert_eq!(heard(&mut connection, &mut peer), b"said");
 }

@@ -15,7 +15,7 @@ pub(super) struct Closings {
 }
 
 impl Closings {
-    /// A connection is closed. `why` says more.
+    /// A connection is closed. `why` describes the reason.
     pub fn closed(&mut self, at: &At, reason: CloseReason, why: &dyn fmt::Display, now: Instant) {
         self.counts.count(reason);
         event_log::closed(at, reason.word());

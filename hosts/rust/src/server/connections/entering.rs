@@ -1,4 +1,4 @@
-//! Connections that come: who is at the other end, and who goes for one more.
+//! Connections that come: who is at the other end, and which one makes room for another.
 use super::{Connections, Peer};
 use crate::access::Entry;
 use crate::access::identity::Identity;
@@ -37,8 +37,8 @@ impl Connections {
         number
     }
 
-    /// Sees whether a stranger has said whose it is. If its identity has too many connections,
-    /// the oldest of them is closed.
+    /// Sees whether a stranger has shown whose it is. If its identity has too many connections, the
+    /// oldest of them is closed.
     pub(super) fn meet(&mut self, number: u64) {
         if !self.strangers.has(number) {
             return;

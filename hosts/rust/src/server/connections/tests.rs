@@ -46,7 +46,7 @@ impl Rig {
         self.sockets.settle(&mut self.connections);
     }
 
-    /// Sends a batch with what was told, and nothing else, as if nothing had to be committed.
+    /// Sends a batch with the host frames, and nothing else, as if nothing had to be committed.
     fn flush(&mut self) {
         self.connections.begin_commit();
         self.connections.end_commit();
@@ -96,7 +96,7 @@ fn frame(message: &[u8]) -> Vec<u8> {
     [&(message.len() as u64).to_le_bytes()[..], message].concat()
 }
 
-/// The next frame that is heard, if one comes within a moment.
+/// The next frame that is taken, if one comes within a moment.
 fn hear(connections: &mut Rig) -> Option<(u64, Vec<u8>)> {
     let end = Instant::now() + Duration::from_millis(300);
     while Instant::now() < end {
@@ -132,7 +132,7 @@ fn unwritten(connections: &Rig, number: u64) -> bool {
     connections.open[&number].connection.watched() != Watched::Reads
 }
 
-/// Says so much to client 3 that its peer, which reads nothing, takes no more.
+/// Sends so much to client 3 that its peer, which reads nothing, takes no more.
 fn stuff(connections: &mut Rig, number: u64) {
     let bytes = frame(&vec![7; 1 << 20]);
     connections.route(3, number);
@@ -278,7 +278,7 @@ fn a_peer_that_takes_nothing_stops_nobody_and_costs_a_bounded_room() {
     }
     let waits = connections.open[&number].connection.waits();
     assert!(waits < 4 * LARGE, "{waits} bytes wait");
-    // The other one hears what is said to it.
+    // The other one receives what is sent to it.
     let (mut stream, other) = peer(&mut connections, at);
     stream.write_all(&frame(b"here")).unwrap();
     assert_eq!(hear(&mut connections), Some((other, b"here".to_vec())));

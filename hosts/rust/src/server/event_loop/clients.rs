@@ -4,7 +4,7 @@ use crate::lease::clocks::Now;
 use crate::server::shown::client_status::ClientStatus;
 
 impl EventLoop {
-    /// Sees who is there, and since when each client has been silent.
+    /// Sees which clients are there, and since when each has been silent.
     pub(super) fn look_at_clients(&mut self, now: Now) {
         for client in self.connections.clients() {
             if let Some(heard) = self.connections.heard_last(client) {

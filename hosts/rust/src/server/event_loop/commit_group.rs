@@ -11,7 +11,8 @@ use std::time::Duration;
 /// A commit waits for this part of its own time at most.
 const PART: u32 = 2;
 
-/// In so many commits the time that they are expected to take follows one that takes longer.
+/// After this many commits the time that they are expected to take has followed one that takes
+/// longer.
 const FOLLOWS_IN: u32 = 16;
 
 /// The last commits, and how long they took.
@@ -24,16 +25,16 @@ pub(super) struct CommitGroup {
 }
 
 impl CommitGroup {
-    /// These changes were committed, and the commit took so long.
+    /// These changes were committed, and the commit took this long.
     pub fn committed(&mut self, changes: &[Change], took: Duration) {
         self.before = self.last;
         self.last = writers(changes);
         self.time = took.min(self.time + took.saturating_sub(self.time) / FOLLOWS_IN);
     }
 
-    /// Whether the commit of these changes waits for more, if it has waited so long: for a client
+    /// Whether the commit of these changes waits for more, if it has waited this long: for a client
     /// that has written by one of the last two commits, if one of these had several writers. So a
-    /// client that only writes never waits, nor do several that write now and then.
+    /// client that is the only writer never waits, nor do several that write now and then.
     pub fn waits(&self, changes: &[Change], waited: Duration) -> bool {
         let (writers, expected) = (writers(changes), self.last.or(self.before));
         let had_several = self.last.count() > 1 || self.before.count() > 1;
@@ -91,7 +92,7 @@ mod tests {
     fn a_commit_waits_for_half_of_its_time_at_most() {
         let mut group = after(&[&[1, 2], &[3]]);
         assert!(group.waits(&writes(&[1]), 45 * US) && !group.waits(&writes(&[1]), 51 * US));
-        // A commit that the disk held up is no measure.
+        // A commit that the disk held up is not a measure.
         group.committed(&writes(&[1, 2]), 50_000 * US);
         assert!(!group.waits(&writes(&[1]), 2_000 * US));
     }

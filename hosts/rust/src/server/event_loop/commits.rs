@@ -1,8 +1,8 @@
 //! What a server commits, and what waits for that.
 //!
-//! One commit may be under way. What is judged meanwhile is gathered for the next one, and waits for
-//! that: a message by the word of the library, which knows on which changes it rests, and a frame of
-//! the host itself in its connection.
+//! One commit may be under way. What is judged meanwhile is gathered for the next one, and waits
+//! for that: a message in the library, which knows on which changes it rests, and a frame of the
+//! host itself in its connection.
 use super::greeting::Doubt;
 use super::{ASKS_STORE, EventLoop};
 use crate::lease::clocks::Now;
@@ -28,7 +28,7 @@ impl Gathered {
     }
 }
 
-/// A commit that has begun. Who makes it gives it back.
+/// A commit that has begun. The thread that makes it gives it back.
 #[derive(Debug)]
 pub(crate) struct Commit {
     changes: Vec<Change>,
@@ -56,18 +56,18 @@ impl EventLoop {
     }
 
     /// Whether what is to be committed waits for writers that are about to write again, if it has
-    /// waited so long since no commit is under way.
+    /// waited this long since no commit is under way.
     pub fn waits_for_writers(&self, waited: Duration) -> bool {
         !self.is_committing && self.group.waits(&self.gathered.changes, waited)
     }
 
-    /// Begins a commit, unless one is under way, or nothing has to be committed: then what was told
-    /// may leave. If a commit fails, nothing leaves that waits for it or for a later one.
+    /// Begins a commit, unless one is under way, or nothing has to be committed: then the host
+    /// frames may leave. If a commit fails, nothing leaves that waits for it or for a later one.
     ///
-    /// Nothing changed is committed too, if the store has to be asked whether it is still this
-    /// server's: before terms leave, before a store is called an older one, and now and then. A
-    /// server after which another one has started would find that at its next commit, and its
-    /// clients might wait for it until then.
+    /// An empty commit is made too, if the store has to be asked whether it is still this server's:
+    /// before terms leave, before a store is called an older one, and now and then. A server after
+    /// which another one has started would find that at its next commit, and its clients might wait
+    /// for it until then.
     pub fn take_commit(&mut self, now: Now) -> Option<Commit> {
         if self.is_committing {
             return None;
@@ -83,8 +83,8 @@ impl EventLoop {
         Some(Commit { changes, doubts, began: now.monotonic })
     }
 
-    /// The store has made this commit, and took so long. Only what rests on it and on earlier ones
-    /// may leave.
+    /// The store has made this commit, and took this long. Only what rests on it and on earlier
+    /// ones may leave.
     pub fn committed(
         &mut self,
         commit: &Commit,

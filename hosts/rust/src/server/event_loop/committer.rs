@@ -1,7 +1,7 @@
 //! The store of a server, and the thread that makes commits while the loop judges.
 //!
-//! Who makes a commit owns the store: it goes to the other thread with the commit, and comes back
-//! with the answer.
+//! The thread that makes a commit owns the store: the store goes to the other thread with the
+//! commit, and comes back with the answer.
 use super::commits::Commit;
 use crate::server::error::ServeError;
 use crate::store::Store;
@@ -47,7 +47,7 @@ impl<S: Store + 'static> Committer<S> {
 
     /// Makes a commit by this thread.
     pub fn make(&mut self, commit: Commit) -> Result<Made, ServeError> {
-        // Who does not wait for a commit that is handed over has lost the store.
+        // A caller that does not wait for a commit that is handed over has lost the store.
         let store = self.store.as_mut().ok_or(ServeError::Panicked)?;
         make(store, commit)
     }
@@ -92,7 +92,7 @@ struct Answer<S> {
     made: Result<Made, ServeError>,
 }
 
-/// A thread that makes one commit at a time. Who drops it waits for the commit that is under way.
+/// A thread that makes one commit at a time. Dropping it waits for the commit that is under way.
 struct CommitThread<S> {
     /// `None` as soon as it is to end.
     commits: Option<SyncSender<(S, Commit)>>,

@@ -32,7 +32,7 @@ impl EventLoop {
     }
 
     /// Refuses a client whose host is of another version of the stream, before anything of it is
-    /// heard: it would take no long grant, and ask for it again and again.
+    /// judged: it would take no long grant, and ask for it again and again.
     pub(super) fn refuse_other_version(&mut self, connection: u64) {
         self.log.other_version(&self.connections.at(connection));
         let refusal = Refusal::Version { read: STREAM_VERSION };
@@ -41,8 +41,8 @@ impl EventLoop {
     }
 
     /// Refuses a client that has seen another store: its address is wrong, or a new store has
-    /// replaced that one. This server's store is none the worse for it, so the server continues.
-    /// Nothing more is heard of the connection: what the client knows is of another table.
+    /// replaced that one. Nothing is wrong with this server's store, so the server continues.
+    /// Nothing more is taken from the connection: what the client knows is of another table.
     fn refuse_other_store(&mut self, connection: u64) {
         self.log.other_store(&self.connections.at(connection));
         self.connections.greet(connection, FromServer::Refused(Refusal::OtherStore));
@@ -51,7 +51,7 @@ impl EventLoop {
 
     /// The store lacks what the client has seen, and is asked whether it is still this server's: a
     /// server after which another one has started lacks it too, and ends then. The commit that
-    /// begins next asks it, once for all clients that report it by then. Nothing more is heard of
+    /// begins next asks it, once for all clients that report it by then. Nothing more is taken from
     /// the connection: its client knows what is not so, and what it sends is lost as if it had
     /// crashed.
     fn doubt(&mut self, connection: u64, lacked: Mark) {
@@ -59,8 +59,8 @@ impl EventLoop {
         self.connections.end(connection, CloseReason::OlderStore);
     }
 
-    /// The store is this server's, and an older copy. People are told too. Then the server ends,
-    /// unless a stranger may have said so.
+    /// The store is this server's, and an older copy. It is logged too. Then the server ends,
+    /// unless the claim may be a stranger's.
     pub(super) fn alarm_older_store(&mut self, doubt: &Doubt, now: Now) {
         let Doubt { connection, lacked } = *doubt;
         self.status.store_alarms += 1;
@@ -72,22 +72,22 @@ impl EventLoop {
         }
     }
 
-    /// What the store is to a client that has seen so much. One without a history has told nobody a
+    /// What the store is to a client that has seen so much. One without a history has sent nobody a
     /// mark, and so lacks each.
     fn compare_store(&self, seen: Seen) -> Comparison {
         self.history.as_ref().map_or(Comparison::Lacks, |history| history.compare(seen))
     }
 
-    /// Ends as a server that is told to stop, with the first such error.
+    /// Ends as a server that is asked to stop, with the first such error.
     fn end_in_order(&mut self, error: ServeError, now: Now) {
         self.until.get_or_insert(now.monotonic + LAST_TURNS);
         self.failure.get_or_insert(error);
     }
 }
 
-/// Whether a server ends if one of this identity has seen what the store lacks: if it may speak
-/// for some clients. Who may say all has shown nothing, as one who connects by plain TCP. A Hello
-/// names no client, so an operator's is about none.
+/// Whether a server ends if one of this identity has seen what the store lacks: if it may speak for
+/// some clients. An identity that may speak for all clients has shown nothing, as one that connects
+/// by plain TCP. A Hello names no client, so an operator's is about none.
 fn ends_by_the_word_of(identity: &Identity) -> bool {
     *identity != Identity::everybody() && identity.is_of_clients()
 }

@@ -7,7 +7,7 @@
 //! So a commit is handed over only if there is as much to judge as the commit takes.
 use std::time::Duration;
 
-/// Of the last eight commits, enough messages came during at least so many.
+/// Of the last eight commits, enough messages came during at least this many.
 const MOST: u32 = 4;
 
 /// About the time in which a message is read and judged.
@@ -25,13 +25,13 @@ pub(super) struct HandOver {
 }
 
 impl HandOver {
-    /// A commit took so long, and so many messages came meanwhile.
+    /// A commit took this long, and this many messages came meanwhile.
     pub fn committed(&mut self, took: Duration, messages: usize) {
         let is_crowded = took >= SHORT && judged_in(messages) >= took;
         self.crowded = self.crowded << 1 | u8::from(is_crowded);
     }
 
-    /// Whether a server of so many connections may have to hand commits over.
+    /// Whether a server of this many connections may have to hand commits over.
     pub fn may_pay(connections: usize) -> bool {
         judged_in(connections) >= SHORT
     }
@@ -61,7 +61,7 @@ mod tests {
 
     const LONG: Duration = Duration::from_micros(100);
 
-    /// So many messages take as long to judge as a long commit.
+    /// This many messages take as long to judge as a long commit takes.
     const ENOUGH: usize = 20;
 
     fn after(commits: impl IntoIterator<Item = (Duration, usize)>) -> HandOver {

@@ -1,4 +1,4 @@
-//! The leases of a server's clients, as its loop hears of them, stores them and evicts by them.
+//! The leases of a server's clients, as its loop learns of them, stores them and evicts by them.
 use super::EventLoop;
 use crate::lease::boot_clock::Moment;
 use crate::lease::clocks::Now;
@@ -11,8 +11,8 @@ use crate::server::error::ServeError;
 use crate::wire::message::{self, Head, Kind};
 
 impl EventLoop {
-    /// Takes a sign, which has come by now. The answer leaves after the commit that begins next: by
-    /// that the store has answered that it is still this server's. The host of an incarnation that
+    /// Takes a sign, which has come by now. The answer leaves after the commit that begins next, by
+    /// which the store has answered that it is still this server's. The host of an incarnation that
     /// has ended learns why.
     pub(super) fn hear_sign(
         &mut self,
@@ -59,8 +59,8 @@ impl EventLoop {
 
     /// Whether this incarnation, of which no sign has come, would replace one that still speaks.
     ///
-    /// Who starts a client vouches that the one before is over. Two processes with two lock files of
-    /// one number show that it is not: the older one would answer from its cache until it hears of
+    /// Starting a client vouches that the one before is over. Two processes with two lock files of
+    /// one number show that it is not: the older one would answer from its cache until it learns of
     /// the newer one.
     fn replaces_one_that_speaks(&self, connection: u64, client: u8, incarnation: u64) -> bool {
         self.leases.replaces_unsigned(client, incarnation)
@@ -97,7 +97,7 @@ impl EventLoop {
         Ok(())
     }
 
-    /// Gives the library what an operator would say: a Hello of the next incarnation, and its Bye.
+    /// Gives the library what an operator would send: a Hello of the next incarnation, and its Bye.
     fn evict(&mut self, client: u8, incarnation: u64, now: Now) -> Result<(), ServeError> {
         let Some(successor) = incarnation.checked_add(1) else { return Ok(()) };
         self.leases.evict(client, successor);

@@ -1,4 +1,4 @@
-//! Which long frames a server lets come.
+//! Which long frames a server admits.
 use super::EventLoop;
 use crate::access::identity::Identity;
 use crate::model::change::Record;
@@ -12,7 +12,7 @@ use crate::wire::message::Message;
 impl EventLoop {
     /// A connection begins a frame that is long, with this head. Only the report of a registered
     /// client may be so: any other connection ends, before more than the head is kept, and its host
-    /// is told why, if that is known.
+    /// learns why, if that is known.
     pub(super) fn judge_long(
         &mut self,
         connection: u64,
@@ -46,7 +46,7 @@ impl EventLoop {
 }
 
 /// Whether a report may be long: if this identity may speak for the client, and the client is
-/// registered so and has not left. A client repeats its report until it hears of the new epoch: so
+/// registered so and has not left. A client repeats its report until it learns of the new epoch: so
 /// the server may have taken it already.
 fn may_be_long(client: u8, incarnation: u64, identity: &Identity, record: Option<&Record>) -> bool {
     identity.is_client(client) && sender(record, incarnation) == Sender::Registered

@@ -26,15 +26,15 @@ impl EventLoop {
         }
     }
 
-    /// Sees who waits for whom.
+    /// Sees which clients wait for which.
     pub(super) fn look_at_waits(&mut self, now: Now) {
         if let Ok(waiting) = self.server.waiting() {
             self.status.waits = self.watch.waits(waiting, now.monotonic);
         }
     }
 
-    /// Counts how much one of the clients holds of which that may have changed. It answers whether
-    /// there was one.
+    /// Counts how much one client holds, of those for which that may have changed. It answers
+    /// whether there was one.
     pub fn count_next(&mut self) -> bool {
         let Some(client) = self.watch.next_to_count() else { return false };
         if let Ok(slots) = self.server.held(client) {
@@ -44,7 +44,7 @@ impl EventLoop {
         true
     }
 
-    /// Sees who has joined or left by these changes: what they held is shown no more.
+    /// Sees which clients have joined or left by these changes: what they held is no longer shown.
     pub(super) fn see_members(&mut self, changes: &[Change]) {
         for change in changes {
             match *change {

@@ -1,4 +1,4 @@
-//! What a connection says that people have to hear of.
+//! What a connection sends that operators have to know of.
 use super::EventLoop;
 use crate::model::refusal::Refusal;
 use crate::server::close_reason::CloseReason;
@@ -7,8 +7,8 @@ use crate::wire::incoming::Incoming;
 use crate::wire::message::Message;
 
 impl EventLoop {
-    /// Ends a connection that has said what its identity may not say. Nobody but people and the
-    /// peer's host hear of it: the library does not.
+    /// Ends a connection that has sent what its identity may not send. It is logged, and the peer's
+    /// host learns it; the library does not.
     pub(super) fn deny(&mut self, connection: u64, frame: &Incoming<'_>) {
         self.status.denied += 1;
         self.log.denied(

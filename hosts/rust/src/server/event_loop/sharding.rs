@@ -1,4 +1,4 @@
-//! Whom a server of a shard hears: clients that take it for what it serves.
+//! Which clients a server of a shard takes: those that take it for what it serves.
 use super::EventLoop;
 use crate::model::refusal::Refusal;
 use crate::model::shard_bounds::ShardBounds;
@@ -14,8 +14,8 @@ impl EventLoop {
         self
     }
 
-    /// Whether a frame is heard further. A message and a sign are heard after the word of the
-    /// client's host that it takes the server for what it serves, or at a server of all keys.
+    /// Whether a frame is judged further. A message and a sign are judged after the client's host
+    /// has stated that it takes the server for what it serves, or at a server of all keys.
     pub(super) fn lets_in(&mut self, connection: u64, frame: &Incoming<'_>) -> bool {
         match *frame {
             Incoming::Host(Some(FromClient::Shard(expected))) => {

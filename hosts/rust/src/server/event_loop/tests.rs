@@ -28,11 +28,11 @@ const HELLO: [u8; 26] =
 /// The length of a lease, in milliseconds.
 const LEASE: u64 = 300;
 
-/// What the store has of leases: nobody is without.
+/// What the store has of leases: every client has one.
 const KEPT: LeaseRecord =
     LeaseRecord { longest: LEASE * 1_000_000, unleased: ClientSet::of_bits(0) };
 
-/// A store that sees, as it commits, how much its peer has heard by then.
+/// A store that sees, as it commits, how much its peer has received by then.
 struct Watching {
     store: MemoryStore,
     peer: TcpStream,
@@ -48,7 +48,7 @@ impl Store for Watching {
     }
 
     fn commit(&mut self, changes: &[Change]) -> Result<(), StoreError> {
-        // Whatever was sent is there by now, over a socket of this machine.
+        // Whatever was sent has arrived by now, over a socket of this machine.
         let heard = self.peer.peek(&mut [0; 64]).unwrap_or(0);
         self.heard.lock().unwrap().push(heard);
         if self.is_deposed.load(Ordering::SeqCst) {
@@ -63,7 +63,7 @@ impl Store for Watching {
     }
 }
 
-/// A loop, its peer, and how much the peer had heard at each commit.
+/// A loop, its peer, and how much the peer had received at each commit.
 fn event_loop() -> (ServerThread<Watching>, TcpStream, Arc<Mutex<Vec<usize>>>) {
     let heard = Arc::default();
     let shared = Arc::clone(&heard);
@@ -210,7 +210,7 @@ fn batches(serving: &mut ServerThread<Watching>) -> Vec<Vec<Change>> {
     serving.committer.store().unwrap().batches.lock().unwrap().clone()
 }
 
-/// Takes turns until the store was asked so often.
+/// Takes turns until the store was asked this many times.
 fn turns_until(serving: &mut ServerThread<Watching>, asked: usize) -> Result<(), ServeError> {
     let heard = Arc::clone(&serving.committer.store().unwrap().heard);
     while heard.lock().unwrap().len() < asked {
@@ -244,7 +244,7 @@ fn a_server_behind_which_another_one_started_grants_nothing() {
 #[test]
 fn what_is_stored_of_leases_comes_before_the_registration() {
     let (mut serving, mut peer, _) = event_loop();
-    // A host that has said no sign.
+    // A host that has sent no sign.
     peer.write_all(&HELLO).unwrap();
     turns_until(&mut serving, 1).unwrap();
     let unleased = LeaseRecord { unleased: [50].into_iter().collect(), ..KEPT };
@@ -266,7 +266,7 @@ fn an_eviction_is_committed_with_its_turn() {
     let batches = batches(&mut serving);
     let successor = Change::Registered { client: 50, incarnation: 2 };
     assert_eq!(batches.last().unwrap()[..2], [successor, Change::Left { client: 50 }]);
-    // Its sign is answered by the word that it has ended.
+    // Its sign is answered by Ended.
     let mut told = [0; 1024];
     let _ = peer.read(&mut told);
     peer.write_all(&sign()).unwrap();
@@ -311,7 +311,7 @@ fn an_idle_client_is_counted_once() {
     };
     turn_until_taken(&mut serving, 1);
     while serving.events.count_next() {}
-    // It says that it is there, and is answered.
+    // It shows that it is there, and is answered.
     for taken in 2..5 {
         peer.write_all(&HELLO).unwrap();
         turn_until_taken(&mut serving, taken);

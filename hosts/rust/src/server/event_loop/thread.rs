@@ -25,7 +25,7 @@ pub(super) const MAX_AT_ONCE: usize = 256;
 /// How long a turn counts what clients hold.
 const COUNTS: Duration = Duration::from_millis(2);
 
-/// Counting takes one part in so many of the loop's time: to count one client takes as long as to
+/// Counting takes one part in this many of the loop's time: to count one client takes as long as to
 /// go through the whole table.
 const COUNT_SHARE: u32 = 20;
 
@@ -41,7 +41,7 @@ pub(crate) struct ServerThread<S> {
     pub(super) events: EventLoop,
     pub(super) committer: Committer<S>,
     pub(super) hand_over: HandOver,
-    /// How often it has heard a connection since it handed a commit over.
+    /// How many times it has judged a connection since it handed a commit over.
     pub(super) heard_meanwhile: usize,
     sockets: Sockets,
     asked: Receiver<Request>,
@@ -112,8 +112,8 @@ impl<S: Store + 'static> ServerThread<S> {
         Ok(self.events.goes_on(was_to_end, began, looks))
     }
 
-    /// Hears the writers that are about to write again, so that one commit has what all of them
-    /// write. The poller can't wait for so short a time: it is asked again and again.
+    /// Takes what the writers send that are about to write again, so that one commit has what all
+    /// of them write. The poller can't wait for so short a time: it is asked again and again.
     fn gather(&mut self, most: usize) -> Result<usize, ServeError> {
         let (began, mut looks) = (Instant::now(), 0);
         while looks < most && self.events.waits_for_writers(began.elapsed()) {
@@ -123,7 +123,8 @@ impl<S: Store + 'static> ServerThread<S> {
         Ok(looks)
     }
 
-    /// Hears connections in their turn, so many times at most, and answers how often.
+    /// Judges connections in their turn, at most this many times, and answers how many times it
+    /// did.
     fn hear(&mut self, most: usize) -> Result<usize, ServeError> {
         let mut looks = 0;
         while looks < most && self.hear_next()? {
@@ -143,7 +144,7 @@ impl<S: Store + 'static> ServerThread<S> {
                 Request::Snapshot(reply) => {
                     self.take_back(true)?;
                     if let Some(store) = self.committer.store() {
-                        // Who asks and goes away gets no answer.
+                        // A caller that asks and no longer waits gets no answer.
                         let _ = reply.send(store.snapshot());
                     }
                 }
@@ -161,7 +162,7 @@ impl<S: Store + 'static> ServerThread<S> {
         Ok(())
     }
 
-    /// Hears the connection whose turn it is, and answers whether there was one.
+    /// Judges the connection whose turn it is, and answers whether there was one.
     fn hear_next(&mut self) -> Result<bool, ServeError> {
         match self.events.hear_next()? {
             Heard::Nobody => return Ok(false),
@@ -174,7 +175,7 @@ impl<S: Store + 'static> ServerThread<S> {
         Ok(true)
     }
 
-    /// Counts how much the clients hold of which that may have changed: of one at least, and of
+    /// Counts how much the clients hold for which that may have changed: for one at least, and for
     /// more as long as that takes little time.
     fn count_held(&mut self) {
         let began = Instant::now();
@@ -221,7 +222,7 @@ impl<S: Store + 'static> ServerThread<S> {
         self.send()
     }
 
-    /// The store has made a commit, and so many messages have come meanwhile.
+    /// The store has made a commit, and this many messages have come meanwhile.
     fn committed(&mut self, made: &Made, messages: usize) -> Result<(), ServeError> {
         self.hand_over.committed(made.took, messages);
         self.events.committed(&made.commit, made.took, Now::read())

@@ -31,8 +31,8 @@ pub struct ClientConnection {
 }
 
 impl ClientStatus {
-    /// A client without a connection that was never heard, with this of its lease, for tests of what
-    /// shows clients.
+    /// A client without a connection from which nothing ever came, with this much of its lease, for
+    /// tests of what shows clients.
     #[must_use]
     pub fn new(client: u8, lease: LeaseLeft) -> ClientStatus {
         ClientStatus { client, connection: None, silent_for: None, lease }
@@ -63,7 +63,7 @@ impl LastHeard {
         }
     }
 
-    /// How long the client has been silent, if it was ever heard.
+    /// How long the client has been silent, if anything ever came from it.
     pub fn silent_for(&self, client: u8, now: Instant) -> Option<Duration> {
         let last = self.0.get(usize::from(client)).copied().flatten();
         last.map(|last| now.saturating_duration_since(last))

@@ -12,7 +12,7 @@ use std::time::Duration;
 #[derive(Clone, Debug)]
 pub struct HeldSearch {
     search: Search,
-    /// What was found of the client that is not looked up to its end.
+    /// What was found of the client that is not looked up completely.
     begun: Vec<HeldRun>,
 }
 
@@ -20,7 +20,7 @@ pub struct HeldSearch {
 #[derive(Clone, Debug, PartialEq, Eq)]
 #[non_exhaustive]
 pub struct HeldPage {
-    /// The clients that are looked up to their ends now, by number, each with all of its runs that
+    /// The clients that are looked up completely now, by number, each with all of its runs that
     /// meet the range, or the first of them, in ascending order.
     pub clients: Vec<(u8, Vec<HeldRun>)>,
     /// How long the server's loop was busy with this page.

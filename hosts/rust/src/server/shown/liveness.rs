@@ -12,14 +12,14 @@ use std::time::Duration;
 /// some seconds.
 pub(crate) const LONGEST_TURN: Duration = Duration::from_secs(30);
 
-/// A shorter wait for the store is not worth a word.
+/// A shorter wait for the store is not reported.
 const SHORT_WAIT: Duration = Duration::from_secs(1);
 
-/// Whether a server's loop continues, and if it stands, where.
+/// Whether a server's loop continues, and if not, where it hangs.
 #[derive(Clone, Copy, Debug, PartialEq, Eq)]
 #[non_exhaustive]
 pub enum Liveness {
-    /// The loop turns, or has begun a turn that is not too long.
+    /// The loop runs, or has begun a turn that is not too long.
     Turns,
     /// The loop waits for its store, for over a second, and not longer than that may take.
     WaitsForStore {

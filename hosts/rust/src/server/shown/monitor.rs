@@ -46,8 +46,7 @@ impl Monitor {
         self.timings.read()
     }
 
-    /// How long ago the server's loop last ended a turn. A loop that is idle turns twenty times a
-    /// second.
+    /// How long ago the server's loop last ended a turn. An idle loop makes twenty turns a second.
     #[must_use]
     pub fn since_last_turn(&self) -> Duration {
         self.timings.since_last_turn()
@@ -84,7 +83,7 @@ impl Monitor {
         locks(&self.requests, points, most)
     }
 
-    /// Whether the server's loop continues, and if it stands, where.
+    /// Whether the server's loop continues, and if not, where it hangs.
     #[must_use]
     pub fn liveness(&self) -> Liveness {
         let waited = self.timings.waits_for_store();

@@ -48,10 +48,10 @@ pub struct Status {
     pub taken: u64,
     /// The messages that were sent.
     pub sent: u64,
-    /// The strings that were no message. Each ended its connection.
+    /// The strings that were not messages. Each ended its connection.
     pub refused: u64,
     /// How often a connection sent what its certificate or its user may not send. Each was closed,
-    /// and the library heard nothing of it.
+    /// and the library got nothing of it.
     pub denied: u64,
     /// The repeats of pushes and callbacks that were held back.
     pub held_back: u64,

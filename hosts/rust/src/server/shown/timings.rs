@@ -143,7 +143,7 @@ impl Timings {
     /// The store has answered.
     pub fn store_answered(&self) {
         self.store_answered.store(self.now(), Ordering::Relaxed);
-        // Who sees that it does not wait any more sees when it was answered.
+        // A thread that sees that it does not wait any more also sees when it was answered.
         self.store_called.store(0, Ordering::Release);
     }
 
@@ -178,7 +178,7 @@ impl Timings {
     }
 }
 
-/// What a client was last heard to ask, and since when.
+/// What a client was last seen to ask for, and since when.
 #[derive(Clone, Copy)]
 struct Asked {
     request: u64,

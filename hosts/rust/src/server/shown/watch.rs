@@ -1,4 +1,4 @@
-//! Who waits, for whom, and for how long.
+//! Which clients wait, for which others, and for how long.
 use crate::model::client_number::ClientNumber;
 use crate::model::client_set::ClientSet;
 use crate::model::lock::{Mode, Waiting};
@@ -103,8 +103,8 @@ impl Watch {
         self.changed = self.changed.with(client);
     }
 
-    /// A row was made or deleted: so each client that holds something there holds another number of
-    /// slots.
+    /// A row was inserted or deleted: so each client that holds something there holds another
+    /// number of slots.
     pub fn slots_change(&mut self) {
         for holding in &self.holdings {
             self.changed = self.changed.with(holding.client);

@@ -10,9 +10,8 @@ const RIGHT: Range<u64> = 15..30;
 const READER: usize = 0;
 const WRITER: usize = 1;
 
-/// Two servers, of which one has the row 10 and the other one the row 20. The writer gives both the
-/// next number, the left one first. So at each moment the left number is the right one, or one
-/// more.
+/// Two servers: one has the row 10 and the other one the row 20. The writer gives both the next
+/// number, the left one first. So at each moment the left number is the right one, or one more.
 struct Shards {
     left: World,
     right: World,

@@ -67,7 +67,7 @@ fn digest(snapshot: &Snapshot) -> [u8; 32] {
     number(room.map_or(0, |room| room.rows() as u64));
     number(rows.len() as u64);
     number(records.len() as u64);
-    // No store has the same without a first start: those bits are drawn by chance.
+    // No store has the same without a first start: those bits are random.
     sum.update(first_start.unwrap_or_default().to_le_bytes());
     for (key, value) in rows {
         sum.update(key.to_le_bytes());

@@ -111,9 +111,9 @@ impl SqliteStore {
 /// So many bytes of a file of SQLite have its application id.
 const FIRST_BYTES: u64 = 100;
 
-/// A store whose server has ended in order has no log, or an empty one. Then SQLite is told that
-/// nobody writes to the file, and leaves no files next to it. A log that has something in it is
-/// read too. A server that runs has one, and keeps others off.
+/// A store whose server has ended in order has no log, or an empty one. Then the file is opened as
+/// one to which nobody writes, and SQLite leaves no files next to it. A log that has something in
+/// it is read too. A server that runs has one, and keeps others off.
 fn open_to_read(path: &Path) -> Result<Connection, StoreError> {
     if let Err(error) = path.metadata() {
         return Err(StoreError::says(&match error.kind() {

@@ -1,9 +1,9 @@
 //! How far a store over SQLite has come.
 //!
 //! Each batch counts one more commit of the last start. It writes that number into the records that
-//! it changes anyway, so counting touches no further page: a page more costs a commit a tenth of its
-//! time. Only a batch that changes no record writes the number next to the start. The greatest of
-//! these numbers is how far the store has come.
+//! it changes anyway, so counting touches no further page: one more page costs a commit a tenth of
+//! its time. Only a batch that changes no record writes the number next to the start. The greatest
+//! of these numbers is how far the store has come.
 use super::transaction::WriteTransaction;
 use super::{positive, run, signed};
 use crate::model::change::Change;
@@ -37,8 +37,8 @@ pub(super) struct Known {
 }
 
 impl Known {
-    /// The state of now. The number is read first: a commit of somebody else between the two reads
-    /// makes the next commit compare the marks.
+    /// The state of now. The number is read first: a commit of another connection between the two
+    /// reads makes the next commit compare the marks.
     pub fn read(connection: &Connection) -> Result<Known, StoreError> {
         let version = data_version(connection)?;
         Ok(Known { version, last: last_mark(connection)? })

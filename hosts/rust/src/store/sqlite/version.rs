@@ -8,7 +8,7 @@ const APPLICATION: i64 = 0x6b72_6c31;
 /// The version of the tables, as SQLite's user version.
 pub(crate) const VERSION: i64 = 5;
 
-/// The tables of a store of before there were versions, by name.
+/// The tables of a store from before there were versions, by name.
 const NAMES: [&str; 3] = ["entry", "epoch", "record"];
 
 /// What a file of SQLite is.
@@ -19,9 +19,9 @@ pub(crate) enum Found {
     /// It has bytes, and no tables. So has a copy of a running server's file: the tables are in the
     /// log for as long as that is short. So has one whose first start was cut off, with a log.
     Bare,
-    /// A store of this older version: 0 if it is of before there were versions. Its records do not
-    /// count commits; one of before version 4 lacks the room of its servers, one of before version 3
-    /// what is known of leases, and one of before version 2 the starts of its servers.
+    /// A store of this older version: 0 if it is from before there were versions. Its records do
+    /// not count commits; one of before version 4 lacks the room of its servers, one of before
+    /// version 3 what is known of leases, and one of before version 2 the starts of its servers.
     Older(i64),
     /// A store of this version.
     Current,

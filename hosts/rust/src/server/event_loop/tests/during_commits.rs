@@ -55,7 +55,7 @@ impl Rig {
         Rig { verdicts, begun, serving, peer }
     }
 
-    /// What the commit has that begins next.
+    /// What the next commit has.
     fn next_commit(&mut self) -> Vec<Change> {
         loop {
             self.serving.turn().unwrap();
@@ -216,7 +216,7 @@ fn commits_move_to_the_other_thread_and_back() {
     assert!(serving.committer.store().is_some(), "it is here");
 }
 
-/// Takes turns until the store was asked so often, by whichever thread.
+/// Takes turns until the store was asked this many times, by whichever thread.
 fn turns_until_heard(
     serving: &mut ServerThread<Watching>,
     heard: &Mutex<Vec<usize>>,

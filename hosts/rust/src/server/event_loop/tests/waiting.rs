@@ -18,7 +18,7 @@ use crate::wire::host_frame;
 use std::sync::Arc;
 use std::time::Duration;
 
-/// A server and its clients, which hand over at once what they say. No time passes: so the server
+/// A server and its clients, which hand over at once what they send. No time passes: so the server
 /// nudges nobody, and no client ticks.
 struct World {
     events: EventLoop,
@@ -59,7 +59,7 @@ impl World {
         while self.hear_clients() | self.tell_clients() {}
     }
 
-    /// The server hears what each client sends. It answers whether one has sent anything.
+    /// The server takes what each client sends. It answers whether one has sent anything.
     fn hear_clients(&mut self) -> bool {
         let mut has_heard = false;
         for (jobs, connection) in self.clients.iter_mut().zip(&self.connections) {
@@ -71,7 +71,7 @@ impl World {
         has_heard
     }
 
-    /// The clients hear what the server sends. It answers whether it has sent anything.
+    /// The clients take what the server sends. It answers whether it has sent anything.
     fn tell_clients(&mut self) -> bool {
         if let Some(changes) = self.events.take_commit(self.now) {
             self.events.committed(&changes, Duration::ZERO, self.now).unwrap();

@@ -16,13 +16,13 @@ const DIGITS: usize = 16;
 /// A file that is written under a name of its own. It is gone when this value is.
 pub(super) struct Part {
     path: PathBuf,
-    /// Locked: it says that somebody still writes.
+    /// Locked: this shows that a process still writes.
     file: File,
 }
 
 impl Part {
-    /// A new part of the file of this path. Its name is drawn by chance: the number of a process is
-    /// the same each time in a container.
+    /// A new part of the file of this path. Its name is random: the number of a process is the same
+    /// each time in a container.
     pub fn new(path: &Path) -> Result<Part, StoreError> {
         let drawn = RandomState::new().build_hasher().finish();
         let path = beside(path, &format!(".{drawn:0DIGITS$x}{END}"));
@@ -71,7 +71,7 @@ fn take_name_by(
 
 impl Drop for Part {
     fn drop(&mut self) {
-        // A file that can't be removed is a name too many, and no harm.
+        // A file that can't be removed is an extra name, and does no harm.
         let _ = std::fs::remove_file(&self.path);
     }
 }
@@ -98,7 +98,7 @@ fn is_part(name: &[u8], of: &[u8]) -> bool {
 fn remove_if_unlocked(path: &Path) {
     let Ok(file) = OpenOptions::new().write(true).open(path) else { return };
     if file.try_lock().is_ok() {
-        // One that can't be removed is a name too many, and no harm.
+        // One that can't be removed is an extra name, and does no harm.
         let _ = std::fs::remove_file(path);
     }
 }
