@@ -70,7 +70,8 @@ impl<O: Origin> Builder<O> {
     /// # Errors
     ///
     /// `NotFilled` if krl does not have the versions of this database; `OtherTable` if it has those
-    /// of another table; `OtherServer` if another server of krl has them; `Krl`; `Origin`.
+    /// of another table, and `NeverFilled` if moreover this one was never filled; `OtherServer` if
+    /// another server of krl has them; `Krl`; `Origin`.
     pub fn open(self) -> Result<Cache<O>, CacheError> {
         let cache = self.open_unfilled()?;
         cache.confirm()?;

@@ -28,8 +28,17 @@ pub enum CacheError {
     /// The call was not finished within the cache's timeout.
     TimedOut,
     /// krl was never filled, a filling did not come to its end, or the database was restored or
-    /// promoted since. An operator calls [`Cache::fill`](crate::Cache::fill).
+    /// promoted since. An operator calls [`Cache::fill`](crate::Cache::fill); or, if the database is
+    /// a promoted replica that has every acknowledged commit,
+    /// [`Builder::accept_and_open`](crate::Builder::accept_and_open).
     NotFilled,
+    /// The table was never filled, and krl holds the rows of another table or database. Fill a krl
+    /// server of its own. If the database was restored to a time before its first filling, and no
+    /// process uses this server any more, an operator may fill this one with
+    /// [`EarlierServer::IsUnused`].
+    ///
+    /// [`EarlierServer::IsUnused`]: crate::EarlierServer::IsUnused
+    NeverFilled,
     /// krl holds the rows of another table or database, or of this one before it was restored. Use
     /// the server that was filled from this table, or fill one of its own. If no process uses this
     /// server for other rows any more, an operator calls [`Cache::fill`](crate::Cache::fill) with
@@ -76,7 +85,15 @@ impl fmt::Display for CacheError {
                 f.write_str("the call did not finish within the timeout of the cache")
             }
             CacheError::NotFilled => f.write_str(
-                "krl does not have the versions of this database's rows: run krl-cache fill",
+                "krl does not have the versions of this database's rows: run krl-cache fill; or, if \
+                 the database is a promoted replica that has every acknowledged commit, krl-cache \
+                 accept",
+            ),
+            CacheError::NeverFilled => f.write_str(
+                "the table was never filled, and this krl server holds the rows of another table or \
+                 database: run krl-cache fill for a krl server of its own. If the database was \
+                 restored to a time before its first filling, and no process uses this server any \
+                 more, run krl-cache fill with --replaces-server",
             ),
             CacheError::OtherTable => f.write_str(
                 "this krl server holds the rows of another table or database: give the address of \

@@ -61,7 +61,8 @@ fn judge(
         // A replica that was promoted, or a copy that was brought back: an operator knows which.
         (false, true, _) | (true, false, None) => Err(CacheError::NotFilled),
         (true, false, Some(current)) => Err(CacheError::OtherServer { current }),
-        (false, false, _) => Err(CacheError::OtherTable),
+        (false, false, None) => Err(CacheError::NeverFilled),
+        (false, false, Some(_)) => Err(CacheError::OtherTable),
     }
 }
 
@@ -163,9 +164,8 @@ mod tests {
         for (name, stored) in [("item", None), ("promoted", Some(filling))] {
             assert!(matches!(judged(name, stored), Err(CacheError::NotFilled)), "{name}");
         }
-        for stored in [None, Some(other)] {
-            assert!(matches!(judged("sale", stored), Err(CacheError::OtherTable)), "{stored:?}");
-        }
+        assert!(matches!(judged("sale", Some(other)), Err(CacheError::OtherTable)));
+        assert!(matches!(judged("sale", None), Err(CacheError::NeverFilled)));
     }
 
     #[test]

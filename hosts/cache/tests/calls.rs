@@ -273,7 +273,9 @@ fn a_database_with_another_identity_is_accepted_only_by_an_operator() {
         let table = Wrapped::of(&site.table).with_identity("promoted");
         site.builder_of(table, number)
     };
-    assert!(matches!(promoted(1).open(), Err(CacheError::NotFilled)));
+    let refused = promoted(1).open().unwrap_err();
+    assert!(matches!(refused, CacheError::NotFilled), "{refused:?}");
+    assert!(refused.to_string().contains("krl-cache accept"), "{refused}");
     promoted(2).accept_and_open().unwrap().close().unwrap();
     let after = promoted(3).open().unwrap();
     assert_eq!(persist(|| after.get(10)).unwrap().body.as_str(), "a");

@@ -134,7 +134,9 @@ fn the_server_of_another_table_is_named_as_such() {
     let (tables, [first, second]) = ([File::new(), File::new()], [Krl::start(), Krl::start()]);
     fill_again(&first, &tables[0]).unwrap();
     let opened_before = open(&first, &tables[1], 0);
-    assert!(matches!(opened_before, Err(CacheError::OtherTable)), "{opened_before:?}");
+    assert!(matches!(opened_before, Err(CacheError::NeverFilled)), "{opened_before:?}");
+    let told = opened_before.err().map(|error| error.to_string()).unwrap_or_default();
+    assert!(told.contains("run krl-cache fill for a krl server of its own"), "{told}");
     let cache = open(&first, &tables[0], 3).unwrap();
     let filled = fill_again(&first, &tables[1]);
     assert!(matches!(filled, Err(CacheError::OtherTable)), "{filled:?}");
