@@ -119,7 +119,7 @@ typedef enum krlc_code {
     KRLC_TOO_LONG = 19,
     /* The client's number is above 63. */
     KRLC_BAD_NUMBER = 20,
-    /* The text of the servers is not a list of addresses. */
+    /* The text of the servers is not a list of addresses; or what answers at the only one is not a krl server. */
     KRLC_BAD_ADDRESS = 21,
     /* The map of shards cannot be read, or is not one. */
     KRLC_BAD_MAP = 22,
@@ -135,7 +135,7 @@ typedef enum krlc_code {
     KRLC_LEFT = 27,
     /* The client or the pin belongs to the parent of this process. */
     KRLC_FORKED = 28,
-    /* Another process has the lock file, or those of all numbers. */
+    /* Another client has the lock file, in this or another process; or those of all numbers are in use. */
     KRLC_LOCK_FILE_TAKEN = 29,
 
     /* Errors after which a write may have been applied, or may still be: see `krlc_is_unknown_outcome`. */

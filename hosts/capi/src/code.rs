@@ -138,6 +138,7 @@ impl From<&JoinError> for Code {
             JoinError::BadNumber => Code::BadNumber,
             JoinError::Incomplete(_) => Code::Misuse,
             JoinError::NoAnswer { .. } => Code::TimedOut,
+            JoinError::NoServer { .. } => Code::BadAddress,
             JoinError::Unserved(_) => Code::Unserved,
             JoinError::TurnedAway(_) => Code::TurnedAway,
             JoinError::OtherShard(_) => Code::OtherShard,

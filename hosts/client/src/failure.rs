@@ -185,6 +185,7 @@ impl Failure {
                  is gone. The server reports: {why}"
             )),
             JoinError::Unserved(why) => Failure::NoAnswer(why.to_string()),
+            no_server @ JoinError::NoServer { .. } => Failure::NotJoined(no_server.to_string()),
             JoinError::LockFile { error: LockFileError::Taken, .. } => Failure::NotJoined(format!(
                 "another process is the client of number {number}: give this one another --number"
             )),
@@ -236,6 +237,10 @@ mod tests {
         assert_eq!((refused.status(), refused.to_string()), (3, full.to_string()));
         assert_eq!(Failure::from(Error::Unserved(full)).status(), 3);
         assert_eq!(Failure::of_join(JoinError::BadNumber, 64, &server).status(), 4);
+        let address = "127.0.0.1:1".parse().unwrap();
+        let no_server = Failure::of_join(JoinError::NoServer { address }, 1, &server);
+        assert_eq!(no_server.status(), 4);
+        assert!(no_server.to_string().starts_with("what answers at 127.0.0.1:1 is not"));
         let error = LockFileError::Taken;
         let taken = JoinError::LockFile { path: "client-1.lock".into(), error };
         assert_eq!(Failure::of_join(taken, 1, &server).status(), 4);

@@ -24,9 +24,9 @@ class Reason(_IntEnum):
 class Error(Exception): """All errors of this package, except those that Python itself raises."""
 class LibraryError(Error): """``libkrl_client.so`` was not found, or has another version."""
 class JoinError(Error): """The client did not join. ``__cause__`` is what ended it, if one did."""
-class LockFileError(JoinError): """The lock file cannot be used, or another process has it."""
-class LockFileTaken(LockFileError): """Another process has it, or those of all numbers."""
-class BadOption(JoinError, ValueError): """A number, address, map, file or time is not valid."""
+class LockFileError(JoinError): """The lock file cannot be used, or is in use."""
+class LockFileTaken(LockFileError): """This or another process uses it, or those of all numbers."""
+class BadOption(JoinError, ValueError): """An argument is not valid, or the address is not krl's."""
 
 
 class Refused(Error):

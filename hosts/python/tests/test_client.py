@@ -5,6 +5,7 @@ from __future__ import annotations
 import gc
 import shutil
 import signal
+import socket
 import subprocess
 import sys
 import threading
@@ -546,6 +547,22 @@ class BadInputTest(Served):
             krl.join(f"unix:{self.folder}/none", 1, self.lock_file(1), 0.5)
         self.assertIsInstance(raised.exception.__cause__, krl.TimedOut)
         krl.join(self.address, 1, self.lock_file(1), PATIENCE).leave()
+
+    def test_what_answers_at_the_address_may_be_no_krl_server(self) -> None:
+        def answer(listener: socket.socket) -> None:
+            for _ in range(2):
+                connection, _ = listener.accept()
+                with connection:
+                    connection.sendall(b"HTTP/1.1 400 Bad Request\r\n\r\n")
+                    connection.shutdown(socket.SHUT_WR)
+                    while connection.recv(4096):
+                        pass
+
+        with socket.create_server(("127.0.0.1", 0)) as listener:
+            threading.Thread(target=answer, args=[listener], daemon=True).start()
+            address = f"127.0.0.1:{listener.getsockname()[1]}"
+            with self.assertRaisesRegex(krl.BadOption, f"{address} is not a krl server"):
+                krl.join(address, 1, self.lock_file(1), PATIENCE)
 
     def test_the_first_free_number_of_several_is_taken(self) -> None:
         clients = [krl.join(self.address, range(3, 5), self.folder, PATIENCE) for _ in range(2)]

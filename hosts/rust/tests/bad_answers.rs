@@ -2,7 +2,10 @@
 //! client makes of one of them, and of several.
 mod secure;
 
-use krl::{Address, Client, ClientBuilder, Error, JoinError, Outcome, Server, TlsConfig, Value};
+use krl::{
+    Address, Client, ClientBuilder, Error, JoinError, Listener, MemoryStore, Outcome, Server,
+    TlsConfig, Value,
+};
 use krl_testing::relay::{Plan, Relay};
 use secure::{Setup, at, serve};
 use std::path::Path;
@@ -73,6 +76,31 @@ fn bad_answers_alone_reject_nobody() {
     let builder = builder(&relay, setup.config(&["krl:client:5"]), &setup);
     let error = builder.timeout(Duration::from_secs(1)).join().unwrap_err();
     assert!(matches!(error, JoinError::NoAnswer { fault: Some(_), .. }), "{error:?}");
+}
+
+#[test]
+fn who_joins_another_program_is_told_so_at_once() {
+    let setup = Setup::new("bad-program");
+    let listener = Listener::bind(&"127.0.0.1:0".parse().unwrap()).unwrap();
+    let server = Server::builder(listener, MemoryStore::default()).start().unwrap();
+    let Address::Tcp(server_at) = server.address() else { panic!("{:?}", server.address()) };
+    let relay = Relay::to(*server_at);
+    relay.plan(vec![UNAVAILABLE; 2]);
+    let at = Address::Tcp(relay.at());
+    let builder = || Client::builder(at.clone(), 5, setup.lock(5)).timeout(LONG);
+    let begun = Instant::now();
+    let error = builder().join().unwrap_err();
+    assert!(begun.elapsed() < SOON, "{:?}", begun.elapsed());
+    assert!(matches!(&error, JoinError::NoServer { address } if *address == at), "{error:?}");
+    let sentence = format!("what answers at {at} is not a krl server");
+    assert!(error.to_string().starts_with(&sentence), "{error}");
+    wait_for("two connections are counted", || relay.count() == 2);
+    relay.plan([UNAVAILABLE]);
+    let client = builder().join().unwrap();
+    relay.plan(vec![UNAVAILABLE; 3]);
+    relay.end();
+    assert_eq!(client.read(20..30), Ok(vec![]), "a client that has joined waits for its server");
+    assert_eq!(relay.count(), 8);
 }
 
 #[test]

@@ -164,7 +164,8 @@ fn the_first_free_number_of_several_is_taken() {
     assert_eq!((first.number(), second.number()), (3, 4));
     let refused = join().unwrap_err();
     let shown = format!(
-        "the lock file {}: another process is the client of this number",
+        "the lock file {}: it is in use, by this or another process: give each client a number and \
+         a lock file of its own",
         folder.lock(4).display()
     );
     assert_eq!(refused.to_string(), shown);

@@ -2,6 +2,7 @@
 mod common;
 
 use common::{Serving, errors, program, run};
+use krl::{Address, Client};
 use std::io::{ErrorKind, Read, Write};
 use std::net::TcpStream;
 use std::process::Command;
@@ -52,6 +53,20 @@ fn a_probe_is_answered_next_to_silent_strangers() {
     let half = strangers(&serving.status, "GET /healthz HTTP/1.1\r\nHost: lo");
     is_healthy(program().args(["health", &serving.status]));
     drop((silent, half));
+}
+
+#[test]
+fn a_client_that_takes_the_status_port_for_the_server_is_told_so_at_once() {
+    let folder = tempfile::tempdir().unwrap();
+    let serving = serve(&folder);
+    let status: Address = serving.status.parse().unwrap();
+    let builder = Client::builder(&status, 1, folder.path().join("client-1.lock"));
+    let begun = Instant::now();
+    let error = builder.timeout(PATIENCE).join().unwrap_err();
+    assert!(begun.elapsed() < PATIENCE / 2, "{:?}", begun.elapsed());
+    let told = error.to_string();
+    let sentence = format!("what answers at {status} is not a krl server (is it the status port");
+    assert!(told.starts_with(&sentence), "{told}");
 }
 
 #[test]

@@ -94,10 +94,10 @@ impl Client {
     /// # Errors
     ///
     /// `BadNumber` above 63; `LockFile` if another process has the file, or it can't be used;
-    /// `NoThread`; `NoAnswer`, with the reason if the connection failed; `Unserved`, if the server
-    /// tells why it does not serve the client; `TurnedAway`, if this side has no right to the
-    /// client; `OtherShard`, if the server serves another shard than the client takes it for;
-    /// `Refused` if memory is refused.
+    /// `NoThread`; `NoAnswer`, with the reason if the connection failed; `NoServer`, if what
+    /// answers is not a krl server; `Unserved`, if the server tells why it does not serve the
+    /// client; `TurnedAway`, if this side has no right to the client; `OtherShard`, if the server
+    /// serves another shard than the client takes it for; `Refused` if memory is refused.
     pub fn join(
         servers: impl Into<Servers>,
         number: u8,

@@ -9,9 +9,10 @@ use crate::lease::terms::Older;
 use crate::model::client_number::ClientNumber;
 use crate::model::error::{Error, JoinError};
 use crate::model::refusal::Refusal;
-use crate::net::connect_fault::{NotTaken, Rejection};
+use crate::net::connect_fault::{NoServer, NotTaken, Rejection};
 use crate::net::servers::Servers;
 use crate::proved::client_handle::ClientHandle;
+use std::io;
 use std::path::Path;
 use std::time::{Duration, Instant};
 
@@ -99,9 +100,7 @@ fn not_joined(shared: &Shared, refused: Error) -> JoinError {
     let rejection = shared.link().rejection();
     shared.end_by(Instant::now());
     match refused {
-        Error::TimedOut => {
-            JoinError::NoAnswer { servers: Box::new(shared.link().servers().clone()), fault }
-        }
+        Error::TimedOut => not_answered(shared.link().servers(), fault),
         Error::Unserved(refusal) => JoinError::Unserved(refusal),
         Error::OtherShard(other) => JoinError::OtherShard(other),
         Error::TurnedAway => JoinError::TurnedAway(match rejection {
@@ -109,6 +108,16 @@ fn not_joined(shared: &Shared, refused: Error) -> JoinError {
             _ => String::new(),
         }),
         refused => JoinError::Refused(refused),
+    }
+}
+
+/// Why a client did not join whose last connection ended by this fault.
+fn not_answered(servers: &Servers, fault: Option<io::Error>) -> JoinError {
+    match fault.as_ref().and_then(NoServer::carried_by) {
+        Some(NoServer(address)) if !servers.are_several() => {
+            JoinError::NoServer { address: address.clone() }
+        }
+        _ => JoinError::NoAnswer { servers: Box::new(servers.clone()), fault },
     }
 }
 

@@ -28,7 +28,7 @@ pub(crate) struct LockFile {
 #[derive(Debug)]
 #[non_exhaustive]
 pub enum LockFileError {
-    /// Another process has it: it is a client of this number.
+    /// Another client of this number has it, in this or another process.
     Taken,
     /// It says something else than a lock file of this number does.
     Strange,
@@ -143,7 +143,10 @@ impl Drop for LockFile {
 impl fmt::Display for LockFileError {
     fn fmt(&self, f: &mut fmt::Formatter<'_>) -> fmt::Result {
         match self {
-            LockFileError::Taken => f.write_str("another process is the client of this number"),
+            LockFileError::Taken => f.write_str(
+                "it is in use, by this or another process: give each client a number and a lock \
+                 file of its own",
+            ),
             LockFileError::Strange => f.write_str("it is no lock file of this client number"),
             LockFileError::File(error) => write!(f, "it can't be used: {error}"),
         }

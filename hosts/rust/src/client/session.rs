@@ -11,7 +11,7 @@ use crate::model::history::Seen;
 use crate::model::refusal::Refusal;
 use crate::model::shard_fence::Fence;
 use crate::net::address::Address;
-use crate::net::connect_fault::{ConnectFault, Rejection, Rejections};
+use crate::net::connect_fault::{ConnectFault, NoServer, Rejection, Rejections};
 use crate::net::servers::Servers;
 use crate::proved::client_handle::ClientHandle;
 use crate::wire::frames::Frames;
@@ -24,6 +24,10 @@ use std::time::{Duration, Instant};
 /// A server that does not serve a client tells why once a second, and when the client connects
 /// again. What it has told before that is so no more.
 const HINT: Duration = Duration::from_secs(2);
+
+/// So many connections in a row have to be answered by another program before a client that joins
+/// gives up. One answer may be that of a proxy whose server is being restarted.
+const STRANGERS: u32 = 2;
 
 /// Whether a client that joins gives up at this moment, since the server reports this reason.
 type GivesUp = Box<dyn Fn(Refusal, Instant) -> bool + Send>;
@@ -48,6 +52,8 @@ pub(crate) struct Session {
     refusal: Option<(Refusal, Instant)>,
     /// How the last connections ended, as far as one side rejected the other.
     rejections: Rejections,
+    /// How many of the last connections in a row another program has answered.
+    strangers: u32,
     /// How much the client has seen of the server's store.
     seen: Option<Seen>,
     /// The greatest epoch that a server has said.
@@ -67,6 +73,8 @@ struct Connection {
 /// What came on a connection.
 #[derive(Clone, Copy, Debug, Default, PartialEq, Eq)]
 struct Heard {
+    /// A whole frame.
+    frame: bool,
     /// A message that the library has accepted.
     message: bool,
     /// That the server's store went back.
@@ -91,6 +99,7 @@ impl Session {
             fault: None,
             refusal: None,
             rejections: Rejections::default(),
+            strangers: 0,
             seen: None,
             epoch: 0,
             joining: None,
@@ -167,9 +176,12 @@ impl Session {
         }
         event_log::disconnected(self.address(), &fault);
         self.rejections.note(&fault);
+        let is_stranger = matches!(fault, ConnectFault::NoServer(_));
+        self.strangers = if is_stranger { self.strangers + 1 } else { 0 };
         self.fault = Some(fault.into());
         self.place = (self.place + 1) % self.servers.count();
         self.end_hopeless();
+        self.end_join_among_strangers();
         self.backoff.pause()
     }
 
@@ -182,13 +194,24 @@ impl Session {
         let now = self.now();
         self.connection()?.silence.heard(now);
         while let Ok(Some(frame)) = frames.next() {
+            self.connection()?.heard.frame = true;
             if host_frame::is_of_host(frame) {
                 self.hear_host(frame)?;
             } else {
                 self.hear_message(Message::read(frame))?;
             }
         }
-        if frames.is_broken() { Err(bad_message(Code::BadMessage)) } else { Ok(()) }
+        if frames.is_broken() { Err(self.no_frame()) } else { Ok(()) }
+    }
+
+    /// Why the connection ends when what comes next is no frame.
+    fn no_frame(&self) -> io::Error {
+        match &self.connection {
+            Some(Connection { heard: Heard { frame: true, .. }, .. }) => {
+                bad_message(Code::BadMessage)
+            }
+            _ => NoServer(self.address().clone()).into(),
+        }
     }
 
     fn hear_message(&mut self, message: Message<'_>) -> io::Result<()> {
@@ -300,6 +323,17 @@ impl Session {
         let is_of_shard = matches!(self.rejections.last(), Some(Rejection::OtherShard(_)));
         let of_sent = is_of_shard.then(|| self.unanswered(WasSent::Yes));
         self.jobs.refuse_all(self.unanswered(WasSent::No), of_sent);
+    }
+
+    /// Who joins gives up if another program answers at the only address, again and again. A client
+    /// that has joined once waits for its server to come back.
+    fn end_join_among_strangers(&mut self) {
+        if self.servers.are_several() || self.strangers < STRANGERS {
+            return;
+        }
+        if let Some(Joining { job, .. }) = self.joining.take() {
+            self.jobs.refuse(job, self.unanswered(WasSent::No));
+        }
     }
 
     fn end_join_if_hopeless(&mut self) {

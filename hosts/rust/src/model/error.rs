@@ -3,6 +3,8 @@ use crate::client::lock_file::LockFileError;
 use crate::model::code::Code;
 use crate::model::refusal::Refusal;
 use crate::model::shard_fence::OtherShard;
+use crate::net::address::Address;
+use crate::net::connect_fault::NoServer;
 use crate::net::servers::Servers;
 use std::fmt;
 use std::io;
@@ -101,6 +103,13 @@ pub enum JoinError {
         /// How the last connection ended, or why none was made, unless the server took the client
         /// on a later one. If it is `None`, the server recovers, or is silent.
         fault: Option<io::Error>,
+    },
+    /// What answers at the client's only address is not a krl server, but a status port or another
+    /// program. It comes as soon as two connections in a row were answered so. A client of several
+    /// servers tries the others too, and ends with `NoAnswer` at its timeout.
+    NoServer {
+        /// The address.
+        address: Address,
     },
     /// The server has reported why it does not serve the client, and within the client's timeout it
     /// did not answer.
@@ -277,6 +286,7 @@ impl fmt::Display for JoinError {
                 write!(f, "the server at {servers} did not answer in time")?;
                 fault.iter().try_for_each(|fault| write!(f, ": {fault}"))
             }
+            JoinError::NoServer { address } => NoServer(address.clone()).fmt(f),
             JoinError::Unserved(refusal) => refusal.fmt(f),
             JoinError::TurnedAway(why) => write!(f, "the connection was turned away: {why}"),
             JoinError::OtherShard(other) => other.fmt(f),
@@ -306,6 +316,7 @@ impl std::error::Error for JoinError {
             JoinError::OtherShard(other) => Some(other),
             JoinError::BadNumber
             | JoinError::Incomplete(_)
+            | JoinError::NoServer { .. }
             | JoinError::Unserved(_)
             | JoinError::TurnedAway(_) => None,
         }

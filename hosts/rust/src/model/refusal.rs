@@ -114,9 +114,10 @@ impl fmt::Display for Refusal {
             }
             Refusal::Incarnation { client, registered } => write!(
                 f,
-                "the server knows incarnation {registered} of client {client}, which is greater: \
-                 another process is that client, it was evicted, or its lock file was lost under \
-                 a clock that is behind"
+                "another process is client {client} of this server: take another number, or end \
+                 that process (the server knows incarnation {registered} of client {client}, which \
+                 is greater; if there is no such process, this client was evicted, or its lock \
+                 file was lost under a clock that is behind)"
             ),
             Refusal::Full { connections } => {
                 write!(f, "the server has all its connections, which are {connections}")
@@ -149,8 +150,10 @@ impl fmt::Display for Refusal {
             ),
             Refusal::LeaseRuns { client, registered } => write!(
                 f,
-                "incarnation {registered} of client {client} may still answer from its cache: the \
-                 server waits for the end of its lease, or, if that does not end, for its eviction"
+                "another process is client {client} of this server, or was until it was killed: \
+                 take another number, or end that process and wait for the end of its lease \
+                 (incarnation {registered} of client {client} may still answer from its cache; if \
+                 its lease does not end, it has to be evicted)"
             ),
         }
     }
@@ -166,6 +169,12 @@ mod tests {
         assert!(missing.contains("the reports of the clients 3, 7,"), "{missing}");
         let older = Refusal::Incarnation { client: 3, registered: 17 }.to_string();
         assert!(older.contains("knows incarnation 17 of client 3"), "{older}");
+        let running = Refusal::LeaseRuns { client: 3, registered: 17 }.to_string();
+        assert!(running.contains("incarnation 17 of client 3 may still answer"), "{running}");
+        for sentence in [older, running] {
+            assert!(sentence.starts_with("another process is client 3 of this server"));
+            assert!(sentence.contains("take another number, or end that process"), "{sentence}");
+        }
         let full = Refusal::Full { connections: 256 }.to_string();
         assert_eq!(full, "the server has all its connections, which are 256");
         let version = Refusal::Version { read: 1 }.to_string();

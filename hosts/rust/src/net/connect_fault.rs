@@ -1,6 +1,8 @@
-//! Why a client has no connection: the network failed, or the two sides do not take each other.
+//! Why a client has no connection: the network failed, the two sides do not take each other, or
+//! another program answers.
 use crate::model::refusal::Refusal;
 use crate::model::shard_fence::OtherShard;
+use crate::net::address::Address;
 use std::fmt;
 use std::io::{self, ErrorKind};
 
@@ -17,6 +19,10 @@ pub(crate) struct NotTaken(pub String);
 #[derive(Clone, Copy, Debug, PartialEq, Eq)]
 pub(crate) struct OtherVersion(pub u8);
 
+/// What answers at this address is another program: its first bytes are no frame.
+#[derive(Clone, Debug, PartialEq, Eq)]
+pub(crate) struct NoServer(pub Address);
+
 /// Why a connection was not made, or has ended.
 #[derive(Debug)]
 pub(crate) enum ConnectFault {
@@ -26,6 +32,7 @@ pub(crate) enum ConnectFault {
     NotTaken(NotTaken),
     OtherShard(OtherShard),
     OtherVersion(OtherVersion),
+    NoServer(NoServer),
 }
 
 impl From<io::Error> for ConnectFault {
@@ -38,6 +45,9 @@ impl From<io::Error> for ConnectFault {
         }
         if let Some(other) = carried.and_then(|it| it.downcast_ref()) {
             return ConnectFault::OtherVersion(*other);
+        }
+        if let Some(no_server) = NoServer::carried_by(&error) {
+            return ConnectFault::NoServer(no_server.clone());
         }
         match carried.and_then(|it| it.downcast_ref::<NotTaken>()) {
             Some(not_taken) => ConnectFault::NotTaken(not_taken.clone()),
@@ -53,6 +63,7 @@ impl From<ConnectFault> for io::Error {
             ConnectFault::NotTaken(not_taken) => not_taken.into(),
             ConnectFault::OtherShard(other) => other.into(),
             ConnectFault::OtherVersion(other) => other.into(),
+            ConnectFault::NoServer(no_server) => no_server.into(),
         }
     }
 }
@@ -69,6 +80,12 @@ impl From<OtherVersion> for io::Error {
     }
 }
 
+impl From<NoServer> for io::Error {
+    fn from(no_server: NoServer) -> io::Error {
+        io::Error::new(ErrorKind::InvalidData, no_server)
+    }
+}
+
 /// That the server rejected this side, if it did.
 #[derive(Clone, Debug, PartialEq, Eq)]
 pub(crate) enum Rejection {
@@ -80,7 +97,7 @@ pub(crate) enum Rejection {
 impl ConnectFault {
     pub fn rejection(&self) -> Option<Rejection> {
         match self {
-            ConnectFault::Io(_) => None,
+            ConnectFault::Io(_) | ConnectFault::NoServer(_) => None,
             ConnectFault::NotTaken(not_taken) => Some(Rejection::NotTaken(not_taken.clone())),
             ConnectFault::OtherShard(other) => Some(Rejection::OtherShard(*other)),
             ConnectFault::OtherVersion(other) => Some(Rejection::OtherVersion(*other)),
@@ -152,6 +169,25 @@ impl fmt::Display for OtherVersion {
 
 impl std::error::Error for OtherVersion {}
 
+impl NoServer {
+    /// The one that an error carries.
+    pub fn carried_by(error: &io::Error) -> Option<&NoServer> {
+        error.get_ref()?.downcast_ref()
+    }
+}
+
+impl fmt::Display for NoServer {
+    fn fmt(&self, f: &mut fmt::Formatter<'_>) -> fmt::Result {
+        write!(
+            f,
+            "what answers at {} is not a krl server (is it the status port, or another program?)",
+            self.0
+        )
+    }
+}
+
+impl std::error::Error for NoServer {}
+
 impl fmt::Display for ConnectFault {
     fn fmt(&self, f: &mut fmt::Formatter<'_>) -> fmt::Result {
         match self {
@@ -159,6 +195,7 @@ impl fmt::Display for ConnectFault {
             ConnectFault::NotTaken(not_taken) => not_taken.fmt(f),
             ConnectFault::OtherShard(other) => other.fmt(f),
             ConnectFault::OtherVersion(other) => other.fmt(f),
+            ConnectFault::NoServer(no_server) => no_server.fmt(f),
         }
     }
 }
@@ -187,7 +224,8 @@ mod tests {
 
     #[test]
     fn a_fault_is_the_same_error_again() {
-        let others = [OtherVersion(1).into(), ErrorKind::ConnectionRefused.into()];
+        let no_server = NoServer(Address::Unix("here".into())).into();
+        let others = [OtherVersion(1).into(), no_server, ErrorKind::ConnectionRefused.into()];
         for error in [not_taken(), other_shard()].into_iter().chain(others) {
             let (kind, text) = (error.kind(), error.to_string());
             let again = io::Error::from(ConnectFault::from(error));

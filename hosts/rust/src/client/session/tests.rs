@@ -186,6 +186,47 @@ fn all_jobs_end_when_the_only_server_has_rejected_this_side_twice() {
     assert!(read.answer.try_recv().is_err());
 }
 
+/// What a web server answers to a greeting.
+const OF_HTTP: &[u8] = b"HTTP/1.1 400 Bad Request\r\nconnection: close\r\n\r\n";
+
+/// A connection that hears this and then ends with what was wrong with it.
+fn hear_and_end(session: &mut Session, sent: &[u8]) -> String {
+    connect(session);
+    let end = hear(session, sent).unwrap_err();
+    let why = end.to_string();
+    session.disconnected(end);
+    why
+}
+
+#[test]
+fn who_joins_gives_up_when_another_program_has_answered_twice_at_the_only_address() {
+    for (servers, gives_up) in [("unix:one", true), ("unix:one,unix:two", false)] {
+        let mut session = session(servers);
+        let asked = session.join(Box::new(|_, _| false));
+        let why = hear_and_end(&mut session, OF_HTTP);
+        assert!(why.contains("what answers at unix:one is not a krl server"), "{why}");
+        connect(&mut session);
+        session.disconnected(ErrorKind::ConnectionReset.into());
+        hear_and_end(&mut session, OF_HTTP);
+        assert!(asked.answer.try_recv().is_err(), "one may be a proxy's mistake");
+        hear_and_end(&mut session, OF_HTTP);
+        assert_eq!(asked.answer.try_recv() == Ok(Err(Error::TimedOut)), gives_up, "{servers}");
+    }
+}
+
+#[test]
+fn a_client_that_has_joined_waits_for_its_server_whatever_else_answers_there() {
+    let mut session = session("unix:one");
+    let read = session.jobs().read(0..9);
+    for _ in 0..5 {
+        hear_and_end(&mut session, OF_HTTP);
+    }
+    assert!(read.answer.try_recv().is_err());
+    let after_a_frame = [&terms(&connect(&mut session)), OF_HTTP].concat();
+    let end = hear(&mut session, &after_a_frame).unwrap_err().to_string();
+    assert!(end.contains("the server says what no server says"), "{end}");
+}
+
 /// Why a job ends that was sent or not, if the last connection ended with this.
 fn ended(fault: io::Error, was_sent: WasSent) -> Error {
     let mut session = session("unix:nowhere");
