@@ -1,16 +1,13 @@
 //! The database that has a table, and what is done with the table there.
 use crate::failure::Failure;
 use crate::fill::{self, Filled};
-use clap::builder::{TypedValueParser, ValueParserFactory};
-use clap::error::ErrorKind;
-use clap::{Arg, Command};
+use clap::builder::ValueParserFactory;
 use krl::Client;
 use krl_cache::{
-    BadPostgresAddress, Cache, EarlierServer, OriginError, PostgresAddress, PostgresOrigin,
-    SqliteOrigin, Table, TableFault,
+    Cache, EarlierServer, OriginError, PostgresAddress, PostgresOrigin, SqliteOrigin, Table,
+    TableFault,
 };
-use krl_postgres::without_password;
-use std::ffi::OsStr;
+use krl_postgres::UrlWord;
 use std::path::{Path, PathBuf};
 use std::str::FromStr;
 
@@ -28,7 +25,8 @@ impl FromStr for Database {
     fn from_str(text: &str) -> Result<Database, String> {
         match text.split_once("://") {
             Some(("postgres" | "postgresql", _)) => {
-                text.parse().map(Database::Postgres).map_err(|bad| fault_of(&bad))
+                let address = text.parse::<PostgresAddress>();
+                address.map(Database::Postgres).map_err(|bad| bad.for_operators())
             }
             Some(_) => {
                 Err("expected postgres://USER@HOST:PORT/NAME, or a file of SQLite".to_string())
@@ -43,16 +41,6 @@ impl FromStr for Database {
     }
 }
 
-/// Why a URL is refused, and what to do about it.
-fn fault_of(bad: &BadPostgresAddress) -> String {
-    match bad {
-        BadPostgresAddress::Password => "a URL must not have a password: set KRL_STORE_USER and \
-                                         KRL_STORE_PASSWORD to the user and the password"
-            .to_string(),
-        bad => bad.to_string(),
-    }
-}
-
 /// Whether a text lacks only a letter or two of a URL of PostgreSQL.
 fn is_almost_a_url(text: &str) -> bool {
     ["postgres", "postgresql"].iter().any(|scheme| {
@@ -61,35 +49,11 @@ fn is_almost_a_url(text: &str) -> bool {
     })
 }
 
-/// Reads the word of a command line that names a database.
-#[derive(Clone, Copy, Debug)]
-pub struct DatabaseParser;
-
 impl ValueParserFactory for Database {
-    type Parser = DatabaseParser;
+    type Parser = UrlWord<Database>;
 
-    fn value_parser() -> DatabaseParser {
-        DatabaseParser
-    }
-}
-
-impl TypedValueParser for DatabaseParser {
-    type Value = Database;
-
-    /// A word that is refused is shown without a password.
-    fn parse_ref(
-        &self,
-        command: &Command,
-        argument: Option<&Arg>,
-        word: &OsStr,
-    ) -> Result<Database, clap::Error> {
-        let text = word.to_string_lossy();
-        text.parse().map_err(|why| {
-            let (shown, argument) = (without_password(&text), argument.map(Arg::to_string));
-            let argument = argument.unwrap_or_default();
-            let why = format!("invalid value '{shown}' for '{argument}': {why}");
-            command.clone().error(ErrorKind::ValueValidation, why)
-        })
+    fn value_parser() -> UrlWord<Database> {
+        UrlWord::parser()
     }
 }
 
@@ -101,7 +65,11 @@ impl Database {
                 Box::new(PostgresOrigin::<()>::new(address, user()?.as_ref(), table)?)
             }
             Database::Sqlite(path) if !path.exists() => {
-                return Err(Failure::NotDone(format!("there is no file {}", path.display())));
+                return Err(Failure::NotDone(format!(
+                    "there is no file {} (a DATABASE that does not begin with postgres:// is a \
+                     file of SQLite)",
+                    path.display()
+                )));
             }
             Database::Sqlite(path) => Box::new(SqliteOrigin::<()>::new(path, table)),
         })

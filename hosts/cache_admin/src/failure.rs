@@ -12,7 +12,7 @@ const BROKEN_PIPE: u8 = 128 + 13;
 const NOT_DONE: u8 = 1;
 
 /// The exit status if the command line or the environment is wrong.
-const WORDS: u8 = 2;
+pub const WORDS: u8 = 2;
 
 /// A command that failed.
 #[derive(Debug)]

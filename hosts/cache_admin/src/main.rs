@@ -9,15 +9,39 @@ mod filling;
 mod output;
 
 use arguments::{Arguments, Command};
+use clap::error::{ContextKind, ContextValue};
 use clap::{CommandFactory, Parser};
-use failure::Failure;
+use failure::{Failure, WORDS};
 use krl_cache::PostgresOrigin;
+use std::io::{self, Write};
 use std::process::ExitCode;
 
 fn main() -> ExitCode {
-    run(Arguments::parse().command).unwrap_or_else(|failure| {
+    let arguments = match Arguments::try_parse() {
+        Ok(arguments) => arguments,
+        Err(error) => return misunderstood(&error),
+    };
+    run(arguments.command).unwrap_or_else(|failure| {
         failure.report();
         failure.status()
+    })
+}
+
+/// Reports what was wrong with the words, or prints the help that they ask for.
+fn misunderstood(error: &clap::Error) -> ExitCode {
+    // If nobody takes it, the exit status is enough.
+    let _ = error.print();
+    if names_server(error) {
+        let _ = writeln!(io::stderr(), "\nThe krl server is given by --krl ADDRESS");
+    }
+    if error.use_stderr() { ExitCode::from(WORDS) } else { ExitCode::SUCCESS }
+}
+
+/// Whether the unknown word is the option by which `krl-client` takes the server.
+fn names_server(error: &clap::Error) -> bool {
+    error.context().any(|(kind, value)| {
+        let named = matches!(value, ContextValue::String(word) if word.starts_with("--server"));
+        named && kind == ContextKind::InvalidArg
     })
 }
 

@@ -293,11 +293,29 @@ fn a_large_table_may_grow() {
 }
 
 #[test]
+fn a_server_is_given_by_its_own_option() {
+    let folder = TempDir::new().unwrap();
+    for words in [
+        &["fill", "shop.db", "item", "--server", "127.0.0.1:7400"][..],
+        &["filling", "--server=127.0.0.1:7400"],
+    ] {
+        let (status, text) = ended(folder.path(), words);
+        assert_eq!(status, 2, "{text}");
+        assert!(text.ends_with("The krl server is given by --krl ADDRESS\n"), "{text}");
+    }
+    let (status, text) = ended(folder.path(), &["fill", "shop.db", "item", "--sever", "x"]);
+    assert!(status == 2 && !text.contains("is given by"), "{text}");
+    assert_eq!(ended(folder.path(), &["--help"]).0, 0);
+}
+
+#[test]
 fn a_file_of_sqlite_is_checked_and_prepared() {
     let folder = TempDir::new().unwrap();
     let folder = folder.path();
     let (status, text) = ended(folder, &["check", "shop.db", "item"]);
-    assert_eq!((status, text.as_str()), (1, "krl-cache: there is no file shop.db\n"));
+    let why = "krl-cache: there is no file shop.db (a DATABASE that does not begin with postgres:// is a \
+               file of SQLite)\n";
+    assert_eq!((status, text.as_str()), (1, why));
     let connection = krl_cache::rusqlite::Connection::open(folder.join("shop.db")).unwrap();
     connection.execute_batch("CREATE TABLE item (id INTEGER PRIMARY KEY, name TEXT)").unwrap();
     let (status, text) = ended(folder, &["check", "shop.db", "item"]);

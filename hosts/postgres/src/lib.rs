@@ -15,6 +15,8 @@ mod link;
 mod security;
 mod sql;
 mod store;
+#[cfg(feature = "command-line")]
+mod url_word;
 
 pub use address::{BadPostgresAddress, PostgresAddress};
 // For the crates of this workspace.
@@ -23,3 +25,6 @@ pub use address::without_password;
 #[doc(hidden)]
 pub use connector::{Carrier, Connector};
 pub use store::PostgresStore;
+#[cfg(feature = "command-line")]
+#[doc(hidden)]
+pub use url_word::UrlWord;

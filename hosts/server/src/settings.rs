@@ -1,14 +1,13 @@
 //! The settings of a server, and where each comes from.
 mod access;
 pub mod key;
-mod store_word;
+mod store_place;
 mod value;
 
 pub use access::AccessSettings;
 pub use key::Key;
-pub use value::{
-    Drift, LeaseLength, LogFormat, Optional, Seconds, StatusAddress, StatusPorts, StorePlace,
-};
+pub use store_place::StorePlace;
+pub use value::{Drift, LeaseLength, LogFormat, Optional, Seconds, StatusAddress, StatusPorts};
 
 use crate::command_line::ServeOptions;
 use crate::http::StatusPort;
@@ -19,6 +18,7 @@ use krl_postgres::without_password;
 use serde::Deserialize;
 use std::fmt;
 use std::path::{Path, PathBuf};
+use store_place::BadStorePlace;
 use tracing::level_filters::LevelFilter;
 
 /// Where clients connect by default.
@@ -114,7 +114,9 @@ impl Settings {
                 file.listen,
                 value::parse_address,
             )?,
-            store: given.setting(&key::STORE, &options.store, file.store, value::parse_store)?,
+            store: given.judged_setting(&key::STORE, &options.store, file.store, |text| {
+                text.parse().map_err(|bad: BadStorePlace| format!(": {bad}"))
+            })?,
             store_authority: given.setting(
                 &key::STORE_AUTHORITY,
                 &options.store_authority,
@@ -222,18 +224,31 @@ impl Given<'_> {
         in_file: Option<String>,
         parse: fn(&str) -> Option<T>,
     ) -> Result<Setting<T>, BadSetting> {
+        self.judged_setting(key, option, in_file, |text| {
+            parse(text).ok_or_else(|| format!(", and has to be {}", key.expected))
+        })
+    }
+
+    /// The same, of a parser that states why it refuses a text.
+    fn judged_setting<'o, T>(
+        &self,
+        key: &Key,
+        option: impl Into<Option<&'o String>>,
+        in_file: Option<String>,
+        parse: impl FnOnce(&str) -> Result<T, String>,
+    ) -> Result<Setting<T>, BadSetting> {
         let (text, source) = match (option.into(), in_file) {
             (Some(text), _) => (text.clone(), self.option_source(key)),
             (None, Some(text)) => (text, Source::File(self.path.unwrap_or(Path::new("")).into())),
             (None, None) => (key.default.to_string(), Source::Default),
         };
-        let Some(value) = parse(&text) else {
-            let Key { name, expected, .. } = key;
-            let shown = without_password(&text);
-            let reason = format!("{name} is '{shown}' ({source}), and has to be {expected}");
-            return Err(BadSetting(reason));
-        };
-        Ok(Setting { value, source })
+        match parse(&text) {
+            Ok(value) => Ok(Setting { value, source }),
+            Err(why) => {
+                let (name, shown) = (key.name, without_password(&text));
+                Err(BadSetting(format!("{name} is '{shown}' ({source}){why}")))
+            }
+        }
     }
 
     fn option_source(&self, key: &Key) -> Source {

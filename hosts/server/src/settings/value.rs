@@ -1,8 +1,5 @@
 //! The values of settings, as they are written and read.
-use super::key;
 use krl::{Address, Identity, Leases, Reach, Room, ShardBounds, TableName};
-use krl_etcd::EtcdAddress;
-use krl_postgres::PostgresAddress;
 use std::fmt;
 use std::ops::RangeInclusive;
 use std::path::PathBuf;
@@ -17,24 +14,6 @@ const MAX_DRIFT: u32 = 100;
 
 /// The most other servers that a page shows.
 const MAX_OTHERS: usize = 63;
-
-/// Where a store is.
-#[derive(Clone, Debug, PartialEq, Eq)]
-pub enum StorePlace {
-    /// A file of SQLite.
-    File(PathBuf),
-    /// A cluster of etcd.
-    Etcd(EtcdAddress),
-    /// A database of PostgreSQL.
-    Postgres(PostgresAddress),
-}
-
-impl StorePlace {
-    /// The place of this text.
-    pub fn parse(text: &str) -> Result<StorePlace, String> {
-        parse_store(text).ok_or_else(|| format!("it has to be {}", key::STORE.expected))
-    }
-}
 
 /// A value that may be left out: then its text is empty.
 #[derive(Clone, Debug, PartialEq, Eq)]
@@ -103,15 +82,6 @@ pub enum LogFormat {
 
 pub fn parse_address(text: &str) -> Option<Address> {
     text.parse().ok()
-}
-
-pub fn parse_store(text: &str) -> Option<StorePlace> {
-    match text.split_once("://") {
-        Some(("etcd" | "etcds", _)) => text.parse().ok().map(StorePlace::Etcd),
-        Some(("postgres" | "postgresql", _)) => text.parse().ok().map(StorePlace::Postgres),
-        Some((scheme, _)) if scheme.bytes().all(|byte| byte.is_ascii_alphanumeric()) => None,
-        _ => (!text.is_empty()).then(|| StorePlace::File(text.into())),
-    }
 }
 
 /// A setting that may be left out, as its default is.
@@ -220,16 +190,6 @@ pub fn parse_format(text: &str) -> Option<LogFormat> {
         "text" => Some(LogFormat::Text),
         "json" => Some(LogFormat::Json),
         _ => None,
-    }
-}
-
-impl fmt::Display for StorePlace {
-    fn fmt(&self, f: &mut fmt::Formatter<'_>) -> fmt::Result {
-        match self {
-            StorePlace::File(path) => path.display().fmt(f),
-            StorePlace::Etcd(address) => address.fmt(f),
-            StorePlace::Postgres(address) => address.fmt(f),
-        }
     }
 }
 
