@@ -1,6 +1,8 @@
 //! Caches of a table of PostgreSQL. They start a server of PostgreSQL.
 #[path = "postgres/guard.rs"]
 mod guard;
+#[path = "postgres/misfits.rs"]
+mod misfits;
 mod site;
 
 use krl_cache::tokio_postgres::types::ToSql;
@@ -206,37 +208,6 @@ fn a_table_is_numbered_by_a_further_column() {
     assert!(cache.insert(next.cast_unsigned(), item("bulb", 5)).unwrap());
     assert!(cache.delete(1).unwrap());
     assert_eq!(rows(&cache), [(2, item("shade", 8)), (3, item("bulb", 5))]);
-}
-
-/// A type that does not fit its column.
-struct Narrow(#[expect(dead_code)] i32);
-
-impl PostgresRow for Narrow {
-    const COLUMNS: &'static [&'static str] = &["the name", "price"];
-
-    fn from_row(row: &Row) -> Result<Narrow, Error> {
-        Ok(Narrow(row.try_get("price")?))
-    }
-
-    fn values(&self) -> Vec<&(dyn ToSql + Sync)> {
-        Vec::new()
-    }
-}
-
-#[test]
-fn a_column_that_does_not_fit_its_type_is_named() {
-    let Some((database, krl)) = filled() else { return };
-    let table = Table::new("item").key("number");
-    let table = PostgresOrigin::<Narrow>::new(&database.address(), None, table).unwrap();
-    let cache = krl.cache_of(table, 0).open().unwrap();
-    let expected = [
-        (10, "the column \"price\" (int8) does not fit its type in the program: cannot convert"),
-        (12, "the column \"price\" (int8) does not fit its type in the program"),
-    ];
-    for (key, expected) in expected {
-        let refused = cache.get(key).err().expect("it is no i32").to_string();
-        assert!(refused.contains(expected), "{refused}");
-    }
 }
 
 /// What a table has of the cache: its version column, its triggers and the table of fillings.

@@ -3,8 +3,11 @@ use super::session::reported;
 use crate::origin::OriginError;
 use std::error::Error as _;
 use std::mem::size_of;
-use tokio_postgres::types::ToSql;
-use tokio_postgres::{Column, Error, Row};
+use tokio_postgres::types::{ToSql, Type, WasNull};
+use tokio_postgres::{Column, Error, Row, Statement};
+
+/// The key and the version come before the application's columns in an insert and an update.
+const KEY_AND_VERSION: usize = 2;
 
 /// The application's columns of a row in PostgreSQL, without the key and the version.
 ///
@@ -69,23 +72,47 @@ pub(super) fn has_a_value_for_each<T: PostgresRow>(body: &T) -> Result<(), Origi
 
 /// The application's columns of a row, or which of them cannot be read.
 pub(super) fn read<T: PostgresRow>(row: &Row) -> Result<T, OriginError> {
-    T::from_row(row).map_err(|error| match (unreadable(row, &error), error.source()) {
-        (Some(column), Some(why)) => OriginError::new(format!(
-            "the column \"{}\" ({}) does not fit its type in the program: {why}",
-            column.name(),
-            column.type_()
-        )),
-        _ => reported(error),
+    T::from_row(row).map_err(|error| match unreadable(row, &error) {
+        Some(column) => misfit(column.name(), column.type_(), error),
+        None => reported(error),
     })
 }
 
-/// The column of the row that an error is about. The driver has its place among all columns, which
-/// are also those of the cache, and gives it only in a sentence.
+/// Why an insert or an update of a row was not made. This statement inserts such rows; an update has
+/// its values in the same places.
+pub(super) fn not_written<T: PostgresRow>(insert: &Statement, error: Error) -> OriginError {
+    let place = place_after("error serializing parameter ", &error);
+    let column = place.and_then(|place| T::COLUMNS.get(place.checked_sub(KEY_AND_VERSION)?));
+    match (column, place.and_then(|place| insert.params().get(place))) {
+        (Some(column), Some(type_)) => misfit(column, type_, error),
+        _ => reported(error),
+    }
+}
+
+/// A value of the program and one of this column cannot be converted into each other.
+fn misfit(column: &str, type_: &Type, error: Error) -> OriginError {
+    let Some(cause) = error.source() else { return reported(error) };
+    let why = match cause.downcast_ref::<WasNull>() {
+        Some(WasNull) => "it is NULL: make the field an Option".to_string(),
+        None => cause.to_string(),
+    };
+    OriginError::new(format!(
+        "the column \"{column}\" ({type_}) does not fit its type in the program: {why}"
+    ))
+}
+
+/// The column of the row that an error is about.
 fn unreadable<'r>(row: &'r Row, error: &Error) -> Option<&'r Column> {
+    row.columns().get(place_after("error deserializing column ", error)?)
+}
+
+/// The place of a column or a value that an error is about. The driver gives it only in a sentence,
+/// after these words.
+fn place_after(words: &str, error: &Error) -> Option<usize> {
     let sentence = error.to_string();
-    let (_, place) = sentence.split_once("error deserializing column ")?;
+    let (_, place) = sentence.split_once(words)?;
     let end = place.find(|next: char| !next.is_ascii_digit()).unwrap_or(place.len());
-    row.columns().get(place[..end].parse::<usize>().ok()?)
+    place[..end].parse().ok()
 }
 
 /// No column: for an operator, who fills krl and reads no rows.

@@ -1,7 +1,7 @@
 //! A connection to the database, with the statements that are used often.
 use super::sql::{self, Keys};
 use crate::origin::{Needed, OriginError, Stored};
-use crate::postgres::row::{PostgresRow, read};
+use crate::postgres::row::{PostgresRow, not_written, read};
 use crate::table::{Table, checked};
 use crate::version::Version;
 use futures_util::future::try_join;
@@ -159,6 +159,16 @@ impl From<AskError> for OriginError {
     fn from(error: AskError) -> OriginError {
         match error {
             AskError::Reported(error) => reported(error),
+            AskError::Late => late(),
+        }
+    }
+}
+
+impl AskError {
+    /// The same of changes of rows of this type, some of which this statement inserts.
+    pub fn of_changes<T: PostgresRow>(self, insert: &Statement) -> OriginError {
+        match self {
+            AskError::Reported(error) => not_written::<T>(insert, error),
             AskError::Late => late(),
         }
     }

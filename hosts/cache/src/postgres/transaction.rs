@@ -1,6 +1,6 @@
 //! Transactions of PostgreSQL.
 use super::origin::Pool;
-use super::row::{PostgresRow, has_a_value_for_each};
+use super::row::{PostgresRow, has_a_value_for_each, not_written};
 use super::session::{
     AskError, CacheSession, Session, Statements, key_and_version, reported, signed, stored,
 };
@@ -102,10 +102,11 @@ impl<'o, T: PostgresRow> PostgresTransaction<'o, T> {
             let replaced = client.execute(&statements.replace, &values);
             Ok(try_join3(begun, locked, replaced).await?.2)
         };
-        let count = session.ask_while(asked, || {
+        let replaced = session.ask_while(asked, || {
             meanwhile();
             Needed::Yes
-        })?;
+        });
+        let count = replaced.map_err(|error| error.of_changes::<T>(&statements.insert))?;
         if count == Some(1) { Ok(()) } else { Err(not_replaced()) }
     }
 
@@ -189,10 +190,11 @@ impl<T: PostgresRow> Transaction for PostgresTransaction<'_, T> {
             let (_, counts) = try_join(client.query(&statements.admit, &admit), made).await?;
             Ok(counts)
         };
-        let counts = session.ask_while(asked, || {
+        let applied = session.ask_while(asked, || {
             meanwhile();
             Needed::Yes
-        })?;
+        });
+        let counts = applied.map_err(|error| error.of_changes::<T>(&statements.insert))?;
         self.is_sound = counts.is_some_and(|counts| counts.iter().all(|count| *count == 1));
         if self.is_sound { Ok(()) } else { Err(kept_from_being_made()) }
     }
@@ -230,7 +232,7 @@ impl<T: PostgresRow> Transaction for PostgresTransaction<'_, T> {
             }
             Ok((applied, confirmed, Err(error))) if was_rolled_back(&error) => {
                 Err(CommitError::NotDone(match (applied, confirmed) {
-                    (Err(refused), _) => reported(refused),
+                    (Err(refused), _) => not_written::<T>(&statements.insert, refused),
                     (Ok(_), Err(_)) => kept_from_being_made(),
                     (Ok(_), Ok(_)) => reported(error),
                 }))
