@@ -5,7 +5,8 @@
 #     bench/cached_table/run.sh [CASE..]
 #
 # A case is BYTES:ROWS_OF_A_READ:WRITES_OF_A_THOUSAND[:HOT_ROWS]. By default: 200:10:2 200:10:20 200:10:50, which take
-# half a minute each. TURNS and MILLISECONDS name how often each way has its turn, and how long (5 and 2000).
+# half a minute each. TURNS and MILLISECONDS name how often each way has its turn, and how long (5 and 2000). THREADS
+# names how many threads each of the four processes has (1).
 #
 # For KRL_LIBRARY, KRL_KIT_C and CARGO_TARGET_DIR see tests/hosts. It needs Debian's packages redis-server and
 # postgresql. All data lie in a folder under TMPDIR, or /tmp, which is gone when this ends.
@@ -15,6 +16,7 @@ here=$(cd -- "$(dirname -- "$0")" && pwd)
 [ $# -gt 0 ] || set -- 200:10:2 200:10:20 200:10:50
 turns=${TURNS-5}
 milliseconds=${MILLISECONDS-2000}
+threads=${THREADS-1}
 
 fail() {
     echo "cached_table: $1" >&2
@@ -111,6 +113,6 @@ WORDS
     echo "load $(cut -d ' ' -f 1-3 /proc/loadavg)"
     "$measure" --postgres "postgres://postgres@127.0.0.1:$postgres/postgres" --redis "127.0.0.1:$redis" \
         --krl "127.0.0.1:$krl" --folder "$folder/clients" --bytes "$bytes" --reads "$reads" --writes "$writes" \
-        --hot "${hot:-4000}" --turns "$turns" --milliseconds "$milliseconds"
+        --hot "${hot:-4000}" --turns "$turns" --milliseconds "$milliseconds" --threads "$threads"
     end_servers
 done

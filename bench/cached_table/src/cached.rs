@@ -1,11 +1,12 @@
 //! krl-cache: each process keeps rows in its own memory.
 use crate::method::{Counted, Done, Found, Method, PROCESSES, Place, ROWS};
 use crate::plain;
-use crate::steps::{Parts, Steps};
+use crate::steps::{self, Parts};
 use krl_cache::tokio_postgres::types::ToSql;
 use krl_cache::tokio_postgres::{Error, Row};
 use krl_cache::{Cache, PostgresOrigin, PostgresRow, Table};
 use std::ops::Range;
+use std::sync::Arc;
 
 /// Memory for all bodies.
 const MEMORY: usize = 256 << 20;
@@ -33,20 +34,24 @@ impl PostgresRow for Item {
     }
 }
 
-/// A process of the application.
+/// The cache of a process of the application.
+pub type Items = Cache<PostgresOrigin<Item>>;
+
+/// A thread of a process of the application.
 pub struct Cached {
-    cache: Cache<PostgresOrigin<Item>>,
+    cache: Arc<Items>,
     bytes: usize,
-    steps: Steps,
 }
 
 impl Cached {
-    pub fn new(place: &Place, number: u8) -> Found<Cached> {
-        let steps = Steps::default();
-        let noted = steps.clone();
-        let builder = builder(place, number)?.on_step(move |step| noted.note(step));
-        Ok(Cached { cache: builder.open()?, bytes: place.bytes, steps })
+    pub fn new(cache: &Arc<Items>, bytes: usize) -> Cached {
+        Cached { cache: Arc::clone(cache), bytes }
     }
+}
+
+/// Opens the cache of a process.
+pub fn open(place: &Place, number: u8) -> Found<Arc<Items>> {
+    Ok(Arc::new(builder(place, number)?.on_step(steps::note).open()?))
 }
 
 impl Method for Cached {
@@ -60,17 +65,17 @@ impl Method for Cached {
 
     fn write(&mut self, key: u64) -> Found<u64> {
         let (mut count, bytes) = (0, self.bytes);
-        self.steps.begin();
+        steps::begin();
         self.cache.update(key, |item| {
             count = item.n + 1;
             Some(Item { n: count, body: vec![0xaa; bytes] })
         })?;
-        self.steps.end();
+        steps::end();
         Ok(count.cast_unsigned())
     }
 
     fn parts(&self) -> Parts {
-        self.steps.parts()
+        steps::parts()
     }
 }
 

@@ -45,6 +45,9 @@ struct Arguments {
     /// How many of the 4,000 rows are read and written
     #[arg(long, default_value_t = 4000, value_parser = clap::value_parser!(u32).range(101..=4000))]
     hot: u32,
+    /// How many threads each of the four processes has
+    #[arg(long, default_value = "1", value_parser = clap::value_parser!(u8).range(1..=16))]
+    threads: u8,
     /// How often each way has its turn
     #[arg(long, default_value = "5")]
     turns: NonZeroU32,
@@ -75,6 +78,7 @@ fn run(arguments: &Arguments) -> Done {
         reads: arguments.reads.into(),
         writes: arguments.writes.into(),
         hot: arguments.hot.into(),
+        threads: arguments.threads,
         turns: arguments.turns.get(),
         time: Duration::from_millis(arguments.milliseconds.get().into()),
     };

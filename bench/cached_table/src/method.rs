@@ -7,7 +7,7 @@ use std::path::PathBuf;
 /// Rows of the table. Their keys are 0 and those after it.
 pub const ROWS: u64 = 4000;
 
-/// Processes of the application. Each has a thread, connections and memory of its own.
+/// Processes of the application. Each has memory of its own.
 pub const PROCESSES: u8 = 4;
 
 pub type Found<T> = Result<T, Box<dyn Error + Send + Sync>>;

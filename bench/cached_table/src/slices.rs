@@ -1,14 +1,14 @@
-//! The turns: in each of them all processes read and write in the same way.
+//! The turns: in each of them all threads read and write in the same way.
 use crate::acknowledged::{Acknowledged, count_stale};
-use crate::cached::Cached;
+use crate::cached::{self, Cached, Items};
 use crate::method::{Done, Found, Method, PROCESSES, Place, ROWS};
 use crate::plain::Plain;
 use crate::random::Random;
 use crate::redis::Aside;
 use crate::steps::Parts;
-use std::sync::Barrier;
-use std::thread;
+use std::sync::{Arc, Barrier};
 use std::time::{Duration, Instant};
+use std::{iter, thread};
 
 /// What is measured.
 #[derive(Clone, Copy, Debug)]
@@ -19,6 +19,8 @@ pub struct Plan {
     pub writes: u64,
     /// How many rows are read and written.
     pub hot: u64,
+    /// How many threads each process has.
+    pub threads: u8,
     pub turns: u32,
     pub time: Duration,
 }
@@ -53,35 +55,40 @@ impl Measured {
 /// Measures each way by turns.
 pub fn measure(place: &Place, plan: &Plan) -> Found<[Measured; METHODS.len()]> {
     let acknowledged = METHODS.map(|_| Acknowledged::new());
-    let barrier = Barrier::new(PROCESSES.into());
+    let barrier = Barrier::new(usize::from(PROCESSES) * usize::from(plan.threads));
+    let caches: Vec<Arc<Items>> =
+        (0..PROCESSES).map(|number| cached::open(place, number)).collect::<Found<_>>()?;
     thread::scope(|scope| {
-        let run = |number| Process::new(place, plan, number)?.run(&acknowledged, &barrier);
-        let start = |number| scope.spawn(move || run(number));
-        let started: Vec<_> = (0..PROCESSES).map(start).collect();
+        let run =
+            |cache, number| Caller::new(place, plan, cache, number)?.run(&acknowledged, &barrier);
+        let caches = caches.iter().flat_map(|cache| iter::repeat_n(cache, plan.threads.into()));
+        let start = |(number, cache)| scope.spawn(move || run(cache, number));
+        let started: Vec<_> = (0..).zip(caches).map(start).collect();
         let mut sums = <[Measured; METHODS.len()]>::default();
-        for process in started {
-            let measured = process.join().map_err(|_| "a thread panicked")??;
+        for caller in started {
+            let measured = caller.join().map_err(|_| "a thread panicked")??;
             sums.iter_mut().zip(measured).for_each(|(sum, one)| sum.add(one));
         }
         Ok(sums)
     })
 }
 
-/// A process of the application. It is a thread here, with connections and memory of its own.
-struct Process<'p> {
+/// A thread of a process of the application. It has connections of its own, and shares with the other threads of its
+/// process what krl-cache keeps in memory.
+struct Caller<'p> {
     plan: &'p Plan,
     methods: [Box<dyn Method>; METHODS.len()],
     random: Random,
 }
 
-impl<'p> Process<'p> {
-    fn new(place: &Place, plan: &'p Plan, number: u8) -> Found<Process<'p>> {
+impl<'p> Caller<'p> {
+    fn new(place: &Place, plan: &'p Plan, cache: &Arc<Items>, number: u64) -> Found<Caller<'p>> {
         let methods: [Box<dyn Method>; METHODS.len()] = [
             Box::new(Plain::new(place)?),
             Box::new(Aside::new(place)?),
-            Box::new(Cached::new(place, number)?),
+            Box::new(Cached::new(cache, place.bytes)),
         ];
-        Ok(Process { plan, methods, random: Random::of(number.into()) })
+        Ok(Caller { plan, methods, random: Random::of(number) })
     }
 
     fn run(

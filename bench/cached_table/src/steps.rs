@@ -1,6 +1,6 @@
 //! Where the time of a write through krl-cache goes.
 use krl_cache::Step;
-use std::sync::{Arc, Mutex, PoisonError};
+use std::cell::RefCell;
 use std::time::{Duration, Instant};
 
 /// The parts of a write, in their order. Each ends with a step of the cache, or with the write. The transaction begins
@@ -12,53 +12,48 @@ pub const PARTS: [&str; 6] =
 pub type Parts = [Vec<Duration>; PARTS.len()];
 
 /// A clock of the writes of one thread.
-#[derive(Clone, Debug, Default)]
-pub struct Steps(Arc<Mutex<Times>>);
-
 #[derive(Debug, Default)]
 struct Times {
     last: Option<Instant>,
     parts: Parts,
 }
 
-impl Steps {
-    /// A write begins.
-    pub fn begin(&self) {
-        self.with(|times| times.last = Some(Instant::now()));
-    }
+thread_local! {
+    static TIMES: RefCell<Times> = RefCell::default();
+}
 
-    /// A write has ended.
-    pub fn end(&self) {
-        self.take(PARTS.len() - 1);
-    }
+/// This thread begins a write.
+pub fn begin() {
+    TIMES.with_borrow_mut(|times| times.last = Some(Instant::now()));
+}
 
-    /// The cache has taken a step.
-    pub fn note(&self, step: Step) {
-        match step {
-            Step::Pinned => self.take(0),
-            Step::Announced(_) => self.take(1),
-            Step::Locked => self.take(2),
-            Step::Confirmed => self.take(3),
-            Step::Committed => self.take(4),
-            _ => {}
+/// This thread has ended its write.
+pub fn end() {
+    take(PARTS.len() - 1);
+}
+
+/// The cache has taken a step of a write, in the thread that writes.
+pub fn note(step: Step) {
+    match step {
+        Step::Pinned => take(0),
+        Step::Announced(_) => take(1),
+        Step::Locked => take(2),
+        Step::Confirmed => take(3),
+        Step::Committed => take(4),
+        _ => {}
+    }
+}
+
+/// What was measured of this thread until now.
+pub fn parts() -> Parts {
+    TIMES.with_borrow(|times| times.parts.clone())
+}
+
+fn take(part: usize) {
+    TIMES.with_borrow_mut(|times| {
+        let now = Instant::now();
+        if let Some(last) = times.last.replace(now) {
+            times.parts[part].push(now - last);
         }
-    }
-
-    /// What was measured until now.
-    pub fn parts(&self) -> Parts {
-        self.with(|times| times.parts.clone())
-    }
-
-    fn take(&self, part: usize) {
-        self.with(|times| {
-            let now = Instant::now();
-            if let Some(last) = times.last.replace(now) {
-                times.parts[part].push(now - last);
-            }
-        });
-    }
-
-    fn with<T>(&self, with: impl FnOnce(&mut Times) -> T) -> T {
-        with(&mut self.0.lock().unwrap_or_else(PoisonError::into_inner))
-    }
+    });
 }
