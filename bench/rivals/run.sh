@@ -11,7 +11,8 @@
 #
 # `reads` measures only what a client reads first: scans of 100 rows, and 10,000 rows into an empty cache. It has a
 # second server of krl, whose grants take 8 slots at most. `writes` measures only synced writes. `load` measures how
-# long reads and writes take as 1 to 16 clients make them, prints that as CSV, and draws it into the file PLOT as SVG.
+# long reads and writes take as 1 to 16 clients make them, or as many as CLIENTS names (1,2,4,8,16), prints that as CSV,
+# and draws it into the file PLOT as SVG.
 #
 # For KRL_LIBRARY, KRL_KIT_C and CARGO_TARGET_DIR see tests/hosts. The rivals are taken where they are installed, from
 # Debian 12's packages redis-server, etcd-server and postgresql, and libhiredis-dev for Redis' own client; the others
@@ -167,7 +168,7 @@ mkdir "$folder/clients"
 echo "$rows rows of $value bytes; data on $(stat -f -c %T "$folder"); load $(cut -d ' ' -f 1-3 /proc/loadavg)"
 if [ "$what" = load ]; then
     # shellcheck disable=SC2086
-    "$measure" load "$folder/clients" "$count" "$table" $systems >"$folder/load.csv"
+    "$measure" load "$folder/clients" "$count" "$table" "${CLIENTS-1,2,4,8,16}" $systems >"$folder/load.csv"
     cat "$folder/load.csv"
     python3 "$here/plot.py" "$folder/load.csv" "$plot"
 else

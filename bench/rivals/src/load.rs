@@ -1,16 +1,13 @@
-//! How long calls take as more clients make them at once: the mix, by 1 to 16 clients.
+//! How long calls take as more clients make them at once: the mix.
 use crate::measures::Plan;
 use crate::mix::{self, Calls};
 use crate::system::{Caching, Done, System};
 
-/// How many clients make calls.
-const CLIENTS: [u8; 5] = [1, 2, 4, 8, 16];
-
 /// Prints a line of CSV for each number of clients, and each kind of call. No row that is read is
 /// stale: a system whose cache may be stale is asked for each read.
-pub fn print(systems: &[Box<dyn System>], plan: &Plan) -> Done {
+pub fn print(systems: &[Box<dyn System>], clients: &[u8], plan: &Plan) -> Done {
     println!("system,clients,kind,calls_a_second,p50_us,p99_us");
-    for clients in CLIENTS {
+    for &clients in clients {
         for system in systems {
             let caching = if system.may_be_stale() { Caching::Off } else { Caching::On };
             let mix = mix::of(system.as_ref(), clients, caching, plan)?;

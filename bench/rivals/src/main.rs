@@ -33,9 +33,13 @@ const USAGE: &str =
        krl-rivals measure FOLDER ROUNDS TABLE SYSTEM=ADDRESS..
        krl-rivals reads FOLDER ROUNDS TABLE SYSTEM=ADDRESS..    measures first reads only
        krl-rivals writes FOLDER ROUNDS TABLE SYSTEM=ADDRESS..   measures synced writes only
-       krl-rivals load FOLDER SECONDS TABLE SYSTEM=ADDRESS..    prints times over load as CSV
+       krl-rivals load FOLDER SECONDS TABLE CLIENTS SYSTEM=ADDRESS..    prints times over load as CSV
        a TABLE is ROWSxBYTES, 10000 to 1000000 rows and 8 to 32 bytes, as 10000x8;
+       CLIENTS are numbers of clients, each from 1 to 60, such as 1,2,4,8,16;
        a SYSTEM is krl, krl-reach-8, redis, hiredis, etcd or postgres";
+
+/// The most clients at once. krl has numbers for 64, some of which other measurements use.
+const MAX_CLIENTS: u8 = 60;
 
 fn main() -> ExitCode {
     let words: Vec<String> = std::env::args().skip(1).collect();
@@ -79,10 +83,11 @@ fn run(words: &[String]) -> Done {
             };
             measure(&mut all(systems, folder, table(rows)?)?, number(rounds)?, of)
         }
-        ["load", folder, seconds, rows, ref systems @ ..] if !systems.is_empty() => {
+        ["load", folder, seconds, rows, counts, ref systems @ ..] if !systems.is_empty() => {
+            let counts = client_counts(counts)?;
             let mut systems = all(systems, folder, table(rows)?)?;
             systems.iter_mut().try_for_each(|system| system.make_rows())?;
-            load::print(&systems, &Plan::STANDARD.mixing_for(number(seconds)?))
+            load::print(&systems, &counts, &Plan::STANDARD.mixing_for(number(seconds)?))
         }
         _ => Err(USAGE.into()),
     }
@@ -90,6 +95,13 @@ fn run(words: &[String]) -> Done {
 
 fn number(count: &str) -> Found<u32> {
     Ok(count.parse().map_err(|_| format!("'{count}' is no number of rounds or seconds"))?)
+}
+
+/// The numbers of clients that a word names.
+fn client_counts(word: &str) -> Found<Vec<u8>> {
+    let count = |text: &str| text.parse().ok().filter(|count| (1..=MAX_CLIENTS).contains(count));
+    let counts: Option<Vec<u8>> = word.split(',').map(count).collect();
+    Ok(counts.ok_or_else(|| format!("'{word}' is no list of numbers of clients\n{USAGE}"))?)
 }
 
 /// The table that a word names: its rows, and the bytes of a value.
