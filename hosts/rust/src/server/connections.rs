@@ -318,6 +318,11 @@ impl Connections {
         self.routes.set(client, number);
     }
 
+    /// Whether the client's messages go to this connection.
+    pub fn is_routed(&self, client: u8, number: u64) -> bool {
+        self.routes.of(client) == Some(number)
+    }
+
     /// Whether something has come from the client just now, on another connection than this one.
     pub fn speaks_elsewhere(&self, client: u8, number: u64) -> bool {
         let other = self.routes.of(client).filter(|other| *other != number);

@@ -23,6 +23,7 @@ use crate::wire::frames;
 use crate::wire::host_frame::FromClient;
 use crate::wire::incoming::Incoming;
 use crate::wire::message::{Head, Kind, Message};
+use admission::KeptRequests;
 use commit_group::CommitGroup;
 use commits::Gathered;
 use std::mem;
@@ -79,6 +80,7 @@ pub(crate) struct EventLoop {
     open: Open,
     log: EventLog,
     frames: Vec<u8>,
+    kept_requests: KeptRequests,
     shard: Option<ShardBounds>,
 }
 
@@ -139,6 +141,7 @@ impl EventLoop {
             open: Open::new(),
             log,
             frames: Vec::new(),
+            kept_requests: KeptRequests::default(),
             shard: None,
         }
     }
@@ -176,10 +179,12 @@ impl EventLoop {
         if self.until.is_some() || self.has_to_commit() {
             return Duration::ZERO;
         }
-        if self.is_stale {
-            return SHOWN_FOR.saturating_sub(self.turned.saturating_duration_since(self.shown));
-        }
-        NUDGE
+        let longest = if self.is_stale {
+            SHOWN_FOR.saturating_sub(self.turned.saturating_duration_since(self.shown))
+        } else {
+            NUDGE
+        };
+        self.takes_kept_in(self.turned).map_or(longest, |soon| longest.min(soon))
     }
 
     /// The turn that began then has ended.
@@ -223,10 +228,8 @@ impl EventLoop {
             return Ok(());
         }
         match frame {
-            Incoming::Message(message) => {
-                let change = self.judge(connection, message, now)?;
-                change.map_or(Ok(()), |change| self.keep(change, now))
-            }
+            Incoming::Message(message) if self.keeps(connection, message, now) => Ok(()),
+            Incoming::Message(message) => self.take_message(connection, message, now),
             Incoming::Host(Some(FromClient::Hello(seen))) => {
                 self.greet(connection, seen);
                 Ok(())
@@ -238,6 +241,17 @@ impl EventLoop {
             Incoming::Sign(sign) => self.hear_sign(connection, sign, now),
             Incoming::Host(_) => Ok(()),
         }
+    }
+
+    /// Judges a message, and adds what has to be kept.
+    fn take_message(
+        &mut self,
+        connection: u64,
+        message: Message<'_>,
+        now: Now,
+    ) -> Result<(), ServeError> {
+        let change = self.judge(connection, message, now)?;
+        change.map_or(Ok(()), |change| self.keep(change, now))
     }
 
     /// Gives the server one message, and returns what has to be kept. A string that is not a
@@ -338,8 +352,17 @@ impl EventLoop {
         Ok(true)
     }
 
-    /// Gives the connections what leaves.
+    /// Gives the connections what leaves, and takes requests that were kept, as far as what has left
+    /// lets them be taken.
     pub fn send(&mut self, now: Now) -> Result<(), ServeError> {
+        self.send_what_is_said(now)?;
+        if self.take_kept(now)? {
+            self.send_what_is_said(now)?;
+        }
+        Ok(())
+    }
+
+    fn send_what_is_said(&mut self, now: Now) -> Result<(), ServeError> {
         if self.send_said(now)? == Pushed::Some && mem::take(&mut self.was_released) {
             self.call_back_for_waiters();
             self.send_said(now)?;
@@ -392,6 +415,7 @@ impl EventLoop {
 pub(crate) mod commits;
 pub(crate) mod thread;
 
+mod admission;
 mod clients;
 mod commit_group;
 mod committer;

@@ -222,6 +222,29 @@ impl Open {
         }
     }
 
+    /// Whether a request for a lock is another one than the client's last one.
+    pub fn is_new(&self, client: u8, message: Message<'_>) -> bool {
+        let last = self.last_request.get(usize::from(client));
+        last.is_some_and(|last| message.request().is_some_and(|request| request != *last))
+    }
+
+    /// How many requests wait that have waited for less than this.
+    pub fn count_waiting(&self, now: Instant, less_than: Duration) -> usize {
+        self.left_until(now, less_than).count()
+    }
+
+    /// How soon the first of those will have waited for so long.
+    pub fn youth_left(&self, now: Instant, less_than: Duration) -> Option<Duration> {
+        self.left_until(now, less_than).min()
+    }
+
+    /// How soon each request that has waited for less than this will have waited for so long.
+    fn left_until(&self, now: Instant, end: Duration) -> impl Iterator<Item = Duration> {
+        let waited = move |asked: &Asked| now.saturating_duration_since(asked.since);
+        let left = move |asked: &Asked| end.saturating_sub(waited(asked));
+        self.asked.iter().flatten().map(left).filter(|left| !left.is_zero())
+    }
+
     /// A message to the client leaves.
     pub fn said(&mut self, client: u8, message: Message<'_>, now: Instant, timings: &Timings) {
         let place = usize::from(client);
@@ -285,6 +308,22 @@ mod tests {
         open.said(3, Message::read(&grant(3, 5)), start + 9 * MS, &timings);
         let grants = timings.read().grants;
         assert_eq!((grants.count, grants.sum), (1, 7_000));
+    }
+
+    #[test]
+    fn requests_that_have_waited_for_long_are_not_counted() {
+        let (timings, mut open, start) = (Timings::new(), Open::new(), Instant::now());
+        assert_eq!((open.count_waiting(start, 9 * MS), open.youth_left(start, 9 * MS)), (0, None));
+        open.heard(3, Message::read(&lock(3, 5)), start, &timings);
+        open.heard(4, Message::read(&lock(4, 5)), start + 2 * MS, &timings);
+        let counted = |open: &Open, after: u32| {
+            let now = start + after * MS;
+            (open.count_waiting(now, 9 * MS), open.youth_left(now, 9 * MS))
+        };
+        assert_eq!(counted(&open, 8), (2, Some(MS)));
+        assert_eq!(counted(&open, 9), (1, Some(2 * MS)));
+        open.said(4, Message::read(&grant(4, 5)), start + 10 * MS, &timings);
+        assert_eq!(counted(&open, 10), (0, None));
     }
 
     #[test]

@@ -6,15 +6,18 @@ use crate::client::jobs::{Asked, Asking, Held, Jobs, Purpose};
 use crate::lease::clocks::Now;
 use crate::model::change::{Outcome, Write};
 use crate::model::reach::Reach;
+use crate::model::row::Row;
 use crate::net::address::Address;
 use crate::net::stream::PeerAddress;
 use crate::proved::client_handle::ClientHandle;
 use crate::server::event_loop::EventLoop;
+use crate::server::event_loop::admission::{LATELY, MOST};
 use crate::server::opening::Decided;
 use crate::server::shown::timings::Timings;
 use crate::store::MemoryStore;
 use crate::wire::frames::split;
 use crate::wire::host_frame;
+use crate::wire::message::{Kind, Message};
 use std::sync::Arc;
 use std::time::Duration;
 
@@ -125,4 +128,72 @@ fn what_a_release_has_granted_is_called_back_for_who_waits_for_it() {
     assert!(reading.answer.try_recv().is_err(), "the writer has pinned it");
     world.unpin(writer, pin);
     assert_eq!(reading.answer.try_recv(), Ok(Ok(vec![row(10, 1)])));
+}
+
+/// A world of more clients than may wait at once. The first one has pinned a row for a write, and
+/// all others have begun to read it.
+fn crowd() -> (World, u64, Vec<Asked<Vec<Row>>>) {
+    let readers = MOST + 3;
+    let mut world = World::of(u8::try_from(readers + 1).unwrap());
+    let inserted = world.ask(0, |jobs| jobs.write(Write::Insert(row(10, 1))));
+    assert_eq!(inserted.answer.try_recv(), Ok(Ok(Outcome::Applied)));
+    let held = world.ask(0, |jobs| jobs.hold(10..11, Purpose::Write));
+    let Held { pin, .. } = held.answer.try_recv().unwrap().unwrap();
+    let reads = (1..=readers).map(|client| world.ask(client, |jobs| jobs.read(10..11))).collect();
+    (world, pin, reads)
+}
+
+fn have_read(reads: &[Asked<Vec<Row>>]) -> bool {
+    reads.iter().all(|read| read.answer.try_recv() == Ok(Ok(vec![row(10, 1)])))
+}
+
+#[test]
+fn while_many_wait_other_requests_are_taken_one_after_the_other() {
+    let (mut world, pin, reads) = crowd();
+    assert_eq!(world.events.open.waiting().count(), MOST);
+    // What one of those asks again that are kept is no further request.
+    world.clients[MOST + 1].tick();
+    world.settle();
+    assert_eq!(world.events.open.waiting().count(), MOST);
+    world.unpin(0, pin);
+    assert!(have_read(&reads));
+}
+
+#[test]
+fn a_request_that_has_waited_for_long_keeps_no_other_one_back() {
+    let (mut world, pin, reads) = crowd();
+    let soon = |world: &World| world.events.takes_kept_in(world.now.monotonic);
+    assert_eq!(soon(&world), Some(LATELY));
+    world.now.monotonic += LATELY;
+    assert_eq!(soon(&world), Some(Duration::ZERO));
+    // One that comes now is taken after those that are kept.
+    let other = world.clients[0].read(20..21);
+    world.hear_clients();
+    assert_eq!(world.events.open.waiting().count(), MOST);
+    world.settle();
+    assert_eq!(world.events.open.waiting().count(), reads.len());
+    assert_eq!(other.answer.try_recv(), Ok(Ok(Vec::new())));
+    assert_eq!(soon(&world), None);
+    world.unpin(0, pin);
+    assert!(have_read(&reads));
+}
+
+#[test]
+fn a_request_of_an_earlier_connection_is_not_taken() {
+    let (mut world, pin, reads) = crowd();
+    let last = world.clients.len() - 1;
+    let entry = Entry::Known(Identity::everybody());
+    world.connections[last] = world.events.connections().enter(entry, PeerAddress::Gone);
+    world.clients[last].tick();
+    for message in messages(|frames| world.clients[last].take(frames)) {
+        if Message::read(&message).kind() != Kind::Lock {
+            world.events.hear(world.connections[last], &message, world.now).unwrap();
+        }
+    }
+    world.unpin(0, pin);
+    let (last_read, others) = reads.split_last().unwrap();
+    assert!(have_read(others) && last_read.answer.try_recv().is_err());
+    world.clients[last].tick();
+    world.settle();
+    assert!(have_read(std::slice::from_ref(last_read)));
 }
