@@ -325,7 +325,7 @@ impl Session {
         self.jobs.refuse_all(self.unanswered(WasSent::No), of_sent);
     }
 
-    /// Who joins gives up if another program answers at the only address, again and again. A client
+    /// A client that joins gives up if another program answers at its only address repeatedly. One
     /// that has joined once waits for its server to come back.
     fn end_join_among_strangers(&mut self) {
         if self.servers.are_several() || self.strangers < STRANGERS {

@@ -1,9 +1,9 @@
 //! Requests for locks that are kept for a moment while many wait.
 //!
 //! After each message that acts and is not a release, the library calls back every client that
-//! keeps another one waiting. So a message costs as much as requests wait, times the clients that
-//! keep each of them waiting. Where many clients write what many read, requests would come faster
-//! than they are granted, and the server would do little else than to call back.
+//! keeps another one waiting. So the cost of a message is the number of requests that wait, times the
+//! number of clients that block each of them. Where many clients write what many read, requests
+//! would come faster than they are granted, and the server would do little else than to call back.
 //!
 //! So while several requests wait that came lately, others are kept, and taken in the order in which
 //! they came. A request that has waited for long does not count: it may wait for a pin, whose holder
@@ -16,10 +16,10 @@ use crate::wire::message::{Kind, Message};
 use std::collections::VecDeque;
 use std::time::{Duration, Instant};
 
-/// So many requests that came lately may wait before others are kept.
+/// How many requests that came lately may wait before others are kept.
 pub(super) const MOST: usize = 8;
 
-/// A request came lately for so long.
+/// How long a request counts as one that came lately.
 pub(super) const LATELY: Duration = Duration::from_millis(50);
 
 /// The requests that are kept, in the order in which they came: one of each client at most.
