@@ -1,4 +1,5 @@
-# Builds, installs and packs what a user of krl needs. It proves nothing: LIBRARY has the proved library.
+# Builds, installs and packs what a user of krl needs. It proves nothing: the proved library is the committed one, or
+# the one that LIBRARY has, with KIT, the folder `c` of the Rattle kit.
 #
 #     make                        builds the programs in Rust, and the client for C
 #     make install PREFIX=/usr    puts them, the headers and the libraries there; DESTDIR stands before it
@@ -6,16 +7,20 @@
 #     make deb                    makes a package for Debian of the same in OUT
 #     make wheel                  makes a wheel of the client for Python in OUT
 PREFIX = /usr/local
-LIBRARY = $(CURDIR)/crates/krl_embed/out
-KIT = $(dir $(realpath $(shell command -v rt)))../c
 TARGET = $(CURDIR)/hosts/target
+LIBRARY = $(TARGET)/rules
+KIT = $(LIBRARY)
 OUT = $(CURDIR)/dist
 # The crates come from Debian's packages if all of them are installed, as in ./krl serve.
 CARGO_FLAGS = $(shell hosts/packaging/requirements debian && echo --config debian.toml)
 CARGO = cargo
 
+# The committed library as an archive, if no other is named.
+$(TARGET)/rules: hosts/rust/rules/x86_64-linux.s
+	hosts/packaging/library fits && hosts/packaging/library make $@ && touch $@
+
 # The client for C is built by itself: together with the server it would need what only the server does.
-all:
+all: $(LIBRARY)
 	cd hosts && export KRL_LIBRARY=$(LIBRARY) KRL_KIT_C=$(KIT) CARGO_TARGET_DIR=$(TARGET) && \
 	    $(CARGO) build --release $(CARGO_FLAGS) -p krl-server -p krl-client -p krl-cache-admin && \
 	    $(CARGO) build --release $(CARGO_FLAGS) -p krl-client-c --lib

@@ -6,8 +6,9 @@
 #     ./krl script < examples/first.krl
 #     ./krl doctor
 #
-# The server and the client are programs in Rust over the proved library krl_embed. What of that is missing, or older
-# than its sources, is proved and built first.
+# The server and the client are programs in Rust over the proved library krl_embed: the committed one in
+# hosts/rust/rules, if that is of the sources in crates/ as they stand. If it is not, or with --prove before the words,
+# the library is proved and made first.
 #
 # The simulator is a proved program. If it is proved and built, and none of its sources is newer, that program runs. If
 # it is not, the same sources run unproved, within about a minute. With --prove before the words, or by itself, every
@@ -69,13 +70,14 @@ The simulator, in which a world of one server and up to 64 clients runs in one p
   nodes   Run a server and two clients, each on a thread of its own, and print a scan's rows
 
 Options:
-  --prove        Prove and build the simulator first, and then run what follows, if something does
+  --prove        Prove first: for serve and client the library, else the simulator. Then run what
+                 follows, if something does
   -h, --help     Print this; after serve, client, script, random or nodes print the help of that
   -V, --version  Print the version of the simulator
 
-The server and the client are built over a library whose proof takes some 20 minutes on four
-processors, once. They then start within a second. The simulator runs unproved at once, within about
-a minute, and proved within milliseconds after --prove.
+The server and the client are built in a minute or two, once, over a proved library that comes with
+the sources. To prove it again takes some 20 minutes on four processors. The simulator runs unproved
+at once, within about a minute, and proved within milliseconds after --prove.
 
 Examples:
   ./krl serve

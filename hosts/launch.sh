@@ -1,8 +1,9 @@
 # Part of the launcher, ./krl, which reads it: how the server and the client are built and run.
 # shellcheck shell=sh disable=SC2154
 
-# What they are made of, and where cargo leaves them.
+# What they are made of, and where cargo leaves them. The library that is proved here comes before the committed one.
 library=${KRL_LIBRARY-$top/crates/krl_embed/out}/libkrl_embed.a
+committed=$top/hosts/rust/rules/x86_64-linux.s
 target=${CARGO_TARGET_DIR-$top/hosts/target}
 requirements=$top/hosts/packaging/requirements
 
@@ -35,10 +36,15 @@ has_library() {
     )
 }
 
+# Whether the committed library may be taken: nobody asks for a proof, and it is of the sources as they stand. What it
+# is made of is left in $made_of_what.
+may_take_committed() {
+    [ -z "$asked" ] && [ "$(uname -m)" = x86_64 ] && made_of_what=$("$top/hosts/packaging/library" fits)
+}
+
 # Proves and makes the library.
 make_library() {
-    say "step 1 of 2: proving the library: some 20 minutes on four processors the first time, less after an edit"
-    say "there is no faster way, as the kit makes no library that is not proved"
+    say "proving the library: some 20 minutes on four processors the first time, less after an edit"
     prove_below krl_embed
     call_rt "$top/crates/krl_embed" krl_embed lib || {
         say "the library is not made; the lines above show why"
@@ -48,25 +54,31 @@ make_library() {
     say "the library is proved and made, in $(minutes)"
 }
 
-# Builds the program $1 of the hosts.
-build_host() {
-    if "$requirements" debian; then
-        say "step 2 of 2: building $1 by cargo over Debian's packages: a minute or two on four processors"
-        set -- "$1" --config debian.toml
-    else
-        say "step 2 of 2: building $1 by cargo over the public registry: a minute or two on four processors"
-    fi
-    (cd "$top/hosts" && exec cargo build --release --package "$@") </dev/null >"$work/cargo.log" 2>&1 || {
+# Builds the server and the client. Both at once: by itself the client would need half of the crates again, with other
+# features of theirs.
+build_hosts() {
+    set --
+    from='the public registry'
+    ! "$requirements" debian || { set -- --config debian.toml; from="Debian's packages"; }
+    say "building krl-server and krl-client by cargo over $from: a minute or two on four processors"
+    # Waited for, so that what ends the launcher ends cargo.
+    (cd "$top/hosts" && exec cargo build --release --package krl-server --package krl-client "$@") </dev/null \
+        >"$work/cargo.log" 2>&1 &
+    running=$!
+    wait "$running" || {
+        running=
         tail -n 40 "$work/cargo.log" >&2
-        say "$1 is not built; the lines above show why"
+        say "$host is not built; the lines above show why"
         exit 1
     }
-    touch "$target/release/$1"
+    running=
+    touch "$target/release/krl-server" "$target/release/krl-client"
 }
 
 # Runs the server or the client with these words.
 run() {
     hosts=$top/hosts
+    given=$1
     case $1 in
     serve)
         [ -x "$target/release/krl-server" ] || ! asks_for_help "$@" ||
@@ -90,20 +102,31 @@ build_if_older() {
     host=$1
     shift
     program=$target/release/$host
-    if ! has_library; then
+    if has_library; then
+        ! is_newest "$program" "$library" "$hosts/Cargo.toml" "$@" || return 0
+        "$requirements" build kit || exit 1
+        take_library
+    elif may_take_committed; then
+        ! is_newest "$program" "$committed" "$hosts/Cargo.toml" "$@" || return 0
+        "$requirements" build || exit 1
+        say "$made_of_what; './krl --prove $given' proves it here"
+    else
         "$requirements" proof || exit 1
         make_library
-    elif is_newest "$program" "$library" "$hosts/Cargo.toml" "$@"; then
-        return
-    else
-        "$requirements" build || exit 1
+        take_library
     fi
-    build_host "$host"
+    build_hosts
 }
 
-# If help is asked for of a program that is not built, names where else it is: nobody waits for a proof to read it.
+# Has cargo take the library that is proved here, or named, and not the committed one.
+take_library() {
+    KRL_LIBRARY=${library%/*}
+    export KRL_LIBRARY
+}
+
+# If help is asked for of a program that is not built, names where else it is: nobody waits for a build to read it.
 tell_without_help() {
-    say "the help of $1 is its own, and it is not built yet: '$2' builds it, the first time in some 20 minutes"
+    say "the help of $1 is its own, and it is not built yet: '$2' builds it, in a minute or two"
     say "until then see $3"
     exit 1
 }

@@ -3,4 +3,6 @@ pub(crate) mod client_handle;
 pub(crate) mod ffi;
 pub(crate) mod gate;
 pub(crate) mod partition;
+#[cfg(krl_rules)]
+mod rules;
 pub(crate) mod server_handle;

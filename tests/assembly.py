@@ -1,0 +1,153 @@
+"""Writes an object file as assembly of its bytes: what an assembler makes of it has the same code, whichever it is.
+
+A section for each function stays a section, with its name in letters that each assembler takes. What a linker has to
+fill in stays a relocation, by the name of what it refers to. So a change of one function changes its own lines, and
+those that refer to a constant which moves.
+
+The object files of the kit have relocations of two kinds, PLT32 and PC32, and one archive has one object file. Anything
+else is refused.
+"""
+import re
+import struct
+
+SECTION = struct.Struct("<IIQQQQIIQQ")
+SYMBOL = struct.Struct("<IBBHQQ")
+RELOCATION = struct.Struct("<QQq")
+PROGBITS, SYMTAB, RELA = 1, 2, 4
+WRITABLE, LOADED, CODE, MERGED = 1, 2, 4, 0x10
+GLOBAL, FUNCTION, OF_SECTION = 1, 2, 3
+KINDS = {4: "R_X86_64_PLT32", 2: "R_X86_64_PC32"}
+# How many bytes a line has.
+WIDTH = 32
+
+
+class Refused(Exception):
+    """The file has something that the assembly could not say."""
+
+
+def object_of(archive):
+    """The one object file of an archive."""
+    at, found = 8, []
+    while at < len(archive):
+        name, size = archive[at : at + 16].decode().strip(), int(archive[at + 48 : at + 58])
+        if name not in ("/", "//"):
+            found.append(archive[at + 60 : at + 60 + size])
+        at += 60 + size + size % 2
+    if len(found) != 1:
+        raise Refused(f"the archive has {len(found)} files, and not one")
+    return found[0]
+
+
+class Names:
+    """A name in letters, digits, dots and underscores for each other one. No two get the same."""
+
+    def __init__(self):
+        self.taken = {}
+
+    def plain(self, name):
+        # The numbers that LLVM gives to tables of jumps count those of the module: they are numbered by their function.
+        name = re.sub(r"(switch\.table\..*?)\.\d+$", r"\1", name)
+        return re.sub(r"\.?[^\w.$]+\.?", ".", name).rstrip(".")
+
+    def of(self, key, name):
+        """The name of this thing, which is a number of its kind."""
+        if key not in self.taken:
+            made, count = self.plain(name), 1
+            while made in self.taken.values():
+                count += 1
+                made = f"{self.plain(name)}.{count}"
+            self.taken[key] = made
+        return self.taken[key]
+
+
+class Object:
+    """An ELF object file for x86-64."""
+
+    def __init__(self, data):
+        self.data = data
+        (at,), (count, names) = struct.unpack_from("<Q", data, 40), struct.unpack_from("<HH", data, 60)
+        self.sections = [SECTION.unpack_from(data, at + SECTION.size * it) for it in range(count)]
+        self.section_names = [self.text(names, it[0]) for it in self.sections]
+        table = next(it for it in self.sections if it[1] == SYMTAB)
+        self.symbols = [
+            (self.text(table[6], name), info >> 4, info & 15, section, value, size)
+            for name, info, _, section, value, size in SYMBOL.iter_unpack(data[table[4] : table[4] + table[5]])
+        ]
+        self.relocations = {}
+        for section in (it for it in self.sections if it[1] == RELA):
+            for place, info, addend in RELOCATION.iter_unpack(data[section[4] : section[4] + section[5]]):
+                if info & 0xFFFFFFFF not in KINDS:
+                    raise Refused(f"a relocation of kind {info & 0xFFFFFFFF}")
+                self.relocations.setdefault(section[7], {})[place] = (info >> 32, KINDS[info & 0xFFFFFFFF], addend)
+        self.of_sections, self.of_symbols = Names(), Names()
+
+    def text(self, section, at):
+        start = self.sections[section][4] + at
+        return self.data[start : self.data.index(b"\0", start)].decode()
+
+    def label(self, number):
+        """How the assembly names a symbol. One that stands for a section is its first byte."""
+        name, _, kind, section, *_ = self.symbols[number]
+        if kind == OF_SECTION:
+            return ".Lin" + self.of_sections.of(section, self.section_names[section])
+        return self.of_symbols.of(number, name)
+
+    def lines(self, defined):
+        # Some assemblers lose the name of a relocation that nothing else names.
+        for number, (name, binding, _, section, *_) in enumerate(self.symbols):
+            if section == 0 and binding == GLOBAL and name not in defined:
+                yield f"\t.globl\t{self.label(number)}"
+        for number, (_, kind, flags, _, _, size, *_, align, entry) in enumerate(self.sections):
+            if kind == PROGBITS and flags & LOADED and size:
+                yield from self.lines_of(number, flags, align, entry)
+        yield '\t.section\t.note.GNU-stack,"",@progbits'
+
+    def lines_of(self, number, flags, align, entry):
+        """A section: its symbols and relocations, with the bytes between them."""
+        name = self.of_sections.of(number, self.section_names[number])
+        if flags & WRITABLE:
+            raise Refused(f"the section {name} can be written to")
+        letters = "a" + "x" * bool(flags & CODE) + "M" * bool(flags & MERGED)
+        yield f'\t.section\t{name},"{letters}",@progbits' + f",{entry}" * bool(flags & MERGED)
+        yield f"\t.balign\t{align}"
+        yield f".Lin{name}:"
+        at, size = self.sections[number][4:6]
+        code, relocations = self.data[at : at + size], self.relocations.get(number, {})
+        here = {}
+        for symbol, (_, _, kind, section, value, _) in enumerate(self.symbols):
+            if section == number and kind != OF_SECTION:
+                here.setdefault(value, []).append(symbol)
+        cuts = sorted({0, size, *here, *relocations, *(it + 4 for it in relocations)})
+        for start, end in zip(cuts, cuts[1:]):
+            for symbol in here.get(start, []):
+                yield from self.head(symbol)
+            if start in relocations:
+                symbol, kind, addend = relocations[start]
+                yield f"\t.reloc\t.,{kind},{self.label(symbol)}" + f"{addend:+d}" * bool(addend)
+            yield from bytes_of(code[start:end])
+
+    def head(self, symbol):
+        name, (_, binding, kind, _, _, size) = self.label(symbol), self.symbols[symbol]
+        if binding == GLOBAL:
+            yield f"\t.globl\t{name}"
+        if kind == FUNCTION:
+            yield f"\t.type\t{name},@function"
+            yield f"\t.size\t{name},{size}"
+        yield f"{name}:"
+
+
+def bytes_of(code):
+    """Lines of eight bytes a number, and then of single bytes."""
+    for start in range(0, len(code), WIDTH):
+        part = code[start : start + WIDTH]
+        whole = len(part) // 8
+        if whole:
+            yield "\t.quad\t" + ",".join(f"{it:#x}" for it in struct.unpack_from(f"<{whole}Q", part))
+        if len(part) % 8:
+            yield "\t.byte\t" + ",".join(f"{it:#x}" for it in part[whole * 8 :])
+
+
+def assembly_of(archive, before):
+    """The assembly of the object file of an archive, after some that defines what the object file needs."""
+    defined = re.findall(r"(?m)^(\w+):", before)
+    return before + "\n".join(Object(object_of(archive)).lines(defined)) + "\n"
