@@ -175,7 +175,7 @@ typedef enum krlc_code {
     KRLC_NOT_MADE = 66
 } krlc_code;
 
-/* Why a server does not serve a client. The numbers are those of `docs/WIRE.md`. */
+/* Why a server does not serve a client. The numbers are those of `docs/STREAM.md`. */
 typedef enum krlc_reason {
     /* The server gave no reason, or the error is another one. */
     KRLC_NO_REASON = -1,

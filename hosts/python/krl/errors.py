@@ -15,7 +15,7 @@ class Outcome(_IntEnum):
 
 
 class Reason(_IntEnum):
-    """Why a server does not serve a client. The numbers are those of ``docs/WIRE.md``."""
+    """Why a server does not serve a client. The numbers are those of ``docs/STREAM.md``."""
 
     VERSION, CLIENT_NUMBER, INCARNATION, FULL, MISSING, LEASE_RUNS = range(6)
     DENIED, OTHER_SHARD, FAR_AHEAD, OTHER_STORE = range(6, 10)
