@@ -1,4 +1,4 @@
-# Part of the launcher, ./krl, which reads it: how the server and the client are built and run.
+# Part of the launcher, ./krl, which reads it: how the server, the client and the simulator are built and run.
 # shellcheck shell=sh disable=SC2154
 
 # What they are made of, and where cargo leaves them. The library that is proved here comes before the committed one.
@@ -116,6 +116,38 @@ build_if_older() {
         take_library
     fi
     build_hosts
+}
+
+# Runs the simulator with these words.
+run_simulator() {
+    simulator=$target/krl-simulator
+    if [ "$(uname -m)" != x86_64 ]; then
+        say "the committed library of the simulator is for x86-64"
+    elif made_of_what=$("$top/hosts/packaging/library" fits krl_simulator); then
+        is_newest "$simulator" "$top/hosts/simulator" "$top/crates/krl_simulator/krl_simulator.h" || build_simulator
+        rm -rf "$work"
+        exec "$simulator" "$@"
+    fi
+    say "'./krl --prove' proves and builds the simulator of these sources, by 'rt', in some 20 minutes"
+    exit 1
+}
+
+# Builds the simulator over its committed library.
+build_simulator() {
+    compiler=${CC-cc}
+    command -v "$compiler" >/dev/null || {
+        say "there is no C compiler '$compiler', and the simulator needs one"
+        exit 1
+    }
+    say "building the simulator over $made_of_what"
+    (cd "$top/hosts/simulator" && exec "$compiler" -std=c11 -O2 -I ../../crates/krl_simulator main.c \
+        rules/x86_64-linux.s -o "$work/krl-simulator") >"$work/cc.log" 2>&1 || {
+        tail -n 40 "$work/cc.log" >&2
+        say "the simulator is not built; the lines above show why"
+        exit 1
+    }
+    mkdir -p "$target"
+    mv "$work/krl-simulator" "$simulator"
 }
 
 # Has cargo take the library that is proved here, or named, and not the committed one.
