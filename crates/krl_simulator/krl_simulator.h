@@ -21,8 +21,8 @@ typedef struct krl_ending {
 /* Whether the words ask for a script, whose text krl_simulator_run takes. */
 bool krl_simulator_reads(const uint8_t *words, size_t words_length);
 
-/* Does what the words ask for, with this text of a script. If its text could not be read, `failure` is the number of the
- * error of the system, and otherwise 0. Of a text longer than 1,048,576 bytes one byte more is enough.
+/* Does what the words ask for, with this text of a script. If the text could not be read, `failure` is the number of
+ * the error of the system, and otherwise 0. Of a text longer than 1,048,576 bytes one byte more is enough.
  *
  * If the output has no room for all, the run ends there as at a disk that is full: `printed` is then the length of the
  * room. Reports without room are left out. The four pieces of memory are not null, and the rooms do not overlap. The

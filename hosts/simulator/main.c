@@ -1,5 +1,5 @@
-/* krl-simulator: `krl script` and `krl random` over the proved library krl_simulator, whose assembly is in `rules`. This
- * part reads standard input and writes standard output and standard error; the library does the rest.
+/* krl-simulator: `krl script` and `krl random` over the proved library krl_simulator, whose assembly is in `rules`.
+ * This part reads standard input and writes standard output and standard error; the library does the rest.
  *
  *     cc -std=c11 -I ../../crates/krl_simulator main.c rules/x86_64-linux.s -o krl-simulator
  */
@@ -13,8 +13,8 @@
 
 #include "krl_simulator.h"
 
-/* A script has at most 1 MiB, and the library refuses one that has a byte more. The output starts with 1 MiB of room and
- * has at most 1 GiB. Reports repeat words, so they have room for these and for the longest help. */
+/* A script has at most 1 MiB, and the library refuses one that has a byte more. The output starts with 1 MiB of room
+ * and has at most 1 GiB. Reports repeat words, so they have room for these and for the longest help. */
 enum { MOST_TEXT = (1 << 20) + 1, FIRST_ROOM = 1 << 20, MOST_ROOM = 1 << 30, REPORTS = 1 << 16 };
 
 typedef struct bytes {
