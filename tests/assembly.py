@@ -119,10 +119,12 @@ class Object:
             raise Refused(f"the section {name} can be written to")
         here = self.symbols_in(number)
         # A linker that merges constants finds by its name which one is meant. GNU's assembler puts the section and an
-        # offset in place of the name, which then may mean another one. So constants with names are not merged.
+        # offset in place of the name, which then may mean another one. So constants with names are not merged, and are
+        # in a section of another name, since LLVM's assembler knows the sections of constants by theirs.
         is_merged = flags & MERGED and not here
         letters = "a" + "w" * bool(flags & WRITABLE) + "x" * bool(flags & CODE) + "M" * bool(is_merged)
-        yield f'\t.section\t{name},"{letters}",@progbits' + f",{entry}" * bool(is_merged)
+        title = name if is_merged else name.replace(".cst", ".named")
+        yield f'\t.section\t{title},"{letters}",@progbits' + f",{entry}" * bool(is_merged)
         yield f"\t.balign\t{align}"
         yield f".Lin{name}:"
         at, size = self.sections[number][4:6]

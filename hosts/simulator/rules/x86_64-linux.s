@@ -35,7 +35,7 @@ rattle_dealloc:                         # block
 	.globl	memset
 	.globl	memcpy
 	.globl	__xpg_strerror_r
-	.section	.rodata.cst16,"a",@progbits
+	.section	.rodata.named16,"a",@progbits
 	.balign	16
 .Lin.rodata.cst16:
 .LCPI0_0:
@@ -13322,7 +13322,7 @@ std_alloc.string.String.write_fmt.7674f49477c5ed19:
 	.quad	0x8b48fffffb8e860f,0xe9107fbf313c800a,0x394801b0fffffb80,0x48fffffb75860ff1
 	.quad	0xfb6ae901b0087289
 	.byte	0xff,0xff
-	.section	.rodata.cst8,"a",@progbits
+	.section	.rodata.named8,"a",@progbits
 	.balign	8
 .Lin.rodata.cst8:
 .LCPI114_1:
@@ -20203,7 +20203,7 @@ core.fmt.formatter.Formatter.write_piece.818e7791525f42e2:
 	.byte	0x0,0x0,0x0,0x0
 	.reloc	.,R_X86_64_PC32,.Lin.text.core.fmt.formatter.Formatter.write_piece.818e7791525f42e2+1919
 	.byte	0x0,0x0,0x0,0x0
-	.section	.rodata.cst4,"a",@progbits
+	.section	.rodata.named4,"a",@progbits
 	.balign	4
 .Lin.rodata.cst4:
 .LCPI186_1:
@@ -42706,7 +42706,7 @@ krl_simulator_run:
 	.balign	1
 .Lin.rodata..Lstatic.44:
 	.byte	0x43,0x4f,0x4d,0x4d,0x41,0x4e,0x44
-	.section	.rodata.cst32,"a",@progbits
+	.section	.rodata.named32,"a",@progbits
 	.balign	8
 .Lin.rodata.cst32:
 .Lstatic.45:
