@@ -101,8 +101,8 @@ fn run(command: Command, matches: &ArgMatches) -> Result<ExitCode, Box<dyn Error
         Command::Restore { file, store, clients_are_stopped } => {
             restore::restore(&file, &store, clients_are_stopped)?;
         }
-        Command::Split { store, at, new_store, map } => {
-            reshard::split(&store, at, &new_store, &map)?;
+        Command::Split { store, at, new_store, allow_empty, map } => {
+            reshard::split(&store, at, &new_store, allow_empty, &map)?;
         }
         Command::Merge { lower, upper, new_store, map } => {
             reshard::merge(&lower, &upper, &new_store, &map)?;

@@ -333,9 +333,7 @@ fn a_restored_backup_is_served_at_once() {
     ] {
         assert!(check.lines().any(|it| it == line), "no {line} in {check}");
     }
-    let again = run(&words);
-    assert_eq!(again.status.code(), Some(1));
-    assert!(errors(&again).contains("there is a file"), "{}", errors(&again));
+    assert_eq!(text(&run(&words)), text(&restored), "it is repeated, and changes nothing");
 
     let serving = Serving::start(Path::new(&new));
     until("the server serves", || serving.get("/readyz") == (200, "serving\n".to_string()));

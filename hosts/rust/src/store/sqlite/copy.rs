@@ -88,18 +88,23 @@ impl SqliteStore {
     /// the store of the snapshot, it is one that went back. Without a first start it is another
     /// store to each client that has seen one.
     ///
+    /// A file that an earlier call has made of the same snapshot, and that no server has opened
+    /// since, stays as it is: so a command that was killed may be repeated.
+    ///
     /// # Errors
     ///
-    /// If there is a file of that name already, or one that SQLite would take for a log of the new
-    /// store; or if it can't be written.
+    /// If there is another file of that name already, or one that SQLite would take for a log of
+    /// the new store; or if it can't be written.
     pub fn create(path: impl AsRef<Path>, snapshot: &Snapshot) -> Result<(), StoreError> {
         let path = path.as_ref();
-        for end in ["", "-wal", "-shm", "-journal"] {
-            let taken = beside(path, end);
-            if taken.symlink_metadata().is_ok() {
-                return Err(exists(&taken));
-            }
+        for end in ["-wal", "-shm", "-journal"] {
+            refuse_taken(&beside(path, end))?;
         }
+        if is_made_of(path, snapshot) {
+            // The call that made it may have been killed before this.
+            return sync_folder_of(path).map_err(Into::into);
+        }
+        refuse_taken(path)?;
         part::remove_leftovers(path);
         let part = Part::new(path)?;
         write(part.path(), snapshot)?;
@@ -146,6 +151,16 @@ pub(crate) fn beside(path: &Path, end: &str) -> PathBuf {
     let mut name = OsString::from(path);
     name.push(end);
     name.into()
+}
+
+/// Whether the file is a new store of the snapshot, which no server has opened.
+fn is_made_of(path: &Path, snapshot: &Snapshot) -> bool {
+    let found = SqliteStore::read(path);
+    found.is_ok_and(|it| it.checksum == Checksum::Matches && it.snapshot == *snapshot)
+}
+
+fn refuse_taken(path: &Path) -> Result<(), StoreError> {
+    if path.symlink_metadata().is_ok() { Err(exists(path)) } else { Ok(()) }
 }
 
 fn exists(path: &Path) -> StoreError {
@@ -334,6 +349,23 @@ pub(crate) mod tests {
         let nowhere = folder.0.join("none").join("copy.db");
         assert!(SqliteStore::create(nowhere, &snapshot()).is_err());
         assert_eq!(folder.names(), ["copy.db"]);
+    }
+
+    #[test]
+    fn the_same_snapshot_makes_the_same_file_until_a_server_opens_it() {
+        let folder = Folder::new("again");
+        let file = folder.0.join("copy.db");
+        SqliteStore::create(&file, &snapshot()).unwrap();
+        let before = std::fs::read(&file).unwrap();
+        SqliteStore::create(&file, &snapshot()).unwrap();
+        assert_eq!(std::fs::read(&file).unwrap(), before);
+        assert_eq!(folder.names(), ["copy.db"]);
+        let other = Snapshot { epoch: 8, ..snapshot() };
+        let refused = SqliteStore::create(&file, &other).unwrap_err().to_string();
+        assert!(refused.contains("there is a file"), "{refused}");
+        drop(SqliteStore::open(&file).unwrap());
+        let refused = SqliteStore::create(&file, &snapshot()).unwrap_err().to_string();
+        assert!(refused.contains("there is a file"), "a server may serve it: {refused}");
     }
 
     #[test]
