@@ -1,8 +1,8 @@
 ghost use Rattle.std.specs.Prelude.{◌≤◌};
 ghost use Rattle.krl_modes.specs.declared.point.TheConstants.{END};
 
-use crate::acts::are_numbers;
 use krl_client::{Status, WriteStatus};
+use krl_messages::Value;
 use krl_nodes_demo::{Gate, NodesReport, NotRun, run_nodes, run_nodes_by};
 use std::sync::Wait;
 use std::sync::atomic::{AtomicBool, AtomicU64, Ordering};
@@ -104,6 +104,11 @@ impl<R: Clock> Gate for Naps<'_, R> {
     }
 }
 
+// Whether these are the row that client 1 inserts, and the one after it.
+fn are_both(rows: &[(u64, Value)]) -> bool {
+    rows.len() == 2 && rows[0] == (15, Value::from_u64(5)) && rows[1] == (20, Value::from_u64(2))
+}
+
 // How a run ended. What it reported is let go here, once for all tests.
 #[derive(Clone, Copy)]
 enum Ended {
@@ -116,7 +121,7 @@ enum Ended {
 impl Ended {
     fn of(run: Result<NodesReport, NotRun>) -> Ended {
         match run {
-            Ok(report) if are_numbers(report.rows.as_slice(), &[(15, 5), (20, 2)]) => Ended::Right,
+            Ok(report) if are_both(report.rows.as_slice()) => Ended::Right,
             Ok(_) => Ended::Wrong,
             Err(NotRun::GaveUp) => Ended::GaveUp,
             Err(NotRun::OutOfMemory) => Ended::OutOfMemory,
