@@ -1,56 +1,18 @@
-//! When each node is up in the course of a run, and what each client holds.
-use crate::row::Node;
+//! What changes in a world in the course of a run.
+use krl_drawing::{History, Holding, MAX_POINTS, Node, Part, Turn};
 use krl_messages::{PushBody, RequestBody, ToClientBody, ToServerBody};
-use krl_modes::{KeyPart, MAX_CLIENTS, RangePart};
+use krl_modes::MAX_CLIENTS;
 use krl_world::{Message, World};
 use std::alloc::{AllocError, Global};
 
-/// The most points of which a drawing shows who holds them: the first ones that are granted or
-/// written.
-pub const MAX_POINTS: usize = 6;
-
-/// What a client holds of a point.
-#[derive(Clone, Copy, PartialEq, Eq)]
-pub struct Part {
-    pub range: RangePart,
-    pub key: KeyPart,
-}
-
-/// From this line on a client holds this of a point.
-#[derive(Clone, Copy)]
-pub struct Holding {
-    pub client: u64,
-    pub point: u64,
-    pub line: usize,
-    pub part: Part,
-}
-
-/// From this line on a node is up, or is not.
-#[derive(Clone, Copy)]
-pub struct Turn {
-    pub node: Node,
-    pub line: usize,
-    pub is_up: bool,
-}
-
-/// What changed in the course of a run, in the order of the lines.
+/// The history of a run, and what was so at the last look.
 #[derive(Drop)]
-pub struct History {
-    pub turns: Vec<Turn>,
-    pub holdings: Vec<Holding>,
-    points: Vec<u64>,
+pub struct Watch {
+    pub history: History,
     // What each client holds of each point now, and which nodes are up: the clients, and the server
     // after them.
     parts: Vec<Part>,
     ups: Vec<bool>,
-}
-
-impl Part {
-    /// Nothing.
-    pub const NONE: Part = Part {
-        range: RangePart::N,
-        key: KeyPart::N,
-    };
 }
 
 fn held(world: &World, client: u64, point: u64) -> Part {
@@ -58,15 +20,16 @@ fn held(world: &World, client: u64, point: u64) -> Part {
     Part { range, key }
 }
 
-fn is_up(world: &World, node: Node) -> bool {
+/// Whether the node is up.
+pub fn is_up(world: &World, node: Node) -> bool {
     match node {
         Node::Server => world.server().is_some(),
         Node::Client(client) => world.client(client).is_some(),
     }
 }
 
-impl History {
-    pub fn new(alloc: Global) -> Result<History, AllocError> {
+impl Watch {
+    pub fn new(alloc: Global) -> Result<Watch, AllocError> {
         let mut parts = Vec::new(alloc);
         for _ in 0..MAX_CLIENTS * MAX_POINTS {
             parts.push(Part::NONE)?;
@@ -75,28 +38,12 @@ impl History {
         for _ in 0..=MAX_CLIENTS {
             ups.push(false)?;
         }
-        Ok(History {
-            turns: Vec::new(alloc),
-            holdings: Vec::new(alloc),
-            points: Vec::new(alloc),
+        let history = History::new(alloc);
+        Ok(Watch {
+            history,
             parts,
             ups,
         })
-    }
-
-    /// The points of which it knows who holds them, in ascending order.
-    pub fn points(&self, alloc: Global) -> Result<Vec<u64>, AllocError> {
-        let mut points = Vec::from_slice(alloc, &self.points)?;
-        points.sort_unstable();
-        Ok(points)
-    }
-
-    // The point is one of those that it looks at from now on, if there is room for it.
-    fn note_point(&mut self, point: u64) -> Result<(), AllocError> {
-        if self.points.len() < MAX_POINTS && !self.points.contains(&point) {
-            self.points.push(point)?;
-        }
-        Ok(())
     }
 
     /// The message is about points that may be held from now on.
@@ -105,7 +52,7 @@ impl History {
             Message::ToServer(message) => {
                 if let ToServerBody::Request(request) = &message.body {
                     if let RequestBody::Write { op, .. } = &request.body {
-                        self.note_point(op.key())?;
+                        self.history.note_point(op.key())?;
                     }
                 }
             }
@@ -113,7 +60,7 @@ impl History {
                 if let ToClientBody::Push { body, .. } = &message.body {
                     if let PushBody::Grant { holdings, .. } = body {
                         for holding in holdings.as_slice() {
-                            self.note_point(holding.slot())?;
+                            self.history.note_point(holding.slot())?;
                         }
                     }
                 }
@@ -144,7 +91,7 @@ impl History {
         if let Some(known) = self.ups.get_mut(place) {
             if *known != now {
                 *known = now;
-                self.turns.push(Turn {
+                self.history.turns.push(Turn {
                     node,
                     line,
                     is_up: now,
@@ -161,12 +108,17 @@ impl History {
         client: u64,
     ) -> Result<(), AllocError> {
         let first = (client as usize).wrapping_mul(MAX_POINTS);
-        for (i, point) in self.points.iter().enumerate() {
+        let History {
+            holdings,
+            points,
+            ..
+        } = &mut self.history;
+        for (i, point) in points.iter().enumerate() {
             let part = held(world, client, *point);
             if let Some(known) = self.parts.get_mut(first.wrapping_add(i)) {
                 if *known != part {
                     *known = part;
-                    self.holdings.push(Holding {
+                    holdings.push(Holding {
                         client,
                         point: *point,
                         line,

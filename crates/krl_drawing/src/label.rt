@@ -4,7 +4,6 @@ use krl_messages::{
     ToServerBody, Value, WriteOp,
 };
 use krl_modes::Span;
-use krl_world::Message;
 use std::alloc::{AllocError, Global};
 
 /// What a picture shows of a message.
@@ -175,43 +174,39 @@ fn push_rest(alloc: Global, out: &mut String, body: &ToServerBody) -> Result<(),
     }
 }
 
-fn of_message_to_server(alloc: Global, message: &ToServer) -> Result<Label, AllocError> {
-    let is_quiet = match &message.body {
-        ToServerBody::Hello => true,
-        ToServerBody::Request(request) => matches!(request.body, RequestBody::Ack),
-        ToServerBody::Bye | ToServerBody::Report { .. } => false,
-    };
-    let mut whole = to_server(alloc, message)?;
-    push_rest(alloc, &mut whole, &message.body)?;
-    Ok(Label {
-        short: to_server(alloc, message)?,
-        whole,
-        is_quiet,
-    })
-}
-
-fn of_message_to_client(alloc: Global, message: &ToClient) -> Result<Label, AllocError> {
-    let mut whole = to_client(alloc, message)?;
-    match &message.body {
-        ToClientBody::Push { body, .. } => {
-            if let PushBody::Grant { holdings, .. } = body {
-                push_holdings(alloc, &mut whole, holdings.as_slice())?;
-            }
-        }
-        ToClientBody::Callback { span, .. } => push_span(alloc, &mut whole, *span)?,
-        ToClientBody::Epoch { .. } => {}
+impl Label {
+    /// What a picture shows of this message to the server.
+    pub fn of_message_to_server(alloc: Global, message: &ToServer) -> Result<Label, AllocError> {
+        let is_quiet = match &message.body {
+            ToServerBody::Hello => true,
+            ToServerBody::Request(request) => matches!(request.body, RequestBody::Ack),
+            ToServerBody::Bye | ToServerBody::Report { .. } => false,
+        };
+        let mut whole = to_server(alloc, message)?;
+        push_rest(alloc, &mut whole, &message.body)?;
+        Ok(Label {
+            short: to_server(alloc, message)?,
+            whole,
+            is_quiet,
+        })
     }
-    Ok(Label {
-        short: to_client(alloc, message)?,
-        whole,
-        is_quiet: matches!(message.body, ToClientBody::Epoch { .. }),
-    })
-}
 
-/// What a picture shows of this message.
-pub fn of_message(alloc: Global, message: &Message) -> Result<Label, AllocError> {
-    match message {
-        Message::ToServer(message) => of_message_to_server(alloc, message),
-        Message::ToClient(message) => of_message_to_client(alloc, message),
+    /// What a picture shows of this message to a client.
+    pub fn of_message_to_client(alloc: Global, message: &ToClient) -> Result<Label, AllocError> {
+        let mut whole = to_client(alloc, message)?;
+        match &message.body {
+            ToClientBody::Push { body, .. } => {
+                if let PushBody::Grant { holdings, .. } = body {
+                    push_holdings(alloc, &mut whole, holdings.as_slice())?;
+                }
+            }
+            ToClientBody::Callback { span, .. } => push_span(alloc, &mut whole, *span)?,
+            ToClientBody::Epoch { .. } => {}
+        }
+        Ok(Label {
+            short: to_client(alloc, message)?,
+            whole,
+            is_quiet: matches!(message.body, ToClientBody::Epoch { .. }),
+        })
     }
 }

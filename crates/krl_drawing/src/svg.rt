@@ -216,9 +216,9 @@ fn drawn(alloc: Global, sheet: &Sheet, y: usize, row: &Row) -> Result<String, Al
 }
 
 /// The drawing of these lines, and of what each node held meanwhile.
-pub fn draw(alloc: Global, rows: &[Row], history: &History) -> Result<Vec<u8>, AllocError> {
+pub fn draw_svg(alloc: Global, rows: &[Row], history: &History) -> Result<Vec<u8>, AllocError> {
     let sheet = Sheet::of(alloc, rows)?;
-    let points = history.points(alloc)?;
+    let points = history.sorted_points(alloc)?;
     let mut drawing = head(alloc, &sheet)?;
     for place in 0..sheet.layout.count() {
         let drawn = node(alloc, &sheet, history, &points, place)?;

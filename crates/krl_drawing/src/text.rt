@@ -142,7 +142,7 @@ fn drawn(alloc: Global, layout: &Layout, row: &Row) -> Result<Canvas, AllocError
 }
 
 /// The picture of these lines.
-pub fn draw(alloc: Global, rows: &[Row]) -> Result<Vec<u8>, AllocError> {
+pub fn draw_text(alloc: Global, rows: &[Row]) -> Result<Vec<u8>, AllocError> {
     let layout = Layout::of(alloc, rows)?;
     let mut picture = head(alloc, &layout)?.line(alloc)?;
     for row in rows {
