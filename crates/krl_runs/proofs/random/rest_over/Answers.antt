@@ -1,6 +1,6 @@
 use Rattle.std.proofs.Common.{inl}
 use Rattle.krl_world.specs.Fields.{meaning}
-use Rattle.krl.proofs.rest_over.Goals as goal
+use Rattle.krl_runs.proofs.random.rest_over.Goals as goal
 
 pub returns-in-Ok-default-true : goal.returns-in-Ok-default-true
 returns-in-Ok-default-true g c =

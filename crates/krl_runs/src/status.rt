@@ -1,6 +1,6 @@
 //! The exit status of each ending.
 ghost use Rattle.std.specs.Prelude.{◌≡◌};
-ghost use Rattle.krl.specs.Statuses.{script_status, random_status, rest_status};
+ghost use Rattle.krl_runs.specs.Statuses.{script_status, random_status, rest_status};
 
 use krl_script::Rest;
 use krl_text::ScriptFault;

@@ -1,5 +1,5 @@
 -- The exit status of each ending.
-use Rattle.std.specs.Prelude.{◌≡◌, ◌⊎◌, ℕ, Bool, true, false, List, Result, Ok, Err, IfOk}
+use Rattle.std.specs.Prelude.{◌≡◌, ◌⊎◌, ℕ, Bool, true, false, List, Some, Result, Ok, Err, IfOk}
 use Rattle.std.specs.Io.KnownBytes.{Appends}
 use Rattle.krl_text.specs.declared.fault.ScriptFault.{ScriptFault}
 use Rattle.krl_script.specs.Runs.{Ran}
@@ -35,6 +35,10 @@ RanTo unread left before after status =
     (ended : Result (Unit {0}) ScriptFault) × Ran unread left before after ended
     × (status ≡ script_status ended)
 
+-- The script of this text was run, with this status.
+abbrev pub RanText : List ℕ → Known → Known → ℕ → Type 0
+RanText text before after status = (left : Known) × RanTo (Some text) left before after status
+
 -- The line of a random run was written, and the status is 0; or a front of it was, and it is 1.
 abbrev pub DroveTo : Known → Known → List ℕ → ℕ → Type 0
 DroveTo before after line status =
@@ -53,3 +57,8 @@ abbrev pub CameToRest : Known → Known → List ℕ → ℕ → Type 0
 CameToRest before after line status =
     ((mid : Known) × Appends before mid line × RestedTo mid after status)
     ⊎ ((status ≡ 1) × WroteFrontOf before after line)
+
+-- The same, with its rounds or without.
+abbrev pub DroveBy : Bool → Known → Known → List ℕ → ℕ → Type 0
+DroveBy true before after line status = CameToRest before after line status
+DroveBy false before after line status = DroveTo before after line status
