@@ -185,8 +185,8 @@ next_of_chain() {
 }
 
 tell() {
-    at=$(echo "$all" | grep -nFx "$1" | cut -d : -f 1)
-    say "proving $1, crate $at of $count; $((($(date +%s) - began) / 60)) minutes so far"
+    proved=$(find "$work/proved" -mindepth 1 -maxdepth 1 | wc -l)
+    say "proving $1; $proved of $count crates are proved, in $(minutes)"
 }
 
 # Whether there are processors and memory for two proofs side by side.
