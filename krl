@@ -60,7 +60,8 @@ A key-range lock server with client range caches
 Usage: ./krl <COMMAND>
 
 The server and its client, over TCP and SQLite:
-  serve [OPTIONS]    Serve the table of krl.db in this folder at 127.0.0.1:7400
+  serve [OPTIONS]    Serve the table of krl.db in this folder at 127.0.0.1:7400; without options,
+                     make the table if there is none
   client [WORDS]     Read and write a server's table; without a command, at a prompt
   doctor             Print what a build of them needs, and what of it is missing: status 0 or 1
 
