@@ -27,6 +27,7 @@ all: $(LIBRARY)
 
 install: all
 	LIBRARY=$(LIBRARY) KIT=$(KIT) PROGRAMS=$(TARGET)/release hosts/packaging/install $(DESTDIR)$(PREFIX)
+	hosts/packaging/registered $(PREFIX) $(DESTDIR)
 
 dist: all
 	LIBRARY=$(LIBRARY) KIT=$(KIT) PROGRAMS=$(TARGET)/release hosts/packaging/archive $(OUT)
