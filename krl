@@ -57,7 +57,8 @@ A key-range lock server with client range caches
 Usage: ./krl <COMMAND>
 
 The server and its client, over TCP and SQLite:
-  serve [OPTIONS]    Serve the table of krl.db in this folder at 127.0.0.1:7400
+  serve [OPTIONS]    Serve the table of krl.db in this folder at 127.0.0.1:7400; without options,
+                     make the table if there is none
   client [WORDS]     Read and write a server's table; without a command, at a prompt
   doctor             Print what a build of them needs, and what of it is missing: status 0 or 1
 
@@ -144,8 +145,8 @@ next_of_chain() {
 }
 
 tell() {
-    at=$(echo "$all" | grep -nFx "$1" | cut -d : -f 1)
-    say "proving $1, crate $at of $count; $((($(date +%s) - began) / 60)) minutes so far"
+    proved=$(find "$work/proved" -mindepth 1 -maxdepth 1 | wc -l)
+    say "proving $1; $proved of $count crates are proved, in $(minutes)"
 }
 
 # Whether there are processors and memory for two proofs side by side.

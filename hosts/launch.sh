@@ -63,10 +63,11 @@ build_hosts() {
     touch "$target/release/krl-server" "$target/release/krl-client"
 }
 
-# Runs the server or the client with these words.
+# Runs the server or the client with these words. A server without further words is a trial: it may make its store.
 run() {
     hosts=$top/hosts
     given=$1
+    [ "$*" != serve ] || set -- serve --create
     case $1 in
     serve)
         [ -x "$target/release/krl-server" ] || ! asks_for_help "$@" ||

@@ -89,11 +89,16 @@ class Object:
         return self.data[start : self.data.index(b"\0", start)].decode()
 
     def label(self, number):
-        """How the assembly names a symbol. One that stands for a section is its first byte."""
+        """How the assembly names a symbol. One that stands for a section is its first byte.
+
+        A compiler that takes the assembly into a module of its own has labels there such as .LCPI5_0. It would take one
+        of that name here for its own, without a word, and so put another constant in its place.
+        """
         name, _, kind, section, *_ = self.symbols[number]
         if kind == OF_SECTION:
             return ".Lin" + self.of_sections.of(section, self.section_names[section])
-        return self.of_symbols.of(number, name)
+        label = self.of_symbols.of(number, name)
+        return f".Lin{label}" if label.startswith(".L") else label
 
     def named_sections(self):
         """The sections that a relocation refers to."""

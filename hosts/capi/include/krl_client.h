@@ -175,7 +175,7 @@ typedef enum krlc_code {
     KRLC_NOT_MADE = 66
 } krlc_code;
 
-/* Why a server does not serve a client. The numbers are those of `docs/WIRE.md`. */
+/* Why a server does not serve a client. The numbers are those of `docs/STREAM.md`. */
 typedef enum krlc_reason {
     /* The server gave no reason, or the error is another one. */
     KRLC_NO_REASON = -1,
@@ -309,7 +309,8 @@ uint32_t krlc_version(void);
 /* The name of a code, such as "KRLC_TIMED_OUT"; "?" for a number that is not a code. It is never freed. */
 const char *krlc_code_name(uint32_t code);
 
-/* Whether a write that returned this code may have been applied, or may still be: a read of the key shows it. */
+/* Whether a write that returned this code may have been applied, or may still be. A read of the key by the same client
+ * waits until that is decided, and shows it; other clients may read the key before. */
 bool krlc_is_unknown_outcome(uint32_t code);
 
 /* Clients. */
@@ -419,7 +420,7 @@ KRLC_NODISCARD uint32_t krlc_delete(krlc_client *client, uint64_t key, uint64_t 
  * the writes of each shard are made in their order, and those of all shards at the same time. All writes together take
  * `timeout_ms` at most. Errors: those of `krlc_insert`, for the first write that was not judged; and KRLC_MISUSE,
  * KRLC_TOO_LONG and KRLC_BAD_KEY before any write is made. After an error at each server at most one write is
- * KRLC_UNKNOWN: a read of its key shows it. Those that are KRLC_NOT_MADE change nothing. */
+ * KRLC_UNKNOWN: a read of its key by this client shows it. Those that are KRLC_NOT_MADE change nothing. */
 KRLC_NODISCARD uint32_t krlc_write_all(krlc_client *client, krlc_write *writes, size_t count, uint64_t timeout_ms,
                                        krlc_error *error);
 

@@ -55,7 +55,11 @@ class Pin(_Calls):
 
     def __init__(self, pin: threads.Pin) -> None:
         super().__init__(pin)
-        self.rows, self.holds, self.free = pin.rows, pin.holds, _awaited(pin.free)
+        self.rows, self.holds, self._pin = pin.rows, pin.holds, pin
+
+    def free(self) -> asyncio.Future[None]:
+        """``krl.Pin.free``. It begins at once, whether it is awaited or not."""
+        return asyncio.shield(asyncio.wrap_future(workers[0].begin(self._pin.free)))
 
 
 class Client(_Calls):

@@ -48,6 +48,9 @@ class Set(Write): """As ``set``."""
 class Delete(Write): """As ``delete``: it has no value."""
 
 
+KINDS = (Insert, Put, Set, Delete)
+
+
 def _range(start: int, stop: int) -> tuple[int, int]:
     # ctypes cuts off what a number has above 64 bits.
     if 0 <= index(start) <= index(stop) <= TOP:
@@ -96,7 +99,9 @@ class _Writer:
         for write in writes:
             if not 0 <= index(write.key) < END:
                 raise BadKey(f"a key is from 0 to 2^63 - 2, not {write.key!r}")
-            kind = (Insert, Put, Set, Delete).index(type(write))
+            if type(write) not in KINDS:
+                raise TypeError(f"a write is an Insert, Put, Set or Delete, not {write!r}")
+            kind = KINDS.index(type(write))
             value = memoryview(write.value).tobytes()
             packed += WRITE.pack(kind, Outcome.NOT_MADE, write.key, len(value), value)
         room = (ctypes.c_char * len(packed)).from_buffer(packed)

@@ -5,7 +5,7 @@ from enum import IntEnum as _IntEnum
 
 class Outcome(_IntEnum):
     """How a write was judged. Only ``APPLIED`` is true: the others changed nothing. In an error's
-    ``outcomes`` there may be ``NOT_MADE``, and ``UNKNOWN``, which a read of the key shows."""
+    ``outcomes`` there may be ``NOT_MADE``, and ``UNKNOWN``: the same client's read shows it."""
 
     APPLIED, EXISTS, ABSENT, FULL, NOT_HELD = range(5)
     UNKNOWN, NOT_MADE = 46, 66
@@ -15,7 +15,7 @@ class Outcome(_IntEnum):
 
 
 class Reason(_IntEnum):
-    """Why a server does not serve a client. The numbers are those of ``docs/WIRE.md``."""
+    """Why a server does not serve a client. The numbers are those of ``docs/STREAM.md``."""
 
     VERSION, CLIENT_NUMBER, INCARNATION, FULL, MISSING, LEASE_RUNS = range(6)
     DENIED, OTHER_SHARD, FAR_AHEAD, OTHER_STORE = range(6, 10)
@@ -33,7 +33,7 @@ class Refused(Error):
     """A call of a client was refused. ``code`` is that of ``krl_client.h``, ``shard`` the one that
     refused it (with a map), and ``reason`` why the server does not serve the client, if it reported
     that. ``is_unknown_outcome``: a write may have been applied, or may still be; a read of the key
-    shows it. ``outcomes``: what became of each write."""
+    by the same client shows it. ``outcomes``: what became of each write."""
 
     code = 0
     kinds: "dict[int, type[Refused]]" = {}

@@ -61,6 +61,17 @@ class AsyncTest(Served):
 
         self.run_within(wait())
 
+    def test_a_pin_is_freed_by_a_call_that_is_not_awaited(self) -> None:
+        async def free() -> None:
+            async with await self.joined(0) as one, await self.joined(1) as other:
+                pin = await one.pin_for_write(0, 20)
+                pin.free()
+                self.assertEqual(await other.read(0, 20), [])
+                await (await one.pin_for_write(0, 20)).free()
+                self.assertFalse(pin.holds())
+
+        self.run_within(free())
+
     def test_changes_come_one_after_the_other(self) -> None:
         async def watch() -> None:
             async with await self.joined(0) as one, await self.joined(1) as other:

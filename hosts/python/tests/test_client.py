@@ -98,6 +98,8 @@ class CallsTest(Served):
         self.assertEqual(other.read(), [Row(10, b"4")])
         with self.assertRaises(krl.BadKey):
             one.write_all([krl.Delete(10), krl.Delete(END)])
+        with self.assertRaisesRegex(TypeError, "an Insert, Put, Set or Delete, not Write"):
+            one.write_all([krl.client.Write(10, b"")])
         with self.assertRaises(krl.BadValue) as too_long:
             one.write_all([krl.Delete(10), krl.Put(10, bytes(33))])
         self.assertEqual(too_long.exception.outcomes, [Outcome.NOT_MADE] * 2)

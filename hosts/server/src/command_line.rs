@@ -38,8 +38,9 @@ Exit statuses:
   3  the store of a server lacks what a client has seen of it: see docs/STORES.md
 
 Examples:
-  krl-server serve
-      Serves krl.db of this folder at 127.0.0.1:7400, and its status at 127.0.0.1:7401
+  krl-server serve --create
+      Serves krl.db of this folder at 127.0.0.1:7400, and its status at 127.0.0.1:7401. Makes the
+      store if there is none
   krl-server serve --listen tls:10.0.0.5:7400 --tls-authority ca.crt --tls-certificate server.crt
       --tls-key server.key
       Serves clients of other machines, which show certificates of the authority
@@ -151,7 +152,9 @@ Make a new store of a backup, on which a server serves at once.
 What was written after the backup is lost. All clients have to be stopped before: one that still
 runs may know of writes that the backup does not have, and would continue to answer from its cache
 with outdated rows. In the new store each client counts as left, so the server waits for nobody, and
-the epoch is 4294967296 greater than in the backup, so that no client has seen it.")]
+the epoch is 4294967296 greater than in the backup, so that no client has seen it.
+
+If it is killed, repeat it.")]
     Restore {
         /// The backup. It is only read, and no server may run on it
         file: PathBuf,
@@ -170,9 +173,11 @@ Cut a store in two at a key, for two servers.
 
 The rows from the key on move to the new store, and the rows below it stay. Both keep the epoch, and
 what is known of clients. No server may run on the store, and each client has to have left: one that
-has not is named. Then start a server on each of the two, and give all clients a map of both. If it
-is cut off, no row is lost: either there is no new store, or the old one still has all rows. Remove
-the new one then, and split again.")]
+has not is named. Then start a server on each of the two, and give all clients a map of both.
+
+If it is killed, repeat it with the same words, and remove no file: the new store may have the only
+copy of the rows that moved. It continues whether the new store is missing, has a copy of the rows
+that move, or has their only copy; and if it had ended, it changes nothing.")]
     Split {
         /// The store
         store: PathBuf,
@@ -181,6 +186,9 @@ the new one then, and split again.")]
         at: u64,
         /// The new store. What exists is never replaced
         new_store: PathBuf,
+        /// Make the new store even if no row moves to it
+        #[arg(long)]
+        allow_empty: bool,
         #[command(flatten)]
         map: SplitMap,
     },
@@ -190,7 +198,9 @@ Make one new store of two neighboring ones.
 
 The two are only read. The keys of the lower one have to lie below all keys of the upper one, and
 each client has to have left both. The new store has the greater epoch of the two. Serve it in place
-of both: a server that still ran on one of them would show rows that nobody changes any more.")]
+of both: a server that still ran on one of them would show rows that nobody changes any more.
+
+If it is killed, repeat it with the same words.")]
     Merge {
         /// The store with the lower keys
         lower: PathBuf,
@@ -207,9 +217,11 @@ Write the rows of a file of CSV or JSON lines to a store that no server serves.
 
 All rows are written, or none. A file of SQLite that is there keeps its other rows; no server may run
 on it, and each client has to have left: one that has not is named. A store that is not there is made.
-While a server serves the store, krl-client import does the same, row by row.")]
+If it is killed, repeat it: if the store has all rows of the file, it changes nothing. While a server
+serves the store, krl-client import does the same, row by row.")]
     Import {
-        /// The file: JSON lines if its name ends in .jsonl, .ndjson or .json, otherwise CSV
+        /// The file, or - for standard input: JSON lines if its name ends in .jsonl, .ndjson or
+        /// .json, otherwise CSV
         file: PathBuf,
         /// The store: a file of SQLite, which is made if there is none; a new place in a cluster,
         /// such as <etcd://10.0.0.1:2379/krl/orders>; or a database that has no table yet, such as
@@ -357,12 +369,22 @@ pub struct ServeOptions {
     pub tls: TlsOptions,
     #[command(flatten)]
     pub access: AccessOptions,
-    /// What keeps the table: a file of SQLite, which is made if there is none; a cluster, such as
+    /// What keeps the table: a file of SQLite; a cluster, such as
     /// etcd://10.0.0.1:2379,10.0.0.2:2379/krl/orders, over which several servers may run: one
     /// serves, and the others stand by; or a database, such as
     /// <postgres://krl@10.0.0.1/orders?sslmode=verify-full>
     #[arg(long, env = "KRL_STORE", value_name = "STORE")]
     pub store: Option<String>,
+    /// Make a new store if there is none. Otherwise the server refuses to start on a store that is
+    /// missing or holds nothing
+    #[arg(
+        long,
+        env = "KRL_CREATE",
+        value_name = "YES",
+        num_args = 0..=1,
+        default_missing_value = "yes"
+    )]
+    pub create: Option<String>,
     /// The certificate of the authority that certified the cluster's nodes, as PEM
     #[arg(long, env = "KRL_STORE_AUTHORITY", value_name = "FILE")]
     pub store_authority: Option<String>,

@@ -70,18 +70,19 @@ fn judge(store: &Snapshot) -> Done {
     Ok(judged.map_err(|code| format!("no server could start on the store then: {code}"))?)
 }
 
-/// Adds the rows of the lines to what a store has.
+/// Adds the rows of the lines to what a store has. If it has all of them already, the import is a
+/// repeated one, which is never refused.
 fn add(store: Snapshot, lines: Vec<Line>, existing: Existing) -> Result<Added, String> {
+    let has = |Line { row, .. }: &Line| store.rows.get(&row.key) == Some(&row.value);
+    let existing = if lines.iter().all(has) { Existing::Keep } else { existing };
     let mut added = Added { store, ..Added::default() };
     for line in lines {
         let is_there = added.store.rows.contains_key(&line.row.key);
         match existing {
             Existing::Refuse if is_there => {
                 let (place, key) = (line.place, line.row.key);
-                return Err(format!(
-                    "line {place}: the store has a row of key {key}: --existing keep leaves such \
-                     rows as they are, and --existing replace gives them the values of the file"
-                ));
+                let choices = Existing::CHOICES;
+                return Err(format!("line {place}: the store has a row of key {key}: {choices}"));
             }
             Existing::Keep if is_there => added.kept += 1,
             Existing::Refuse | Existing::Keep | Existing::Replace => {
@@ -128,6 +129,16 @@ mod tests {
         assert_eq!((replaced.kept, &replaced.written), (0, &lines()));
         assert_eq!(replaced.store.rows[&2], Value::from(3));
         assert_eq!((replaced.store.epoch, replaced.store.rows.len()), (7, 3));
+    }
+
+    #[test]
+    fn an_import_that_was_made_is_repeated_and_changes_nothing() {
+        let lines = || vec![line(1, 1), line(3, 2)];
+        let made = add(store(), lines(), Existing::Replace).unwrap().store;
+        for existing in [Existing::Refuse, Existing::Keep, Existing::Replace] {
+            let again = add(made.clone(), lines(), existing).unwrap();
+            assert_eq!((again.store, again.written.len(), again.kept), (made.clone(), 0, 2));
+        }
     }
 
     #[test]

@@ -13,6 +13,7 @@ mod import;
 mod locks;
 mod log;
 mod long_waits;
+mod new_store;
 mod next_map;
 mod origin;
 mod others;
@@ -101,8 +102,8 @@ fn run(command: Command, matches: &ArgMatches) -> Result<ExitCode, Box<dyn Error
         Command::Restore { file, store, clients_are_stopped } => {
             restore::restore(&file, &store, clients_are_stopped)?;
         }
-        Command::Split { store, at, new_store, map } => {
-            reshard::split(&store, at, &new_store, &map)?;
+        Command::Split { store, at, new_store, allow_empty, map } => {
+            reshard::split(&store, at, &new_store, allow_empty, &map)?;
         }
         Command::Merge { lower, upper, new_store, map } => {
             reshard::merge(&lower, &upper, &new_store, &map)?;

@@ -3,7 +3,7 @@ use clap::Args;
 use krl::{Address, Servers, Shard, ShardMap, Snapshot};
 use std::error::Error;
 use std::fs::OpenOptions;
-use std::io::Write;
+use std::io::{self, ErrorKind, Write};
 use std::path::{Path, PathBuf};
 
 type Result<T> = std::result::Result<T, Box<dyn Error>>;
@@ -11,7 +11,7 @@ type Result<T> = std::result::Result<T, Box<dyn Error>>;
 /// The map of a split.
 #[derive(Debug, Args)]
 pub struct SplitMap {
-    /// The map of now. The next map is written to --new-map
+    /// The current map. The next map is written to --new-map
     #[arg(long, value_name = "FILE", requires_all = ["servers", "new_map"])]
     map: Option<PathBuf>,
     /// Where the new store will be served, as in a map
@@ -25,7 +25,7 @@ pub struct SplitMap {
 /// The map of a merge.
 #[derive(Debug, Args)]
 pub struct MergeMap {
-    /// The map of now. The next map is written to --new-map
+    /// The current map. The next map is written to --new-map
     #[arg(long, value_name = "FILE", requires_all = ["at", "new_map"])]
     map: Option<PathBuf>,
     /// Where the upper one of the two shards begins
@@ -74,21 +74,16 @@ impl MergeMap {
 
 impl NextMap {
     fn new(map: ShardMap, path: &Path) -> Result<NextMap> {
-        if path.exists() {
+        if !may_become(path, &map.to_toml())? {
             return Err(format!("there is a file {} already", path.display()).into());
         }
         Ok(NextMap { map, path: path.into() })
     }
 
-    /// Writes the map, and answers by which shard each server has to be started.
+    /// Writes the map, and returns by which shard each server has to be started.
     pub fn write(&self) -> Result<String> {
         let at = self.path.display();
-        let written = OpenOptions::new().write(true).create_new(true).open(&self.path);
-        let written = written.and_then(|mut file| {
-            file.write_all(self.map.to_toml().as_bytes())?;
-            file.sync_all()
-        });
-        written.map_err(|error| {
+        write(&self.path, &self.map.to_toml()).map_err(|error| {
             format!("the stores are as they should be, but the map {at} can't be written: {error}")
         })?;
         let shards = self.map.shards().iter().enumerate();
@@ -99,6 +94,23 @@ impl NextMap {
         let starts: String = shards.filter_map(start).collect();
         Ok(format!("{at}: the next map. Restart each server with it:\n{starts}"))
     }
+}
+
+/// Whether the file may be given this text: there is none, or a command that was killed has
+/// written the text's beginning, or all of it.
+fn may_become(path: &Path, text: &str) -> io::Result<bool> {
+    match std::fs::read(path) {
+        Ok(bytes) => Ok(text.as_bytes().starts_with(&bytes)),
+        Err(error) if error.kind() == ErrorKind::NotFound => Ok(true),
+        Err(error) => Err(error),
+    }
+}
+
+fn write(path: &Path, text: &str) -> io::Result<()> {
+    let mut options = OpenOptions::new();
+    let mut file = options.write(true).create(true).truncate(false).open(path)?;
+    file.write_all(text.as_bytes())?;
+    file.sync_all()
 }
 
 fn read(path: &Path) -> Result<ShardMap> {

@@ -1,29 +1,42 @@
 //! A store that is cut in two, and two that become one, while no server runs on them.
+//!
+//! A command that was killed is repeated: the stores show how far it had come.
 use crate::cause;
 use crate::next_map::{MergeMap, NextMap, SplitMap};
 use crate::output;
 use crate::owner::Owner;
-use krl::{END, Snapshot, SqliteStore, Store, StoreFile};
+use krl::{Checksum, END, Snapshot, SqliteStore, Store, StoreFile};
 use std::error::Error;
 use std::path::Path;
 
 type Done = Result<(), Box<dyn Error>>;
 
-/// Moves the rows from the key on into a new store.
+/// Moves the rows from the key on into a new store. Without `is_empty_allowed` it refuses to move
+/// none.
 ///
-/// The new store is on the disk before the old one changes. So if this is cut off, no row is lost:
-/// either the new store is not there, or the old one still has all its rows.
-pub fn split(store: &Path, at: u64, new: &Path, map: &SplitMap) -> Done {
+/// The new store is on the disk before the old one changes. So at each moment one of three states
+/// is on the disk, and this continues from each: there is no new store; the new store has a copy of
+/// the rows that move; it has their only copy.
+pub fn split(store: &Path, at: u64, new: &Path, is_empty_allowed: bool, map: &SplitMap) -> Done {
     let _owner = own(store)?;
-    let before = read(store)?;
+    let kept = read(store)?;
+    let before = moved_by_an_earlier_split(&kept, at, new).unwrap_or(kept);
     let next = map.next(at, &before)?;
     let (lower, upper) = before.split(at);
+    if upper.rows.is_empty() && !is_empty_allowed {
+        return Err(format!(
+            "{} has no row from {at} on, and {} is not the new store of a split at this key: \
+             nothing would move. --allow-empty makes a new store without rows",
+            store.display(),
+            new.display()
+        )
+        .into());
+    }
     judge(store, &lower)?;
     judge(new, &upper)?;
     create(new, &upper)?;
     remove_from(store, at).map_err(|error| {
-        let (new, store) = (new.display(), store.display());
-        format!("{store} has all its rows still: {error}. Remove {new}, and split again")
+        format!("{} may have all its rows still: {error}. Split it again", store.display())
     })?;
     let (below, from) = (lower.rows.len(), upper.rows.len());
     let done = format!(
@@ -34,6 +47,21 @@ pub fn split(store: &Path, at: u64, new: &Path, map: &SplitMap) -> Done {
         upper.epoch
     );
     tell(&done, next.as_ref())
+}
+
+/// The store as it was before a split that was killed after it had moved the rows, if the new store
+/// is that split's.
+fn moved_by_an_earlier_split(kept: &Snapshot, at: u64, new: &Path) -> Option<Snapshot> {
+    let moved = SqliteStore::read(new).ok().filter(|file| file.checksum == Checksum::Matches)?;
+    rejoined(kept, at, &moved.snapshot)
+}
+
+/// The snapshot of which a split at this key makes these two, if there is one.
+fn rejoined(lower: &Snapshot, at: u64, upper: &Snapshot) -> Option<Snapshot> {
+    let mut whole = lower.clone();
+    whole.rows.extend(&upper.rows);
+    let (below, from) = whole.clone().split(at);
+    (below == *lower && from == *upper).then_some(whole)
 }
 
 /// Makes a new store of two. They are only read.
@@ -104,5 +132,35 @@ pub fn cut(text: &str) -> Result<u64, String> {
     match text.parse() {
         Ok(at) if (1..END).contains(&at) => Ok(at),
         _ => Err(format!("a cut is a key from 1 to {}", END - 1)),
+    }
+}
+
+#[cfg(test)]
+mod tests {
+    use super::*;
+    use krl::{Record, Value};
+
+    #[test]
+    fn only_the_two_stores_of_one_split_are_rejoined() {
+        let rows = |keys: std::ops::Range<u64>| keys.map(|key| (key, Value::from(key))).collect();
+        let record = Record { client: 3, incarnation: 5, last: None, left: true };
+        let whole = Snapshot {
+            epoch: 7,
+            rows: rows(0..10),
+            records: vec![record],
+            first_start: Some(9),
+            ..Snapshot::default()
+        };
+        let (lower, upper) = whole.clone().split(4);
+        assert_eq!(rejoined(&lower, 4, &upper), Some(whole.clone()));
+        assert_eq!(rejoined(&whole, 4, &upper), None, "the rows are there still");
+        assert_eq!(rejoined(&lower, 3, &upper), None, "another key");
+        assert_eq!(rejoined(&lower, 5, &upper), None, "another key");
+        let served = Snapshot { epoch: 8, ..lower.clone() };
+        assert_eq!(rejoined(&served, 4, &upper), None, "a server has started since");
+        let other = Snapshot { records: Vec::new(), ..upper.clone() };
+        assert_eq!(rejoined(&lower, 4, &other), None, "another store");
+        let below = Snapshot { rows: rows(3..10), ..upper };
+        assert_eq!(rejoined(&lower, 4, &below), None, "a row below the key");
     }
 }

@@ -66,6 +66,8 @@ pub struct Calls {
     pub reading: Option<Waiting<Range<u64>, Vec<Row>>>,
     /// A write that waits.
     pub writing: Option<Waiting<Write, Outcome>>,
+    /// Writes of an unknown outcome, each with the moment at which its call ended.
+    pub unknown: Vec<(Write, Duration)>,
     /// A range that is to be pinned.
     pub holding: Option<Waiting<Range<u64>, Held>>,
     /// A range that is pinned.

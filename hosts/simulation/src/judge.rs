@@ -126,7 +126,7 @@ impl Judge {
                 self.find(format!("{write:?} was made twice"));
             }
             if self.never.contains(&after) {
-                self.find(format!("{write:?} was made, and its client was told that it was not"));
+                self.find(format!("{write:?} was made after its client knew that it was not"));
             }
             if let Some(bond) = self.bonds.remove(&after)
                 && !shows(&self.table, &bond.keys, &bond.rows)
@@ -161,6 +161,14 @@ impl Judge {
             self.find(format!("{who} was told that {write:?} was not made, which it was: {why}"));
         }
         self.never.insert(value);
+    }
+
+    /// A client was answered that has to know whether its write is made: from now on it is not.
+    pub fn is_decided(&mut self, write: Write) {
+        let value = value_of(write);
+        if !self.made.contains(&value) {
+            self.never.insert(value);
+        }
     }
 
     /// Whether the table of now has these rows of the range, or that of the window has.

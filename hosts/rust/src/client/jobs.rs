@@ -509,11 +509,11 @@ impl Jobs {
         let mut room = std::mem::take(&mut self.room);
         let rows = match self.client.scan(keys, &mut room, self.now) {
             Ok(Scan::Rows) => copied(&mut room).map(Some),
-            Ok(Scan::Miss(point)) => {
+            Ok(Scan::Miss(point)) if self.may_ask(id, point) => {
                 let unknown = point..self.end_of_unknown(&(point..keys.end), &mut room);
                 self.ask_to_read(id, unknown).map(|_| None)
             }
-            Ok(Scan::Pending | Scan::Ended) => Ok(None),
+            Ok(Scan::Miss(_) | Scan::Pending | Scan::Ended) => Ok(None),
             Err(code) => Err(code),
         };
         self.room = kept(room);
@@ -526,6 +526,11 @@ impl Jobs {
     fn end_of_unknown(&self, points: &Range<u64>, room: &mut Vec<Row>) -> u64 {
         let Range { start: mut unknown, end: mut known } = *points;
         if known - unknown > FEW {
+            return known;
+        }
+        room.clear();
+        // Without room for the few rows each question would be answered that it is too short.
+        if room.try_reserve(FEW as usize).is_err() {
             return known;
         }
         while known - unknown > 1 {

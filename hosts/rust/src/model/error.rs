@@ -153,8 +153,9 @@ impl Error {
         }
     }
 
-    /// Whether a write that ended so may have been applied, or may still be: a read of the key
-    /// shows which. After any other error the write changes nothing.
+    /// Whether a write that ended so may have been applied, or may still be. A read of the key by
+    /// the same client waits until that is decided, and shows which; other clients may read the key
+    /// before. After any other error the write changes nothing.
     #[must_use]
     pub fn is_unknown_outcome(&self) -> bool {
         match self {

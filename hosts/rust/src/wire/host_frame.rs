@@ -1,5 +1,5 @@
 //! Frames of the hosts: what the host of a client and that of a server send each other beneath the
-//! messages. `docs/WIRE.md` has the table.
+//! messages. `docs/STREAM.md` has the table.
 //!
 //! The first byte of a host frame is 0. No message of the library begins so: its version is 1.
 //!
@@ -215,6 +215,8 @@ fn framed(head: &[u8], body: &[u8]) -> Vec<u8> {
 #[cfg(test)]
 mod tests {
     use super::*;
+    use crate::lease::boot_clock::Moment;
+    use crate::lease::terms::{Answer, Grant, Older, Sign};
     use crate::wire::frames::split;
 
     const HELLO: FromServer = FromServer::Hello { answers_signs: true };
@@ -277,25 +279,44 @@ mod tests {
 
     #[test]
     fn the_bytes_are_those_of_the_table() {
-        let refused = FromServer::Refused(Refusal::Incarnation { client: 3, registered: 258 });
-        let bytes = [0, 17, 2, 3, 0, 0, 0, 0, 0, 0, 0, 2, 1, 0, 0, 0, 0, 0, 0];
-        assert_eq!(body(&refused.frame()), bytes);
-        assert_eq!(FromClient::Hello(None).frame(), [3, 0, 0, 0, 0, 0, 0, 0, 0, 0, 3]);
         let marked = [5, 0, 0, 0, 0, 0, 0, 0, 0, 0, 0, 0, 0, 0, 0, 128, 2, 1, 0, 0, 0, 0, 0, 0];
-        let first = [7, 0, 0, 0, 0, 0, 0, 0, 0, 0, 0, 0, 0, 0, 0, 3];
-        let marked_in = |seen| body(&FromServer::Mark(seen).frame());
-        assert_eq!(marked_in(SEEN), [&[0, 18][..], &marked, &first].concat());
-        assert_eq!(marked_in(SEEN_EARLIER), [&[0, 18][..], &marked].concat());
-        let seen = FromClient::Hello(Some(SEEN));
-        assert_eq!(body(&seen.frame()), [&[0, 0][..], &marked, &first, &[3]].concat());
-        assert_eq!(body(&HELLO.frame()), [0, 16, 1, 3]);
+        let earlier = FromServer::Mark(SEEN_EARLIER);
+        assert_eq!(body(&earlier.frame()), [&[0, 18][..], &marked].concat());
         let unsigned = FromServer::Hello { answers_signs: false };
         assert_eq!(body(&unsigned.frame()), [0, 16, 0, 3]);
         let numbers = [5, 0, 0, 0, 0, 0, 0, 0, 2, 1, 0, 0, 0, 0, 0, 0, 7, 0, 0, 0, 0, 0, 0, 0];
-        assert_eq!(body(&FromClient::Shard(shard()).frame()), [&[0, 2][..], &numbers].concat());
-        assert_eq!(body(&FromServer::Shard(shard()).frame()), [&[0, 22][..], &numbers].concat());
         let other = FromServer::Refused(Refusal::OtherShard(Some(shard())));
         assert_eq!(body(&other.frame()), [&[0, 17, 7][..], &numbers].concat());
+    }
+
+    #[test]
+    fn the_examples_of_the_page_are_these_frames() {
+        let page = concat!(env!("CARGO_MANIFEST_DIR"), "/../../docs/STREAM.md");
+        let page = std::fs::read_to_string(page).unwrap();
+        let (_, examples) = page.split_once("\n## Examples\n").unwrap();
+        let examples = examples.lines().filter_map(|line| line.strip_prefix("    "));
+        let examples: Vec<String> = examples.map(|line| line.replace(' ', "")).collect();
+        let mark = Mark { start: 5, commits: 258 };
+        let seen = Seen { mark, first_start: Some(7) };
+        let (stamp, length) = (Moment::of_nanoseconds(5), 10_000_000_000);
+        let older = Older::IsOver(1);
+        let frames = [
+            FromClient::Hello(None).frame(),
+            FromClient::Hello(Some(seen)).frame(),
+            HELLO.frame(),
+            FromServer::Mark(seen).frame(),
+            Sign { client: 3, incarnation: 2, stamp, length, older }.frame(),
+            Answer::Granted(Grant { incarnation: 2, stamp, length }).frame(),
+            Answer::Ended { incarnation: 2 }.frame(),
+            FromClient::Shard(shard()).frame(),
+            FromServer::Shard(shard()).frame(),
+            FromServer::Refused(Refusal::Incarnation { client: 3, registered: 258 }).frame(),
+        ];
+        let hexadecimal = |frame: &Vec<u8>| -> String {
+            frame.iter().map(|byte| format!("{byte:02x}")).collect()
+        };
+        let expected: Vec<String> = frames.iter().map(hexadecimal).collect();
+        assert_eq!(examples, expected);
     }
 
     #[test]

@@ -1,4 +1,4 @@
-//! Host frames on leases. `docs/WIRE.md` has the table, and `host_frame.rs` the others.
+//! Host frames on leases. `docs/STREAM.md` has the table, and `host_frame.rs` the others.
 use crate::lease::boot_clock::Moment;
 use crate::lease::terms::Answer;
 use crate::lease::terms::{FOR_EVER, Grant, Older, Sign};

@@ -1,4 +1,4 @@
-//! How a shard is spelled in the frames of the hosts. `docs/WIRE.md` has the table.
+//! How a shard is spelled in the frames of the hosts. `docs/STREAM.md` has the table.
 use crate::model::refusal::Refusal;
 use crate::model::shard_bounds::ShardBounds;
 use std::num::NonZeroU64;

@@ -5,7 +5,7 @@ use crate::judge::{Version, Window};
 use crate::record::Node;
 use crate::weather::Ask;
 use krl::simulated::{Cached, Held, Purpose};
-use krl::{ClientSet, Error, Outcome, Refusal, Row, Unsent, Value, Write};
+use krl::{ClientSet, END, Error, Outcome, Refusal, Row, Unsent, Value, Write};
 use std::ops::Range;
 use std::time::Duration;
 
@@ -245,6 +245,7 @@ impl World {
         let Ended { asked, made, answer: Ok(rows) } = ended else { return };
         self.counts.reads += 1;
         self.judge.read(&format_client(client), &asked, &rows, &when);
+        self.decide_unknown(client, made, &asked);
         self.note_served(client, made, 0);
         self.note(Node::Client(client), 20, || format!("reads {asked:?}: {}", spelled(&rows)));
     }
@@ -254,7 +255,21 @@ impl World {
         let Ended { asked, made, answer } = ended;
         self.take_written(client, asked, answer, &when);
         if answer.is_ok() {
+            self.decide_unknown(client, made, &(0..END));
             self.note_served(client, made, 1);
+        }
+    }
+
+    /// The client was answered a call about these keys: its earlier writes there are made by now, or
+    /// never.
+    fn decide_unknown(&mut self, client: usize, made: Made, keys: &Range<u64>) {
+        let unknown = &mut self.machines[client].calls.unknown;
+        let is_decided = |(write, ended): &mut (Write, Duration)| {
+            *ended < made.moment && keys.contains(&write.key())
+        };
+        let decided: Vec<_> = unknown.extract_if(.., is_decided).collect();
+        for (write, _) in decided {
+            self.judge.is_decided(write);
         }
     }
 
@@ -271,7 +286,9 @@ impl World {
                 self.counts.writes += 1;
                 self.judge.write(&who, write, outcome, when);
             }
-            Err(why) if why.is_unknown_outcome() => {}
+            Err(why) if why.is_unknown_outcome() => {
+                self.machines[client].calls.unknown.push((write, self.now));
+            }
             Err(why) => self.judge.is_not_made(&who, write, &why.to_string()),
         }
         self.note(Node::Client(client), 21, || format!("writes {write:?}: {answer:?}"));

@@ -326,3 +326,19 @@ fn a_read_asks_for_what_the_client_does_not_know() {
     let rows: Vec<_> = (10..15).map(|key| row(key, if key == 12 { 2 } else { 1 })).collect();
     assert_eq!(read.answer.try_recv(), Ok(Ok(rows)));
 }
+
+#[test]
+fn a_read_after_a_long_one_asks_for_what_the_client_does_not_know() {
+    let mut world = World::new();
+    for key in 0..5000 {
+        assert_eq!(world.write(1, Write::Insert(row(key, 1))), Outcome::Applied);
+    }
+    // More rows than the room that is kept.
+    assert_eq!(world.read(0, 0..5000).len(), 5000);
+    assert_eq!(world.write(1, Write::Put(row(12, 2))), Outcome::Applied);
+    let _read = world.clients[0].read(10..15);
+    let asked = world.said(0);
+    let locks: Vec<_> = asked.iter().filter(|message| message[1] == LOCK).collect();
+    assert_eq!(locks.len(), 1);
+    assert_eq!(locks[0][42..58], [12u64.to_le_bytes(), 13u64.to_le_bytes()].concat());
+}

@@ -49,7 +49,10 @@ impl EventLoop {
         for change in changes {
             match *change {
                 Change::Registered { client, .. } => self.watch.joined(client),
-                Change::Left { client } => self.watch.left(client),
+                Change::Left { client } => {
+                    self.watch.left(client);
+                    self.open.left(client);
+                }
                 Change::Judged {
                     write: Write::Insert(_) | Write::Delete(_),
                     outcome: Outcome::Applied,

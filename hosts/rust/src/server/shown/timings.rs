@@ -270,6 +270,11 @@ impl Open {
         asked.filter_map(|(client, asked)| asked.map(|_| client))
     }
 
+    /// The client has left: it waits for nothing, and has nothing to give back.
+    pub fn left(&mut self, client: u8) {
+        self.forget(usize::from(client));
+    }
+
     fn forget(&mut self, place: usize) {
         self.asked[place] = None;
         self.last_request[place] = 0;

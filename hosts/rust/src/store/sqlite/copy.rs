@@ -5,7 +5,8 @@ use crate::store::sqlite::checksum::{self, Checksum};
 use crate::store::sqlite::copy::part::Part;
 use crate::store::sqlite::version::{self, Found, VERSION, look};
 use crate::store::sqlite::{self, SqliteStore};
-use rusqlite::{Connection, OpenFlags};
+use rusqlite::config::DbConfig;
+use rusqlite::{Connection, ErrorCode, OpenFlags};
 use std::ffi::OsString;
 use std::fs::File;
 use std::io::{self, ErrorKind, Read};
@@ -88,18 +89,23 @@ impl SqliteStore {
     /// the store of the snapshot, it is one that went back. Without a first start it is another
     /// store to each client that has seen one.
     ///
+    /// A file that an earlier call has made of the same snapshot, and that no server has opened
+    /// since, stays as it is: so a command that was killed may be repeated.
+    ///
     /// # Errors
     ///
-    /// If there is a file of that name already, or one that SQLite would take for a log of the new
-    /// store; or if it can't be written.
+    /// If there is another file of that name already, or one that SQLite would take for a log of
+    /// the new store; or if it can't be written.
     pub fn create(path: impl AsRef<Path>, snapshot: &Snapshot) -> Result<(), StoreError> {
         let path = path.as_ref();
-        for end in ["", "-wal", "-shm", "-journal"] {
-            let taken = beside(path, end);
-            if taken.symlink_metadata().is_ok() {
-                return Err(exists(&taken));
-            }
+        for end in ["-wal", "-shm", "-journal"] {
+            refuse_taken(&beside(path, end))?;
         }
+        if is_made_of(path, snapshot) {
+            // The call that made it may have been killed before this.
+            return sync_folder_of(path).map_err(Into::into);
+        }
+        refuse_taken(path)?;
         part::remove_leftovers(path);
         let part = Part::new(path)?;
         write(part.path(), snapshot)?;
@@ -112,8 +118,8 @@ impl SqliteStore {
 const FIRST_BYTES: u64 = 100;
 
 /// A store whose server has ended in order has no log, or an empty one. Then the file is opened as
-/// one to which nobody writes, and SQLite leaves no files next to it. A log that has something in
-/// it is read too. A server that runs has one, and keeps others off.
+/// one to which nobody writes. A log that has something in it is read too. A server that runs has
+/// one, and keeps others off. SQLite leaves no files next to it in either case.
 fn open_to_read(path: &Path) -> Result<Connection, StoreError> {
     if let Err(error) = path.metadata() {
         return Err(StoreError::says(&match error.kind() {
@@ -124,10 +130,28 @@ fn open_to_read(path: &Path) -> Result<Connection, StoreError> {
     let flags = OpenFlags::SQLITE_OPEN_READ_ONLY | OpenFlags::SQLITE_OPEN_NO_MUTEX;
     let log = beside(path, "-wal").metadata();
     if log.is_ok_and(|file| file.len() > 0) {
-        return Ok(Connection::open_with_flags(path, flags)?);
+        return match open_with_log(path) {
+            Err(error) if error.sqlite_error_code() != Some(ErrorCode::DatabaseBusy) => {
+                // It may not be written.
+                Ok(Connection::open_with_flags(path, flags)?)
+            }
+            opened => Ok(opened?),
+        };
     }
     let uri = format!("file:{}?immutable=1", percent_encoded(path));
     Ok(Connection::open_with_flags(uri, flags | OpenFlags::SQLITE_OPEN_URI)?)
+}
+
+/// Opens a file with a log, and writes to neither of them. Nobody else may open it meanwhile, so that
+/// SQLite keeps the index of the log in memory: on a full disk there is no room for a file of it.
+fn open_with_log(path: &Path) -> rusqlite::Result<Connection> {
+    let flags = OpenFlags::SQLITE_OPEN_READ_WRITE | OpenFlags::SQLITE_OPEN_NO_MUTEX;
+    let connection = Connection::open_with_flags(path, flags)?;
+    connection.set_db_config(DbConfig::SQLITE_DBCONFIG_NO_CKPT_ON_CLOSE, true)?;
+    connection.pragma_update(None, "query_only", true)?;
+    connection.pragma_update(None, "locking_mode", "EXCLUSIVE")?;
+    connection.query_row("PRAGMA schema_version", [], |_| Ok(()))?;
+    Ok(connection)
 }
 
 /// The path as a part of a URI.
@@ -146,6 +170,16 @@ pub(crate) fn beside(path: &Path, end: &str) -> PathBuf {
     let mut name = OsString::from(path);
     name.push(end);
     name.into()
+}
+
+/// Whether the file is a new store of the snapshot, which no server has opened.
+fn is_made_of(path: &Path, snapshot: &Snapshot) -> bool {
+    let found = SqliteStore::read(path);
+    found.is_ok_and(|it| it.checksum == Checksum::Matches && it.snapshot == *snapshot)
+}
+
+fn refuse_taken(path: &Path) -> Result<(), StoreError> {
+    if path.symlink_metadata().is_ok() { Err(exists(path)) } else { Ok(()) }
 }
 
 fn exists(path: &Path) -> StoreError {
@@ -316,7 +350,10 @@ pub(crate) mod tests {
         std::fs::copy(&file, &killed).unwrap();
         std::fs::copy(beside(&file, "-wal"), beside(&killed, "-wal")).unwrap();
         drop(store);
+        let bytes = || [&killed, &beside(&killed, "-wal")].map(|it| std::fs::read(it).unwrap());
+        let (before, names) = (bytes(), folder.names());
         assert_eq!(SqliteStore::read(&killed).unwrap().snapshot.epoch, 7);
+        assert!(bytes() == before && folder.names() == names);
         std::fs::remove_file(&killed).unwrap();
         let names = folder.names();
         assert_eq!(SqliteStore::read(&file).unwrap().snapshot.epoch, 7);
@@ -334,6 +371,23 @@ pub(crate) mod tests {
         let nowhere = folder.0.join("none").join("copy.db");
         assert!(SqliteStore::create(nowhere, &snapshot()).is_err());
         assert_eq!(folder.names(), ["copy.db"]);
+    }
+
+    #[test]
+    fn the_same_snapshot_makes_the_same_file_until_a_server_opens_it() {
+        let folder = Folder::new("again");
+        let file = folder.0.join("copy.db");
+        SqliteStore::create(&file, &snapshot()).unwrap();
+        let before = std::fs::read(&file).unwrap();
+        SqliteStore::create(&file, &snapshot()).unwrap();
+        assert_eq!(std::fs::read(&file).unwrap(), before);
+        assert_eq!(folder.names(), ["copy.db"]);
+        let other = Snapshot { epoch: 8, ..snapshot() };
+        let refused = SqliteStore::create(&file, &other).unwrap_err().to_string();
+        assert!(refused.contains("there is a file"), "{refused}");
+        drop(SqliteStore::open(&file).unwrap());
+        let refused = SqliteStore::create(&file, &snapshot()).unwrap_err().to_string();
+        assert!(refused.contains("there is a file"), "a server may serve it: {refused}");
     }
 
     #[test]

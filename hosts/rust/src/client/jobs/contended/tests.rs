@@ -3,6 +3,7 @@ use crate::client::jobs::bound::Wanted;
 use crate::client::jobs::world::{World, pass, row};
 use crate::client::jobs::{Asking, Jobs};
 use crate::model::change::{Outcome, Write};
+use crate::model::error::Error;
 use crate::wire::message::kind::{ACK, LOCK, RELEASE};
 
 const WRITER: usize = 0;
@@ -152,4 +153,50 @@ fn the_last_callbacks_are_remembered_for_a_while() {
     assert!((1..=MAX_PLACES).all(|place| !may_take(writer, place)));
     pass(writer, OF_LATE);
     assert!((1..=MAX_PLACES).all(|place| may_take(writer, place)));
+}
+
+/// The writer sends this write, which takes its lock and is lost, and its caller gives it up.
+fn give_up(world: &mut World, write: Write) {
+    let asked = world.clients[WRITER].write(write);
+    let lost = world.said(WRITER);
+    assert!(matches!(lost.last().unwrap()[1], TAKING_INSERT | TAKING_PUT));
+    world.clients[WRITER].abandon(asked.id, Error::TimedOut);
+    assert_eq!(asked.answer.try_recv(), Ok(Err(Error::TimedOut)));
+}
+
+#[test]
+fn a_write_that_was_given_up_may_be_made_after_another_client_has_read() {
+    let mut world = world();
+    give_up(&mut world, Write::Insert(row(15, 1)));
+    assert_eq!(world.read(OTHER, 15..16), []);
+    forget(&mut world, OTHER);
+    world.clients[WRITER].tick();
+    world.settle();
+    assert_eq!(world.read(OTHER, 15..16), [row(15, 1)]);
+}
+
+#[test]
+fn a_read_by_the_client_that_gave_a_write_up_waits_until_it_is_decided() {
+    let mut world = world();
+    give_up(&mut world, Write::Insert(row(15, 1)));
+    let read = world.clients[WRITER].read(0..100);
+    world.settle();
+    assert!(read.answer.try_recv().is_err(), "the write is not decided");
+    world.clients[WRITER].tick();
+    world.settle();
+    assert_eq!(read.answer.try_recv(), Ok(Ok(vec![row(10, 1), row(15, 1), row(20, 1)])));
+}
+
+#[test]
+fn a_write_that_was_given_up_is_not_asked_for_again() {
+    let mut world = world();
+    give_up(&mut world, Write::Put(row(10, 2)));
+    world.read(OTHER, 10..11);
+    world.clients[WRITER].tick();
+    world.settle();
+    assert_eq!(world.read(WRITER, 10..11), [row(10, 1)], "its lock was not free");
+    forget(&mut world, OTHER);
+    world.clients[WRITER].tick();
+    world.settle();
+    assert_eq!(world.read(OTHER, 10..11), [row(10, 1)]);
 }

@@ -197,3 +197,18 @@ fn a_request_of_an_earlier_connection_is_not_taken() {
     world.settle();
     assert!(have_read(std::slice::from_ref(last_read)));
 }
+
+#[test]
+fn a_client_that_has_left_waits_for_nothing() {
+    let mut world = World::of(2);
+    let inserted = world.ask(0, |jobs| jobs.write(Write::Insert(row(10, 1))));
+    assert_eq!(inserted.answer.try_recv(), Ok(Ok(Outcome::Applied)));
+    let held = world.ask(0, |jobs| jobs.hold(10..11, Purpose::Write));
+    let Held { pin, .. } = held.answer.try_recv().unwrap().unwrap();
+    let _reading = world.ask(1, |jobs| jobs.read(10..11));
+    assert_eq!(world.events.open.waiting().count(), 1);
+    let _left = world.ask(1, Jobs::leave);
+    world.unpin(0, pin);
+    assert!(world.events.server.record(1).unwrap().unwrap().left);
+    assert_eq!(world.events.open.waiting().count(), 0, "it has left");
+}
