@@ -45,7 +45,7 @@ need_rt() {
 # Whether the program is built, and no file that it is made from is newer.
 is_built() {
     [ -x "$program" ] && [ -z "$(find "$top/crates" "$top/crates.txt" \
-        \( -name out -o -name must-fail -o -name wrong -o -name usage -o -name '*_tests' \) -prune \
+        \( -name out -o -name wrong -o -name usage -o -name '*_tests' \) -prune \
         -o -type f -newer "$program" -print | head -n 1)" ]
 }
 
