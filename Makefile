@@ -23,6 +23,7 @@ all:
 
 install: all
 	LIBRARY=$(LIBRARY) PROGRAMS=$(TARGET)/release hosts/packaging/install $(DESTDIR)$(PREFIX)
+	hosts/packaging/registered $(PREFIX) $(DESTDIR)
 
 dist: all
 	LIBRARY=$(LIBRARY) PROGRAMS=$(TARGET)/release hosts/packaging/archive $(OUT)

@@ -10,12 +10,13 @@
 # hosts/rust/rules, if that is of the sources in crates/ as they stand. If it is not, or with --prove before the words,
 # the library is proved and made first.
 #
-# The simulator is a proved program. If it is proved and built, and none of its sources is newer, that program runs. If
-# it is not, the same sources run unproved, within about a minute. With --prove before the words, or by itself, every
-# crate of the simulator is proved first, and the program is built.
+# The simulator is a program in C over the proved library krl_simulator, in the same way: it is committed in
+# hosts/simulator/rules. With --prove before the words, or by itself, every crate of the simulator is proved, and a
+# proved program is built, which reads and writes by itself. That is run from then on, as long as none of its sources is
+# newer.
 #
-# Only what is to be proved, or runs unproved, needs `rt`, the command of the Rattle kit. What a build needs is looked
-# for before it begins; ./krl doctor prints it.
+# Only what is to be proved needs `rt`, the command of the Rattle kit. What a build needs is looked for before it
+# begins; ./krl doctor prints it.
 set -eu
 
 # The folder of this file itself, whatever link it was called by.
@@ -30,10 +31,6 @@ done
 top=$(CDPATH='' cd -- "$(dirname -- "$self")" && pwd -P)
 crate=$top/crates/krl
 program=$crate/out/krl
-usage=$crate/usage
-
-# An unproved run is slow: ten thousand lines of a script were seen to take three minutes.
-seconds=900
 
 say() {
     echo "krl: $*" >&2
@@ -41,14 +38,14 @@ say() {
 
 need_rt() {
     command -v rt >/dev/null && return
-    say "'rt', the command of the Rattle kit, is not on the PATH, and $1 needs it"
+    say "'rt', the command of the Rattle kit, is not on the PATH, and a proof needs it"
     exit 1
 }
 
 # Whether the program is built, and no file that it is made from is newer.
 is_built() {
     [ -x "$program" ] && [ -z "$(find "$top/crates" "$top/crates.txt" \
-        \( -name out -o -name must-fail -o -name wrong -o -name usage -o -name '*_tests' \) -prune \
+        \( -name out -o -name wrong -o -name usage -o -name '*_tests' \) -prune \
         -o -type f -newer "$program" -print | head -n 1)" ]
 }
 
@@ -60,14 +57,16 @@ A key-range lock server with client range caches
 Usage: ./krl <COMMAND>
 
 The server and its client, over TCP and SQLite:
-  serve [OPTIONS]    Serve the table of krl.db in this folder at 127.0.0.1:7400
+  serve [OPTIONS]    Serve the table of krl.db in this folder at 127.0.0.1:7400; without options,
+                     make the table if there is none
   client [WORDS]     Read and write a server's table; without a command, at a prompt
   doctor             Print what a build of them needs, and what of it is missing: status 0 or 1
 
 The simulator, in which a world of one server and up to 64 clients runs in one process:
   script  Run a script from standard input, and write its transcript to standard output
   random  Drive a world through steps that are drawn, and say whether it stayed sound
-  nodes   Run a server and two clients, each on a thread of its own, and print a scan's rows
+  nodes   Run a server and two clients, each on a thread of its own, and print a scan's rows: only
+          after --prove
 
 Options:
   --prove        Prove first: for serve and client the library, else the simulator. Then run what
@@ -76,53 +75,14 @@ Options:
   -V, --version  Print the version of the simulator
 
 The server and the client are built in a minute or two, once, over a proved library that comes with
-the sources. To prove it again takes some 20 minutes on four processors. The simulator runs unproved
-at once, within about a minute, and proved within milliseconds after --prove.
+the sources, and the simulator, over another one, within seconds. To prove either again takes some
+20 minutes on four processors.
 
 Examples:
   ./krl serve
   ./krl client insert 15 hello
   ./krl script < examples/first.krl
 text
-}
-
-# Answers as the program itself does if its words ask for no run.
-answer() {
-    case "$#:${1-}:${2-}" in
-    *:--version:* | *:-V:*) text=version ;;
-    2:script:--help | 2:script:-h | 2:help:script) text=script ;;
-    2:random:--help | 2:random:-h | 2:help:random) text=random ;;
-    2:nodes:--help | 2:nodes:-h | 2:help:nodes) text=nodes ;;
-    *:script:* | *:random:* | *:nodes:*) return 0 ;;
-    *:help:*) refuse "unrecognized subcommand '$2'" ;;
-    *:-*) refuse "unexpected argument '$1' found" ;;
-    *) refuse "unrecognized subcommand '$1'" ;;
-    esac
-    cat "$usage/$text.txt" >&2
-    exit 2
-}
-
-refuse() {
-    printf 'error: %s\n\n' "$1" >&2
-    sed -n '/^Usage/,$p' "$usage/none.txt" >&2
-    exit 2
-}
-
-# Runs the sources as they stand, unproved.
-run_unproved() {
-    need_rt "a program that is not built"
-    say "not proved here yet: this run of the sources is unproved, and takes about a minute"
-    say "'./krl --prove' proves and builds it, in about 20 minutes on four processors; then a run takes milliseconds"
-    status=0
-    (cd "$crate" && rt try --seconds "$seconds" -- "$@" 2>"$work/said") || status=$?
-    if grep -q '^run=ended' "$work/said"; then
-        grep -v -e '^checked: ' -e '^interpreter: ' -e '^races: ' -e '^run=' "$work/said" >&2 || :
-    else
-        cat "$work/said" >&2
-        say "no answer: an unproved run has room for 1 MiB of output, and for $seconds seconds;" \
-            "a proved one has no such limit"
-    fi
-    exit "$status"
 }
 
 # The crates of the repository that the crate $1 is made of, itself too, lowest first.
@@ -185,8 +145,8 @@ next_of_chain() {
 }
 
 tell() {
-    at=$(echo "$all" | grep -nFx "$1" | cut -d : -f 1)
-    say "proving $1, crate $at of $count; $((($(date +%s) - began) / 60)) minutes so far"
+    proved=$(find "$work/proved" -mindepth 1 -maxdepth 1 | wc -l)
+    say "proving $1; $proved of $count crates are proved, in $(minutes)"
 }
 
 # Whether there are processors and memory for two proofs side by side.
@@ -303,7 +263,7 @@ minutes() {
 
 # Proves all that the simulator is made of, and builds it.
 prove_and_build() {
-    need_rt "a proof"
+    need_rt
     say "proving and building the program: about 20 minutes on four processors the first time, less after an edit"
     prove_below krl
     # A script of no lines writes nothing, so the run that rt makes after the build can't be seen.
@@ -325,7 +285,7 @@ case "$#:${1-}" in
 0:) [ -n "$asked" ] || { help >&2; exit 2; } ;;
 *:--help | *:-h | 1:help) help; exit 0 ;;
 *:doctor)
-    [ $# = 1 ] || refuse "unexpected argument '$2' found"
+    [ $# = 1 ] || { say "unexpected argument '$2': 'doctor' takes none"; exit 2; }
     exec "$top/hosts/packaging/requirements" doctor
     ;;
 esac
@@ -337,7 +297,6 @@ if [ -n "${is_simulator-}" ] && is_built; then
     [ -z "$asked" ] || [ $# -gt 0 ] || { say "proved and built"; exit 0; }
     exec "$program" "$@"
 fi
-[ -n "$asked" ] || [ -z "${is_simulator-}" ] || answer "$@"
 
 # Whatever ends the launcher ends what it started.
 running='' other=''
@@ -351,14 +310,10 @@ work=$(mktemp -d)
 trap clear EXIT
 trap 'exit 130' INT
 trap 'exit 143' TERM HUP
-case ${1-} in
-serve | client)
-    # shellcheck source=hosts/launch.sh
-    . "$top/hosts/launch.sh"
-    run "$@"
-    ;;
-esac
-[ -n "$asked" ] || run_unproved "$@"
+# shellcheck source=hosts/launch.sh
+. "$top/hosts/launch.sh"
+[ -n "${is_simulator-}" ] || run "$@"
+[ -n "$asked" ] || run_simulator "$@"
 prove_and_build
 [ $# -gt 0 ] || exit 0
 rm -rf "$work"

@@ -1,4 +1,4 @@
-# Part of the launcher, ./krl, which reads it: how the server and the client are built and run.
+# Part of the launcher, ./krl, which reads it: how the server, the client and the simulator are built and run.
 # shellcheck shell=sh disable=SC2154
 
 # What they are made of, and where cargo leaves them.
@@ -15,20 +15,20 @@ is_newest() {
         -o -type f -newer "$newest" -print | head -n 1)" ]
 }
 
-# Whether the file $1 is there, and no source of the library is newer.
+# Whether the file $1 is there, and no source of the library $2 is newer.
 is_newer_than_sources() {
     # The names of crates have no spaces, but the folder of the tree may have some.
     (
         IFS='
 '
         # shellcheck disable=SC2046
-        is_newest "$1" "$top/crates.txt" $(made_of krl_embed | sed "s|^|$top/crates/|")
+        is_newest "$1" "$top/crates.txt" $(made_of "$2" | sed "s|^|$top/crates/|")
     )
 }
 
 # Proves the library and makes it, and writes it as the committed one.
 make_library() {
-    if ! is_newer_than_sources "$proved"; then
+    if ! is_newer_than_sources "$proved" krl_embed; then
         "$requirements" proof || exit 1
         say "proving the library: some 20 minutes on four processors the first time, less after an edit"
         prove_below krl_embed
@@ -39,7 +39,7 @@ make_library() {
         touch "$proved"
         say "the library is proved and made, in $(minutes)"
     fi
-    "$top/tests/library" --taken --write || exit 1
+    "$top/tests/library" --taken --write krl_embed || exit 1
 }
 
 # Builds the server and the client. Both at once: by itself the client would need half of the crates again, with other
@@ -63,10 +63,11 @@ build_hosts() {
     touch "$target/release/krl-server" "$target/release/krl-client"
 }
 
-# Runs the server or the client with these words.
+# Runs the server or the client with these words. A server without further words is a trial: it may make its store.
 run() {
     hosts=$top/hosts
     given=$1
+    [ "$*" != serve ] || set -- serve --create
     case $1 in
     serve)
         [ -x "$target/release/krl-server" ] || ! asks_for_help "$@" ||
@@ -97,6 +98,37 @@ build_if_older() {
     build_hosts
 }
 
+# Runs the simulator with these words.
+run_simulator() {
+    simulator=$target/krl-simulator
+    is_newest "$simulator" "$top/hosts/simulator" "$top/crates/krl_simulator/krl_simulator.h" &&
+        is_newer_than_sources "$simulator" krl_simulator || build_simulator
+    rm -rf "$work"
+    exec "$simulator" "$@"
+}
+
+# Builds the simulator over its committed library, if that is of these sources.
+build_simulator() {
+    made_of_what=$("$top/hosts/packaging/library" fits krl_simulator) || {
+        say "'./krl --prove' proves and builds the simulator of these sources, by 'rt', in some 20 minutes"
+        exit 1
+    }
+    compiler=${CC-cc}
+    command -v "$compiler" >/dev/null || {
+        say "there is no C compiler '$compiler', and the simulator needs one"
+        exit 1
+    }
+    say "building the simulator over $made_of_what"
+    (cd "$top/hosts/simulator" && exec "$compiler" -std=c11 -O2 -I ../../crates/krl_simulator main.c \
+        rules/x86_64-linux.s -o "$work/krl-simulator") >"$work/cc.log" 2>&1 || {
+        tail -n 40 "$work/cc.log" >&2
+        say "the simulator is not built; the lines above show why"
+        exit 1
+    }
+    mkdir -p "$target"
+    mv "$work/krl-simulator" "$simulator"
+}
+
 # Names in $library the file that cargo links. A library that KRL_LIBRARY names is taken as it is. Otherwise it is the
 # committed one: if a proof is asked for, or if it was made of other sources, it is proved and made first.
 find_library() {
@@ -108,7 +140,7 @@ find_library() {
         exit 1
     fi
     # Nothing has changed since the program was built.
-    [ -n "$asked" ] || ! is_newer_than_sources "$program" || return 0
+    [ -n "$asked" ] || ! is_newer_than_sources "$program" krl_embed || return 0
     [ -z "$asked" ] && made_of_what=$("$top/hosts/packaging/library" fits) && return
     make_library
 }

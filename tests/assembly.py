@@ -4,8 +4,9 @@ A section for each function stays a section, with its name in letters that each 
 fill in stays a relocation, by the name of what it refers to. So a change of one function changes its own lines, and
 those that refer to a constant which moves.
 
-The object files of the kit have relocations of two kinds, PLT32 and PC32, and one archive has one object file. Anything
-else is refused.
+The object files of the kit have relocations of two kinds, PLT32 and PC32, and in tables of addresses a third one, 64.
+Such a table is written by the linker or the loader only, and no other section can be written to. One archive has one
+object file. Anything else is refused.
 """
 import re
 import struct
@@ -16,7 +17,9 @@ RELOCATION = struct.Struct("<QQq")
 PROGBITS, SYMTAB, RELA = 1, 2, 4
 WRITABLE, LOADED, CODE, MERGED = 1, 2, 4, 0x10
 GLOBAL, FUNCTION, OF_SECTION = 1, 2, 3
-KINDS = {4: "R_X86_64_PLT32", 2: "R_X86_64_PC32"}
+# The kinds of relocations, and how many bytes each has.
+KINDS = {4: ("R_X86_64_PLT32", 4), 2: ("R_X86_64_PC32", 4), 1: ("R_X86_64_64", 8)}
+TABLES = ".data.rel.ro."
 # How many bytes a line has.
 WIDTH = 32
 
@@ -78,7 +81,7 @@ class Object:
             for place, info, addend in RELOCATION.iter_unpack(data[section[4] : section[4] + section[5]]):
                 if info & 0xFFFFFFFF not in KINDS:
                     raise Refused(f"a relocation of kind {info & 0xFFFFFFFF}")
-                self.relocations.setdefault(section[7], {})[place] = (info >> 32, KINDS[info & 0xFFFFFFFF], addend)
+                self.relocations.setdefault(section[7], {})[place] = (info >> 32, *KINDS[info & 0xFFFFFFFF], addend)
         self.of_sections, self.of_symbols = Names(), Names()
 
     def text(self, section, at):
@@ -97,39 +100,56 @@ class Object:
         label = self.of_symbols.of(number, name)
         return f".Lin{label}" if label.startswith(".L") else label
 
+    def named_sections(self):
+        """The sections that a relocation refers to."""
+        named = {symbol for places in self.relocations.values() for symbol, *_ in places.values()}
+        return {self.symbols[symbol][3] for symbol in named if self.symbols[symbol][2] == OF_SECTION}
+
     def lines(self, defined):
         # Some assemblers lose the name of a relocation that nothing else names.
         for number, (name, binding, _, section, *_) in enumerate(self.symbols):
             if section == 0 and binding == GLOBAL and name not in defined:
                 yield f"\t.globl\t{self.label(number)}"
+        named = self.named_sections()
         for number, (_, kind, flags, _, _, size, *_, align, entry) in enumerate(self.sections):
-            if kind == PROGBITS and flags & LOADED and size:
+            # Something may refer to a constant of no bytes.
+            if kind == PROGBITS and flags & LOADED and (size or number in named):
                 yield from self.lines_of(number, flags, align, entry)
         yield '\t.section\t.note.GNU-stack,"",@progbits'
 
     def lines_of(self, number, flags, align, entry):
         """A section: its symbols and relocations, with the bytes between them."""
         name = self.of_sections.of(number, self.section_names[number])
-        if flags & WRITABLE:
+        if flags & WRITABLE and not name.startswith(TABLES):
             raise Refused(f"the section {name} can be written to")
-        letters = "a" + "x" * bool(flags & CODE) + "M" * bool(flags & MERGED)
-        yield f'\t.section\t{name},"{letters}",@progbits' + f",{entry}" * bool(flags & MERGED)
+        here = self.symbols_in(number)
+        # A linker that merges constants finds by its name which one is meant. GNU's assembler puts the section and an
+        # offset in place of the name, which then may mean another one. So constants with names are not merged, and are
+        # in a section of another name, since LLVM's assembler knows the sections of constants by theirs.
+        is_merged = flags & MERGED and not here
+        letters = "a" + "w" * bool(flags & WRITABLE) + "x" * bool(flags & CODE) + "M" * bool(is_merged)
+        title = name if is_merged else name.replace(".cst", ".named")
+        yield f'\t.section\t{title},"{letters}",@progbits' + f",{entry}" * bool(is_merged)
         yield f"\t.balign\t{align}"
         yield f".Lin{name}:"
         at, size = self.sections[number][4:6]
         code, relocations = self.data[at : at + size], self.relocations.get(number, {})
-        here = {}
-        for symbol, (_, _, kind, section, value, _) in enumerate(self.symbols):
-            if section == number and kind != OF_SECTION:
-                here.setdefault(value, []).append(symbol)
-        cuts = sorted({0, size, *here, *relocations, *(it + 4 for it in relocations)})
+        cuts = sorted({0, size, *here, *relocations, *(it + width for it, (_, _, width, _) in relocations.items())})
         for start, end in zip(cuts, cuts[1:]):
             for symbol in here.get(start, []):
                 yield from self.head(symbol)
             if start in relocations:
-                symbol, kind, addend = relocations[start]
+                symbol, kind, _, addend = relocations[start]
                 yield f"\t.reloc\t.,{kind},{self.label(symbol)}" + f"{addend:+d}" * bool(addend)
             yield from bytes_of(code[start:end])
+
+    def symbols_in(self, number):
+        """The symbols of a section, by their places."""
+        found = {}
+        for symbol, (_, _, kind, section, value, _) in enumerate(self.symbols):
+            if section == number and kind != OF_SECTION:
+                found.setdefault(value, []).append(symbol)
+        return found
 
     def head(self, symbol):
         name, (_, binding, kind, _, _, size) = self.label(symbol), self.symbols[symbol]

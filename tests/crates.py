@@ -27,10 +27,8 @@ class Crate:
         self.uses = uses
         self.below = sorted(reached(name, uses))
         self.functions = [it for it in proved if it.startswith(f"{name}::")]
-        self.source = {
-            str(file.relative_to(self.folder)): file.read_text(encoding="utf-8")
-            for file in sorted((self.folder / "src").rglob("*.rt"))
-        }
+        files = [*(self.folder / "src").rglob("*.rt"), *(self.folder / "specs").rglob("*.antt")]
+        self.source = {str(it.relative_to(self.folder)): it.read_text(encoding="utf-8") for it in sorted(files)}
         self.root = next(it for it in ROOTS if it in self.source)
         self.length = sum(map(len, self.source.values()))
 

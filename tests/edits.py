@@ -1,4 +1,5 @@
-"""Wrong bodies: the changes that each makes, the functions that these change, and which are tried together."""
+"""Wrong bodies and definitions: the changes that each makes, the functions that these change or the law that has to
+fail, and which are tried together."""
 import re
 from collections import namedtuple
 
@@ -8,8 +9,9 @@ from crates import functions_in, names_of
 HEAD = re.compile(r"\bfn \w+ *[<(]")
 CONSTANT = re.compile(r"(?m)^ *(?:pub(?:\([a-z]+\))? )?(?:const|static) (\w+):")
 
-# A wrong body: its changes, each a path in the crate, the old text and the new one, and the prover's names of the
-# functions that they change. `why` is what is wrong with the edit itself.
+# A wrong body, or a wrong definition: its changes, each a path in the crate, the old text and the new one, and the
+# prover's names of the functions that they change, or of the law that has to fail. `why` is what is wrong with the
+# edit itself.
 Edit = namedtuple("Edit", "label changes functions why")
 # Edits of one crate that are tried in one check.
 Round = namedtuple("Round", "crate edits")
@@ -44,17 +46,26 @@ def read_edit(crate, file):
         rest = rest[rest[:1] == " " :]
         if word == "file":
             path = rest.strip()
+        elif word == "law":
+            if f"{crate.name}::{rest}" not in crate.functions:
+                return bad(f"{rest} is no law that is proved")
+            functions.add(f"{crate.name}::{rest}")
         elif word == "old":
             old = rest
         elif word == "new":
             if path not in crate.source:
-                return bad(f"there is no file {path} in src/")
+                return bad(f"there is no file {path} in src/ or specs/")
             found = crate.source[path].count(old) if old else 0
             if found != 1:
                 return bad(f"its old text stands in {path} {found} times: {old}")
             changes.append((path, old, rest))
-            functions |= changed_by(crate, path, crate.source[path].index(old))
-    return Edit(label, changes, functions, None) if functions else bad("it changes no proved function")
+            if not is_definition(path):
+                functions |= changed_by(crate, path, crate.source[path].index(old))
+    return Edit(label, changes, functions, None) if functions else bad("it changes no proved function, nor names a law")
+
+
+def is_definition(path):
+    return path.startswith("specs/")
 
 
 def edited(source, edit):
@@ -67,19 +78,23 @@ def edited(source, edit):
     return texts
 
 
-def changes_a_head(edit):
-    """Whether the edit changes the head of a function: its callers see that."""
-    return any(HEAD.search(old) for _, old, _ in edit.changes)
+def changes_a_definition(edit):
+    return any(is_definition(path) for path, _, _ in edit.changes)
+
+
+def stands_alone(edit):
+    """Whether the edit would be in the way of others: it changes a definition, which many laws cite, or the head of a
+    function, which its callers see."""
+    return changes_a_definition(edit) or any(HEAD.search(old) for _, old, _ in edit.changes)
 
 
 def first_round(crate, edits):
-    """As many of the edits as change different functions; or one that changes a head, which would be in the way of the
-    edits of its callers."""
-    if changes_a_head(edits[0]):
+    """As many of the edits as change different functions; or one that stands alone."""
+    if stands_alone(edits[0]):
         return edits[:1]
     taken, changed, source = [], set(), crate.source
     for edit in edits:
-        is_apart = changed & edit.functions or changes_a_head(edit)
+        is_apart = changed & edit.functions or stands_alone(edit)
         texts = None if is_apart else edited(source, edit)
         if texts:
             taken, changed, source = [*taken, edit], changed | edit.functions, texts

@@ -6,7 +6,7 @@ import subprocess
 import tempfile
 
 from crates import HEAD, functions_in, libraries, names_of
-from edits import edited
+from edits import changes_a_definition, edited
 
 # A line of a contract, whose braces are not those of a body.
 CLAUSE = re.compile(r" *(requires|ensures|ghost)\b")
@@ -118,9 +118,15 @@ def first_error(said):
     return lines[0][:200]
 
 
-def verdict(function, said):
+def errors_in(folder, said):
+    """The errors that the prover reports in this folder of the crate, which is a pattern."""
+    return re.findall(rf"(?m)^(?:\./)?{folder}/[^:]*:\d+:\d+: error: (.*)$", said)
+
+
+def verdict(function, said, cites_changed):
     """What was reported of the function: 'proved', 'open' if a goal of it is open, 'gone' if only names are
-    gone that its proof cites, or the prover's own words."""
+    gone that its proof cites, or the prover's own words. If it cites a changed definition, a goal of a lemma that it
+    stands on counts as its own."""
     found = re.search(rf"(?m)^fn {re.escape(function)}: (.*)$", said)
     line = found[1] if found else "nothing was reported of it"
     if re.match("no holes|depends on a hole", line):
@@ -128,8 +134,7 @@ def verdict(function, said):
     if re.match("no proof: .*`search` did not prove", line):
         return "open"
     *above, name = [re.escape(it) for it in function.split("::")[1:]]
-    folder = "/".join([*above, rf"\+?{name}"])
-    errors = re.findall(rf"(?m)^(?:\./)?proofs/{folder}/[^:]*:\d+:\d+: error: (.*)$", said)
+    errors = errors_in("proofs" if cites_changed else "/".join(["proofs", *above, rf"\+?{name}"]), said)
     if not line.startswith("not proved") or not errors:
         return line[:200]
     return "gone" if all(NAME_GONE.search(it) for it in errors) else "open"
@@ -137,12 +142,15 @@ def verdict(function, said):
 
 def judge(edit, said, is_control):
     """Whether all is well with the edit, and the words that report it."""
-    found = {it: verdict(it, said) for it in sorted(edit.functions)}
+    is_of_law = changes_a_definition(edit)
+    if is_of_law and errors_in("specs", said):
+        return False, f"BAD EDIT: the prover refuses the definitions themselves: {first_error(said)}"
+    found = {it: verdict(it, said, is_of_law) for it in sorted(edit.functions)}
     if is_control:
         well = all(it == "proved" for it in found.values())
         return well, "proved as it stands" if well else f"NOT PROVED AS IT STANDS: {found}"
     if "open" in found.values():
-        return True, "refused"
+        return True, f"refused by {', '.join(found)}" if is_of_law else "refused"
     if "gone" in found.values():
         return False, "REFUSED ONLY SINCE A NAME IS GONE: change a value, and keep what the proof cites"
     return False, f"NOT REFUSED: {found}"

@@ -107,7 +107,7 @@ WORDS
     redis=$(free_port)
     serve redis redis-server --port "$redis" --bind 127.0.0.1 --save '' --appendonly no
     krl=$(free_port)
-    serve krl "$server" serve --listen "127.0.0.1:$krl" --store "$folder/krl/krl.db" --status off
+    serve krl "$server" serve --create --listen "127.0.0.1:$krl" --store "$folder/krl/krl.db" --status off
     mkdir "$folder/clients"
     echo
     echo "load $(cut -d ' ' -f 1-3 /proc/loadavg)"

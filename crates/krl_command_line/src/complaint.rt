@@ -51,3 +51,12 @@ pub fn read<R: Eprint + AllocGlobal>(rt: &R, words: &[String]) -> Result<Request
         }
     }
 }
+
+/// Reports on standard error that a word of the command line is no UTF-8, and returns the exit
+/// status: `NO_RUN`.
+pub fn refuse_bytes<R: Eprint>(rt: &R) -> u8
+    ensures { result ≡ 2 }
+{
+    let _ = eprintln!(rt; "krl: a word of the command line is no UTF-8 (try 'krl --help')");
+    NO_RUN
+}

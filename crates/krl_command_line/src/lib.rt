@@ -9,5 +9,5 @@ mod complaint;
 mod sentence;
 
 pub use command::{Form, NodesOptions, RandomOptions, Request};
-pub use complaint::{NO_RUN, read};
+pub use complaint::{NO_RUN, read, refuse_bytes};
 pub use sentence::{say_of_run, say_of_script};

@@ -14,6 +14,8 @@ use Rattle.krl_steps.specs.declared.step.Step.TheVariants as step
 use Rattle.krl_steps.specs.declared.step.Command.{Command}
 use Rattle.krl_steps.specs.declared.step.Command.TheVariants as command
 use Rattle.krl_draws.specs.declared.generator.Observed.{Observed}
+use Rattle.krl_draws.specs.declared.generator.Writes.{Writes}
+use Rattle.krl_draws.specs.declared.generator.Writes.TheVariants as writes
 
 -- what is drawn, and the generator after it
 abbrev pub Draw : Type 0 → Type 0
@@ -67,18 +69,19 @@ of_client d = client >>= λ c. d >>= λ what. always (step.Command c what)
 abbrev pub lock : Draw Step
 lock = of_client (point >>= λ p. a_mode >>= λ m. below 8 >>= λ more. always (command.Lock p (p + 1 + more) m))
 
--- a client asks for the change, and every other time for the lock that it needs
-abbrev pub written : WriteOp → Draw Command
-written op = below 2 >>= λ n. always (if nat_eq n 0 then command.Take op else command.Write op)
+-- a client asks for the change; where writes may take, every other time for the lock that it needs too
+abbrev pub written : Writes → WriteOp → Draw Command
+written writes.Plain op = always (command.Write op)
+written writes.Taking op = below 2 >>= λ n. always (if nat_eq n 0 then command.Take op else command.Write op)
 
-abbrev pub insert : Draw Step
-insert = of_client (point >>= λ k. value >>= λ v. written (write.Insert k v))
+abbrev pub insert : Writes → Draw Step
+insert what = of_client (point >>= λ k. value >>= λ v. written what (write.Insert k v))
 
-abbrev pub put : Draw Step
-put = of_client (point >>= λ k. value >>= λ v. written (write.Put k v))
+abbrev pub put : Writes → Draw Step
+put what = of_client (point >>= λ k. value >>= λ v. written what (write.Put k v))
 
-abbrev pub delete : Draw Step
-delete = of_client (point >>= λ k. written (write.Delete k))
+abbrev pub delete : Writes → Draw Step
+delete what = of_client (point >>= λ k. written what (write.Delete k))
 
 abbrev pub scan : Draw Step
 scan = of_client (span >>= λ s. always (command.Scan s.0 s.1))
@@ -110,14 +113,14 @@ abbrev pub some : Draw Step → Draw (Option Step)
 some d = d >>= λ what. always (Some what)
 
 -- the step of a kind, of which there are twenty
-unfoldable pub of_kind : Observed → ℕ → Draw (Option Step)
-of_kind seen kind =
+unfoldable pub of_kind : Observed → Writes → ℕ → Draw (Option Step)
+of_kind seen what kind =
     if nat_lt kind 6 then some (oldest seen.waiting)
     else (if nat_lt kind 8 then any seen.sent
     else (if nat_lt kind 10 then some lock
-    else (if nat_eq kind 10 then some insert
-    else (if nat_eq kind 11 then some put
-    else (if nat_eq kind 12 then some delete
+    else (if nat_eq kind 10 then some (insert what)
+    else (if nat_eq kind 11 then some (put what)
+    else (if nat_eq kind 12 then some (delete what)
     else (if nat_eq kind 13 then some scan
     else (if nat_eq kind 14 then some forget
     else (if nat_eq kind 15 then some (client >>= λ c. always (step.Tick c))
@@ -127,5 +130,5 @@ of_kind seen kind =
     else server seen.is_down)))))))))))
 
 -- the next step, or none
-abbrev pub drawn : Observed → Draw (Option Step)
-drawn seen = below 20 >>= λ kind. of_kind seen kind
+abbrev pub drawn : Observed → Writes → Draw (Option Step)
+drawn seen what = below 20 >>= λ kind. of_kind seen what kind

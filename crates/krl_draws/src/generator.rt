@@ -21,6 +21,15 @@ pub struct Observed {
     pub is_down: bool,
 }
 
+/// Which writes a random run draws.
+#[derive(Clone, Copy)]
+pub enum Writes {
+    /// Plain ones, which need a lock that the client holds.
+    Plain,
+    /// Every other one also takes the lock that it needs.
+    Taking,
+}
+
 /// A generator, and what its words stand for.
 #[derive(Drop)]
 pub struct Generator {
@@ -128,43 +137,43 @@ impl Generator {
         Step::Command(client, Command::Lock { point, hi, mode })
     }
 
-    // A client asks for the change, and every other time for the lock that it needs.
-    fn write(&mut self, op: WriteOp) -> Command
-        ensures { (result, self.new) ≡ draw.written op self.old }
+    // A client asks for the change; where writes may take, every other time for the lock that it
+    // needs too.
+    fn write(&mut self, writes: Writes, op: WriteOp) -> Command
+        ensures { (result, self.new) ≡ draw.written writes op self.old }
     {
-        if self.below(2) == 0 {
-            Command::Take(op)
-        } else {
-            Command::Write(op)
+        match writes {
+            Writes::Taking if self.below(2) == 0 => Command::Take(op),
+            _ => Command::Write(op),
         }
     }
 
-    fn insert(&mut self) -> Step
-        ensures { (result, self.new) ≡ draw.insert self.old }
+    fn insert(&mut self, writes: Writes) -> Step
+        ensures { (result, self.new) ≡ draw.insert writes self.old }
     {
         let client = self.client();
         let key = self.point();
         let value = self.value();
-        let what = self.write(WriteOp::Insert { key, value });
+        let what = self.write(writes, WriteOp::Insert { key, value });
         Step::Command(client, what)
     }
 
-    fn put(&mut self) -> Step
-        ensures { (result, self.new) ≡ draw.put self.old }
+    fn put(&mut self, writes: Writes) -> Step
+        ensures { (result, self.new) ≡ draw.put writes self.old }
     {
         let client = self.client();
         let key = self.point();
         let value = self.value();
-        let what = self.write(WriteOp::Put { key, value });
+        let what = self.write(writes, WriteOp::Put { key, value });
         Step::Command(client, what)
     }
 
-    fn delete(&mut self) -> Step
-        ensures { (result, self.new) ≡ draw.delete self.old }
+    fn delete(&mut self, writes: Writes) -> Step
+        ensures { (result, self.new) ≡ draw.delete writes self.old }
     {
         let client = self.client();
         let key = self.point();
-        let what = self.write(WriteOp::Delete { key });
+        let what = self.write(writes, WriteOp::Delete { key });
         Step::Command(client, what)
     }
 
@@ -219,16 +228,16 @@ impl Generator {
 
     // The step of a kind, of which there are twenty.
     #[tactic(auto, unfolding(crate::specs::Generator::of_kind))]
-    fn of_kind(&mut self, kind: u64, seen: &Observed) -> Option<Step>
-        ensures { (result, self.new) ≡ draw.of_kind seen.now kind self.old }
+    fn of_kind(&mut self, kind: u64, seen: &Observed, writes: Writes) -> Option<Step>
+        ensures { (result, self.new) ≡ draw.of_kind seen.now writes kind self.old }
     {
         match kind {
             0..=5 => Some(self.oldest(seen.waiting)),
             6 | 7 => self.any(seen.sent),
             8 | 9 => Some(self.lock()),
-            10 => Some(self.insert()),
-            11 => Some(self.put()),
-            12 => Some(self.delete()),
+            10 => Some(self.insert(writes)),
+            11 => Some(self.put(writes)),
+            12 => Some(self.delete(writes)),
             13 => Some(self.scan()),
             14 => Some(self.forget()),
             15 => Some(Step::Tick(self.client())),
@@ -240,10 +249,10 @@ impl Generator {
     }
 
     /// The next step, or none.
-    pub fn step(&mut self, seen: &Observed) -> Option<Step>
-        ensures { (result, self.new) ≡ draw.drawn seen.now self.old }
+    pub fn step(&mut self, seen: &Observed, writes: Writes) -> Option<Step>
+        ensures { (result, self.new) ≡ draw.drawn seen.now writes self.old }
     {
         let kind = self.below(20);
-        self.of_kind(kind, seen)
+        self.of_kind(kind, seen, writes)
     }
 }

@@ -3,4 +3,4 @@
 
 mod generator;
 
-pub use generator::{Generator, Observed};
+pub use generator::{Generator, Observed, Writes};

@@ -1,10 +1,8 @@
-//! Tests of nodes, through their public calls: on one thread, and on three.
+//! Tests of nodes on one thread, through their public calls.
 #![tactic(auto)]
 
 #[cfg(test)]
 mod acts;
-#[cfg(test)]
-mod gates;
 #[cfg(test)]
 mod nodes;
 #[cfg(test)]

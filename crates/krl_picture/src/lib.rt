@@ -5,17 +5,7 @@
 //! Nothing is promised of a picture but that making it is safe and ends.
 #![tactic(auto)]
 
-mod bars;
-mod canvas;
-mod history;
-mod label;
-mod layout;
-mod markup;
 mod recorder;
-mod row;
-mod sheet;
-mod style;
-mod svg;
-mod text;
+mod watch;
 
 pub use recorder::{write_drawing, write_picture};

@@ -1,8 +1,6 @@
 //! A script is run, and what happens is noted.
-use crate::history::History;
-use crate::label::{Label, of_message};
-use crate::row::{Arrow, Fate, Node, Row};
-use crate::{svg, text};
+use crate::watch::{Watch, is_up};
+use krl_drawing::{Arrow, Fate, Label, Node, Row, draw_svg, draw_text};
 use krl_script::{Interpreter, LineFault, Request, ScriptFault, Sink, Source};
 use krl_text::{MAX_DELIVERIES, MAX_TEXT, SyntaxFault, first_line, read_text, write_line};
 use krl_world::{Command, Message, Step};
@@ -18,7 +16,7 @@ struct Recorder {
     rows: Vec<Row>,
     // For each message: whether it was delivered or dropped.
     is_past: Vec<bool>,
-    history: History,
+    watch: Watch,
 }
 
 impl Drop for Recorder {
@@ -28,7 +26,7 @@ impl Drop for Recorder {
             interpreter: _interpreter,
             rows: _rows,
             is_past: _is_past,
-            history: _history,
+            watch: _watch,
         } = self;
     }
 }
@@ -53,7 +51,7 @@ impl Recorder {
             interpreter: Interpreter::new(alloc)?,
             rows: Vec::new(alloc),
             is_past: Vec::new(alloc),
-            history: History::new(alloc)?,
+            watch: Watch::new(alloc)?,
         })
     }
 
@@ -84,7 +82,7 @@ impl Recorder {
         for before in self.is_past.len() as u64..sent {
             self.is_past.push(false)?;
             if let Some(message) = self.interpreter.world().message(before.wrapping_add(1)) {
-                self.history.note(message)?;
+                self.watch.note(message)?;
             }
         }
         Ok(())
@@ -94,7 +92,7 @@ impl Recorder {
     fn look(&mut self) -> Result<(), AllocError> {
         if self.rows.len() <= MAX_ROWS {
             let line = self.rows.len();
-            self.history.look(self.interpreter.world(), line)?;
+            self.watch.look(self.interpreter.world(), line)?;
         }
         Ok(())
     }
@@ -111,28 +109,27 @@ impl Recorder {
         }
     }
 
-    fn is_up(&self, node: Node) -> bool {
-        match node {
-            Node::Server => self.interpreter.world().server().is_some(),
-            Node::Client(client) => self.interpreter.world().client(client).is_some(),
-        }
-    }
-
     // Notes what becomes of the message of this number.
     fn arrow(&mut self, number: u64, fate: Fate) -> Result<(), AllocError> {
         let Some(message) = self.interpreter.world().message(number) else {
             return Ok(());
         };
-        let (from, to) = match message {
-            Message::ToServer(message) => (Node::Client(message.client), Node::Server),
-            Message::ToClient(message) => (Node::Server, Node::Client(message.client)),
+        let (from, to, label) = match message {
+            Message::ToServer(message) => {
+                let label = Label::of_message_to_server(self.alloc, message)?;
+                (Node::Client(message.client), Node::Server, label)
+            }
+            Message::ToClient(message) => {
+                let label = Label::of_message_to_client(self.alloc, message)?;
+                (Node::Server, Node::Client(message.client), label)
+            }
         };
         let Label {
             short: label,
             whole,
             is_quiet,
-        } = of_message(self.alloc, message)?;
-        let fate = if fate != Fate::Lost && !self.is_up(to) {
+        } = label;
+        let fate = if fate != Fate::Lost && !is_up(self.interpreter.world(), to) {
             Fate::Unread
         } else {
             fate
@@ -307,7 +304,7 @@ pub fn write_picture<R: Source, W: Sink>(
     writer: &mut W,
 ) -> Result<(), ScriptFault> {
     let (recorder, ended) = record(alloc, reader)?;
-    let picture = text::draw(alloc, &recorder.rows)?;
+    let picture = draw_text(alloc, &recorder.rows)?;
     write_line(writer, &picture)?;
     ended
 }
@@ -323,7 +320,7 @@ pub fn write_drawing<R: Source, W: Sink>(
     writer: &mut W,
 ) -> Result<(), ScriptFault> {
     let (recorder, ended) = record(alloc, reader)?;
-    let drawing = svg::draw(alloc, &recorder.rows, &recorder.history)?;
+    let drawing = draw_svg(alloc, &recorder.rows, &recorder.watch.history)?;
     write_line(writer, &drawing)?;
     ended
 }

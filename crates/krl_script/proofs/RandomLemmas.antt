@@ -34,6 +34,7 @@ use Rattle.krl_world.specs.FieldParts as field_parts
 use Rattle.krl_script.specs.declared.random.RandomRun.{RandomRun}
 use Rattle.krl_script.specs.declared.random.Pace.{Pace}
 use Rattle.krl_script.specs.declared.random.Pace.TheVariants as pace
+use Rattle.krl_draws.specs.declared.generator.Writes.TheVariants as writes
 use Rattle.krl_script.specs.Undelivered.{Waits, sent_to}
 use Rattle.krl_script.specs.Soundness.{are_compatible, all_below, is_sound_at, first_unsound, numbers_below}
 use Rattle.krl_script.specs.RandomRuns.{RandomStage, stage_of, first_entries, first_of, is_down, observed_of, waits_since, TakesDrawn, GoesOn, late, max_hurried, Hurries, GoesAt, RunsRandomly, EndsRandomRun}
@@ -259,7 +260,7 @@ hurries_step n m r q t number last e is same takes h =
     (hurries_more m (stage_of r) (stage_of t) last number (sym is)
     (subst (λ (x : RandomRun). TakesDrawn (world.meaning x.world) x.waiting (step.Deliver number) x.draws (stage_of t)) same takes) h)
 
-pub goes_busily : (at : Pace) (s mid last : RandomStage) → at ≡ pace.Busy → GoesOn s mid → Hurries max_hurried mid last → GoesAt at s last
+pub goes_busily : (at : Pace) (s mid last : RandomStage) → at ≡ pace.Busy → GoesOn writes.Taking s mid → Hurries max_hurried mid last → GoesAt at s last
 goes_busily at s mid last e goes h = subst (λ (x : Pace). GoesAt x s last) (sym e) (mid, goes, h)
 
 -- Whole runs

@@ -11,6 +11,8 @@ use Rattle.std.specs.List.{IsDistinct}
 use Rattle.krl_modes.specs.Limits.{standard_room, max_room}
 use Rattle.rand_pcg.specs.Lcg.{Lcg}
 use Rattle.krl_draws.specs.Generator.{drawn}
+use Rattle.krl_draws.specs.declared.generator.Writes.{Writes}
+use Rattle.krl_draws.specs.declared.generator.Writes.TheVariants as writes
 use Rattle.krl_messages.specs.Values.{Value}
 use Rattle.krl_durable.specs.Index.{Index}
 use Rattle.krl_durable.specs.Kept.{IsKept, AreBelowEnd}
@@ -67,12 +69,12 @@ hurried_reachable (suc n) s t i h = by_late (late s) h (hurried_reachable n)
     by_late None e f = subst (λ (x : RandomStage). IsReachable x.world) (sym e) i
     by_late (Some number) k f = f k.0 t (drawn_reachable s k.0 (Some (step.Deliver number)) s.generator i k.1) k.2
 
-next_reachable : (s t : RandomStage) → IsReachable s.world → GoesOn s t → IsReachable t.world
-next_reachable s t i h = let d = drawn (observed_of s) s.generator in drawn_reachable s t d.0 d.1 i h
+next_reachable : (what : Writes) (s t : RandomStage) → IsReachable s.world → GoesOn what s t → IsReachable t.world
+next_reachable what s t i h = let d = drawn (observed_of s) what s.generator in drawn_reachable s t d.0 d.1 i h
 
 goes_reachable : (at : Pace) (s t : RandomStage) → IsReachable s.world → GoesAt at s t → IsReachable t.world
-goes_reachable pace.Drawn s t i h = next_reachable s t i h
-goes_reachable pace.Busy s t i h = hurried_reachable max_hurried h.0 t (next_reachable s h.0 i h.1) h.2
+goes_reachable pace.Drawn s t i h = next_reachable writes.Plain s t i h
+goes_reachable pace.Busy s t i h = hurried_reachable max_hurried h.0 t (next_reachable writes.Taking s h.0 i h.1) h.2
 
 runs_reachable : (at : Pace) (n : ℕ) (s t : RandomStage) → IsReachable s.world → RunsRandomly at n s t → IsReachable t.world
 runs_reachable at zero s t i h = subst (λ (x : RandomStage). IsReachable x.world) (sym h) i

@@ -15,6 +15,8 @@ use Rattle.krl_steps.specs.declared.step.Step.TheVariants as step
 use Rattle.krl_steps.specs.declared.answer.Answer.{Answer}
 use Rattle.krl_steps.specs.declared.refused.Refused.{Refused}
 use Rattle.krl_draws.specs.declared.generator.Observed.{Observed}
+use Rattle.krl_draws.specs.declared.generator.Writes.{Writes}
+use Rattle.krl_draws.specs.declared.generator.Writes.TheVariants as writes
 use Rattle.krl_script.specs.declared.random.RandomRun.{RandomRun}
 use Rattle.krl_script.specs.declared.random.Pace.{Pace}
 use Rattle.krl_script.specs.declared.random.Pace.TheVariants as pace
@@ -80,9 +82,9 @@ abbrev pub GoesBy : RandomStage → Option Step → Lcg → RandomStage → Type
 GoesBy s None generator s' = s' ≡ record s { generator = generator }
 GoesBy s (Some what) generator s' = TakesDrawn s.world s.waits what generator s'
 
--- the next step is drawn and done
-abbrev pub GoesOn : RandomStage → RandomStage → Type 0
-GoesOn s s' = let d = drawn (observed_of s) s.generator in GoesBy s d.0 d.1 s'
+-- the next step is drawn, with writes of this kind, and done
+abbrev pub GoesOn : Writes → RandomStage → RandomStage → Type 0
+GoesOn what s s' = let d = drawn (observed_of s) what s.generator in GoesBy s d.0 d.1 s'
 
 -- so many messages may wait between two steps of a busy run
 abbrev pub max_waiting : ℕ
@@ -103,10 +105,10 @@ Hurries (suc n) s s' = MatchOption (late s) (s' ≡ s) (λ number.
     (mid : RandomStage) × TakesDrawn s.world s.waits (step.Deliver number) s.generator mid
     × Hurries n mid s')
 
--- the next step is drawn and done; a busy run delivers what is late then
+-- the next step is drawn and done; a busy run draws writes that take, and delivers what is late then
 abbrev pub GoesAt : Pace → RandomStage → RandomStage → Type 0
-GoesAt pace.Drawn s s' = GoesOn s s'
-GoesAt pace.Busy s s' = (mid : RandomStage) × GoesOn s mid × Hurries max_hurried mid s'
+GoesAt pace.Drawn s s' = GoesOn writes.Plain s s'
+GoesAt pace.Busy s s' = (mid : RandomStage) × GoesOn writes.Taking s mid × Hurries max_hurried mid s'
 
 -- so many steps, one after another
 abbrev pub RunsRandomly : Pace → ℕ → RandomStage → RandomStage → Type 0

@@ -19,7 +19,7 @@ use crate::progress::Progress;
 use crate::rows::answers_index;
 use crate::soundness::least_unsound;
 use crate::undelivered::Undelivered;
-use krl_draws::{Generator, Observed};
+use krl_draws::{Generator, Observed, Writes};
 use krl_messages::Value;
 use krl_modes::END;
 use krl_text::{MAX_STEPS, ScriptFault, Sink, write_line};
@@ -41,12 +41,13 @@ const POINTS: u64 = 64;
 // How many steps are taken from one report to the next.
 const STRIDE: u64 = 10000;
 
-/// What a random run does between two steps that are drawn.
+/// What a random run draws, and what it does between two steps that are drawn.
 #[derive(Clone, Copy)]
 enum Pace {
-    /// Nothing: a message waits until a step that delivers it is drawn.
+    /// Plain writes; and nothing: a message waits until a step that delivers it is drawn.
     Drawn,
-    /// It delivers the oldest messages that wait, until at most four wait.
+    /// Writes that may take their lock; and it delivers the oldest messages that wait, until at
+    /// most four wait.
     Busy,
 }
 
@@ -148,15 +149,15 @@ impl RandomRun {
     }
 
     // Draws the next step and takes it, and reports whether all is sound after it.
-    fn go_on(&mut self) -> Result<bool, AllocError>
-        ensures goes { IfOk result (λ sound. GoesOn (stage_of self.old) (stage_of self.new)) }
+    fn go_on(&mut self, writes: Writes) -> Result<bool, AllocError>
+        ensures goes { IfOk result (λ sound. GoesOn writes (stage_of self.old) (stage_of self.new)) }
         ensures sound { IsCompatible (meaning self.old.world) → IfOk result (λ sound.
             (sound ≡ true) × IsCompatible (meaning self.new.world)) }
         ensures looks { IfOk result (λ sound. sound ≡ true
             → is_none (first_unsound (meaning self.new.world) 4 (numbers_below 64)) ≡ true) }
     {
         let seen = self.observed();
-        let Some(step) = self.draws.step(&seen) else {
+        let Some(step) = self.draws.step(&seen, writes) else {
             return Ok(self.is_sound());
         };
         // A copy: the prover takes a value that is handed on as moved.
@@ -206,10 +207,12 @@ impl RandomRun {
         ensures looks { IfOk result (λ sound. sound ≡ true
             → is_none (first_unsound (meaning self.new.world) 4 (numbers_below 64)) ≡ true) }
     {
-        let sound = self.go_on()?;
         match pace {
-            Pace::Drawn => Ok(sound),
-            Pace::Busy => Ok(self.hurry(MAX_HURRIED)? & sound),
+            Pace::Drawn => self.go_on(Writes::Plain),
+            Pace::Busy => {
+                let sound = self.go_on(Writes::Taking)?;
+                Ok(self.hurry(MAX_HURRIED)? & sound)
+            }
         }
     }
 }
@@ -319,9 +322,10 @@ pub fn random_run<W: Sink, P: Progress>(
     Ok((world, unsound.is_none()))
 }
 
-/// Drives a world as [`random_run`] does, and delivers after each step the oldest messages that
-/// wait, until at most four wait, or 1,000 were delivered. So messages seldom come late, and
-/// clients do more. It looks at the world after each step, and again after what was delivered then.
+/// Drives a world as [`random_run`] does, but every other write also takes the lock that it needs;
+/// and after each step it delivers the oldest messages that wait, until at most four wait, or 1,000
+/// were delivered. So messages seldom come late, and clients do more. It looks at the world after
+/// each step, and again after what was delivered then.
 ///
 /// # Errors
 ///

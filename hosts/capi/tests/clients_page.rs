@@ -35,10 +35,21 @@ fn several_writes(client: &Client) {
     }
 }
 
+#[allow(dead_code, unused_variables, reason = "they are only built")]
+#[rustfmt::skip]
+fn one_key_the_cache_and_changes(client: &Client) -> Result<(), krl::Error> {
+    let value = client.get(15)?;                                // None if there is no row
+    let rows = client.cached(10..20)?;                          // None if the cache lacks a part of the range
+    for rows in client.changes(10..20)? {                       // its rows now, and again after each change
+        println!("{} rows", rows?.len());
+    }
+    Ok(())
+}
+
 #[test]
 fn the_page_has_the_lines_that_are_built_here() {
     let blocks: Vec<&str> = PAGE.split("```rust\n").skip(1).collect();
-    assert_eq!(blocks.len(), 2);
+    assert_eq!(blocks.len(), 3);
     for block in blocks {
         let lines = block.split_once("```").unwrap().0.trim_end();
         let indented = format!("\n    {}\n", lines.replace('\n', "\n    "));

@@ -390,8 +390,8 @@ impl KeyOrRange {
 /// What an import takes.
 #[derive(Clone, Debug, Args)]
 pub struct ImportWords {
-    /// The file: JSON lines if its name ends in .jsonl, .ndjson or .json or --json is given,
-    /// otherwise CSV
+    /// The file, or - for standard input: JSON lines if its name ends in .jsonl, .ndjson or .json or
+    /// --json is given, otherwise CSV
     pub file: PathBuf,
     /// What is done with a row whose key has a row in the table
     #[arg(long, value_enum, default_value = "refuse")]

@@ -22,7 +22,7 @@ struct Imported {
     failure: Mutex<Option<Failure>>,
 }
 
-/// Writes the rows of the file to the table, and answers the exit status. No row is written if one
+/// Writes the rows of the file to the table, and returns the exit status. No row is written if one
 /// can't be read.
 pub fn import(options: &Options, words: &ImportWords, signals: &Signals) -> Result<u8, Failure> {
     let printer = Printer::of(options);
@@ -37,7 +37,11 @@ pub fn import(options: &Options, words: &ImportWords, signals: &Signals) -> Resu
     }
     let (written, kept, ended) = write_all(&sessions, &lines, words.existing);
     Session::leave_all(sessions, options.timeout);
-    let before = |why| format!("{why}; rows written before: {written}");
+    let rest = match words.existing {
+        Existing::Refuse if written > 0 => ", and --existing keep writes the rest",
+        _ => "",
+    };
+    let before = |why| format!("{why}; rows written before: {written}{rest}");
     ended.map_err(|failure| failure.reworded(before))?;
     printer.imported(written, kept)?;
     Ok(0)
@@ -97,9 +101,13 @@ fn write(session: &Session, row: &Row, existing: Existing) -> Result<bool, Failu
         Existing::Replace => session.table.set(row.key, row.value),
         Existing::Refuse | Existing::Keep => session.table.insert(row),
     };
-    match outcome.map_err(|refused| Failure::of_write(refused, row.key))? {
+    let outcome = outcome.map_err(|refused| Failure::of_write(refused, row.key))?;
+    match outcome {
         Outcome::Exists if existing == Existing::Keep => Ok(false),
-        outcome => applied(session, outcome, row.key).map(|()| true),
+        Outcome::Exists => applied(session, outcome, row.key)
+            .map(|()| true)
+            .map_err(|failure| failure.reworded(|why| format!("{why}: {}", Existing::CHOICES))),
+        _ => applied(session, outcome, row.key).map(|()| true),
     }
 }
 

@@ -50,7 +50,7 @@ impl Session {
         count: usize,
     ) -> Result<Vec<Session>, Failure> {
         let (place, files) = (Place::of(options, keys.clone())?, LockFiles::of(options)?);
-        let (mut sessions, mut in_use) = (Vec::new(), VecDeque::new());
+        let (mut sessions, mut in_use, mut refused) = (Vec::new(), VecDeque::new(), None);
         let mut numbers = options.number.0.clone().rev();
         while sessions.len() < count
             && let Some(number) = numbers.next()
@@ -59,6 +59,7 @@ impl Session {
                 Tried::Joined(session) => sessions.push(session),
                 Tried::Taken => {}
                 Tried::InUse => in_use.push_back(number),
+                Tried::Refused(failure) => refused = Some(failure),
             }
         }
         while sessions.len() < count
@@ -66,7 +67,10 @@ impl Session {
         {
             sessions.push(join_as(options, &place, number, &files, options.timeout)?);
         }
-        if sessions.len() < count { Err(none_is_free(options)) } else { Ok(sessions) }
+        if sessions.len() < count {
+            return Err(refused.unwrap_or_else(|| none_is_free(options)));
+        }
+        Ok(sessions)
     }
 
     /// Gives all back. If the server does not answer, it reports what others may notice.
@@ -101,6 +105,8 @@ enum Tried {
     Joined(Session),
     /// Another process of this user has it.
     Taken,
+    /// The server refuses it until it has a new lock file.
+    Refused(Failure),
     /// The server reports that another user or machine has it.
     InUse,
 }
@@ -126,8 +132,15 @@ fn try_number(
             error: JoinError::Unserved(Refusal::LeaseRuns { .. } | Refusal::Incarnation { .. }),
             ..
         }) => Ok(Tried::InUse),
-        Err(error) => Err(not_joined(options, place, number, error)),
+        Err(error) if is_far_ahead(&error) => {
+            Ok(Tried::Refused(not_joined(options, place, number, files, error)))
+        }
+        Err(error) => Err(not_joined(options, place, number, files, error)),
     }
+}
+
+fn is_far_ahead(error: &ShardJoinError) -> bool {
+    matches!(error.error, JoinError::Unserved(Refusal::FarAhead { .. }))
 }
 
 /// Joins as the client of this number, and waits for this time for another process that has it.
@@ -139,13 +152,25 @@ fn join_as(
     if_in_use: Duration,
 ) -> Result<Session, Failure> {
     join_table(options, place, number, files, if_in_use)
-        .map_err(|error| not_joined(options, place, number, error))
+        .map_err(|error| not_joined(options, place, number, files, error))
 }
 
-fn not_joined(options: &Options, place: &Place, number: u8, error: ShardJoinError) -> Failure {
+fn not_joined(
+    options: &Options,
+    place: &Place,
+    number: u8,
+    files: &LockFiles,
+    error: ShardJoinError,
+) -> Failure {
+    let needs_new_file = is_far_ahead(&error);
     let ShardJoinError { shard, error, .. } = error;
     let server = place.servers_of(shard).unwrap_or(&options.server);
-    Failure::of_join(error, number, server).at_shard(shard)
+    let failure = Failure::of_join(error, number, server).at_shard(shard);
+    if !needs_new_file {
+        return failure;
+    }
+    let file = files.of_number(number);
+    failure.reworded(|why| format!("{why}. Its lock file is {}", file.display()))
 }
 
 fn join_table(

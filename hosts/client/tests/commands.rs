@@ -243,6 +243,24 @@ fn a_number_that_another_user_has_is_told_and_the_next_one_is_tried() {
     std::fs::remove_dir_all(other).unwrap();
 }
 
+/// The lock file of a number keeps what a wrong clock has left in it.
+#[test]
+fn a_number_whose_clock_was_wrong_is_left_for_the_next_one() {
+    let world = World::new("ahead");
+    let file = world.folder.join("krl/client-63.lock");
+    std::fs::create_dir(world.folder.join("krl")).unwrap();
+    // Of the year 2046.
+    std::fs::write(&file, "krl client 63 incarnation 02426388266503144698\n").unwrap();
+    let pinged = world.run(&["--format", "json", "ping"]);
+    assert!(pinged.status == 0 && pinged.out.contains(r#""client":62"#), "{pinged:?}");
+    let told = world.run(&["--number", "63", "ping"]);
+    assert_eq!(told.status, 3, "{told:?}");
+    let file = format!("Its lock file is {}", file.display());
+    for why in ["more than a day ahead of the server's clock", &file] {
+        assert!(told.errors.contains(why), "{why}: {told:?}");
+    }
+}
+
 #[test]
 fn lines_of_a_pipe_run_until_one_fails() {
     let world = World::new("lines");

@@ -79,6 +79,21 @@ fn what_is_exported_is_imported() {
 }
 
 #[test]
+fn standard_input_is_imported() {
+    let world = World::new("import-input");
+    let mut command = world.command(&["import", "-"]);
+    let path = file(&world, "rows", "1,one\n2,two\n");
+    let ended = Ended::from(command.stdin(std::fs::File::open(path).unwrap()).output().unwrap());
+    assert_eq!((ended.status, ended.out.as_str()), (0, "imported 2 rows\n"), "{ended:?}");
+    assert_eq!(world.prints(&["scan", ".."]), "1=one\n2=two\n");
+    let path = file(&world, "bad", "1,\"one\n2,two\n");
+    let mut command = world.command(&["import", "-", "--existing", "replace"]);
+    let ended = Ended::from(command.stdin(std::fs::File::open(path).unwrap()).output().unwrap());
+    let told = "standard input, line 1 can't be read: it opens a quote that is never closed";
+    assert!(ended.status == 2 && ended.errors.contains(told), "{ended:?}");
+}
+
+#[test]
 fn an_export_that_nobody_reads_ends_quietly() {
     let world = World::new("unread");
     world.prints(&["set", "15", "one"]);
@@ -97,8 +112,12 @@ fn rows_that_are_there_are_refused_kept_or_replaced() {
     let path = file(&world, "rows.csv", "key,value\n4,a\n5,b\n6,c\n");
     let told = import(&world, &path, &[]);
     assert_eq!((told.status, told.out.as_str()), (1, ""), "{told:?}");
-    let why = "line 3: there is a row of key 5 already; rows written before: 1";
-    assert!(told.errors.contains(why), "{told:?}");
+    for why in [
+        "line 3: there is a row of key 5 already: --existing keep leaves such rows as they are",
+        "; rows written before: 1, and --existing keep writes the rest\n",
+    ] {
+        assert!(told.errors.contains(why), "{told:?}");
+    }
     assert_eq!(world.prints(&["scan", ".."]), "4=a\n5=old\n");
     let kept = import(&world, &path, &["--existing", "keep"]);
     assert_eq!(kept.out, "imported 1 row, kept 2 that were there\n");

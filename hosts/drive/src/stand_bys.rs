@@ -93,7 +93,7 @@ impl StandBys {
         let store = cluster::address(self.relays[place].addresses()).to_string();
         let mut command = self.site.command(place, &self.program);
         command.args(["serve", "--status", "off", "--election-lease", &LEASE.to_string()]);
-        command.args(["--store", &store, "--listen", &plain(&self.servers_at[place])]);
+        command.args(["--create", "--store", &store, "--listen", &plain(&self.servers_at[place])]);
         command.args(["--plain-beyond-loopback", "yes", "--lease", self.leases.setting()]);
         Process::start(command.stderr(log).stdin(Stdio::null()))
     }

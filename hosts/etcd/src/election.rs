@@ -36,7 +36,8 @@ pub struct Election {
 pub struct ElectionError(String);
 
 /// The time for which a server has the place. A thread keeps the lease alive, whatever the server
-/// does meanwhile. Dropped, the lease is given back, and another server has the place at once.
+/// does meanwhile. Dropped, the lease is given back, and another server has the place at once: that
+/// takes until the cluster answers, and at most until the lease has run out.
 #[derive(Debug)]
 pub struct Term {
     /// Dropped, it ends the thread.
@@ -240,8 +241,9 @@ fn keep(mut etcd: Etcd, mut lease: Lease, length: Duration, stopped: &Receiver<(
             Err(Failure::Unknown(_)) => lease = Lease { id: id.clone(), alive },
         }
     }
-    // The next server need not wait until the lease has run out. If this is lost, it does.
-    let _ = etcd.call("lease/revoke", &json!({"ID": id}), Instant::now() + LOOK);
+    // The next server need not wait until the lease has run out. A cluster that is slow to answer is
+    // given until then.
+    let _ = etcd.call("lease/revoke", &json!({"ID": id}), lease.alive + length);
 }
 
 fn key(address: &EtcdAddress) -> String {
@@ -379,6 +381,22 @@ mod tests {
             set(&cluster, &request::delete(&key(&address)));
             assert!(other.join().unwrap().unwrap().is_some(), "it has the place at last");
         });
+    }
+
+    /// Otherwise the next server would wait until the lease has run out.
+    #[test]
+    fn a_place_is_given_back_to_a_cluster_that_is_slow_to_answer() {
+        let Some(cluster) = Cluster::start() else { return };
+        let election = election(&cluster.address("slow"), LEASE);
+        let term = election.campaign(|_| true).unwrap().unwrap();
+        cluster.signal("-STOP");
+        thread::scope(|scope| {
+            scope.spawn(|| drop(term));
+            thread::sleep(5 * LOOK);
+            cluster.signal("-CONT");
+        });
+        let begun = Instant::now();
+        assert!(election.campaign(|_| begun.elapsed() < LEASE * 2 / 3).unwrap().is_some());
     }
 
     #[test]

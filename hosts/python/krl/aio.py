@@ -79,6 +79,11 @@ class Client(_Calls):
         rows = self.cached(start, stop)
         return await self._read(start, stop, timeout) if rows is None else rows
 
+    async def get(self, key: int, timeout: Seconds = None) -> bytes | None:
+        """``krl.Client.get``."""
+        rows = await self.read(*threads._range_of(key), timeout)
+        return rows[0].value if rows else None
+
     async def changes(self, start: int = 0, stop: int = TOP) -> AsyncIterator[list[Row]]:
         """``krl.Client.changes``, for ``async for``."""
         self._client.changes(start, stop)  # checks the range

@@ -58,6 +58,12 @@ def _range(start: int, stop: int) -> tuple[int, int]:
     raise BadRange(f"a range of keys has 0 <= start <= stop <= 2^63, not {start!r} and {stop!r}")
 
 
+def _range_of(key: int) -> tuple[int, int]:
+    if 0 <= index(key) < END:
+        return key, key + 1
+    raise BadKey(f"a key is 0 to 2^63 - 2, not {key!r}")
+
+
 def _milliseconds(seconds: float) -> int:
     """At least one, since 0 stands for the default; and a year at most."""
     if not seconds >= 0:
@@ -167,6 +173,11 @@ class Client(_Writer):
             return rows
         self._call("read", timeout, start, stop, found := Rows())
         return found.taken()
+
+    def get(self, key: int, timeout: Seconds = None) -> bytes | None:
+        """The value of the row of this key, as ``read`` reads it, or ``None`` if there is none."""
+        rows = self.read(*_range_of(key), timeout)
+        return rows[0].value if rows else None
 
     def cached(self, start: int = 0, stop: int = TOP) -> list[Row] | None:
         """The rows if the cache has the whole range, otherwise ``None``: it waits for nobody."""

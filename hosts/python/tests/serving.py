@@ -88,8 +88,8 @@ class Served(unittest.TestCase):
         """Starts a server. A client waits until it answers."""
         words = ["--listen", at or self.address, "--status", "off", "--log-level", "error", *more]
         variables = {name: text for name, text in os.environ.items() if name[:4] != "KRL_"}
-        command = [program("KRL_SERVER_PROGRAM"), "serve", "--store", str(self.folder / store)]
-        return subprocess.Popen(command + words, env=variables)
+        command = [program("KRL_SERVER_PROGRAM"), "serve", "--create", "--store"]
+        return subprocess.Popen([*command, str(self.folder / store), *words], env=variables)
 
     def stop(self) -> None:
         """Kills the server."""

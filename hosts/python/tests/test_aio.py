@@ -28,6 +28,7 @@ class AsyncTest(Served):
                 self.assertEqual(await client.insert(10, b"1"), Outcome.APPLIED)
                 self.assertEqual(await client.put(10, value=b"2"), Outcome.APPLIED)
                 self.assertEqual(await client.read(0, 20), [Row(10, b"2")])
+                self.assertEqual([await client.get(10), await client.get(11)], [b"2", None])
                 self.assertEqual(client.cached(0, 20), [Row(10, b"2")])
                 self.assertEqual(await client.delete(11), Outcome.ABSENT)
                 self.assertEqual(await client.set(10, b"2", timeout=PATIENCE), Outcome.APPLIED)

@@ -167,6 +167,15 @@ class CallsTest(Served):
         self.assertEqual(client.cached(6, 20), [])
         client.forget(5, 5)
 
+    def test_a_key_is_read(self) -> None:
+        client = self.join(0)
+        client.insert(5, b"five")
+        self.assertEqual([client.get(key) for key in (4, 5, 6)], [None, b"five", None])
+        self.assertEqual(client.cached(5, 6), [Row(5, b"five")])
+        for key in (-1, 2**63 - 1, 2**64 + 5):
+            with self.assertRaises(krl.BadKey):
+                client.get(key)
+
     def test_a_range_is_watched(self) -> None:
         watcher, writer = self.join(0), self.join(1)
         with self.assertRaises(krl.BadRange):

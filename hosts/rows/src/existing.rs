@@ -11,3 +11,9 @@ pub enum Existing {
     /// The table's row gets the value of the file
     Replace,
 }
+
+impl Existing {
+    /// What to give if a row is there already, as the end of a sentence.
+    pub const CHOICES: &str = "--existing keep leaves such rows as they are, as after an import that \
+                               was cut off, and --existing replace gives them the values of the file";
+}

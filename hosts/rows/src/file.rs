@@ -7,6 +7,7 @@ use krl::Row;
 use std::fmt;
 use std::fs::{File, Metadata};
 use std::io;
+use std::os::fd::AsFd;
 use std::path::{Path, PathBuf};
 
 /// A row of a file, and the line in which it begins, from 1.
@@ -32,7 +33,8 @@ enum Why {
     Twice { key: u64, places: [u64; 2] },
 }
 
-/// All rows of the file, in ascending order of their keys. A terminal shows how far it has come.
+/// All rows of the file, or of standard input if it is `-`, in ascending order of their keys. A
+/// terminal shows how far it has come.
 ///
 /// # Errors
 ///
@@ -43,7 +45,13 @@ pub fn read_file(path: &Path, format: FileFormat, values: ValueForm) -> Result<V
 }
 
 fn read(path: &Path, format: FileFormat, values: ValueForm) -> Result<Vec<Line>, Why> {
-    let file = File::open(path).map_err(Why::Io)?;
+    // What opens `-` reads standard input, also where there is no /dev/stdin.
+    let file = if is_standard_input(path) {
+        io::stdin().as_fd().try_clone_to_owned().map(File::from)
+    } else {
+        File::open(path)
+    };
+    let file = file.map_err(Why::Io)?;
     let length = file.metadata().ok().filter(Metadata::is_file).map(|file| file.len());
     let progress = Progress::of_bytes("reading the file", length);
     let mut rows = RowReader::new(progress.reads(file), format, values);
@@ -52,6 +60,10 @@ fn read(path: &Path, format: FileFormat, values: ValueForm) -> Result<Vec<Line>,
         lines.push(Line { row: row.map_err(Why::Row)?, place: rows.line() });
     }
     Ok(lines)
+}
+
+fn is_standard_input(path: &Path) -> bool {
+    path == Path::new("-")
 }
 
 /// The lines in ascending order of their keys, if no two have one key.
@@ -69,14 +81,16 @@ fn without_twice(mut lines: Vec<Line>) -> Result<Vec<Line>, Why> {
 
 impl fmt::Display for BadFile {
     fn fmt(&self, f: &mut fmt::Formatter<'_>) -> fmt::Result {
-        let path = self.path.display();
+        let file = match &*self.path {
+            path if is_standard_input(path) => "standard input".to_string(),
+            path => format!("the file {}", path.display()),
+        };
         match &self.why {
-            Why::Io(error) => write!(f, "the file {path} can't be read: {error}"),
-            Why::Row(bad) => write!(f, "the file {path}, {bad}"),
-            Why::Twice { key, places: [first, second] } => write!(
-                f,
-                "the file {path}, line {second}: the key {key} has a row in line {first} already"
-            ),
+            Why::Io(error) => write!(f, "{file} can't be read: {error}"),
+            Why::Row(bad) => write!(f, "{file}, {bad}"),
+            Why::Twice { key, places: [first, second] } => {
+                write!(f, "{file}, line {second}: the key {key} has a row in line {first} already")
+            }
         }
     }
 }

@@ -2,6 +2,7 @@
 //! as CSV or as JSON lines.
 //!
 //! What is written reads back as the same rows.
+mod closed_quotes;
 mod existing;
 mod file;
 mod file_format;

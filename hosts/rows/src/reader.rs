@@ -1,4 +1,5 @@
 //! Files of rows that are read.
+use crate::closed_quotes::ClosedQuotes;
 use crate::file_format::FileFormat;
 use crate::short_lines::ShortLines;
 use crate::values::ValueForm;
@@ -18,7 +19,7 @@ pub struct RowReader<R: Read> {
 }
 
 enum Source<R: Read> {
-    Csv(Box<csv::Reader<ShortLines<R>>>, StringRecord),
+    Csv(Box<csv::Reader<ClosedQuotes<R>>>, StringRecord),
     JsonLines(BufReader<ShortLines<R>>),
 }
 
@@ -52,7 +53,9 @@ impl<R: Read> RowReader<R> {
         let source = match format {
             FileFormat::JsonLines => Source::JsonLines(BufReader::new(lines)),
             FileFormat::Csv => {
-                let csv = ReaderBuilder::new().has_headers(false).flexible(true).from_reader(lines);
+                let mut csv = ReaderBuilder::new();
+                let csv = csv.has_headers(false).flexible(true);
+                let csv = csv.from_reader(ClosedQuotes::new(lines));
                 Source::Csv(Box::new(csv), StringRecord::new())
             }
         };
@@ -79,9 +82,23 @@ impl<R: Read> Iterator for RowReader<R> {
         if self.has_failed {
             return None;
         }
-        let read = self.read().map_err(|why| BadRow { line: self.line, why });
+        let read = self.read().map_err(|why| {
+            // A file is read in larger pieces than rows.
+            let line = if let Why::Io(_) = why { self.source.line() } else { self.line };
+            BadRow { line, why }
+        });
         self.has_failed = read.is_err();
         read.transpose()
+    }
+}
+
+impl<R: Read> Source<R> {
+    /// The line up to which the file was read, from 1.
+    fn line(&self) -> u64 {
+        match self {
+            Source::Csv(csv, _) => csv.get_ref().line(),
+            Source::JsonLines(lines) => lines.get_ref().line(),
+        }
     }
 }
 
@@ -164,14 +181,22 @@ fn row_of_line(line: &[u8], values: ValueForm) -> Result<Row, String> {
     Ok(Row { key, value })
 }
 
-/// The value, by its bytes if the line has them: they are the same in each form.
+/// The value, by its bytes if the line has them: they are the same in each form. A word next to them
+/// has to be one for them, in some form.
 fn value_of(value: Option<&str>, hex: Option<&str>, values: ValueForm) -> Result<Value, String> {
     let read = match (hex, value) {
         (Some(digits), _) => ValueForm::Hex.read(digits),
         (None, Some(word)) => values.read(word),
         (None, None) => return Err("it has no value: \"value\" or \"hex\" is expected".into()),
     };
-    read.map_err(|error| error.to_string())
+    let read = read.map_err(|error| error.to_string())?;
+    let is_read = |form: &ValueForm, word| form.read(word).is_ok_and(|value| value == read);
+    match value {
+        Some(word) if !ValueForm::ALL.iter().any(|form| is_read(form, word)) => {
+            Err(format!("its \"value\" '{word}' and its \"hex\" are two values: one is expected"))
+        }
+        _ => Ok(read),
+    }
 }
 
 impl fmt::Display for BadRow {
@@ -278,12 +303,28 @@ mod tests {
             ("{\"key\":9223372036854775807,\"hex\":\"\"}", "line 2: '9223372036854775807' is no"),
             ("{\"key\":2,\"value\":\"a\",\"more\":1}", "line 2: it is no row: unknown field"),
             ("{\"key\":2,\"hex\":\"1\"}", "line 2: '1' is no value"),
+            ("{\"key\":2,\"value\":\"a\",\"hex\":\"62\"}", "line 2: its \"value\" 'a' and its"),
             ("2,a", "line 2: it is no row"),
         ] {
             let text = format!("{{\"key\":1,\"value\":\"one\"}}\n{row}\n");
             let (rows, why) = read(text.as_bytes(), FileFormat::JsonLines);
             assert_eq!(rows.len(), 1);
             assert!(why.as_ref().is_some_and(|why| why.starts_with(told)), "{row}: {why:?}");
+        }
+    }
+
+    #[test]
+    fn a_file_that_cannot_be_read_to_its_end_is_told_with_the_line() {
+        let (_, why) = read(b"key,value\n1,\"a\n2,b\n", FileFormat::Csv);
+        let told = "line 2 can't be read: it opens a quote that is never closed";
+        assert_eq!(why.unwrap(), told);
+        let long = "a".repeat(5000);
+        for (text, format) in [
+            (format!("key,value\n1,{long}"), FileFormat::Csv),
+            (format!("{{\"key\":1,\"hex\":\"\"}}\n{{{long}"), FileFormat::JsonLines),
+        ] {
+            let why = read(text.as_bytes(), format).1.unwrap();
+            assert_eq!(why, "line 2 can't be read: a line has more than 4096 bytes");
         }
     }
 

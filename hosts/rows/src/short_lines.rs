@@ -10,11 +10,18 @@ pub(crate) struct ShortLines<R> {
     file: R,
     /// How many bytes have come since the last end of a line.
     length: usize,
+    /// The line that is read, from 1.
+    line: u64,
 }
 
 impl<R: Read> ShortLines<R> {
     pub fn new(file: R) -> ShortLines<R> {
-        ShortLines { file, length: 0 }
+        ShortLines { file, length: 0, line: 1 }
+    }
+
+    /// The line that is read, from 1: after a failure the one that is too long.
+    pub fn line(&self) -> u64 {
+        self.line
     }
 }
 
@@ -28,7 +35,7 @@ impl<R: Read> Read for ShortLines<R> {
                 return Err(io::Error::new(ErrorKind::InvalidData, why));
             }
             if part.ends_with(b"\n") {
-                self.length = 0;
+                (self.length, self.line) = (0, self.line + 1);
             }
         }
         Ok(count)
@@ -47,7 +54,10 @@ mod tests {
         assert_eq!(read(&text).unwrap(), text.len());
         assert_eq!(read(b"\n\n").unwrap(), 2);
         assert!(read(&line(LONGEST + 1)).is_err());
-        assert!(read(&[line(1), line(LONGEST + 1)].concat()).is_err());
+        let text = [line(1), line(LONGEST + 1)].concat();
+        let mut lines = ShortLines::new(&*text);
+        assert!(lines.read_to_end(&mut Vec::new()).is_err());
+        assert_eq!(lines.line(), 2);
         assert!(ShortLines::new(io::repeat(b'a')).read_to_end(&mut Vec::new()).is_err());
     }
 }

@@ -33,6 +33,9 @@ const HEX: &str = "hex:";
 const NUMBER: &str = "u64:";
 
 impl ValueForm {
+    /// Each form.
+    pub(crate) const ALL: [ValueForm; 3] = [ValueForm::Text, ValueForm::Hex, ValueForm::Number];
+
     /// The value of a word.
     ///
     /// # Errors

@@ -204,7 +204,7 @@ core.slice.edits.mirror.i64:
 	.quad	0xca7c8b48f8468b48,0x448948f87e8948f8,0x7c8b48068b48f8ca,0x4489483e8948f0ca
 	.quad	0x834810c68348f0ca
 	.byte	0xc1,0xfe,0x75,0xd4,0xc3
-	.section	.rodata.cst16,"aM",@progbits,16
+	.section	.rodata.named16,"a",@progbits
 	.balign	16
 .Lin.rodata.cst16:
 .Lin.LCPI5_0:
@@ -8618,7 +8618,7 @@ krl_until_sign:
 	.quad	0x94cff194ddaf748,0xffc1c748f0014cf8,0x48c1420f48ffffff,0x470f48d98948d839
 	.quad	0x450f48fffb8348c8
 	.byte	0xc1,0x5b,0x41,0x5e,0x41,0x5f,0xc3
-	.section	.rodata.cst4,"aM",@progbits,4
+	.section	.rodata.named4,"a",@progbits
 	.balign	4
 .Lin.rodata.cst4:
 .Lin.LCPI172_1:

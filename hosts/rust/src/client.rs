@@ -34,7 +34,7 @@ use crate::model::change::Outcome;
 use crate::model::code::Code;
 use crate::model::error::Error;
 use crate::model::range::keys_of;
-use crate::model::row::{Row, Value};
+use crate::model::row::{END, Row, Value};
 use std::fmt;
 use std::ops::{Range, RangeBounds};
 use std::sync::Arc;
@@ -145,6 +145,19 @@ impl Client {
     /// `TurnedAway` or `OtherShard`; `StoreWentBack`; `OutOfMemory`; `Stopped`.
     pub fn read(&self, keys: impl RangeBounds<u64>) -> Result<Vec<Row>, Error> {
         self.within(self.timeout()).read(keys)
+    }
+
+    /// The value of the row of this key, read as [`Client::read`] reads a range, or `None` if there is
+    /// no such row.
+    ///
+    /// # Errors
+    ///
+    /// `BadKey` if the key is 2^63 - 1 or more; those of [`Client::read`].
+    pub fn get(&self, key: u64) -> Result<Option<Value>, Error> {
+        if key >= END {
+            return Err(Error::BadKey);
+        }
+        Ok(self.read(key..=key)?.first().map(|row| row.value))
     }
 
     /// The rows of the range if the cache covers it, otherwise `None`. It sends nothing, and waits

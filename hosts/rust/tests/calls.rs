@@ -58,6 +58,8 @@ fn each_call(server: &Server, folder: &Folder) {
     assert_eq!(second.put(20, value("c")), Ok(Outcome::Applied));
     assert_eq!(second.put(21, value("c")), Ok(Outcome::Absent));
     assert_eq!(first.read(20..21), Ok(vec![row(20, "c")]));
+    assert_eq!([first.get(20), first.get(21)], [Ok(Some(value("c"))), Ok(None)]);
+    assert_eq!(first.get(krl::END), Err(Error::BadKey));
     assert_eq!(first.read(..=20).unwrap().last(), Some(&row(20, "c")));
     assert_eq!(first.delete(10), Ok(Outcome::Applied));
     assert_eq!(first.delete(10), Ok(Outcome::Absent));

@@ -184,6 +184,15 @@ fn a_client_whose_clock_is_far_ahead() {
     let JoinError::Unserved(refusal) = error else { panic!("{error:?}") };
     assert!(matches!(refusal, Refusal::FarAhead { client: 3, .. }), "{refusal:?}");
     assert!(refusal.to_string().contains("more than a day ahead of the server's clock"));
+    // Another number has a file of its own.
+    let folder = lock_file("ahead-folder");
+    std::fs::create_dir(&folder).unwrap();
+    std::fs::copy(&lock, folder.join("client-3.lock")).unwrap();
+    let numbers = Client::builder_with_numbers(server.address().clone(), 3..=4, &folder);
+    let other = numbers.timeout(LONG).join().unwrap();
+    assert_eq!(other.number(), 4);
+    other.leave().unwrap();
+    std::fs::remove_dir_all(&folder).unwrap();
     // The number is not lost.
     std::fs::remove_file(&lock).unwrap();
     let client = Client::join(server.address().clone(), 3, &lock).unwrap();

@@ -119,7 +119,7 @@ fn errors_tell_the_shard() {
     client.set_timeout(SHORT);
     let refused = client.read(0..400).unwrap_err();
     assert_eq!((refused.shard, refused.error), (Some(1), Error::TimedOut));
-    assert_eq!(refused.to_string(), "shard 1: no answer came in time");
+    assert!(refused.to_string().starts_with("shard 1: no answer came in time: "), "{refused}");
     // The other shard continues, and so do the caches.
     assert_eq!(client.cached(0..50), Ok(Some(vec![row(10, 10)])));
     assert_eq!(client.put(10, Value::from(1)), Ok(Outcome::Applied));

@@ -53,6 +53,9 @@ fn who_is_not_certified_is_turned_away_at_once_and_says_nothing() {
         let error = setup.join(&server, &config, 6).unwrap_err();
         assert!(matches!(error, JoinError::TurnedAway(_)), "{what}: {error}");
         assert!(begun.elapsed() < AT_ONCE, "{what}: {:?}", begun.elapsed());
+        let is_of_names = error.to_string().contains("it has no name that counts there");
+        let has_authority = !what.ends_with("authority") && !what.ends_with("expired certificate");
+        assert_eq!(is_of_names, has_authority, "{what}: {error}");
     }
     let none = Client::builder(server.address(), 6, setup.lock(6)).join();
     assert!(matches!(none, Err(JoinError::TurnedAway(_))), "no certificate");

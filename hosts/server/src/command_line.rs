@@ -38,8 +38,9 @@ Exit statuses:
   3  the store of a server lacks what a client has seen of it: see docs/STORES.md
 
 Examples:
-  krl-server serve
-      Serves krl.db of this folder at 127.0.0.1:7400, and its status at 127.0.0.1:7401
+  krl-server serve --create
+      Serves krl.db of this folder at 127.0.0.1:7400, and its status at 127.0.0.1:7401. Makes the
+      store if there is none
   krl-server serve --listen tls:10.0.0.5:7400 --tls-authority ca.crt --tls-certificate server.crt
       --tls-key server.key
       Serves clients of other machines, which show certificates of the authority
@@ -219,7 +220,8 @@ on it, and each client has to have left: one that has not is named. A store that
 If it is killed, repeat it: if the store has all rows of the file, it changes nothing. While a server
 serves the store, krl-client import does the same, row by row.")]
     Import {
-        /// The file: JSON lines if its name ends in .jsonl, .ndjson or .json, otherwise CSV
+        /// The file, or - for standard input: JSON lines if its name ends in .jsonl, .ndjson or
+        /// .json, otherwise CSV
         file: PathBuf,
         /// The store: a file of SQLite, which is made if there is none; a new place in a cluster,
         /// such as <etcd://10.0.0.1:2379/krl/orders>; or a database that has no table yet, such as
@@ -367,12 +369,22 @@ pub struct ServeOptions {
     pub tls: TlsOptions,
     #[command(flatten)]
     pub access: AccessOptions,
-    /// What keeps the table: a file of SQLite, which is made if there is none; a cluster, such as
+    /// What keeps the table: a file of SQLite; a cluster, such as
     /// etcd://10.0.0.1:2379,10.0.0.2:2379/krl/orders, over which several servers may run: one
     /// serves, and the others stand by; or a database, such as
     /// <postgres://krl@10.0.0.1/orders?sslmode=verify-full>
     #[arg(long, env = "KRL_STORE", value_name = "STORE")]
     pub store: Option<String>,
+    /// Make a new store if there is none. Otherwise the server refuses to start on a store that is
+    /// missing or holds nothing
+    #[arg(
+        long,
+        env = "KRL_CREATE",
+        value_name = "YES",
+        num_args = 0..=1,
+        default_missing_value = "yes"
+    )]
+    pub create: Option<String>,
     /// The certificate of the authority that certified the cluster's nodes, as PEM
     #[arg(long, env = "KRL_STORE_AUTHORITY", value_name = "FILE")]
     pub store_authority: Option<String>,

@@ -81,10 +81,8 @@ fn add(store: Snapshot, lines: Vec<Line>, existing: Existing) -> Result<Added, S
         match existing {
             Existing::Refuse if is_there => {
                 let (place, key) = (line.place, line.row.key);
-                return Err(format!(
-                    "line {place}: the store has a row of key {key}: --existing keep leaves such \
-                     rows as they are, and --existing replace gives them the values of the file"
-                ));
+                let choices = Existing::CHOICES;
+                return Err(format!("line {place}: the store has a row of key {key}: {choices}"));
             }
             Existing::Keep if is_there => added.kept += 1,
             Existing::Refuse | Existing::Keep | Existing::Replace => {

@@ -13,6 +13,7 @@ mod import;
 mod locks;
 mod log;
 mod long_waits;
+mod new_store;
 mod next_map;
 mod origin;
 mod others;

@@ -55,24 +55,29 @@ pub struct Other {
 }
 
 /// The state of a server, as it stands in its `/status.json`. A process that stands by has few of
-/// these.
+/// these, and each process has a role.
 #[derive(Clone, Debug, Default, Deserialize, PartialEq, Eq)]
-#[serde(default)]
 pub struct Report {
     pub role: String,
     pub leader: Option<String>,
+    #[serde(default)]
     pub phase: String,
     pub failure: Option<String>,
     pub shard: Option<String>,
+    #[serde(default)]
     pub epoch: u64,
+    #[serde(default)]
     pub rows: u64,
+    #[serde(default)]
     pub room: usize,
     /// How many clients are connected or held something, and how many wait.
-    #[serde(deserialize_with = "length")]
+    #[serde(default, deserialize_with = "length")]
     pub clients: usize,
-    #[serde(deserialize_with = "length")]
+    #[serde(default, deserialize_with = "length")]
     pub waits: usize,
+    #[serde(default)]
     pub alarms_total: u64,
+    #[serde(default)]
     pub store_alarms_total: u64,
 }
 
@@ -133,11 +138,15 @@ impl Seen {
 async fn ask(port: &StatusPort) -> Answer {
     let reply = http::fetch(port, "/status.json", crate::pages::JSON, WAIT).await?;
     match reply.status {
-        StatusCode::OK => serde_json::from_str(&reply.text)
+        StatusCode::OK => report_of(&reply.text)
             .map_err(|error| format!("{port} is no status port of krl: {error}")),
         StatusCode::FORBIDDEN => Err(format!("{port} refuses: {}", reply.text.trim_end())),
         status => Err(format!("{port} is no status port of krl: it answered {status}")),
     }
+}
+
+fn report_of(text: &str) -> serde_json::Result<Report> {
+    serde_json::from_str(text)
 }
 
 #[cfg(test)]
@@ -158,12 +167,22 @@ mod tests {
     #[test]
     fn a_report_may_lack_what_a_process_that_stands_by_does_not_know() {
         let text = r#"{ "version": "0.1.0", "role": "stands by", "leader": "10.0.0.1:7400" }"#;
-        let report: Report = serde_json::from_str(text).unwrap();
+        let report = report_of(text).unwrap();
         assert_eq!((report.role.as_str(), report.epoch), ("stands by", 0));
         assert_eq!(report.leader.as_deref(), Some("10.0.0.1:7400"));
         let text =
             r#"{ "role": "serves", "shard": null, "clients": [{ "client": 3 }], "waits": [] }"#;
-        let report: Report = serde_json::from_str(text).unwrap();
+        let report = report_of(text).unwrap();
         assert_eq!((report.clients, report.waits, report.shard), (1, 0, None));
+    }
+
+    /// Otherwise its row would be empty.
+    #[test]
+    fn an_answer_without_a_role_is_none() {
+        for text in ["{}", r#"{ "phase": "zoo" }"#] {
+            let why = report_of(text).unwrap_err().to_string();
+            assert!(why.contains("missing field `role`"), "{text}: {why}");
+        }
+        assert!(report_of("[]").is_err());
     }
 }

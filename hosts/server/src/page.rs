@@ -5,6 +5,7 @@ mod held_picture;
 mod histogram;
 pub mod looks;
 mod markup;
+mod modes;
 mod overview;
 mod servers;
 mod waits_picture;

@@ -1,6 +1,7 @@
 //! A server, from its start until it is stopped.
 use crate::cause;
 use crate::log;
+use crate::new_store::{self, AskedFor};
 use crate::others::Others;
 use crate::output;
 use crate::owner::Owner;
@@ -106,7 +107,8 @@ fn serve_file(
     let fails = |error: StoreError| {
         format!("the store {} can't be opened: {}", path.display(), cause(&error))
     };
-    // Next to a file of another program no lock file is left.
+    // Next to a file of another program, and where there is none, no lock file is left.
+    new_store::judge_file(path, settings.may_make_store()).map_err(fails)?;
     SqliteStore::judge_first_bytes(path).map_err(fails)?;
     let _owner = Owner::take(path, &settings.listen.value)?;
     let store = SqliteStore::open(path).map_err(fails)?;
@@ -173,6 +175,7 @@ pub fn start(
     listener: Listener,
     (store, access): (impl Store + 'static, &Access),
 ) -> Result<Server, ServeError> {
+    let store = AskedFor::new(store, settings);
     let mut builder = Server::builder(listener, store).access(access.clone());
     builder = builder.reach(settings.reach.value);
     if let Some(room) = settings.room.value.0 {
@@ -197,7 +200,7 @@ pub fn ready(settings: &Settings, server: &Server, role: &Role) {
         store = %settings.store.value,
         room = %server.room(),
         reach = %server.reach(),
-        shard = %settings.shard.value,
+        shard = settings.shard.value.0.map(tracing::field::display),
         "ready"
     );
     tell(&[NotifyState::Ready, NotifyState::Status(&format!("serves at {}", server.address()))]);

@@ -20,6 +20,7 @@ use std::fmt;
 use std::path::{Path, PathBuf};
 use store_place::BadStorePlace;
 use tracing::level_filters::LevelFilter;
+use value::YesNo;
 
 /// Where clients connect by default.
 pub const LISTEN: &str = "127.0.0.1:7400";
@@ -49,6 +50,7 @@ pub struct Settings {
     pub listen: Setting<Address>,
     pub access: AccessSettings,
     pub store: Setting<StorePlace>,
+    create: Setting<YesNo>,
     pub store_authority: Setting<Optional<PathBuf>>,
     pub store_certificate: Setting<Optional<PathBuf>>,
     pub store_key: Setting<Optional<PathBuf>>,
@@ -117,6 +119,8 @@ impl Settings {
             store: given.judged_setting(&key::STORE, &options.store, file.store, |text| {
                 text.parse().map_err(|bad: BadStorePlace| format!(": {bad}"))
             })?,
+            // No file asks for a new store: it is read at each start.
+            create: given.setting(&key::CREATE, &options.create, None, value::parse_yes_no)?,
             store_authority: given.setting(
                 &key::STORE_AUTHORITY,
                 &options.store_authority,
@@ -199,6 +203,11 @@ impl Settings {
             self.access.check(key::STATUS.name, address)?;
         }
         self.others().map(drop)
+    }
+
+    /// Whether a store that holds nothing may be served.
+    pub fn may_make_store(&self) -> bool {
+        self.create.value == YesNo::Yes
     }
 
     /// The status ports of the other servers. One of TLS is shown what this server's clients are.

@@ -193,6 +193,27 @@ fn certificates_are_checked_with_their_dates() {
     assert!(said.contains("has no certificate that can be read"), "{said}");
 }
 
+/// A store whose server was killed is read where nothing can be written.
+#[test]
+fn a_store_with_a_log_is_read_on_a_full_disk() {
+    let folder = Folder::new();
+    let store = folder.path("krl.db");
+    let serving = Serving::start(&store);
+    let client = serving.join(folder.0.path(), 1);
+    assert_eq!(client.insert(7, Value::from(7)), Ok(Outcome::Applied));
+    serving.signal(&["KILL"]);
+    serving.ended();
+    assert!(std::fs::metadata(folder.path("krl.db-wal")).unwrap().len() > 0);
+    // A file that grows beyond its limit fails as one on a full disk does.
+    let full = "trap '' XFSZ; ulimit -f 0; exec \"$0\" \"$@\"";
+    for (command, told) in [("check", "rows: 1\n"), ("export", "7,u64:7\n")] {
+        let mut shell = Command::new("sh");
+        shell.args(["-c", full, env!("CARGO_BIN_EXE_krl-server"), command]);
+        let read = shell.arg(&store).output().unwrap();
+        assert!(text(&read).contains(told), "{read:?}");
+    }
+}
+
 #[test]
 fn shells_complete_its_words() {
     for shell in ["bash", "zsh", "fish"] {

@@ -29,7 +29,7 @@ impl Deaf {
         let port = NEXT_PORT.fetch_add(1, Ordering::Relaxed);
         let status = format!("127.75.{high}.{low}:{port}");
         let mut command = program();
-        command.arg("serve").arg("--store").arg(folder.path().join("krl.db"));
+        command.args(["serve", "--create", "--store"]).arg(folder.path().join("krl.db"));
         command.args(["--status", &status, "--listen", &unix(folder.path())]);
         // A pin lives through a machine that stands still for a while.
         command.args(["--lease", "600s"]);
@@ -179,6 +179,10 @@ fn a_wait_of_ten_seconds_is_logged_once_and_its_end_too() {
         assert_eq!(writes.join().unwrap(), Ok(Outcome::Applied));
     });
     until("its end is logged", || !lines("a long wait has ended").is_empty());
+    // Lines after that one may not be whole yet.
+    for line in lines("").iter().take_while(|line| !line.contains("a long wait has ended")) {
+        assert!(!line.contains("= ") && !line.ends_with('='), "a field has no value: {line}");
+    }
     let begun = lines("a client has waited for a long time");
     assert_eq!(begun.len(), 1, "{begun:?}");
     for part in ["WARN", "client=7", "waits_for=4", "lo=15", "mode=\"X\"", "seconds=1"] {

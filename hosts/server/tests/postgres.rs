@@ -20,13 +20,17 @@ fn over(database: &Database) -> Command {
 fn a_server_that_is_started_again_serves_what_was_written() {
     let Some(database) = Database::start() else { return };
     let folder = tempfile::tempdir().unwrap();
+    let words = ["--listen", "127.0.0.1:0", "--status", "off"];
+    let refused = over(&database).args(words).output().unwrap();
+    assert_eq!(refused.status.code(), Some(1));
+    assert!(errors(&refused).contains(" holds nothing. "), "{}", errors(&refused));
     let first = Serving::start_by(&mut over(&database));
     let client = first.join(folder.path(), 3);
     assert_eq!(client.insert(1, Value::from(7)), Ok(Outcome::Applied));
     client.leave().unwrap();
     first.signal(&["KILL"]);
     first.ended();
-    let second = Serving::start_by(&mut over(&database));
+    let second = Serving::start_by(over(&database).arg("--create=no"));
     assert!(second.get("/status.json").1.contains("\"epoch\": 2"));
     let client = second.join(folder.path(), 3);
     assert_eq!(client.read(0..10).unwrap()[0].value, Value::from(7));

@@ -113,7 +113,7 @@ fn an_address_that_is_taken_is_told() {
     let other = other.to_str().unwrap();
     let address = serving.address.to_string();
     for (listen, status) in [(address.as_str(), "off"), ("127.0.0.1:0", serving.status.as_str())] {
-        let words = ["serve", "--store", other, "--listen", listen, "--status", status];
+        let words = ["serve", "--create", "--store", other, "--listen", listen, "--status", status];
         let output = run(&words);
         assert_eq!(output.status.code(), Some(1));
         assert!(errors(&output).contains("in use"), "{}", errors(&output));
@@ -397,6 +397,38 @@ fn a_copy_that_lacks_its_log_is_refused() {
         assert!(errors(&output).contains("its log is missing"), "{}", errors(&output));
     }
     client.leave().unwrap();
+}
+
+/// A name with a typo, a disk that is not mounted, and a file that was cut to nothing.
+#[test]
+fn a_store_that_holds_nothing_is_served_only_if_it_is_asked_for() {
+    let folder = tempfile::tempdir().unwrap();
+    let [missing, empty, bare] =
+        ["missing.db", "empty.db", "bare.db"].map(|it| folder.path().join(it));
+    std::fs::write(&empty, "").unwrap();
+    drop(SqliteStore::open(&bare).unwrap());
+    let words = ["serve", "--listen", "127.0.0.1:0", "--status", "off", "--store"];
+    for (store, why) in [
+        (&missing, "there is no such file"),
+        (&empty, "the file has 0 bytes"),
+        (&bare, "holds nothing"),
+    ] {
+        let refused = program().args(words).arg(store).output().unwrap();
+        assert_eq!(refused.status.code(), Some(1), "{}", errors(&refused));
+        for told in [why, "give --create at the first start"] {
+            assert!(errors(&refused).contains(told), "{told}: {}", errors(&refused));
+        }
+    }
+    assert!(!missing.exists() && !folder.path().join("missing.db.lock").exists());
+    assert_eq!(empty.metadata().unwrap().len(), 0);
+    for store in [missing, empty, bare] {
+        let serving = Serving::start(&store);
+        serving.signal(&["TERM"]);
+        assert!(serving.ended().status.success());
+        let mut command = program();
+        command.args(["serve", "--create=no", "--store"]).arg(&store);
+        drop(Serving::start_by(&mut command));
+    }
 }
 
 #[test]

@@ -3,7 +3,7 @@ mod common;
 
 use common::{errors, program, run, text};
 use std::path::Path;
-use std::process::Output;
+use std::process::{Command, Output};
 
 const DEFAULTS: &str = "\
 listen = \"127.0.0.1:7400\" # by default
@@ -124,6 +124,31 @@ fn a_bad_value_is_told_with_its_key_and_what_is_expected() {
         is_refused(&output, &[&found, expected, &variable]);
         let path = file(folder.path(), &format!("{key} = \"{value}\"\n"));
         is_refused(&run(&["serve", "--config", &path]), &[&found, expected, &path]);
+    }
+}
+
+/// The settings of the file that a package installs, also those that it has as comments.
+#[test]
+fn each_setting_of_the_installed_file_is_accepted() {
+    let folder = tempfile::tempdir().unwrap();
+    let script = concat!(env!("CARGO_MANIFEST_DIR"), "/../packaging/certificates");
+    let made = Command::new(script).arg(folder.path()).arg("server").output().unwrap();
+    assert!(made.status.success(), "{}", errors(&made));
+    let installed = include_str!("../../packaging/krl.toml");
+    let installed = installed.replace("/etc/krl", folder.path().to_str().unwrap());
+    let is_setting = |line: &str| {
+        let key = line.trim_start_matches("# ").split_once(" = ").map(|(key, _)| key);
+        key.is_some_and(|key| key.bytes().all(|it| it == b'-' || it.is_ascii_lowercase()))
+    };
+    let settings: Vec<_> = installed.lines().filter(|line| is_setting(line)).collect();
+    assert_eq!(settings.len(), installed.matches(" = ").count(), "{installed}");
+    let text: String =
+        settings.iter().map(|line| format!("{}\n", line.trim_start_matches("# "))).collect();
+    let path = file(folder.path(), &text);
+    let printed = run(&["config", "--config", &path]);
+    assert_eq!(printed.status.code(), Some(0), "{}", errors(&printed));
+    for setting in text.lines() {
+        assert!(common::text(&printed).contains(setting), "{setting} is not in force");
     }
 }
 

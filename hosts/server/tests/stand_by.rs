@@ -139,6 +139,18 @@ fn a_server_that_wakes_up_behind_another_one_serves_no_more() {
 }
 
 #[test]
+fn an_empty_place_is_served_only_if_it_is_asked_for() {
+    let Some(cluster) = Cluster::start() else { return };
+    let mut command = over(&cluster, "empty");
+    let words = ["--status", "off", "--listen", "127.0.0.1:0"];
+    let output = command.args(words).output().unwrap();
+    assert_eq!(output.status.code(), Some(1));
+    assert!(errors(&output).contains(" holds nothing. "), "{}", errors(&output));
+    drop(Serving::start_by(&mut over(&cluster, "empty")));
+    drop(Serving::start_by(over(&cluster, "empty").arg("--create=no")));
+}
+
+#[test]
 fn an_address_that_is_taken_ends_a_server_that_would_serve() {
     let Some(cluster) = Cluster::start() else { return };
     let taken = TcpListener::bind("127.0.0.1:0").unwrap();

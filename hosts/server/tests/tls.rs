@@ -212,10 +212,11 @@ fn a_hangup_has_the_certificates_read_again() {
     std::fs::write(setup.file("server.crt"), "no certificate").unwrap();
     serving.signal(&["HUP"]);
     drop(setup.join(&serving, 2).expect("the old ones stay"));
-    // Another authority has certified what the server shows next: its clients turn away.
+    // Another authority has certified what the server shows next, and it is believed by the server.
     let other = Setup::new(&["server"]);
-    std::fs::copy(other.file("server.crt"), setup.file("server.crt")).unwrap();
-    std::fs::copy(other.file("server.key"), setup.file("server.key")).unwrap();
+    for file in ["server.crt", "server.key", "authority.crt"] {
+        std::fs::copy(other.file(file), setup.file(file)).unwrap();
+    }
     serving.signal(&["HUP"]);
     until("the new one is shown", || {
         matches!(setup.join(&serving, 2), Err(JoinError::TurnedAway(_)))
@@ -274,7 +275,13 @@ fn a_certificate_that_no_client_believes_is_refused_at_the_start() {
     assert!(openssl.status().unwrap().success());
     setup.copy("server.crt", "locked.crt");
     setup.copy("server.crt", "missing.crt");
+    let other = Setup::new(&["server"]);
+    for kind in ["crt", "key"] {
+        let [from, to] = [other.file("server"), setup.file("strange")];
+        std::fs::copy(from.with_extension(kind), to.with_extension(kind)).unwrap();
+    }
     for (holder, why) in [
+        ("strange", "strange.crt (CN=krl server) is not certified by the authority "),
         ("expired", "expired.crt (CN=krl server) expired at "),
         (
             "client-3",

@@ -59,7 +59,9 @@ pub(crate) fn join(
     let gives_up = move |refusal, now: Instant| match errand {
         Errand::Work => {
             let waited = now.saturating_duration_since(begun);
-            waited >= waits.if_in_use && is_in_use(refusal)
+            let may_try_another = waits.if_in_use < Duration::MAX;
+            is_far_ahead(refusal) && may_try_another
+                || is_in_use(refusal) && waited >= waits.if_in_use
         }
         // A greater incarnation is taken then.
         Errand::Evict { .. } => matches!(refusal, Refusal::Incarnation { .. }),
@@ -119,6 +121,12 @@ fn not_answered(servers: &Servers, fault: Option<io::Error>) -> JoinError {
         }
         _ => JoinError::NoAnswer { servers: Box::new(servers.clone()), fault },
     }
+}
+
+/// Whether the server refuses the number until it has another lock file: another number, with its own
+/// file, may do.
+pub(crate) fn is_far_ahead(refusal: Refusal) -> bool {
+    matches!(refusal, Refusal::FarAhead { .. })
 }
 
 /// Whether the server reports that another process has the client's number, or had it and may still

@@ -8,10 +8,11 @@ use std::time::Duration;
 /// How long a number is tried of which the server reports that another process has it.
 const IN_USE: Duration = Duration::from_secs(1);
 
-/// Joins by the first of these numbers that is free. A number whose lock file another process has
-/// is left for the next one at once, and one of which the server reports that it is in use after a
-/// moment. If no other one is free, the first of the latter is waited for. If other processes have
-/// the lock files of all, the error is that of the last number. `None` if there are no numbers.
+/// Joins by the first of these numbers that is free. A number whose lock file another process has, or
+/// is of a clock that was wrong, is left for the next one at once, and one of which the server reports
+/// that it is in use after a moment. If no other one is free, the first of the latter is waited for.
+/// If the lock files of all are of no use, the error is that of the last number. `None` if there are
+/// no numbers.
 pub(crate) fn join_first<C, E>(
     numbers: &[u8],
     waits: Waits,
@@ -26,7 +27,8 @@ pub(crate) fn join_first<C, E>(
             Err(error) => error,
         };
         match why(&error) {
-            JoinError::LockFile { error: LockFileError::Taken, .. } => taken = Some(Err(error)),
+            JoinError::LockFile { error: LockFileError::Taken, .. }
+            | JoinError::Unserved(Refusal::FarAhead { .. }) => taken = Some(Err(error)),
             JoinError::Unserved(Refusal::LeaseRuns { .. } | Refusal::Incarnation { .. }) => {
                 in_use.get_or_insert(number);
             }
@@ -46,8 +48,8 @@ mod tests {
     /// What came of a search, and which numbers were tried, with whether for long.
     type Searched = (Option<Result<u8, JoinError>>, Vec<(u8, bool)>);
 
-    /// What becomes of these numbers, of which each is free, taken (`l`), in use (`u`) or fails
-    /// (`f`).
+    /// What becomes of these numbers, of which each is free, taken (`l`), in use (`u`), ahead (`a`) or
+    /// fails (`f`).
     fn run(numbers: &[(u8, char)]) -> Searched {
         let tried = RefCell::new(Vec::new());
         let join = |number: u8, waits: Waits| {
@@ -55,6 +57,7 @@ mod tests {
             match numbers.iter().find(|(other, _)| *other == number).unwrap().1 {
                 'l' => Err(taken(number)),
                 'u' => Err(JoinError::Unserved(Refusal::Incarnation { client: 1, registered: 2 })),
+                'a' => Err(JoinError::Unserved(Refusal::FarAhead { client: 1, latest: 2 })),
                 'f' => Err(JoinError::BadNumber),
                 _ => Ok(number),
             }
@@ -70,9 +73,9 @@ mod tests {
 
     #[test]
     fn the_first_free_number_is_taken() {
-        let (joined, tried) = run(&[(3, 'l'), (4, 'u'), (5, ' '), (6, ' ')]);
-        assert!(matches!(joined, Some(Ok(5))));
-        assert_eq!(tried, [(3, false), (4, false), (5, false)]);
+        let (joined, tried) = run(&[(3, 'l'), (4, 'u'), (5, 'a'), (6, ' '), (7, ' ')]);
+        assert!(matches!(joined, Some(Ok(6))));
+        assert_eq!(tried, [(3, false), (4, false), (5, false), (6, false)]);
     }
 
     #[test]
@@ -84,7 +87,7 @@ mod tests {
 
     #[test]
     fn a_lock_file_is_named_if_all_are_taken() {
-        let (joined, _) = run(&[(3, 'l'), (4, 'l')]);
+        let (joined, _) = run(&[(3, 'a'), (4, 'l')]);
         assert_eq!(joined.unwrap().unwrap_err().to_string(), taken(4).to_string());
         assert!(run(&[]).0.is_none());
     }

@@ -347,11 +347,12 @@ pub(crate) fn closed(at: &At, reason: &str) {
 /// A connection is closed by the server for a reason about which an operator may have to do
 /// something.
 pub(crate) fn closed_by_server(at: &At, reason: &str, why: &dyn Display, passed_over: u64) {
+    let why = why.to_string();
     tell!(
         warn,
         connection = at.connection,
         peer = %at.peer,
-        %why,
+        why = (!why.is_empty()).then_some(&*why),
         passed_over,
         "a connection is closed: {reason}"
     );

@@ -176,6 +176,7 @@ mod tests {
         assert_eq!(error.applied().collect::<Vec<_>>(), [0]);
         assert_eq!(error.unknown().collect::<Vec<_>>(), [2]);
         assert_eq!(error.not_made().collect::<Vec<_>>(), [3]);
-        assert_eq!(error.to_string(), "2 of 4 writes were judged: no answer came in time");
+        let told = format!("2 of 4 writes were judged: {}", Error::TimedOut);
+        assert_eq!(error.to_string(), told);
     }
 }

@@ -228,7 +228,10 @@ impl From<Code> for Error {
 impl fmt::Display for Error {
     fn fmt(&self, f: &mut fmt::Formatter<'_>) -> fmt::Result {
         match self {
-            Error::TimedOut => f.write_str("no answer came in time"),
+            Error::TimedOut => f.write_str(
+                "no answer came in time: the server is away, or another client holds what the call \
+                 needs",
+            ),
             Error::Unserved(refusal) => write!(f, "no answer came in time: {refusal}"),
             Error::NotSent(why) => write!(f, "the write was not made: {why}"),
             Error::TurnedAway => f.write_str(

@@ -33,10 +33,12 @@ const REASON: c_ulong = 0xfff;
 /// The reason of an alert is its number after this one.
 const ALERTS: c_ulong = 1000;
 
-/// The alerts of TLS about a certificate: `handshake_failure`, which stands for a name that does
-/// not count, those from `bad_certificate` to `certificate_unknown`, `unknown_ca`, `access_denied`
-/// and `certificate_required`.
-const ABOUT_CERTIFICATES: [c_ulong; 9] = [40, 42, 43, 44, 45, 46, 48, 49, 116];
+/// The alerts of TLS about a certificate: `handshake_failure`, those from `bad_certificate` to
+/// `certificate_unknown`, `unknown_ca`, `access_denied` and `certificate_required`.
+const ABOUT_CERTIFICATES: [c_ulong; 9] = [NO_NAME_COUNTS, 42, 43, 44, 45, 46, 48, 49, 116];
+
+/// The alert `handshake_failure`, which a side of krl sends if no name of a certificate counts.
+const NO_NAME_COUNTS: c_ulong = 40;
 
 /// Which side of a connection this one is.
 #[derive(Clone, Copy, Debug, PartialEq, Eq)]
@@ -317,8 +319,11 @@ fn peer_of(certificate: &X509Ref, side: Side, table: Option<&TableName>) -> Opti
 /// The alert by which the other side has refused this certificate, if it has. One about something
 /// else, such as an internal error, is not a verdict on the certificate.
 fn alert_of(errors: &ErrorStack) -> Option<&'static str> {
-    let refused = errors.errors().iter().find(|error| is_about_certificate(error.code()));
-    refused.map(|error| error.reason().unwrap_or("an alert"))
+    let refused = errors.errors().iter().find(|error| is_about_certificate(error.code()))?;
+    if refused.code() & REASON == ALERTS + NO_NAME_COUNTS {
+        return Some("it has no name that counts there, such as a client's krl:client:3");
+    }
+    Some(refused.reason().unwrap_or("an alert"))
 }
 
 /// Whether OpenSSL's code is that of an alert about a certificate.

@@ -1,8 +1,9 @@
 //! The picture of who holds which keys, as SVG.
-use super::axis::Axis;
+use super::axis::{Axis, Span};
 use super::deadlocks::Deadlocks;
 use super::looks::Held;
 use super::markup::{Markup, escape, list, number};
+use super::modes::{self, LEGEND};
 use crate::clients::{self, brief, end_in_words, lease_in_words};
 use krl::{HeldRun, Status, Wait};
 use std::ops::Range;
@@ -16,14 +17,6 @@ const LEFT: f64 = 84.0;
 const BARS: f64 = 640.0;
 const TOP: f64 = 40.0;
 const ROW: f64 = 22.0;
-
-/// What the modes of locks mean, with the class that gives each its color.
-const LEGEND: [(&str, &str); 4] = [
-    ("reads", "reads"),
-    ("updates", "reads, writes next"),
-    ("inserts", "inserts"),
-    ("writes", "writes"),
-];
 
 /// Who holds which keys of a range.
 #[derive(Debug)]
@@ -42,7 +35,7 @@ impl HeldPicture<'_> {
         let (axis, shown) = (self.axis(), self.shown());
         let mut svg = Markup::default();
         let bottom = TOP + ROW * number(shown.len()) + 2.0;
-        let note = self.note(shown.len());
+        let note = self.note(&shown);
         let height = bottom + if note.is_empty() { 22.0 } else { 44.0 };
         svg.add(format_args!(
             "<svg xmlns=\"http://www.w3.org/2000/svg\" viewBox=\"0 0 {WIDTH} {height}\" \
@@ -73,6 +66,9 @@ impl HeldPicture<'_> {
         let waits = self.waits().map(wait_in_words);
         let sentences: Vec<_> = held.take(100).chain(waits).collect();
         match sentences.as_slice() {
+            [] if self.held.age.is_none() => {
+                "Nobody was seen to hold anything here yet.".to_string()
+            }
             [] => "Nobody holds anything here.".to_string(),
             some => some.join(". ") + ".",
         }
@@ -87,14 +83,16 @@ impl HeldPicture<'_> {
     }
 
     pub fn link(&self, part: &Range<u64>) -> String {
-        format!("{}?lo={}&amp;hi={}", self.path, part.start, part.end)
+        link(self.path, part)
     }
 
     fn axis(&self) -> Axis {
-        let held = self.held.runs.iter().flat_map(|run| [run.lo, run.hi]);
-        let waits = self.waits().flat_map(|wait| [wait.point, wait.hi]);
-        let edges = held.chain(waits).chain(self.held.next);
-        Axis::new(&self.points, edges, LEFT, BARS)
+        let held = self.held.runs.iter().map(|run| Span { points: run.lo..run.hi, clients: 1 });
+        // Who waits has it in common with somebody who may not be shown.
+        let waits = self.waits().map(|wait| Span { points: wait.point..wait.hi, clients: 2 });
+        let next = self.held.next.map(|next| Span { points: next..self.points.end, clients: 0 });
+        let spans: Vec<_> = held.chain(waits).chain(next).collect();
+        Axis::new(&self.points, &spans, LEFT, BARS)
     }
 
     /// The waits here. They are those of the status, which is younger than the look.
@@ -153,16 +151,32 @@ impl HeldPicture<'_> {
         svg.add(format_args!("<text x=\"{x}\" y=\"{y:.0}\">{}</text></g>", escape(&side)));
     }
 
-    fn note(&self, shown: usize) -> String {
-        let others = self.status.clients.len().saturating_sub(shown);
-        let others = match others {
-            0 => String::new(),
-            1 => "1 more client holds nothing here.".to_string(),
-            _ => format!("{others} more clients hold nothing here."),
+    /// What the picture does not have: clients with nothing here, those that were not looked at
+    /// yet, and the rest of the range.
+    fn note(&self, shown: &[u8]) -> String {
+        let others = self.status.clients.iter().map(|it| it.client);
+        let (seen, unseen): (Vec<u8>, Vec<u8>) = others
+            .filter(|client| !shown.contains(client))
+            .partition(|client| self.held.seen.contains(client));
+        let place = self.held.next.map_or("here".to_string(), |next| format!("below {next}"));
+        let seen = match seen.len() {
+            0 => None,
+            1 => Some(format!("1 more client holds nothing {place}.")),
+            count => Some(format!("{count} more clients hold nothing {place}.")),
         };
-        let more = self.held.next.map(|next| format!(" From {next} on there is more to see."));
-        (others + &more.unwrap_or_default()).trim_start().to_string()
+        let unseen = match unseen.len() {
+            0 => None,
+            1 => Some("1 client was not looked at yet.".to_string()),
+            count => Some(format!("{count} clients were not looked at yet.")),
+        };
+        let more = self.held.next.map(|next| format!("From {next} on there is more to see."));
+        [seen, unseen, more].into_iter().flatten().collect::<Vec<_>>().join(" ")
     }
+}
+
+/// What is asked at this path for the picture of a part.
+pub fn link(path: &str, part: &Range<u64>) -> String {
+    format!("{path}?lo={}&amp;hi={}", part.start, part.end)
 }
 
 /// The pattern of waits.
@@ -187,16 +201,6 @@ fn legend(svg: &mut Markup) {
     ));
 }
 
-/// The class of a mode.
-fn class(mode: &str) -> &'static str {
-    match mode {
-        _ if mode.contains('X') => "writes",
-        _ if mode.ends_with('U') => "updates",
-        _ if mode.contains("I-") => "inserts",
-        _ => "reads",
-    }
-}
-
 fn bar(axis: &Axis, run: &HeldRun, y: f64) -> String {
     let x = axis.x(run.lo);
     let width = (axis.x(run.hi) - x - 1.0).max(1.0);
@@ -204,7 +208,7 @@ fn bar(axis: &Axis, run: &HeldRun, y: f64) -> String {
         "<rect x=\"{x:.1}\" y=\"{:.0}\" width=\"{width:.1}\" height=\"14\" class=\"held {}\">\
          <title>{}</title></rect>",
         y + 3.0,
-        class(run.mode.name()),
+        modes::class(run.mode),
         run_in_words(run)
     )
 }
@@ -225,12 +229,14 @@ fn run_in_words(run: &HeldRun) -> String {
     let HeldRun { lo, hi, client, mode, slots, .. } = *run;
     let end = end_in_words(hi);
     let count = if slots == 1 { "1 slot".to_string() } else { format!("{slots} slots") };
-    format!("client {client} holds {count} from {lo} below {end} in {mode}")
+    let mode = modes::words_and_name(mode);
+    format!("client {client} {mode} {count} from {lo} below {end}")
 }
 
 fn wait_in_words(wait: &Wait) -> String {
     let Wait { client, point, hi, mode, waited, waits_for, .. } = wait;
     let (whom, end, waited) = (list(waits_for), end_in_words(*hi), brief(*waited));
+    let mode = modes::words_and_name(*mode);
     format!("client {client} waits for {whom}: {mode} from {point} below {end}, for {waited}")
 }
 

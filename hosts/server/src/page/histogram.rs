@@ -22,6 +22,14 @@ pub fn svg(name: &str, counts: &Counts) -> String {
         summary(name, counts),
         WIDTH - LEFT
     ));
+    if counts.count > 0 {
+        let (y, end) = (FLOOR - HIGHEST, WIDTH - LEFT);
+        svg.add(format_args!(
+            "<line x1=\"{LEFT}\" x2=\"{end}\" y1=\"{y}\" y2=\"{y}\" class=\"edge\"/>\
+             <text x=\"{end}\" y=\"{}\" text-anchor=\"end\" class=\"note\">{most}</text>",
+            y + 11.0
+        ));
+    }
     for (place, (bound, count)) in buckets.iter().enumerate() {
         let (x, height) = (LEFT + step * number(place), HIGHEST * share(*count, most));
         let up_to = bound.map_or_else(|| "more".to_string(), |it| format!("up to {}", time(it)));
@@ -50,7 +58,7 @@ pub fn svg(name: &str, counts: &Counts) -> String {
 pub fn summary(name: &str, counts: &Counts) -> String {
     match counts.count {
         0 => format!("{name}: none"),
-        count => format!("{name}: {count}, 99 percent within {}", percentile(counts)),
+        count => format!("{name}: 99 percent within {}, of {count}", percentile(counts)),
     }
 }
 
@@ -108,10 +116,11 @@ mod tests {
             count: all,
             sum: 0,
         };
-        assert_eq!(summary("grant", &counts(99, 100)), "grant: 100, 99 percent within 500 \u{b5}s");
-        assert_eq!(summary("grant", &counts(98, 100)), "grant: 100, 99 percent within 2 s");
+        let grants = |within| summary("grant", &counts(within, 100));
+        assert_eq!(grants(99), "grant: 99 percent within 500 \u{b5}s, of 100");
+        assert_eq!(grants(98), "grant: 99 percent within 2 s, of 100");
         assert_eq!(summary("grant", &Counts::default()), "grant: none");
         let beyond = Counts { buckets: vec![(10, 0)], count: 1, sum: 0 };
-        assert_eq!(summary("grant", &beyond), "grant: 1, 99 percent within more than 10 s");
+        assert_eq!(summary("grant", &beyond), "grant: 99 percent within more than 10 s, of 1");
     }
 }

@@ -52,6 +52,8 @@ pub struct Held {
     /// Where the points begin for which nothing is shown, if there are more runs than a picture
     /// has.
     pub next: Option<u64>,
+    /// The clients that were looked at.
+    pub seen: Vec<u8>,
     /// How old the oldest part of what was seen is; none if not all clients were seen.
     pub age: Option<Duration>,
 }
@@ -279,7 +281,7 @@ impl View {
         let mut runs: Vec<_> = self.seen.values().flat_map(|seen| &seen.runs).copied().collect();
         let next = cut(&mut runs, MOST);
         let age = oldest.map(|oldest| now.saturating_duration_since(oldest));
-        Held { runs, next, age }
+        Held { runs, next, seen: self.seen.keys().copied().collect(), age }
     }
 }
 

@@ -1,12 +1,12 @@
 //! The page of a server, as HTML.
-use super::held_picture::{HeldPicture, is_silent};
+use super::held_picture::{self, HeldPicture, is_silent};
 use super::looks::Held;
 use super::markup::{Markup, escape, list};
-use super::{histogram, waits_picture};
+use super::{histogram, modes, waits_picture};
 use crate::clients::{self, brief, end_in_words, lease_in_words};
 use crate::locks;
 use crate::recent::{Histograms, Rates};
-use krl::{LeaseLeft, Status};
+use krl::{LeaseLeft, Status, Wait};
 use std::ops::Range;
 use std::time::Duration;
 
@@ -55,15 +55,19 @@ impl Overview<'_> {
         let phase = phase(status);
         head.add(format_args!("<h1>krl</h1><p class=\"phase {phase}\">{phase}</p><dl>"));
         let mut figure = |name: &str, value: &str| {
-            head.add(format_args!("<div><dt>{name}</dt><dd>{}</dd></div>", escape(value)));
+            let name = head_with_meaning("dt", name);
+            head.add(format_args!("<div>{name}<dd>{}</dd></div>", escape(value)));
         };
-        figure("epoch", &status.epoch.to_string());
-        figure("rows", &format!("{} of {}", status.rows, status.room.rows()));
-        figure("reach", &format!("{} slots", status.reach));
-        figure("clients", &status.clients.len().to_string());
         figure("waiting", &waiting(status));
-        figure("evicted", &status.evicted.to_string());
-        figure("alarms", &(status.alarms_raised + status.store_alarms).to_string());
+        figure("clients", &status.clients.len().to_string());
+        figure("rows", &format!("{} of {}", status.rows, status.room.rows()));
+        figure("epoch", &status.epoch.to_string());
+        figure("reach", &format!("{} slots", status.reach));
+        let alarms = status.alarms_raised + status.store_alarms;
+        let counts = [("evicted", status.evicted), ("alarms", alarms)];
+        for (name, count) in counts.into_iter().filter(|(_, count)| *count > 0) {
+            figure(name, &count.to_string());
+        }
         if let Some(rates) = &self.rates {
             figure("messages", &format!("{} in a second", rate(rates.taken + rates.sent)));
             figure("changes", &format!("{} in a second", rate(rates.changes)));
@@ -177,9 +181,9 @@ impl Overview<'_> {
         let Histograms { commits, grants, releases, .. } = histograms;
         for (name, counts) in [("commit", commits), ("grant", grants), ("release", releases)] {
             part.add(format_args!(
-                "<figure>{}<figcaption class=\"note\">{}</figcaption></figure>",
-                histogram::svg(name, counts),
-                histogram::summary(name, counts)
+                "<figure><figcaption>{}</figcaption>{}</figure>",
+                histogram::summary(name, counts),
+                histogram::svg(name, counts)
             ));
         }
         part.add(format_args!("</div>"));
@@ -188,10 +192,10 @@ impl Overview<'_> {
 
     fn clients(&self) -> String {
         let mut part = Markup::default();
+        let heads = ["number", "waits for", "slots", "lease", "last word", "connected", "peer"];
+        let heads: String = heads.iter().map(|head| head_with_meaning("th", head)).collect();
         part.add(format_args!(
-            "<h2>Clients</h2><div class=\"wide\"><table><thead><tr><th>number</th><th>peer</th>\
-             <th>connected</th><th>last word</th><th>lease</th><th>slots</th><th>waits for</th>\
-             </tr></thead><tbody>"
+            "<h2>Clients</h2><div class=\"wide\"><table><thead><tr>{heads}</tr></thead><tbody>"
         ));
         for client in clients::of(self.status) {
             part.add(format_args!("{}", client_row(&client)));
@@ -254,8 +258,26 @@ fn waiting(status: &Status) -> String {
     let longest = status.waits.iter().map(|wait| wait.waited).max();
     longest.map_or_else(
         || "nobody".to_string(),
-        |longest| format!("{}, the longest for {}", status.waits.len(), brief(longest)),
+        |longest| format!("{}, up to {}", status.waits.len(), brief(longest)),
     )
+}
+
+/// What figures and columns mean whose names do not tell it.
+const MEANINGS: [(&str, &str); 6] = [
+    ("waiting", "how many clients wait for a lock, and for how long"),
+    ("epoch", "how many times a server has started over this store"),
+    ("reach", "how many slots one grant takes at most"),
+    ("slots", "how many rows the client has a lock on, each with the gap before it"),
+    ("lease", "how long the client may still answer from its cache"),
+    ("last word", "how long ago something last came from the client"),
+];
+
+/// The name of a figure or a column as an element, with its meaning as a hint.
+fn head_with_meaning(element: &str, name: &str) -> String {
+    match MEANINGS.iter().find(|(it, _)| *it == name) {
+        Some((_, meaning)) => format!("<{element} title=\"{meaning}\">{name}</{element}>"),
+        None => format!("<{element}>{name}</{element}>"),
+    }
 }
 
 fn rate(rate: f64) -> String {
@@ -278,13 +300,23 @@ fn client_row(client: &clients::Shown<'_>) -> String {
         "<tr{note}><td>{}</td><td>{}</td><td>{}</td><td>{}</td><td>{}</td><td>{}</td><td>{}</td>\
          </tr>",
         status.client,
-        escape(&client.peer().unwrap_or_else(|| "-".to_string())),
-        or_none(status.connection.map(|it| it.open_for)),
-        or_none(status.silent_for),
-        lease_in_words(status.lease),
+        waits_for(client),
         client.slots,
-        escape(&client.waits_in_words()),
+        lease_in_words(status.lease),
+        or_none(status.silent_for),
+        or_none(status.connection.map(|it| it.open_for)),
+        escape(&client.peer().unwrap_or_else(|| "-".to_string())),
     )
+}
+
+/// What the client waits for, with a link to that part of the picture.
+fn waits_for(client: &clients::Shown<'_>) -> String {
+    let Some(Wait { point, hi, mode, waited, waits_for, .. }) = client.wait else {
+        return escape(&client.waits_in_words());
+    };
+    let (whom, words) = (list(waits_for), modes::words_and_name(*mode));
+    let (link, waited) = (held_picture::link("/", &(*point..*hi)), brief(*waited));
+    format!("{whom}: <a href=\"{link}\">{words} at {point}</a>, for {waited}")
 }
 
 #[cfg(test)]

@@ -1,6 +1,8 @@
 //! The picture of who waits for whom, as SVG.
 use super::deadlocks::Deadlocks;
+use super::held_picture;
 use super::markup::{Markup, escape, list, number};
+use super::modes;
 use crate::clients::brief;
 use krl::Wait;
 use std::time::Duration;
@@ -69,11 +71,12 @@ pub fn alarms(waits: &[Wait]) -> Vec<String> {
 fn sentence(wait: &Wait) -> String {
     let Wait { client, point, mode, waited, waits_for, .. } = wait;
     let (whom, waited) = (list(waits_for), brief(*waited));
+    let mode = modes::words_and_name(*mode);
     format!("client {client} waits for {whom}: {mode} at {point}, for {waited}")
 }
 
 fn row(svg: &mut Markup, wait: &Wait, y: f64, deadlocks: &Deadlocks) {
-    let Wait { client, point, mode, waited, waits_for, .. } = wait;
+    let Wait { client, point, hi, mode, waited, waits_for, .. } = wait;
     let is_in_circle = waits_for.iter().any(|other| deadlocks.has_edge(*client, *other));
     let (class, arrow) = match (is_in_circle, *waited >= LONG) {
         (true, _) => ("wait deadlock", "arrow-deadlock"),
@@ -85,10 +88,13 @@ fn row(svg: &mut Markup, wait: &Wait, y: f64, deadlocks: &Deadlocks) {
     let ((from, to), width) = (ARROW, 1.5 + (waited.as_secs_f64() / 5.0).min(4.5));
     svg.add(format_args!(
         "<line x1=\"{from}\" x2=\"{to}\" y1=\"{y}\" y2=\"{y}\" stroke-width=\"{width:.1}\" \
-         marker-end=\"url(#{arrow})\"/><text x=\"{}\" y=\"{}\" class=\"over\">{mode} at {point}, \
-         {}</text>",
+         marker-end=\"url(#{arrow})\"/><a href=\"{}\"><text x=\"{}\" y=\"{}\" class=\"over\">\
+         <title>{}; show this part</title>{} at {point}, {}</text></a>",
+        held_picture::link("/", &(*point..*hi)),
         f64::midpoint(from, to),
         y - 5.0,
+        escape(&sentence(wait)),
+        modes::words(*mode),
         brief(*waited)
     ));
     for (place, other) in waits_for.iter().take(MOST).enumerate() {
@@ -127,9 +133,13 @@ mod tests {
         assert_eq!(svg.matches("<line ").count(), 2);
         assert!(svg.contains("<g class=\"wait\" data-client=\"11\">"), "{svg}");
         assert!(svg.contains("<g class=\"wait long\" data-client=\"12\">"), "{svg}");
-        assert!(svg.contains(">X at 120, 4.0 s</text>"), "{svg}");
-        let words = "client 11 waits for 3 and 5: X at 120, for 4.0 s. client 12 waits for 3: X at \
-                     120, for 40.0 s.";
+        let link = "<a href=\"/?lo=120&amp;hi=121\"><text x=\"122\" y=\"15\" class=\"over\">";
+        assert!(svg.contains(link), "{svg}");
+        let title =
+            "<title>client 11 waits for 3 and 5: writes (X) at 120, for 4.0 s; show this part";
+        assert!(svg.contains(&format!("{title}</title>writes at 120, 4.0 s</text>")), "{svg}");
+        let words = "client 11 waits for 3 and 5: writes (X) at 120, for 4.0 s. client 12 waits for 3: \
+                     writes (X) at 120, for 40.0 s.";
         assert!(svg.contains(&format!("<desc id=\"waits-text\">{words}</desc>")), "{svg}");
     }
 

@@ -77,6 +77,14 @@ pub const STORE: Key = Key {
                postgres://, a host and a database, without a password, and with \
                ?sslmode=verify-full, verify-ca, require or disable unless the host is this machine",
 };
+pub const CREATE: Key = Key {
+    name: "create",
+    flag: "--create",
+    variable: "KRL_CREATE",
+    id: "create",
+    default: "no",
+    expected: "yes or no",
+};
 pub const STATUS: Key = Key {
     name: "status",
     flag: "--status",

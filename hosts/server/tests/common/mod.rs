@@ -77,12 +77,16 @@ impl Serving {
         Serving::start_until(command, "ready")
     }
 
-    /// Starts a server, at free ports by default, and waits until it reports this.
+    /// Starts a server, at free ports by default, and waits until it reports this. It makes a store
+    /// if there is none.
     pub fn start_until(command: &mut Command, told: &str) -> Serving {
         for flag in ["--listen", "--status"] {
             if !command.get_args().any(|word| word == flag) {
                 command.args([flag, "127.0.0.1:0"]);
             }
+        }
+        if !command.get_args().any(|word| word.to_string_lossy().starts_with("--create")) {
+            command.arg("--create");
         }
         let words = ["--log-format", "json"];
         let mut process = command.args(words).stderr(Stdio::piped()).spawn().unwrap();

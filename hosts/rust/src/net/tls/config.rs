@@ -4,14 +4,16 @@ use crate::access::identity::TableName;
 use openssl::error::ErrorStack;
 use openssl::pkey::{PKey, Private};
 use openssl::ssl::{
-    SslContext, SslContextBuilder, SslMethod, SslOptions, SslSessionCacheMode, SslVerifyMode,
-    SslVersion,
+    SslContext, SslContextBuilder, SslContextRef, SslMethod, SslOptions, SslSessionCacheMode,
+    SslVerifyMode, SslVersion,
 };
+use openssl::stack::Stack;
+use openssl::x509::{X509, X509StoreContext, X509VerifyResult};
 use std::error::Error;
 use std::fmt;
 use std::fs;
 use std::path::{Path, PathBuf};
-use std::sync::{Arc, Mutex, PoisonError};
+use std::sync::{Arc, Mutex, MutexGuard, PoisonError};
 use std::time::{SystemTime, UNIX_EPOCH};
 
 /// What one side of a connection shows, and whom it believes.
@@ -62,6 +64,8 @@ struct Shared {
 struct Loaded {
     context: SslContext,
     own: Certificate,
+    /// Whether the authority has certified it, and why not.
+    certified: X509VerifyResult,
 }
 
 /// Where the certificates and the key are.
@@ -111,10 +115,10 @@ impl TlsConfig {
     ///
     /// # Errors
     ///
-    /// If the certificate is expired, not yet valid, or does not have the name `krl:server` of the
-    /// table.
+    /// If the certificate is expired, not yet valid, does not have the name `krl:server` of the
+    /// table, or is not certified by the authority.
     pub fn for_server(self) -> Result<TlsConfig, TlsError> {
-        self.judge(&self.certificate())?;
+        self.judge(&self.loaded())?;
         Ok(TlsConfig { is_of_server: true, ..self })
     }
 
@@ -128,28 +132,38 @@ impl TlsConfig {
     pub fn reload(&self) -> Result<(), TlsError> {
         let loaded = self.shared.files.read()?;
         if self.is_of_server {
-            self.judge(&loaded.own)?;
+            self.judge(&loaded)?;
         }
-        *self.shared.loaded.lock().unwrap_or_else(PoisonError::into_inner) = loaded;
+        *self.loaded() = loaded;
         Ok(())
     }
 
     /// The certificate that is shown now.
     #[must_use]
     pub fn certificate(&self) -> Certificate {
-        self.shared.loaded.lock().unwrap_or_else(PoisonError::into_inner).own.clone()
+        self.loaded().own.clone()
+    }
+
+    fn loaded(&self) -> MutexGuard<'_, Loaded> {
+        self.shared.loaded.lock().unwrap_or_else(PoisonError::into_inner)
     }
 
     /// Whether clients believe a server that shows this certificate now.
-    fn judge(&self, own: &Certificate) -> Result<(), TlsError> {
+    fn judge(&self, loaded: &Loaded) -> Result<(), TlsError> {
+        let own = &loaded.own;
         let now = SystemTime::now().duration_since(UNIX_EPOCH).unwrap_or_default();
         let now = i64::try_from(now.as_secs()).unwrap_or(i64::MAX);
-        let Some(unfit) = own.judge_for_server(self.table.as_ref(), now) else { return Ok(()) };
         let (path, subject) = (self.shared.files.certificate.display(), &own.subject);
-        let why = match unfit {
-            Unfit::Expired => format!("expired at {}", own.expires_at),
-            Unfit::NotYetValid => "is not valid yet: is the clock right?".to_string(),
-            Unfit::NoName => {
+        let why = match own.judge_for_server(self.table.as_ref(), now) {
+            None if loaded.certified == X509VerifyResult::OK => return Ok(()),
+            None => format!(
+                "is not certified by the authority {}: {}",
+                self.shared.files.authority.display(),
+                loaded.certified.error_string()
+            ),
+            Some(Unfit::Expired) => format!("expired at {}", own.expires_at),
+            Some(Unfit::NotYetValid) => "is not valid yet: is the clock right?".to_string(),
+            Some(Unfit::NoName) => {
                 let at = self.table.as_ref().map(|table| format!("@{table}"));
                 let named = if own.names.is_empty() { "none".into() } else { own.names.join(", ") };
                 let at = at.unwrap_or_default();
@@ -161,7 +175,7 @@ impl TlsConfig {
     }
 
     pub(super) fn context(&self) -> SslContext {
-        self.shared.loaded.lock().unwrap_or_else(PoisonError::into_inner).context.clone()
+        self.loaded().context.clone()
     }
 
     pub(super) fn table(&self) -> Option<&TableName> {
@@ -192,8 +206,25 @@ impl TlsFiles {
         let own = context.certificate().map(Certificate::of).transpose();
         let own = own.map_err(bad_file("certificate", certificate))?;
         let own = own.ok_or_else(|| bad_file("certificate", certificate)(ErrorStack::get()))?;
-        Ok(Loaded { context, own })
+        let certified =
+            verify_own(&context, certificate).map_err(bad_file("certificate", certificate))?;
+        Ok(Loaded { context, own, certified })
     }
+}
+
+/// Whether those who believe the authority of the context believe the first certificate of the file,
+/// by those after it.
+fn verify_own(context: &SslContextRef, path: &Path) -> Result<X509VerifyResult, ErrorStack> {
+    let mut chain = Stack::new()?;
+    let mut shown = X509::stack_from_pem(&fs::read(path).unwrap_or_default())?.into_iter();
+    let Some(own) = shown.next() else { return Ok(X509VerifyResult::APPLICATION_VERIFICATION) };
+    for certificate in shown {
+        chain.push(certificate)?;
+    }
+    X509StoreContext::new()?.init(context.cert_store(), &own, &chain, |it| {
+        it.verify_cert()?;
+        Ok(it.error())
+    })
 }
 
 /// Reads a key. One with a pass phrase is refused: nobody can be asked for it.

@@ -5,7 +5,8 @@ use crate::store::sqlite::checksum::{self, Checksum};
 use crate::store::sqlite::copy::part::Part;
 use crate::store::sqlite::version::{self, Found, VERSION, look};
 use crate::store::sqlite::{self, SqliteStore};
-use rusqlite::{Connection, OpenFlags};
+use rusqlite::config::DbConfig;
+use rusqlite::{Connection, ErrorCode, OpenFlags};
 use std::ffi::OsString;
 use std::fs::File;
 use std::io::{self, ErrorKind, Read};
@@ -117,8 +118,8 @@ impl SqliteStore {
 const FIRST_BYTES: u64 = 100;
 
 /// A store whose server has ended in order has no log, or an empty one. Then the file is opened as
-/// one to which nobody writes, and SQLite leaves no files next to it. A log that has something in
-/// it is read too. A server that runs has one, and keeps others off.
+/// one to which nobody writes. A log that has something in it is read too. A server that runs has
+/// one, and keeps others off. SQLite leaves no files next to it in either case.
 fn open_to_read(path: &Path) -> Result<Connection, StoreError> {
     if let Err(error) = path.metadata() {
         return Err(StoreError::says(&match error.kind() {
@@ -129,10 +130,28 @@ fn open_to_read(path: &Path) -> Result<Connection, StoreError> {
     let flags = OpenFlags::SQLITE_OPEN_READ_ONLY | OpenFlags::SQLITE_OPEN_NO_MUTEX;
     let log = beside(path, "-wal").metadata();
     if log.is_ok_and(|file| file.len() > 0) {
-        return Ok(Connection::open_with_flags(path, flags)?);
+        return match open_with_log(path) {
+            Err(error) if error.sqlite_error_code() != Some(ErrorCode::DatabaseBusy) => {
+                // It may not be written.
+                Ok(Connection::open_with_flags(path, flags)?)
+            }
+            opened => Ok(opened?),
+        };
     }
     let uri = format!("file:{}?immutable=1", percent_encoded(path));
     Ok(Connection::open_with_flags(uri, flags | OpenFlags::SQLITE_OPEN_URI)?)
+}
+
+/// Opens a file with a log, and writes to neither of them. Nobody else may open it meanwhile, so that
+/// SQLite keeps the index of the log in memory: on a full disk there is no room for a file of it.
+fn open_with_log(path: &Path) -> rusqlite::Result<Connection> {
+    let flags = OpenFlags::SQLITE_OPEN_READ_WRITE | OpenFlags::SQLITE_OPEN_NO_MUTEX;
+    let connection = Connection::open_with_flags(path, flags)?;
+    connection.set_db_config(DbConfig::SQLITE_DBCONFIG_NO_CKPT_ON_CLOSE, true)?;
+    connection.pragma_update(None, "query_only", true)?;
+    connection.pragma_update(None, "locking_mode", "EXCLUSIVE")?;
+    connection.query_row("PRAGMA schema_version", [], |_| Ok(()))?;
+    Ok(connection)
 }
 
 /// The path as a part of a URI.
@@ -331,7 +350,10 @@ pub(crate) mod tests {
         std::fs::copy(&file, &killed).unwrap();
         std::fs::copy(beside(&file, "-wal"), beside(&killed, "-wal")).unwrap();
         drop(store);
+        let bytes = || [&killed, &beside(&killed, "-wal")].map(|it| std::fs::read(it).unwrap());
+        let (before, names) = (bytes(), folder.names());
         assert_eq!(SqliteStore::read(&killed).unwrap().snapshot.epoch, 7);
+        assert!(bytes() == before && folder.names() == names);
         std::fs::remove_file(&killed).unwrap();
         let names = folder.names();
         assert_eq!(SqliteStore::read(&file).unwrap().snapshot.epoch, 7);

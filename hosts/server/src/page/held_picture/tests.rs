@@ -27,7 +27,7 @@ fn run(client: u8, lo: u64, hi: u64, mode: Mode) -> HeldRun {
 
 fn held(next: Option<u64>) -> Held {
     let runs = vec![run(3, 0, 20, Mode::RangeSS), run(5, 20, END + 1, Mode::RangeSU)];
-    Held { runs, next, age: Some(Duration::ZERO) }
+    Held { runs, next, seen: (0..64).collect(), age: Some(Duration::ZERO) }
 }
 
 fn svg(waits: &[Wait], next: Option<u64>) -> String {
@@ -43,15 +43,20 @@ fn each_client_that_holds_or_waits_has_a_row() {
     assert!(svg.contains("<g class=\"client fades\" data-client=\"5\">"), "it is silent: {svg}");
     assert!(svg.contains(">silent for 6.0 s, lease 9.0 s</text>"), "{svg}");
     assert!(svg.contains(">10.0.0.5:41234</text>"), "{svg}");
-    assert!(svg.contains("class=\"held reads\"><title>client 3 holds 2 slots from 0 below 20"));
-    assert!(svg.contains("class=\"held updates\"><title>client 5 holds 2 slots from 20 below END"));
+    assert!(svg.contains(
+        "class=\"held reads\"><title>client 3 reads (RangeS-S) 2 slots from 0 below 20<"
+    ));
+    assert!(svg.contains(
+        "class=\"held updates\"><title>client 5 reads, writes next (RangeS-U) 2 slots from"
+    ));
     assert!(svg.contains(">1 more client holds nothing here.</text>"), "{svg}");
 }
 
 #[test]
 fn a_wait_is_hatched_and_one_in_a_circle_is_marked() {
     let chain = svg(&[wait(3, &[5])], None);
-    let title = "<title>client 3 waits for 5: RangeX-X from 20 below 21, for 4.5 s</title>";
+    let title =
+        "<title>client 3 waits for 5: writes (RangeX-X) from 20 below 21, for 4.5 s</title>";
     assert!(chain.contains(&format!("class=\"waits\">{title}")), "{chain}");
     assert!(!chain.contains("deadlock"));
     let circle = svg(&[wait(3, &[5]), wait(5, &[3])], None);
@@ -61,20 +66,42 @@ fn a_wait_is_hatched_and_one_in_a_circle_is_marked() {
 #[test]
 fn the_picture_is_told_in_words() {
     let svg = svg(&[wait(3, &[5])], None);
-    let text = "client 3 holds 2 slots from 0 below 20 in RangeS-S. client 5 holds 2 slots from 20 \
-                below END in RangeS-U. client 3 waits for 5: RangeX-X from 20 below 21, for 4.5 s.";
+    let text = "client 3 reads (RangeS-S) 2 slots from 0 below 20. client 5 reads, writes next \
+                (RangeS-U) 2 slots from 20 below END. client 3 waits for 5: writes (RangeX-X) from 20 \
+                below 21, for 4.5 s.";
     assert!(svg.contains(&format!("<desc id=\"held-text\">{text}</desc>")), "{svg}");
-    let nobody = Held::default();
     let status = status(Vec::new());
-    let picture = HeldPicture { status: &status, held: &nobody, points: 0..10, path: "/" };
-    assert_eq!(picture.text(), "Nobody holds anything here.");
-    assert!(picture.parts().is_empty());
+    for (age, text) in [
+        (Some(Duration::ZERO), "Nobody holds anything here."),
+        (None, "Nobody was seen to hold anything here yet."),
+    ] {
+        let nobody = Held { age, ..Held::default() };
+        let picture = HeldPicture { status: &status, held: &nobody, points: 0..10, path: "/" };
+        assert_eq!(picture.text(), text);
+        assert!(picture.parts().is_empty());
+    }
+}
+
+/// Of a client that was not looked at nothing is known.
+#[test]
+fn a_client_that_was_not_looked_at_is_not_told_to_hold_nothing() {
+    let status = status(Vec::new());
+    for (seen, told) in [
+        (vec![9], ">1 more client holds nothing here. 2 clients were not looked at yet.</text>"),
+        (vec![3, 9], ">2 more clients hold nothing here. 1 client was not looked at yet.</text>"),
+        (vec![], ">3 clients were not looked at yet.</text>"),
+    ] {
+        let held = Held { seen, ..Held::default() };
+        let picture = HeldPicture { status: &status, held: &held, points: 0..10, path: "/" };
+        assert!(picture.svg("").contains(told), "{told}: {}", picture.svg(""));
+    }
 }
 
 #[test]
 fn what_is_left_out_is_named() {
     let svg = svg(&[], Some(70));
-    assert!(svg.contains("From 70 on there is more to see.</text>"), "{svg}");
+    let told = ">1 more client holds nothing below 70. From 70 on there is more to see.</text>";
+    assert!(svg.contains(told), "{svg}");
 }
 
 #[test]
@@ -88,21 +115,4 @@ fn a_part_with_edges_inside_has_a_picture_of_its_own() {
     let part = &parts[0];
     let link = format!("href=\"/?lo={}&amp;hi={}\"", part.start, part.end);
     assert!(picture.svg("").contains(&link), "{link}");
-}
-
-#[test]
-fn modes_have_colors() {
-    for (mode, color) in [
-        ("S", "reads"),
-        ("RangeS-S", "reads"),
-        ("U", "updates"),
-        ("RangeS-U", "updates"),
-        ("RangeI-N", "inserts"),
-        ("RangeI-S", "inserts"),
-        ("RangeI-X", "writes"),
-        ("RangeX-S", "writes"),
-        ("X", "writes"),
-    ] {
-        assert_eq!(class(mode), color, "{mode}");
-    }
 }

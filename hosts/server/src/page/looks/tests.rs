@@ -47,6 +47,7 @@ fn a_look_goes_on_until_it_is_whole_and_then_rests() {
     views.take(1, &(0..9), begun, Ok(page(0..3)), after(10));
     let held = views.held(1, &(0..9), after(20)).unwrap();
     assert_eq!((held.runs.len(), held.age), (3, None), "it is not whole");
+    assert_eq!(held.seen, [0, 1, 2]);
     assert!(!views.shows(1, &(0..9), after(20)) && views.shows(1, &(0..9), start + FIRST));
     assert_eq!(looks_at(views.next(after(30))), 9);
     views.take(1, &(0..9), done.clone(), Ok(page(3..64)), after(40));

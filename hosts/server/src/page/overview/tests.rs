@@ -48,10 +48,10 @@ fn the_head_has_the_state() {
     let html = html(&serving());
     for figure in [
         "<p class=\"phase serving\">serving</p>",
-        "<dt>epoch</dt><dd>7</dd>",
+        " started over this store\">epoch</dt><dd>7</dd>",
         "<dt>rows</dt><dd>41 of 65536</dd>",
         "<dt>clients</dt><dd>2</dd>",
-        "<dt>waiting</dt><dd>nobody</dd>",
+        ">waiting</dt><dd>nobody</dd>",
         "<dt>messages</dt><dd>3.5 in a second</dd>",
         "<dt>changes</dt><dd>40 in a second</dd>",
         "<dt>certificate</dt><dd>23 days more</dd>",
@@ -61,6 +61,7 @@ fn the_head_has_the_state() {
         assert!(html.contains(figure), "{figure}: {html}");
     }
     assert!(!html.contains("class=\"alarm\"") && !html.contains("id=\"recovery\""), "{html}");
+    assert!(!html.contains("<dt>evicted</dt>") && !html.contains("<dt>alarms</dt>"), "{html}");
 }
 
 #[test]
@@ -75,7 +76,9 @@ fn what_is_wrong_is_an_alarm() {
         "Alarm: the report of client 3 contradicts",
         "Alarm: the store lacks what clients have seen",
         "Deadlock: the clients 3 and 7 wait for each other",
-        "<dt>waiting</dt><dd>2, the longest for 4.5 s</dd>",
+        ">waiting</dt><dd>2, up to 4.5 s</dd>",
+        "<dt>alarms</dt><dd>1</dd>",
+        "<td>7: <a href=\"/?lo=5&amp;hi=6\">writes (X) at 5</a>, for 4.5 s</td>",
         "<p class=\"phase ended\">ended</p>",
     ] {
         assert!(html.contains(told), "{told}: {html}");
@@ -110,7 +113,7 @@ fn an_old_look_is_told_and_so_is_none() {
 fn a_part_has_links_to_its_parts_and_to_the_whole() {
     let run = |at: u64| krl::HeldRun::new(3, at..at + 1, Mode::X, 1);
     let runs = (0..100).map(|at| run((1 << 60) + at)).collect();
-    let held = Held { runs, next: Some(1 << 61), age: Some(Duration::ZERO) };
+    let held = Held { runs, next: Some(1 << 61), ..held() };
     let status = serving();
     let page = Overview { points: 5..1 << 62, ..overview(&status, &held) }.html();
     for link in [
@@ -130,7 +133,7 @@ fn times_are_pictures() {
     let page = Overview { histograms: Some(histograms), ..overview(&status, &held) };
     let html = page.html();
     assert!(html.contains("in the last 5 min"), "{html}");
-    assert!(html.contains(">commit: 9, 99 percent within 500 \u{b5}s</figcaption>"), "{html}");
+    assert!(html.contains(">commit: 99 percent within 500 \u{b5}s, of 9</figcaption>"), "{html}");
     assert!(html.contains(">grant: none</figcaption>"), "{html}");
 }
 
