@@ -104,7 +104,7 @@ fn a_merge_makes_the_whole_store() {
 
 #[test]
 fn an_import_writes_all_rows_once() {
-    let lines: String = (20..40).map(|key| format!("{key},v{key}\n")).collect();
+    let lines = (20..40).map(|key| format!("{key},v{key}\n")).collect::<Vec<_>>().concat();
     let words = ["import", "rows.csv", "--store", "krl.db"];
     for (there, is_made) in [(0..0, false), (0..20, true)] {
         let prepare = |folder: &Path| {

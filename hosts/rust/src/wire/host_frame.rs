@@ -313,7 +313,7 @@ mod tests {
             FromServer::Refused(Refusal::Incarnation { client: 3, registered: 258 }).frame(),
         ];
         let hexadecimal = |frame: &Vec<u8>| -> String {
-            frame.iter().map(|byte| format!("{byte:02x}")).collect()
+            frame.iter().map(|byte| format!("{byte:02x}")).collect::<Vec<_>>().concat()
         };
         let expected: Vec<String> = frames.iter().map(hexadecimal).collect();
         assert_eq!(examples, expected);
