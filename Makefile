@@ -1,5 +1,4 @@
-# Builds, installs and packs what a user of krl needs. It proves nothing: the proved library is the committed one, or
-# the one that LIBRARY has, with KIT, the folder `c` of the Rattle kit.
+# Builds, installs and packs what a user of krl needs. It proves nothing: the proved library is the committed one.
 #
 #     make                        builds the programs in Rust, and the client for C
 #     make install PREFIX=/usr    puts them, the headers and the libraries there; DESTDIR stands before it
@@ -8,31 +7,28 @@
 #     make wheel                  makes a wheel of the client for Python in OUT
 PREFIX = /usr/local
 TARGET = $(CURDIR)/hosts/target
-LIBRARY = $(TARGET)/rules
-KIT = $(LIBRARY)
+LIBRARY = $(TARGET)/library
 OUT = $(CURDIR)/dist
 # The crates come from Debian's packages if all of them are installed, as in ./krl serve.
 CARGO_FLAGS = $(shell hosts/packaging/requirements debian && echo --config debian.toml)
 CARGO = cargo
 
-# The committed library as an archive, if no other is named.
-$(TARGET)/rules: hosts/rust/rules/x86_64-linux.s
-	hosts/packaging/library fits && hosts/packaging/library make $@ && touch $@
-
 # The client for C is built by itself: together with the server it would need what only the server does.
-all: $(LIBRARY)
-	cd hosts && export KRL_LIBRARY=$(LIBRARY) KRL_KIT_C=$(KIT) CARGO_TARGET_DIR=$(TARGET) && \
+all:
+	hosts/packaging/library fits
+	hosts/packaging/library make $(LIBRARY)
+	cd hosts && export CARGO_TARGET_DIR=$(TARGET) && \
 	    $(CARGO) build --release $(CARGO_FLAGS) -p krl-server -p krl-client -p krl-cache-admin && \
 	    $(CARGO) build --release $(CARGO_FLAGS) -p krl-client-c --lib
 
 install: all
-	LIBRARY=$(LIBRARY) KIT=$(KIT) PROGRAMS=$(TARGET)/release hosts/packaging/install $(DESTDIR)$(PREFIX)
+	LIBRARY=$(LIBRARY) PROGRAMS=$(TARGET)/release hosts/packaging/install $(DESTDIR)$(PREFIX)
 
 dist: all
-	LIBRARY=$(LIBRARY) KIT=$(KIT) PROGRAMS=$(TARGET)/release hosts/packaging/archive $(OUT)
+	LIBRARY=$(LIBRARY) PROGRAMS=$(TARGET)/release hosts/packaging/archive $(OUT)
 
 deb: all
-	LIBRARY=$(LIBRARY) KIT=$(KIT) PROGRAMS=$(TARGET)/release hosts/packaging/debian-package $(OUT)
+	LIBRARY=$(LIBRARY) PROGRAMS=$(TARGET)/release hosts/packaging/debian-package $(OUT)
 
 wheel: all
 	hosts/packaging/wheel $(TARGET)/release/libkrl_client.so $(OUT)

@@ -1,8 +1,8 @@
 # Part of the launcher, ./krl, which reads it: how the server and the client are built and run.
 # shellcheck shell=sh disable=SC2154
 
-# What they are made of, and where cargo leaves them. The library that is proved here comes before the committed one.
-library=${KRL_LIBRARY-$top/crates/krl_embed/out}/libkrl_embed.a
+# What they are made of, and where cargo leaves them.
+proved=$top/crates/krl_embed/out/libkrl_embed.a
 committed=$top/hosts/rust/rules/x86_64-linux.s
 target=${CARGO_TARGET_DIR-$top/hosts/target}
 requirements=$top/hosts/packaging/requirements
@@ -15,43 +15,31 @@ is_newest() {
         -o -type f -newer "$newest" -print | head -n 1)" ]
 }
 
-# The folders of the crates that the library is made of.
-library_folders() {
-    made_of krl_embed | sed "s|^|$top/crates/|"
-}
-
-# Whether the library is made, and none of its sources is newer. A library that KRL_LIBRARY names is taken as it is.
-has_library() {
-    if [ -n "${KRL_LIBRARY-}" ]; then
-        [ -f "$library" ] && return
-        say "there is no $library, and KRL_LIBRARY names its folder"
-        exit 1
-    fi
+# Whether the file $1 is there, and no source of the library is newer.
+is_newer_than_sources() {
     # The names of crates have no spaces, but the folder of the tree may have some.
     (
         IFS='
 '
         # shellcheck disable=SC2046
-        is_newest "$library" "$top/crates.txt" $(library_folders)
+        is_newest "$1" "$top/crates.txt" $(made_of krl_embed | sed "s|^|$top/crates/|")
     )
 }
 
-# Whether the committed library may be taken: nobody asks for a proof, and it is of the sources as they stand. What it
-# is made of is left in $made_of_what.
-may_take_committed() {
-    [ -z "$asked" ] && [ "$(uname -m)" = x86_64 ] && made_of_what=$("$top/hosts/packaging/library" fits)
-}
-
-# Proves and makes the library.
+# Proves the library and makes it, and writes it as the committed one.
 make_library() {
-    say "proving the library: some 20 minutes on four processors the first time, less after an edit"
-    prove_below krl_embed
-    call_rt "$top/crates/krl_embed" krl_embed lib || {
-        say "the library is not made; the lines above show why"
-        exit 1
-    }
-    touch "$library"
-    say "the library is proved and made, in $(minutes)"
+    if ! is_newer_than_sources "$proved"; then
+        "$requirements" proof || exit 1
+        say "proving the library: some 20 minutes on four processors the first time, less after an edit"
+        prove_below krl_embed
+        call_rt "$top/crates/krl_embed" krl_embed lib || {
+            say "the library is not made; the lines above show why"
+            exit 1
+        }
+        touch "$proved"
+        say "the library is proved and made, in $(minutes)"
+    fi
+    "$top/tests/library" --taken --write || exit 1
 }
 
 # Builds the server and the client. Both at once: by itself the client would need half of the crates again, with other
@@ -97,31 +85,32 @@ run() {
 }
 
 # Builds the program $1 if it is older than the library or than what lies in the folders after it. What is missing for
-# that is reported before the proof begins.
+# that is reported before a proof begins.
 build_if_older() {
     host=$1
     shift
     program=$target/release/$host
-    if has_library; then
-        ! is_newest "$program" "$library" "$hosts/Cargo.toml" "$@" || return 0
-        "$requirements" build kit || exit 1
-        take_library
-    elif may_take_committed; then
-        ! is_newest "$program" "$committed" "$hosts/Cargo.toml" "$@" || return 0
-        "$requirements" build || exit 1
-        say "$made_of_what; './krl --prove $given' proves it here"
-    else
-        "$requirements" proof || exit 1
-        make_library
-        take_library
-    fi
+    find_library
+    ! is_newest "$program" "$library" "$hosts/Cargo.toml" "$@" || return 0
+    "$requirements" build || exit 1
+    [ -z "$made_of_what" ] || say "$made_of_what; './krl --prove $given' proves it here"
     build_hosts
 }
 
-# Has cargo take the library that is proved here, or named, and not the committed one.
-take_library() {
-    KRL_LIBRARY=${library%/*}
-    export KRL_LIBRARY
+# Names in $library the file that cargo links. A library that KRL_LIBRARY names is taken as it is. Otherwise it is the
+# committed one: if a proof is asked for, or if it was made of other sources, it is proved and made first.
+find_library() {
+    library=$committed made_of_what=
+    if [ -n "${KRL_LIBRARY-}" ]; then
+        library=$KRL_LIBRARY/libkrl.a
+        [ -f "$library" ] && return
+        say "there is no $library, and KRL_LIBRARY names its folder"
+        exit 1
+    fi
+    # Nothing has changed since the program was built.
+    [ -n "$asked" ] || ! is_newer_than_sources "$program" || return 0
+    [ -z "$asked" ] && made_of_what=$("$top/hosts/packaging/library" fits) && return
+    make_library
 }
 
 # If help is asked for of a program that is not built, names where else it is: nobody waits for a build to read it.

@@ -8,8 +8,8 @@
 # half a minute each. TURNS and MILLISECONDS name how often each way has its turn, and how long (5 and 2000). THREADS
 # names how many threads each of the four processes has (1).
 #
-# For KRL_LIBRARY, KRL_KIT_C and CARGO_TARGET_DIR see tests/hosts. It needs Debian's packages redis-server and
-# postgresql. All data lie in a folder under TMPDIR, or /tmp, which is gone when this ends.
+# It needs Debian's packages redis-server and postgresql. All data lie in a folder under TMPDIR, or /tmp, which is gone
+# when this ends.
 set -eu
 
 here=$(cd -- "$(dirname -- "$0")" && pwd)

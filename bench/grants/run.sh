@@ -4,21 +4,19 @@
 #
 #     bench/grants/run.sh [LIBRARY..]
 #
-# A LIBRARY is a folder with a libkrl_embed.a, and its label in the tables; several take turns, so that a busy machine
-# is as busy for each. Without words it is the one of crates/krl_embed/out. It takes a C compiler, and the kit's parts
-# of the C library (KRL_KIT_C, or where rt is).
+# A LIBRARY is a libkrl.a, and its label in the tables; several take turns, so that a busy machine is as busy for each.
+# By default it is the committed one. It takes a C compiler.
 set -eu
 
 here=$(CDPATH='' cd -- "$(dirname -- "$0")" && pwd)
 top=$here/../..
-kit=${KRL_KIT_C-$(dirname -- "$(rt doc)")/c}
-[ $# -gt 0 ] || set -- "$top/crates/krl_embed/out"
+[ $# -gt 0 ] || set -- "$top/hosts/rust/rules/x86_64-linux.s"
 work=$(mktemp -d)
 trap 'rm -rf "$work"' EXIT
 for library; do
     mkdir -p "$work/$library"
-    cc -O2 -std=c11 -Wall -Wextra -Wpedantic -I "$top/crates/krl_embed" "$here/grants.c" "$library/libkrl_embed.a" \
-        "$kit/libos_c.a" "$kit/liblibc_c.a" -lpthread -lm -o "$work/$library/grants"
+    cc -O2 -std=c11 -Wall -Wextra -Wpedantic -I "$top/crates/krl_embed" "$here/grants.c" "$library" -lpthread \
+        -lm -o "$work/$library/grants"
 done
 
 echo '| Library | Reach | Rows | Requests | first scan, ns | giving back, ns |'

@@ -1,10 +1,9 @@
 #!/bin/sh
 # A server of a million entries: what each phase of its life takes, and how the cost of a message grows up to there.
 #
-#   bench/million/run.sh [LIBRARY [ROUNDS]]    needs cc, rustc, and rt on the path; minutes, and 1 GB of memory
+#   bench/million/run.sh [LIBRARY [ROUNDS]]    needs cc and rustc; minutes, and 1 GB of memory
 #
-# LIBRARY is a libkrl_embed.a; if none is given, that of crates/krl_embed/out, which `rt lib` makes there. There are
-# five rounds by default.
+# LIBRARY is a libkrl.a, by default the committed one. There are five rounds by default.
 #
 # The first table is of phases.c, one server and 64 clients in one process, which hand each message over in memory: the
 # least seconds of a phase, of processor time and on the wall, and the most memory at its end, in kilobytes.
@@ -34,15 +33,14 @@ set -eu
 
 here=$(CDPATH='' cd -- "$(dirname -- "$0")" && pwd)
 embed=$here/../../crates/krl_embed
-library=${1-$embed/out/libkrl_embed.a}
+library=${1-$here/../../hosts/rust/rules/x86_64-linux.s}
 rounds=${2-5}
-kit=$(dirname -- "$(rt doc)")
 room=$(mktemp -d)
 trap 'rm -rf "$room"' EXIT
 
 # Makes the program $2 of the file $1.
 compile() {
-    cc -std=c11 -O2 -Wall -Wextra -Werror -I "$embed" "$here/$1" "$library" "$kit/c/liblibc_c.a" -o "$room/$2"
+    cc -std=c11 -O2 -Wall -Wextra -Werror -I "$embed" "$here/$1" "$library" -o "$room/$2"
 }
 
 compile phases.c phases

@@ -3,8 +3,7 @@
 # second: by the gate of the Rust host, and by a mutex around the same client. It prints the table of
 # docs/BENCH_HOSTS.md.
 #
-#   bench/readers/run.sh [ROUNDS]      100 rounds of 4 ms by default; for KRL_LIBRARY, KRL_KIT_C and
-#                                      CARGO_TARGET_DIR see tests/hosts
+#   bench/readers/run.sh [ROUNDS]      100 rounds of 4 ms by default
 #
 # The server, both clients and their messages are in one process, without a network. The two worlds take turns, and
 # each figure is the best round. The threads scan at places that no processor can guess, among 1,000 rows. Next to the

@@ -14,12 +14,11 @@
 # long reads and writes take as 1 to 16 clients make them, or as many as CLIENTS names (1,2,4,8,16), prints that as CSV,
 # and draws it into the file PLOT as SVG.
 #
-# For KRL_LIBRARY, KRL_KIT_C and CARGO_TARGET_DIR see tests/hosts. The rivals are taken where they are installed, from
-# Debian 12's packages redis-server, etcd-server and postgresql, and libhiredis-dev for Redis' own client; the others
-# are named as NOT RUN. What measures them is one program in Rust, `krl-rivals`, which speaks to each in its own
-# protocol. The caches of Redis and etcd are this project's own, since Debian has no client of them that keeps rows.
-# All data lie in a folder under TMPDIR, or /tmp, which is gone when this ends, and which has to be on the disk that is
-# to be measured.
+# The rivals are taken where they are installed, from Debian 12's packages redis-server, etcd-server and postgresql, and
+# libhiredis-dev for Redis' own client; the others are named as NOT RUN. What measures them is one program in Rust,
+# `krl-rivals`, which speaks to each in its own protocol. The caches of Redis and etcd are this project's own, since
+# Debian has no client of them that keeps rows. All data lie in a folder under TMPDIR, or /tmp, which is gone when this
+# ends, and which has to be on the disk that is to be measured.
 #
 # The systems take turns in each round. A figure is that of the best round, with the middle one in brackets.
 set -eu

@@ -1,25 +1,23 @@
 #!/bin/sh
 # What a scan of a client's own cache takes from C.
 #
-#   bench/scan/run.sh [LIBRARY..]     needs cc, and rt on the path; seconds
+#   bench/scan/run.sh [LIBRARY..]     needs cc; seconds
 #
-# LIBRARY is a libkrl_embed.a; if none is given, that of crates/krl_embed/out, which `rt lib` makes there. scan.c is
-# compiled with each, and they run by turns, five times each. A line gives the library, the bytes of a value, the
-# rows of a scan, and the least and the middle one of the five turns' middle ones, in nanoseconds of processor time for
-# a scan. The last line is the machine's load.
+# LIBRARY is a libkrl.a, by default the committed one. scan.c is compiled with each, and they run by turns, five times
+# each. A line gives the library, the bytes of a value, the rows of a scan, and the least and the middle one of the five
+# turns' middle ones, in nanoseconds of processor time for a scan. The last line is the machine's load.
 set -eu
 
 top=$(cd "$(dirname "$0")/../.." && pwd)
-kit=$(dirname -- "$(rt doc)")
 room=$(mktemp -d)
 trap 'rm -rf "$room"' EXIT
-[ $# -gt 0 ] || set -- "$top/crates/krl_embed/out/libkrl_embed.a"
+[ $# -gt 0 ] || set -- "$top/hosts/rust/rules/x86_64-linux.s"
 
 place=0
 for library; do
     place=$((place + 1))
     cc -std=c11 -O2 -Wall -Wextra -Werror -I "$top/crates/krl_embed" "$top/bench/scan/scan.c" "$library" \
-        "$kit/c/liblibc_c.a" -o "$room/scan$place"
+        -o "$room/scan$place"
 done
 for turn in 1 2 3 4 5; do
     for length in 8 32; do

@@ -2,7 +2,7 @@
  * has to be kept goes to no disk. Client 0 reads a range and keeps it while several threads scan it; client 1 inserts
  * into that range, which calls client 0 back.
  *
- *     c++ -std=c++17 -I FOLDER_OF_krl.h handles.cpp libkrl_embed.a liblibc_c.a -o handles
+ *     c++ -std=c++17 -I FOLDER_OF_krl.h handles.cpp libkrl.a -o handles
  */
 #include "krl_handles.hpp"
 

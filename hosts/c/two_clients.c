@@ -10,7 +10,7 @@
  * This host pins nothing, no client changes what it has read, and only one client reads. So it needs neither writes
  * that are bound to a pin, nor to give something back before it asks for more: `docs/EMBEDDING.md` has these rules.
  *
- *     cc -std=c11 -I FOLDER_OF_krl.h two_clients.c libkrl_embed.a liblibc_c.a -o two_clients
+ *     cc -std=c11 -I FOLDER_OF_krl.h two_clients.c libkrl.a -o two_clients
  */
 #include <inttypes.h>
 #include <stdio.h>

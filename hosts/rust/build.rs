@@ -1,34 +1,27 @@
 //! Finds the library of the rules. That is, in this order:
 //!
-//! 1. a static library in the folder `KRL_LIBRARY`: `libkrl.a`, as `make install` leaves it, or
-//!    `libkrl_embed.a`, as the Rattle kit makes it, with the kit's `liblibc_c.a`;
-//! 2. the committed library in `rules`, as assembly, which `src/proved/rules.rs` takes in. In the
-//!    repository it has to be of the sources in `crates`;
-//! 3. what `rt lib` has left in the repository, with the kit's `liblibc_c.a`;
-//! 4. a library that pkg-config finds, on processors for which `rules` has none.
+//! 1. the static library `libkrl.a` in the folder `KRL_LIBRARY`;
+//! 2. on x86-64 and Linux the committed library in `rules`, as assembly, which
+//!    `src/proved/rules.rs` takes in. In the repository it has to be of the sources in `crates`;
+//! 3. otherwise a library that pkg-config finds.
 use std::env;
 use std::path::{Path, PathBuf};
-use std::process::Command;
-
-/// The library as it is installed: it has the C part of the kit.
-const INSTALLED: &str = "libkrl.a";
+use std::process::{Command, exit};
 
 /// The script that compares the committed library with the sources of the repository.
 const COMPARE: &str = "../packaging/library";
 
 fn main() {
     println!("cargo:rustc-check-cfg=cfg(krl_rules)");
-    if let Some(folder) = named_by("KRL_LIBRARY") {
-        link_of(&folder);
-        return;
-    }
-    let here = env::var_os("CARGO_MANIFEST_DIR").map(PathBuf::from).unwrap_or_default();
-    let proved = here.join("../../crates/krl_embed/out");
-    if has_committed() && (fits(&here) || !proved.join("libkrl_embed.a").exists()) {
+    println!("cargo:rerun-if-env-changed=KRL_LIBRARY");
+    if let Some(folder) = env::var_os("KRL_LIBRARY") {
+        link(Path::new(&folder));
+    } else if has_committed() {
+        refuse_other_sources();
         println!("cargo:rustc-cfg=krl_rules");
-        return;
+    } else {
+        link(&installed());
     }
-    link_of(&if proved.exists() { proved } else { installed().unwrap_or(proved) });
 }
 
 /// Whether `rules` has a library for the processor and the system that is built for.
@@ -37,98 +30,68 @@ fn has_committed() -> bool {
     is("ARCH", "x86_64") && is("OS", "linux") && is("POINTER_WIDTH", "64")
 }
 
-/// Whether the committed library is of the sources of the repository. A packaged crate has no other.
-fn fits(here: &Path) -> bool {
-    let (compare, list) = (here.join(COMPARE), "../../crates.txt");
+/// Ends the build if the committed library was made of other sources than those of the repository.
+/// A packaged crate has no sources of the proof.
+fn refuse_other_sources() {
     println!("cargo:rerun-if-changed=rules");
-    if !compare.exists() || !here.join(list).exists() {
-        return true;
+    let (compare, list) = (Path::new(COMPARE), "../../crates.txt");
+    if !compare.exists() || !Path::new(list).exists() {
+        return;
     }
     println!("cargo:rerun-if-changed={list}");
-    for name in lines_of(&compare, "crates") {
-        let part = |part| format!("../../crates/{name}/{part}");
-        for folder in ["src", "specs", "proofs"].map(part) {
-            // Of a folder that is not there cargo takes it that it has changed.
-            if here.join(&folder).exists() {
+    for name in run(compare, "crates").lines() {
+        for part in ["src", "specs", "proofs"] {
+            let folder = format!("../../crates/{name}/{part}");
+            // A folder that is not there counts as changed.
+            if Path::new(&folder).exists() {
                 println!("cargo:rerun-if-changed={folder}");
             }
         }
     }
-    let fits = !lines_of(&compare, "fits").is_empty();
-    if !fits {
+    run(compare, "fits");
+}
+
+/// What the script prints. If it fails, the build ends with what it reports.
+fn run(script: &Path, word: &str) -> String {
+    let ran = Command::new(script).arg(word).output();
+    let ran = ran.unwrap_or_else(|why| stop(&format!("{}: {why}", script.display())));
+    if !ran.status.success() {
+        stop(&format!(
+            "{}krl: './krl --prove serve' proves and makes it again, with 'rt' of the Rattle kit; \
+             KRL_LIBRARY names the folder of another libkrl.a",
+            String::from_utf8_lossy(&ran.stderr),
+        ));
+    }
+    String::from_utf8_lossy(&ran.stdout).into_owned()
+}
+
+fn stop(why: &str) -> ! {
+    eprintln!("{why}");
+    exit(1)
+}
+
+/// Links `libkrl.a` of this folder. A check links nothing: so a library that is not there is no
+/// error yet.
+fn link(folder: &Path) {
+    let library = folder.join("libkrl.a");
+    println!("cargo:rerun-if-changed={}", library.display());
+    if library.exists() {
+        println!("cargo:rustc-link-search=native={}", folder.display());
+    } else {
         println!(
-            "cargo:warning=the committed library is of other sources than crates/: run `rt lib` in \
-             crates/krl_embed, or tests/library"
+            "cargo:warning=there is no {}: install krl so that pkg-config finds it, or name the \
+             folder of libkrl.a by KRL_LIBRARY",
+            library.display()
         );
     }
-    fits
+    println!("cargo:rustc-link-lib=static=krl");
 }
 
-/// What the script prints, if it does well.
-fn lines_of(script: &Path, word: &str) -> Vec<String> {
-    let ran = Command::new(script).arg(word).output().ok().filter(|it| it.status.success());
-    let text = ran.and_then(|it| String::from_utf8(it.stdout).ok()).unwrap_or_default();
-    text.lines().map(str::to_owned).collect()
-}
-
-/// Links the static library of this folder.
-fn link_of(library: &Path) {
-    if library.join(INSTALLED).exists() {
-        link(library, "krl");
-        return;
-    }
-    let kit = kit_folder();
-    warn_without(
-        &library.join("libkrl_embed.a"),
-        "run `rt lib` in crates/krl_embed, which proves and makes it, or name its folder by KRL_LIBRARY, \
-         or have pkg-config find krl",
-    );
-    warn_without(
-        &kit.join("liblibc_c.a"),
-        "put the kit's `rt` on the PATH, or name the kit's folder `c` by KRL_KIT_C",
-    );
-    link(library, "krl_embed");
-    link(&kit, "libc_c");
-}
-
-/// A check takes no library: so one that is missing is not an error before something is linked.
-fn warn_without(library: &Path, remedy: &str) {
-    println!("cargo:rerun-if-changed={}", library.display());
-    if !library.exists() {
-        println!("cargo:warning=there is no {}: {remedy}", library.display());
-    }
-}
-
-fn link(folder: &Path, name: &str) {
-    // If nothing was found, the warning describes what to do.
-    if folder != Path::new("") {
-        println!("cargo:rustc-link-search=native={}", folder.display());
-    }
-    println!("cargo:rustc-link-lib=static={name}");
-}
-
-/// The folder of the library that is installed, if pkg-config finds one.
-fn installed() -> Option<PathBuf> {
+/// The folder of the library that is installed, if pkg-config finds one; otherwise an empty path.
+fn installed() -> PathBuf {
     println!("cargo:rerun-if-env-changed=PKG_CONFIG_PATH");
-    let found = Command::new("pkg-config").args(["--variable=libdir", "krl"]).output().ok()?;
-    let folder = PathBuf::from(String::from_utf8(found.stdout).ok()?.trim());
-    (found.status.success() && folder.join(INSTALLED).exists()).then_some(folder)
-}
-
-/// `KRL_KIT_C`, or the folder `c` of the kit whose `rt` is on the PATH.
-fn kit_folder() -> PathBuf {
-    if let Some(folder) = named_by("KRL_KIT_C") {
-        return folder;
-    }
-    let path = env::var_os("PATH").unwrap_or_default();
-    env::split_paths(&path)
-        .filter_map(|folder| folder.join("rt").canonicalize().ok())
-        .filter_map(|rt| Some(rt.parent()?.parent()?.join("c")))
-        .find(|c| c.join("liblibc_c.a").exists())
-        .unwrap_or_default()
-}
-
-fn named_by(variable: &str) -> Option<PathBuf> {
-    println!("cargo:rerun-if-env-changed={variable}");
-    env::var_os(variable).map(PathBuf::from)
+    let asked = Command::new("pkg-config").args(["--variable=libdir", "krl"]).output();
+    let found = asked.ok().filter(|it| it.status.success());
+    let folder = found.and_then(|it| String::from_utf8(it.stdout).ok()).unwrap_or_default();
+    PathBuf::from(folder.trim())
 }

@@ -3,8 +3,8 @@
 
 # Builds the engine of a folder, a server and two clients in one process: `build_in_c FOLDER`.
 build_in_c() {
-    expect 0 'the host in C' cc -std=c11 -Wall -Wextra -Werror -I "$library" -I "$top/crates/krl_embed" \
-        "$1/two_clients.c" "$library/libkrl_embed.a" "$kit/liblibc_c.a" -o "$work/two_clients"
+    expect 0 'the host in C' cc -std=c11 -Wall -Wextra -Werror -I "$top/crates/krl_embed" \
+        "$1/two_clients.c" "$library" -o "$work/two_clients"
 }
 
 # What it prints with leases has to differ from leases.txt.
@@ -24,16 +24,15 @@ try_wrong_body_in_c() {
 try_handles() {
     # shellcheck disable=SC2086
     expect 0 "the handles for C++, by $1 $2" "$1" -std=c++17 -g -Wall -Wextra -Wpedantic -Werror -pthread $2 \
-        -I "$library" -I "$top/crates/krl_embed" "$top/hosts/c/handles.cpp" \
-        "$library/libkrl_embed.a" "$kit/liblibc_c.a" -o "$work/handles"
+        -I "$top/crates/krl_embed" "$top/hosts/c/handles.cpp" "$library" -o "$work/handles"
     expect 0 "the handles for C++, run: $1 $2" "$work/handles"
     diff "$work/log" "$top/hosts/c/handles.txt" >&2 || fail 'the handles for C++ read something else'
 }
 
 part_c() {
-    find_library
+    make_library
     # What krl.h declares stands where the Rust host takes it to stand.
-    expect 0 'the layout of krl.h' cc -std=c11 -Wall -Wextra -Werror -I "$library" -I "$top/crates/krl_embed" \
+    expect 0 'the layout of krl.h' cc -std=c11 -Wall -Wextra -Werror -I "$top/crates/krl_embed" \
         -c "$top/hosts/c/layout.c" -o "$work/layout.o"
     build_in_c "$top/hosts/c"
     expect 0 'the host in C, run' "$work/two_clients"

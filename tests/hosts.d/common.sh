@@ -4,6 +4,7 @@
 top=$(CDPATH='' cd -- "$(dirname -- "$0")/../.." && pwd)
 CARGO_TARGET_DIR=${CARGO_TARGET_DIR-$top/hosts/target}
 export CARGO_TARGET_DIR
+unset KRL_LIBRARY
 programs=$CARGO_TARGET_DIR/release
 drive=$programs/krl_drive
 simulation=$programs/krl-simulation
@@ -86,26 +87,12 @@ find_crates() {
         not_run "cargo finds not all crates: $(tail -n 1 "$work/log")"
 }
 
-# The proved library for programs in C: $library has libkrl_embed.a, and $kit liblibc_c.a. KRL_LIBRARY names it, with
-# KRL_KIT_C or the kit of `rt`; otherwise it is made of the committed one, as the Rust host takes it.
-find_library() {
-    has cc || not_run 'there is no C compiler'
-    if [ -n "${KRL_LIBRARY-}" ]; then
-        library=$KRL_LIBRARY kit=${KRL_KIT_C-}
-        [ -n "$kit" ] || kit=$(dirname -- "$(rt doc)")/c
-    else
-        library=$CARGO_TARGET_DIR/rules kit=$CARGO_TARGET_DIR/rules
-        cmp -s "$top/hosts/rust/rules/RECORD" "$library/RECORD" || make_library
-    fi
-    [ -f "$library/libkrl_embed.a" ] || fail "there is no $library/libkrl_embed.a"
-    [ -f "$kit/liblibc_c.a" ] || fail "there is no $kit/liblibc_c.a: KRL_KIT_C names its folder"
-}
-
-# A committed library of other sources would show nothing about these.
+# Makes the committed library for programs in C: $library.
 make_library() {
-    "$top/hosts/packaging/library" fits >&2 ||
-        fail 'run rt lib in crates/krl_embed, and tests/library --taken --write; or KRL_LIBRARY names a library'
-    "$top/hosts/packaging/library" make "$library"
+    has cc || not_run 'there is no C compiler'
+    expect 0 'the committed library' "$top/hosts/packaging/library" fits
+    expect 0 'the library libkrl.a' "$top/hosts/packaging/library" make "$work/library"
+    library=$work/library/libkrl.a
 }
 
 # What a part runs has to be built. With KRL_BUILT it is: parts that run side by side do not build.

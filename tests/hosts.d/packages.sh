@@ -3,18 +3,18 @@
 
 # Makes a package by this script of hosts/packaging.
 make_package() {
-    env LIBRARY="$library" KIT="$kit" PROGRAMS="$programs" "$top/hosts/packaging/$1" "$work/dist"
+    env LIBRARY="$work/library" PROGRAMS="$programs" "$top/hosts/packaging/$1" "$work/dist"
 }
 
 # They serve without rt and cargo.
 part_packages() {
     need_programs
     find_crates
-    find_library
+    make_library
     expect 0 'the archive' make_package archive
     expect 0 'the archive, tried in a folder of its own' "$top/tests/archive" "$work"/dist/*.tar.gz
     # shellcheck disable=SC2086
-    ! has pkg-config || expect 0 'the crate, packaged' "$top/tests/package" "$work"/dist/*.tar.gz $config
+    expect 0 'the crates, packaged' "$top/tests/package" $config
     has dpkg-deb || not_run 'there is no dpkg-deb: the package for Debian'
     expect 0 'the package for Debian' make_package debian-package
     expect 0 'the package, tried in a folder of its own' "$top/tests/archive" "$work"/dist/*.deb

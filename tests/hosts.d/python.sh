@@ -13,9 +13,9 @@ use_python() {
 
 # Makes what the conformance kit asks the rules by.
 make_shared_library() {
-    find_library
+    make_library
     export KRL_SHARED_LIBRARY="$work/libkrl.so"
-    expect 0 'the shared library' "$top/hosts/packaging/shared-library" "$library" "$kit" "$KRL_SHARED_LIBRARY"
+    expect 0 'the shared library' "$top/hosts/packaging/shared-library" "$work/library" "$KRL_SHARED_LIBRARY"
 }
 
 # Runs tests of the client for Python: `python_test FOLDER SECONDS TEST..`. They wait this long for what has to come.

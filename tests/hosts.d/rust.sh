@@ -4,7 +4,7 @@
 # Everything that later parts run. Each of them builds what is not there by itself.
 part_build() {
     find_crates
-    find_library
+    expect 0 'the committed library' "$top/hosts/packaging/library" fits
     cargo_in "$top/hosts" 'the tests' test --no-run --workspace --exclude krl-client-c
     cargo_in "$top/hosts" 'the tests of the client for C' test --no-run -p krl-client-c
     build_programs

@@ -1,6 +1,5 @@
-# What the library takes of the C library: three calls over malloc, realloc and free, as in the kit's liblibc_c.a. A
-# block of no bytes gets as many as it is aligned to. The answer is whether there is memory, and where: if there is
-# none, a place that nobody uses.
+# What the library takes of the C library: three calls over malloc, realloc and free. A block of no bytes gets as many
+# as it is aligned to. A call returns whether there is memory, and where: if there is none, a place that nobody uses.
 	.text
 	.p2align	4
 rattle_alloc:                           # size, align
