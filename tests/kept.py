@@ -1,5 +1,5 @@
-"""What the gate keeps on this machine, so that a later run takes it over: the names of a crate's functions, which `rt ci`
-prints only if it proves the crate, and that all wrong bodies of a crate were refused.
+"""What the gate keeps on this machine, so that a later run takes it over: the names of a crate's functions, which
+`rt ci` prints only if it proves the crate, and that all wrong bodies of a crate were refused.
 
 Each file is named by the checksum of all that it was made from: the kit, the crate's sources and those below it, and
 for wrong bodies also the edits and the scripts that try them. So it never goes stale. They are in
