@@ -79,7 +79,7 @@ part_failover() {
     build_edited 'heedless servers' krl-server
     compare_sums
     heedless=$work/target/release/krl-server
-    drive 0 'servers that stand by' "$drive" failover "$work/failover" 12 "$heedless"
+    drive 0 'servers that stand by' "$drive" failover "$work/failover" "${KRL_FAULTS-12}" "$heedless"
     drive 0 'servers that stand by, without leases of clients' \
         "$drive" failover "$work/failover-leaseless" 4 "$heedless" kill,wake,cut,cross leaseless
     sed -n 's/^NOT RUN/hosts: NOT RUN/p' "$work/log" >&2
