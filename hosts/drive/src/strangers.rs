@@ -12,19 +12,25 @@ const SOON: Duration = Duration::from_secs(5);
 /// How much memory the strangers may cost, in bytes.
 const MAX_MEMORY: u64 = 64 << 20;
 
+/// The Hello of a client's host.
+const HOST_HELLO: [u8; 11] = [3, 0, 0, 0, 0, 0, 0, 0, 0, 0, 3];
+
 /// A Hello of client 50, incarnation 1, in its frame.
 const HELLO: [u8; 26] =
     [18, 0, 0, 0, 0, 0, 0, 0, 1, 0, 50, 0, 0, 0, 0, 0, 0, 0, 1, 0, 0, 0, 0, 0, 0, 0];
 
+const NO_MESSAGE: [u8; 11] = [3, 0, 0, 0, 0, 0, 0, 0, 1, 99, 0];
+
 type Attack = fn(SocketAddr) -> Result<Vec<TcpStream>, Box<dyn Error>>;
 
-const ATTACKS: [(&str, Attack); 8] = [
+const ATTACKS: [(&str, Attack); 9] = [
     ("one that sends nothing", |at| Ok(vec![connect(at)?])),
     ("one that sends half a length", |at| send(at, &[18, 0, 0])),
     ("one that sends half a message", |at| send(at, &HELLO[..15])),
     ("one that goes away within a message", |at| send(at, &HELLO[..15]).map(|_| Vec::new())),
     ("a length of 2^60", |at| is_shut(at, &[0, 0, 0, 0, 0, 0, 0, 16])),
-    ("a message that is none", |at| is_shut(at, &[3, 0, 0, 0, 0, 0, 0, 0, 1, 99, 0])),
+    ("one that sends no Hello of its host", |at| is_shut(at, &HELLO)),
+    ("a message that is none", |at| is_shut(at, &[&HOST_HELLO[..], &NO_MESSAGE].concat())),
     ("a hundred connections", |at| (0..100).map(|_| connect(at)).collect()),
     ("one that sends Hello forever and hears nothing", stall),
 ];
@@ -82,10 +88,10 @@ fn send(at: SocketAddr, bytes: &[u8]) -> Result<Vec<TcpStream>, Box<dyn Error>> 
 fn is_shut(at: SocketAddr, bytes: &[u8]) -> Result<Vec<TcpStream>, Box<dyn Error>> {
     let mut stream = connect(at)?;
     stream.write_all(bytes)?;
-    match stream.read(&mut [0; 8]) {
-        Ok(0) => Ok(Vec::new()),
+    match stream.read_to_end(&mut Vec::new()) {
+        Ok(_) => Ok(Vec::new()),
         Err(error) if error.kind() == ErrorKind::ConnectionReset => Ok(Vec::new()),
-        other => Err(format!("the server continues to hear a stranger: {other:?}").into()),
+        Err(error) => Err(format!("the server continues to hear a stranger: {error}").into()),
     }
 }
 
@@ -93,6 +99,7 @@ fn is_shut(at: SocketAddr, bytes: &[u8]) -> Result<Vec<TcpStream>, Box<dyn Error
 /// many.
 fn stall(at: SocketAddr) -> Result<Vec<TcpStream>, Box<dyn Error>> {
     let mut stream = connect(at)?;
+    stream.write_all(&HOST_HELLO)?;
     let many = HELLO.repeat(1000);
     for _ in 0..500 {
         // The server may end it.

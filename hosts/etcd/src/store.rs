@@ -79,18 +79,23 @@ impl EtcdStore {
     }
 
     /// Makes a store of the snapshot, such as a backup's, at an address where there is none. No
-    /// server serves it before it is whole.
+    /// server serves it before it is whole. A store that an earlier call has made of the same
+    /// snapshot, and on which no server has started since, stays as it is.
     ///
     /// # Errors
     ///
-    /// If there is something already; if the cluster does not answer, or refuses. What was begun
+    /// If there is something else already; if the cluster does not answer, or refuses. What was begun
     /// stays then, no server starts on it, and the next call here takes its place.
     pub fn create(
         address: &EtcdAddress,
         credentials: &Credentials,
         snapshot: &Snapshot,
     ) -> Result<(), StoreError> {
-        create::create(address, credentials, snapshot)
+        let made = create::create(address, credentials, snapshot);
+        let found = || EtcdStore::open(address, credentials)?.load();
+        let first_start = snapshot.first_start;
+        let is_it = |found| Snapshot { first_start, ..found } == *snapshot;
+        if made.is_err() && found().is_ok_and(is_it) { Ok(()) } else { made }
     }
 
     /// From now on a commit waits at most this long for the cluster. Longer than an election of

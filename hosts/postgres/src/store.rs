@@ -91,19 +91,25 @@ impl PostgresStore {
         }
     }
 
-    /// Makes a store of the snapshot, such as a backup's, in a database that has none.
+    /// Makes a store of the snapshot, such as a backup's, in a database that has none. One that an
+    /// earlier call has made of the same snapshot, and on which no server has started since, stays
+    /// as it is.
     ///
     /// # Errors
     ///
-    /// If there is a store already; if the database does not answer, or refuses.
+    /// If there is another store already; if the database does not answer, or refuses.
     pub fn create(
         address: &PostgresAddress,
         user: Option<&(String, String)>,
         snapshot: &Snapshot,
     ) -> Result<(), StoreError> {
         let mut store = PostgresStore::open(address, user)?;
-        store.load()?;
+        let found = store.load()?;
         if store.head != Fence::default() {
+            let first_start = snapshot.first_start;
+            if (Snapshot { first_start, ..found }) == *snapshot {
+                return Ok(());
+            }
             let why = format!("the database of {address} has a store of krl already");
             return Err(StoreError::says(&why));
         }

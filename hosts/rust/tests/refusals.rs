@@ -149,14 +149,12 @@ fn each_reason_is_told_once_a_second() {
 }
 
 #[test]
-fn a_peer_without_host_frames_is_told_nothing() {
+fn a_peer_whose_host_sends_no_hello_is_of_another_version() {
     let server = server(store(&[3, 7]));
     let mut peer = Peer::new(&server);
-    peer.say(&frame(HELLO, 64, 1, &[]));
     peer.say(&frame(HELLO, 3, 16, &[]));
-    assert_eq!(peer.hear(SHORT), []);
-    peer.say(&of_version(2));
-    assert_eq!(peer.hear(SHORT), []);
+    assert_eq!(peer.hear(SHORT), refused(0, [3, 0]));
+    assert_eq!(server.status().taken, 0);
 }
 
 /// Why a client of this number does not join.

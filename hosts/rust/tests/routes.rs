@@ -2,7 +2,7 @@
 mod peer;
 
 use krl::{Client, MemoryStore, Outcome, Server, Value};
-use peer::{ACK, BYE, HELLO, Peer, frame, incarnation};
+use peer::{ACK, BYE, HELLO, HOST_HELLO, Peer, frame, incarnation};
 use std::net::TcpListener;
 use std::path::PathBuf;
 use std::thread;
@@ -11,9 +11,18 @@ use std::time::{Duration, Instant};
 /// Longer than a server takes to answer or to repeat a push.
 const QUIET: Duration = Duration::from_millis(400);
 
+const NOTHING: [Vec<u8>; 0] = [];
+
 fn server() -> Server {
     let listener = TcpListener::bind("127.0.0.1:0").unwrap();
     Server::start(listener, MemoryStore::default()).unwrap()
+}
+
+/// A connection whose host has sent its Hello.
+fn stranger_of(server: &Server) -> Peer {
+    let mut stranger = Peer::new(server);
+    stranger.say(&HOST_HELLO);
+    stranger
 }
 
 fn lock_file(name: &str) -> PathBuf {
@@ -25,7 +34,7 @@ fn a_forged_bye_of_an_older_incarnation_is_not_answered() {
     let (server, lock, other) = (server(), lock_file("bye"), lock_file("writer"));
     let client = Client::join(server.address(), 3, &lock).unwrap();
     let writer = Client::join(server.address(), 4, &other).unwrap();
-    let mut stranger = Peer::new(&server);
+    let mut stranger = stranger_of(&server);
     for turn in 0..5 {
         client.read(0..20).unwrap();
         // After it nothing comes from the client before it is called back.
@@ -33,13 +42,13 @@ fn a_forged_bye_of_an_older_incarnation_is_not_answered() {
         thread::sleep(Duration::from_millis(10));
         assert!(writer.insert(turn, Value::from(1)).is_ok());
     }
-    assert_eq!(stranger.hear(QUIET), [], "it takes none of the client's messages");
+    assert_eq!(stranger.hear_messages(QUIET), NOTHING, "it takes none of the client's messages");
     client.leave().unwrap();
     writer.leave().unwrap();
     std::fs::remove_file(other).unwrap();
     // The client that has left may send its Bye again, and is answered.
     stranger.say(&frame(BYE, 3, incarnation(&lock), &[]));
-    assert_eq!(stranger.hear(QUIET), [0; 8]);
+    assert_eq!(stranger.hear_messages(QUIET), [Vec::new()]);
     std::fs::remove_file(lock).unwrap();
 }
 
@@ -48,7 +57,7 @@ fn an_incarnation_that_never_said_hello_takes_no_route() {
     let (server, lock, other) = (server(), lock_file("future"), lock_file("caller"));
     let client = Client::join(server.address().clone(), 3, &lock).unwrap();
     let writer = Client::join(server.address().clone(), 4, &other).unwrap();
-    let mut stranger = Peer::new(&server);
+    let mut stranger = stranger_of(&server);
     for (turn, incarnation) in [0, 1, u64::MAX].into_iter().enumerate() {
         client.read(0..20).unwrap();
         // After it nothing comes from the client before it is called back.
@@ -58,7 +67,7 @@ fn an_incarnation_that_never_said_hello_takes_no_route() {
         assert_eq!(writer.insert(turn as u64, Value::from(1)), Ok(Outcome::Applied));
     }
     assert_eq!(client.insert(10, Value::from(1)), Ok(Outcome::Applied));
-    assert_eq!(stranger.hear(QUIET), []);
+    assert_eq!(stranger.hear_messages(QUIET), NOTHING);
     client.leave().unwrap();
     writer.leave().unwrap();
     for file in [lock, other] {
@@ -71,9 +80,9 @@ fn an_incarnation_that_never_said_hello_takes_no_route() {
 #[test]
 fn a_zombie_takes_nothing_of_its_successor() {
     let (server, lock, other) = (server(), lock_file("heir"), lock_file("other"));
-    let mut zombie = Peer::new(&server);
+    let mut zombie = stranger_of(&server);
     zombie.say(&frame(HELLO, 3, 1, &[]));
-    assert_ne!(zombie.hear(QUIET), [], "it is the client, until its successor joins");
+    assert_ne!(zombie.hear_messages(QUIET), NOTHING, "it is the client, until its successor joins");
     let heir = Client::join(server.address().clone(), 3, &lock).unwrap();
     let writer = Client::join(server.address().clone(), 4, &other).unwrap();
     zombie.hear(QUIET);
@@ -91,7 +100,7 @@ fn a_zombie_takes_nothing_of_its_successor() {
         assert_eq!(heir.read(0..20).unwrap().len(), 1);
         assert!(begun.elapsed() < Duration::from_secs(5), "{:?}", begun.elapsed());
     }
-    assert_eq!(zombie.hear(QUIET), []);
+    assert_eq!(zombie.hear_messages(QUIET), NOTHING);
     heir.leave().unwrap();
     writer.leave().unwrap();
     for file in [lock, other] {

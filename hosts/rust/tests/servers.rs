@@ -198,16 +198,18 @@ fn a_server_sleeps_while_nothing_comes() {
 
 #[test]
 fn a_server_that_stops_answers_what_has_come() {
+    const HOST_HELLO: [u8; 11] = [3, 0, 0, 0, 0, 0, 0, 0, 0, 0, 3];
+    const HOST_ANSWER: [u8; 12] = [4, 0, 0, 0, 0, 0, 0, 0, 0, 16, 1, 3];
     const HELLO: [u8; 26] =
         [18, 0, 0, 0, 0, 0, 0, 0, 1, 0, 50, 0, 0, 0, 0, 0, 0, 0, 1, 0, 0, 0, 0, 0, 0, 0];
     for _ in 0..20 {
         let server = Server::start(listener(), MemoryStore::default()).unwrap();
         let mut stream = connect(&server);
-        stream.write_all(&HELLO).unwrap();
+        stream.write_all(&[&HOST_HELLO[..], &HELLO].concat()).unwrap();
         server.stop().unwrap();
         let mut answer = Vec::new();
         stream.read_to_end(&mut answer).unwrap();
-        assert!(!answer.is_empty());
+        assert!(answer.len() > HOST_ANSWER.len(), "{answer:?}");
     }
 }
 

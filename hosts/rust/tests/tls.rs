@@ -138,7 +138,9 @@ fn tls_of_another_kind_and_what_is_no_tls_are_refused() {
     let setup = Setup::new("kind");
     let server = serve(&setup);
     let at = at(&server);
+    let host_hello = [3, 0, 0, 0, 0, 0, 0, 0, 0, 0, 3];
     let hello = [18, 0, 0, 0, 0, 0, 0, 0, 1, 0, 3, 0, 0, 0, 0, 0, 0, 0, 1, 0, 0, 0, 0, 0, 0, 0];
+    let hello = [&host_hello[..], &hello].concat();
     assert!(heard_by_tls(credulous(&setup, None), at, &hello).is_empty(), "no certificate");
     let mut old = credulous(&setup, Some(&["krl:client:3"]));
     old.set_max_proto_version(Some(SslVersion::TLS1_2)).unwrap();

@@ -311,6 +311,10 @@ impl Connection {
         self.host.get_or_insert_default().answer = answer.frame();
     }
 
+    pub fn is_greeted(&self) -> bool {
+        self.host.is_some()
+    }
+
     /// Reports to the peer's host why its client is not served: each reason once a second at most,
     /// and none to a host that takes no host frames.
     pub fn refuse(&mut self, refusal: Refusal, now: Instant) {

@@ -247,6 +247,11 @@ impl Connections {
         }
     }
 
+    /// Whether the peer's host has sent its Hello.
+    pub fn is_greeted(&self, number: u64) -> bool {
+        self.open.get(&number).is_some_and(|peer| peer.connection.is_greeted())
+    }
+
     /// Reports to the peer's host why its client is not served, after the commit that begins next.
     pub fn refuse(&mut self, number: u64, refusal: Refusal) {
         let now = self.now.monotonic;

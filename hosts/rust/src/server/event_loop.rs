@@ -228,6 +228,10 @@ impl EventLoop {
             return Ok(());
         }
         match frame {
+            Incoming::Message(_) if !self.connections.is_greeted(connection) => {
+                self.refuse_other_version(connection);
+                Ok(())
+            }
             Incoming::Message(message) if self.keeps(connection, message, now) => Ok(()),
             Incoming::Message(message) => self.take_message(connection, message, now),
             Incoming::Host(Some(FromClient::Hello(seen))) => {

@@ -225,10 +225,12 @@ pub fn goes_on_from_a_copy<S: Store>(
     apply(&mut copied, &changes());
     copied.rows.extend((0..500).map(|key| (key, key.into())));
     create(&copied).expect("nothing is there");
+    create(&copied).expect("a command that was killed is repeated");
+    assert!(create(&Snapshot::default()).is_err(), "it is there already");
     let (mut store, found) = loaded(&mut open);
     assert_eq!(found, without_first_start(copied.clone()));
-    assert!(create(&copied).is_err(), "it is there already");
     store.commit(&[Change::Started { epoch: 3 }]).expect("the copy is a store");
+    assert!(create(&copied).is_err(), "a server has started on it");
     let history = store.history().expect("a history is read").expect("there is one");
     assert_eq!(history.first_start(), Some(first_start));
     assert_eq!(store.snapshot().expect("a store is copied").first_start, Some(first_start));

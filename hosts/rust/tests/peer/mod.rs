@@ -57,4 +57,18 @@ impl Peer {
         }
         heard
     }
+
+    /// The messages that come within the time, without the frames of the server's host.
+    pub fn hear_messages(&mut self, time: Duration) -> Vec<Vec<u8>> {
+        let (heard, mut messages) = (self.hear(time), Vec::new());
+        let mut rest = &heard[..];
+        while let Some((length, more)) = rest.split_first_chunk() {
+            let length = usize::try_from(u64::from_le_bytes(*length)).unwrap();
+            let (message, more) = more.split_at(length);
+            messages.push(message.to_vec());
+            rest = more;
+        }
+        messages.retain(|message| message.first() != Some(&0));
+        messages
+    }
 }

@@ -31,8 +31,9 @@ impl EventLoop {
         self.connections.greet(connection, FromServer::Hello { answers_signs: true });
     }
 
-    /// Refuses a client whose host is of another version of the stream, before anything of it is
-    /// judged: it would take no long grant, and ask for it again and again.
+    /// Refuses a client whose host is of another version of the stream, or has sent a message and no
+    /// Hello that would name one. Nothing of it is judged: it might take no long grant, and ask for
+    /// it again and again.
     pub(super) fn refuse_other_version(&mut self, connection: u64) {
         self.log.other_version(&self.connections.at(connection));
         let refusal = Refusal::Version { read: STREAM_VERSION };

@@ -16,6 +16,7 @@ use crate::net::address::Address;
 use crate::server::requests::Requests;
 use crate::server::sockets::Sockets;
 use crate::store::{MemoryStore, Store, StoreError};
+use crate::wire::host_frame::FromServer;
 use std::io::{Read, Write};
 use std::net::{TcpListener, TcpStream};
 use std::sync::Mutex;
@@ -99,7 +100,37 @@ fn event_loop_over<S: Store + 'static>(
     let history = None;
     let started = Started { server, epoch, history, leases, connections, timings, log };
     let events = EventLoop::new(started);
-    (ServerThread::new(events, store, sockets, waker, asked), peer)
+    let mut serving = ServerThread::new(events, store, sockets, waker, asked);
+    let mut peer = peer;
+    greet(&mut serving, &mut peer);
+    (serving, peer)
+}
+
+/// The peer's host sends its Hello, and takes the answer. Nothing has to be committed for it.
+fn greet<S: Store + 'static>(serving: &mut ServerThread<S>, peer: &mut TcpStream) {
+    peer.write_all(&FromClient::Hello(None).frame()).unwrap();
+    let answer = FromServer::Hello { answers_signs: true }.frame();
+    let mut heard = vec![0; answer.len()];
+    while peer.peek(&mut heard).unwrap_or(0) < answer.len() {
+        assert!(serving.turn().unwrap());
+    }
+    peer.read_exact(&mut heard).unwrap();
+    assert_eq!(heard, answer);
+}
+
+#[test]
+fn a_message_before_any_hello_of_its_host_ends_the_connection() {
+    let (mut serving, peer, _) = event_loop();
+    let mut old = TcpStream::connect(peer.peer_addr().unwrap()).unwrap();
+    old.write_all(&HELLO).unwrap();
+    old.set_nonblocking(true).unwrap();
+    let mut heard = Vec::new();
+    while old.read_to_end(&mut heard).is_err() {
+        assert!(serving.turn().unwrap());
+        assert_eq!(serving.events.status.taken, 0);
+    }
+    let refusal = FromServer::Refused(Refusal::Version { read: STREAM_VERSION });
+    assert_eq!(heard, refusal.frame());
 }
 
 #[test]

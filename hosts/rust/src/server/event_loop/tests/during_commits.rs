@@ -1,7 +1,6 @@
 //! What the loop does while another thread makes a commit.
 use super::*;
 use crate::server::event_loop::hand_over::HandOver;
-use crate::wire::host_frame::FromServer;
 use std::sync::mpsc::{Receiver, Sender, channel};
 use std::thread;
 

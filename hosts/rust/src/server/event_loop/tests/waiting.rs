@@ -16,7 +16,7 @@ use crate::server::opening::Decided;
 use crate::server::shown::timings::Timings;
 use crate::store::MemoryStore;
 use crate::wire::frames::split;
-use crate::wire::host_frame;
+use crate::wire::host_frame::{self, FromClient};
 use crate::wire::message::{Kind, Message};
 use std::sync::Arc;
 use std::time::Duration;
@@ -29,6 +29,16 @@ struct World {
     clients: Vec<Jobs>,
     /// The connection of each client.
     connections: Vec<u64>,
+}
+
+/// A new connection, whose host has sent its Hello.
+fn connect(events: &mut EventLoop, now: Now) -> u64 {
+    let entry = Entry::Known(Identity::everybody());
+    let connection = events.connections().enter(entry, PeerAddress::Gone);
+    let hello = FromClient::Hello(None).frame();
+    let (hello, _) = split(&hello).next().unwrap();
+    events.hear(connection, hello, now).unwrap();
+    connection
 }
 
 impl World {
@@ -45,11 +55,7 @@ impl World {
         let timings = Arc::new(Timings::new());
         let opened = decided.open(&mut MemoryStore::default(), &address, timings, || now).unwrap();
         let mut events = opened.events;
-        let mut connect = |_| {
-            let entry = Entry::Known(Identity::everybody());
-            events.connections().enter(entry, PeerAddress::Gone)
-        };
-        let connections = (0..clients).map(&mut connect).collect();
+        let connections = (0..clients).map(|_| connect(&mut events, now)).collect();
         let open = |number| Jobs::new(ClientHandle::open(number, 1).unwrap(), now);
         let mut world =
             World { events, now, clients: (0..clients).map(open).collect(), connections };
@@ -182,8 +188,7 @@ fn a_request_that_has_waited_for_long_keeps_no_other_one_back() {
 fn a_request_of_an_earlier_connection_is_not_taken() {
     let (mut world, pin, reads) = crowd();
     let last = world.clients.len() - 1;
-    let entry = Entry::Known(Identity::everybody());
-    world.connections[last] = world.events.connections().enter(entry, PeerAddress::Gone);
+    world.connections[last] = connect(&mut world.events, world.now);
     world.clients[last].tick();
     for message in messages(|frames| world.clients[last].take(frames)) {
         if Message::read(&message).kind() != Kind::Lock {
