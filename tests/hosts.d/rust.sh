@@ -5,9 +5,9 @@
 part_build() {
     find_crates
     expect 0 'the committed library' "$top/hosts/packaging/library" fits
+    build_programs
     cargo_in "$top/hosts" 'the tests' test --no-run --workspace --exclude krl-client-c
     cargo_in "$top/hosts" 'the tests of the client for C' test --no-run -p krl-client-c
-    build_programs
 }
 
 # Runs clippy, or the compiler's own check if there is no clippy: `lint WHAT WORD..`.

@@ -41,9 +41,8 @@ compare_sums() {
 # Each wrong host whose edit names a test, several at a time.
 part_wrong() {
     need_programs
-    find_crates
     sums >"$work/sums"
-    expect 0 'the wrong hosts' env KRL_CONFIG="$config" "$top/tests/wrong_hosts" --work "$work/tried"
+    expect 0 'the wrong hosts' "$top/tests/wrong_hosts" --work "$work/tried"
     sed 's/^/hosts: /' "$work/log" >&2
     compare_sums
 }
