@@ -88,6 +88,15 @@ def prover_words(crate, functions, kit, kept):
     return words
 
 
+def functions_of(crate, kit):
+    """Asks the prover about the whole crate, as it stands, and returns the functions that are proved."""
+    words = [kit / "bin/rattle", "check", "--crate-name", crate.name, crate.root]
+    words += [*libraries(crate.name, crate.uses, kit), "--links", f"{crate.name}=", "--jobs", "1"]
+    how = {"cwd": crate.folder, "stdin": subprocess.DEVNULL, "text": True, "errors": "replace"}
+    ran = subprocess.run(words, stdout=subprocess.PIPE, stderr=subprocess.STDOUT, **how)
+    return sorted(set(re.findall(rf"(?m)^fn ({crate.name}::\S+): proved", ran.stdout)))
+
+
 def check(crate, edits, changed, kit, log, kept):
     """Checks the functions of a copy of the crate with these edits, and returns what the prover printed. Checks with
     one folder `kept` share what no edit changes."""

@@ -2,8 +2,8 @@
 mod common;
 
 use common::{
-    ServiceManager, Serving, errors, join, lock_file, program, program_under_watchdog, run, text,
-    until,
+    ServiceManager, Serving, errors, join, lock_file, output_within_a_minute, program,
+    program_under_watchdog, run, text, until,
 };
 use krl::{Address, END, Outcome, Row, Snapshot, SqliteStore, Value};
 use std::collections::BTreeMap;
@@ -413,7 +413,7 @@ fn a_store_that_holds_nothing_is_served_only_if_it_is_asked_for() {
         (&empty, "the file has 0 bytes"),
         (&bare, "holds nothing"),
     ] {
-        let refused = program().args(words).arg(store).output().unwrap();
+        let refused = output_within_a_minute(program().args(words).arg(store));
         assert_eq!(refused.status.code(), Some(1), "{}", errors(&refused));
         for told in [why, "give --create at the first start"] {
             assert!(errors(&refused).contains(told), "{told}: {}", errors(&refused));

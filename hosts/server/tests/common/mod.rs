@@ -37,6 +37,18 @@ pub fn run(words: &[&str]) -> Output {
     program().args(words).output().unwrap()
 }
 
+/// What a program leaves that has to end by itself. It is killed after a minute.
+pub fn output_within_a_minute(command: &mut Command) -> Output {
+    let mut process = command.stdout(Stdio::piped()).stderr(Stdio::piped()).spawn().unwrap();
+    let end = Instant::now() + Duration::from_secs(60);
+    while process.try_wait().unwrap().is_none() && Instant::now() < end {
+        thread::sleep(Duration::from_millis(10));
+    }
+    // One that has ended needs no end.
+    let _ = process.kill();
+    process.wait_with_output().unwrap()
+}
+
 pub fn errors(output: &Output) -> String {
     String::from_utf8(output.stderr.clone()).unwrap()
 }

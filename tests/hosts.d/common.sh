@@ -1,0 +1,109 @@
+# shellcheck shell=sh disable=SC2034,SC2154
+# What the parts of tests/hosts share: a folder, where things lie, and how a command is run and reported.
+
+top=$(CDPATH='' cd -- "$(dirname -- "$0")/../.." && pwd)
+CARGO_TARGET_DIR=${CARGO_TARGET_DIR-$top/hosts/target}
+export CARGO_TARGET_DIR
+unset KRL_LIBRARY
+programs=$CARGO_TARGET_DIR/release
+drive=$programs/krl_drive
+simulation=$programs/krl-simulation
+work=$(mktemp -d)
+# shellcheck source-path=SCRIPTDIR source=../parts.sh
+. "$top/tests/parts.sh"
+
+fail() {
+    printf 'hosts: %s\n' "$1" >&2
+    [ ! -s "$work/log" ] || tail -n 40 "$work/log" >&2
+    exit 1
+}
+
+# Something is not there. If all has to be run that is a failure.
+lacks() {
+    printf 'hosts: NOT RUN: %s\n' "$1" >&2
+    [ -z "${KRL_ALL-}" ] || exit 1
+}
+
+# The same for all that is left of the part.
+not_run() {
+    lacks "$1"
+    exit 0
+}
+
+# Whether each of these programs is there.
+has() {
+    for program; do
+        command -v "$program" >/dev/null || return 1
+    done
+}
+
+# Runs a command quietly, and ends if its status is not the first word.
+expect() {
+    status=$1 what=$2 ended=0
+    shift 2
+    "$@" >"$work/log" 2>&1 </dev/null || ended=$?
+    [ "$ended" = "$status" ] || fail "$what: status $ended, and not $status"
+}
+
+# Runs the drive or the simulation, and shows its last line, with the seconds of the clock and of a processor.
+drive() {
+    read_clocks "$work/times"
+    began=$clock spent=$processor
+    expect "$@"
+    read_clocks "$work/times"
+    printf 'hosts: %s: %s (%s seconds, %s of a processor)\n' \
+        "$2" "$(tail -n 1 "$work/log")" $((clock - began)) $((processor - spent)) >&2
+}
+
+# Runs a drive that has to find something wrong: `finds WHAT PROGRAM DRIVE ROUNDS WORD..`. Whether a kill falls where it
+# hurts is chance: so there are three tries.
+finds() {
+    what=$1 found=$2 kind=$3 rounds=$4
+    shift 4
+    for try in 1 2 3; do
+        "$found" "$kind" "$work/$what.$try" "$rounds" "$@" >"$work/log" 2>&1 </dev/null && status=0 || status=$?
+        [ "$status" != 3 ] || break
+    done
+    [ "$status" = 3 ] || fail "$what: the drive finds nothing wrong in three tries: status $status"
+    printf 'hosts: %s: %s\n' "$what" "$(tail -n 1 "$work/log")" >&2
+}
+
+# Runs cargo in a workspace: `cargo_in FOLDER WHAT WORD..`. $config is two words or none.
+cargo_in() {
+    folder=$1 what=$2 command=$3
+    shift 3
+    # shellcheck disable=SC2086
+    (cd "$folder" && expect 0 "$folder: $what" cargo "$command" --release --quiet $config "$@")
+}
+
+# The words of cargo that take the dependencies from Debian's packages, if all of them are installed: in $config.
+find_crates() {
+    has cargo || not_run 'there is no cargo'
+    [ -z "${config+set}" ] || return 0
+    config=
+    ! "$top/hosts/packaging/requirements" debian || config="--config $top/hosts/debian.toml"
+    # shellcheck disable=SC2086
+    (cd "$top/hosts" && cargo fetch --quiet $config >"$work/log" 2>&1) ||
+        not_run "cargo finds not all crates: $(tail -n 1 "$work/log")"
+}
+
+# Makes the committed library for programs in C: $library.
+make_library() {
+    has cc || not_run 'there is no C compiler'
+    expect 0 'the committed library' "$top/hosts/packaging/library" fits
+    expect 0 'the library libkrl.a' "$top/hosts/packaging/library" make "$work/library"
+    library=$work/library/libkrl.a
+}
+
+# What a part runs has to be built. With KRL_BUILT it is: parts that run side by side do not build.
+need_programs() {
+    [ -z "${KRL_BUILT-}" ] || [ ! -x "$drive" ] || return 0
+    find_crates
+    build_programs
+}
+
+build_programs() {
+    cargo_in "$top/hosts" 'the build' build --workspace --bins --examples
+    # By itself: together with the others cargo would build its libraries with what only they need.
+    cargo_in "$top/hosts" 'the client for C' build -p krl-client-c --lib
+}

@@ -1,0 +1,49 @@
+# shellcheck shell=sh disable=SC2154
+# Part of tests/hosts: drives of servers and clients that are processes, and are killed and stopped.
+
+make_certificates() {
+    expect 0 'the certificates' "$top/hosts/packaging/certificates" "$work/certificates" server operator client-0 \
+        client-1 client-2 client-3
+    KRL_CERTIFICATES=$work/certificates
+    export KRL_CERTIFICATES
+}
+
+# A drive of seconds, for a quick check.
+part_short() {
+    need_programs
+    drive 0 'a few kills' "$drive" kill "$work/short" 3
+}
+
+part_kills() {
+    need_programs
+    drive 0 'kills' "$drive" kill "$work/kills" 20
+    drive 0 'kills over a network that loses, repeats and swaps' "$drive" kill "$work/lossy" 6 sqlite lossy
+    make_certificates
+    drive 0 'kills, over TLS and with leases' "$drive" kill "$work/tls" 6 sqlite tls
+    drive 0 'the same over a network that loses, repeats and swaps' "$drive" kill "$work/lossy-tls" 6 sqlite lossy-tls
+    finds 'a store that loses what it has not synced' "$drive" kill 20 unsynced direct
+    drive 0 'shards' "$drive" shards "$work/shards" 20 2
+}
+
+part_leases() {
+    need_programs
+    drive 0 'leases' "$drive" leases "$work/leases" 12
+    drive 0 'leases over a network that loses, repeats and swaps' "$drive" leases "$work/leases-lossy" 6 lossy
+    drive 0 'who wants what a dead client holds' "$drive" takeover "$work/takeover" 12
+    drive 0 'a hasty client' "$drive" haste "$work/haste"
+}
+
+part_strangers() {
+    need_programs
+    drive 0 'strings' "$drive" strings 1000000 100000
+    drive 0 'strangers' "$drive" strangers
+    drive 0 'long reports' "$drive" reports
+}
+
+part_cache() {
+    need_programs
+    drive 0 'caches of a table in PostgreSQL' "$drive" cache "$work/cache" 60
+    ls /usr/lib/postgresql/*/bin/postgres >/dev/null 2>&1 || not_run 'there is no PostgreSQL: the shop'
+    drive 0 'a shop over such caches' env PROGRAMS="$programs" "$top/examples/shop/run" 6
+    "$top/examples/shop/draw" <"$work/log" | grep -q '</svg>' || fail 'what the shop prints is not drawn'
+}

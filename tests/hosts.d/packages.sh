@@ -1,0 +1,28 @@
+# shellcheck shell=sh disable=SC2154
+# Part of tests/hosts: what is handed out, each tried in a folder of its own, and the commands of the pages.
+
+# Makes a package by this script of hosts/packaging.
+make_package() {
+    env LIBRARY="$work/library" PROGRAMS="$programs" "$top/hosts/packaging/$1" "$work/dist"
+}
+
+# They serve without rt and cargo.
+part_packages() {
+    need_programs
+    find_crates
+    make_library
+    expect 0 'the archive' make_package archive
+    expect 0 'the archive, tried in a folder of its own' "$top/tests/archive" "$work"/dist/*.tar.gz
+    # shellcheck disable=SC2086
+    expect 0 'the crates, packaged' "$top/tests/package" $config
+    has dpkg-deb || not_run 'there is no dpkg-deb: the package for Debian'
+    expect 0 'the package for Debian' make_package debian-package
+    expect 0 'the package, tried in a folder of its own' "$top/tests/archive" "$work"/dist/*.deb
+}
+
+part_pages() {
+    has python3 unshare ip etcd etcdctl curl openssl ||
+        not_run 'python3, unshare, ip, etcd, etcdctl, curl or openssl is missing: commands of pages'
+    need_programs
+    drive 0 'the commands of the pages' "$top/tests/pages" "$programs"
+}

@@ -1,0 +1,85 @@
+# shellcheck shell=sh disable=SC2154
+# Part of tests/hosts: hosts with an edit, which a test or a drive has to find, and the servers that stand by.
+
+# Makes a copy of the hosts with an edit, $work/wrong.
+edited() {
+    rm -rf "$work/wrong"
+    mkdir -p "$work/wrong/hosts" "$work/wrong/docs"
+    cp "$top/hosts/Cargo.toml" "$work/wrong/hosts"
+    # The tests of the client for C compare this page with their programs.
+    cp "$top/docs/CLIENTS.md" "$work/wrong/docs"
+    for member in $(sed -n '/^members = \[$/,/^\]$/{/"/p}' "$top/hosts/Cargo.toml" | tr -d '",'); do
+        cp -R "$top/hosts/$member" "$work/wrong/hosts"
+    done
+    "$top/tests/edit" "$1" "$work/wrong" || fail "$(basename "$1"): the edit does not fit"
+}
+
+# Builds a program of the edited hosts, and leaves it in $work/target/release: `build_edited WHAT PROGRAM`. Cargo takes
+# what it has built of a copy for what it would build of the tree. In one folder, an edited server would take the place
+# of the tree's own, and be started by ./krl. So copies have another folder, which begins with the dependencies.
+build_edited() {
+    find_crates
+    [ -d "$work/target" ] || copy_dependencies
+    cargo_in "$work/wrong/hosts" "$1: the build" build -p "$2" --target-dir "$work/target"
+}
+
+copy_dependencies() {
+    mkdir -p "$work/target/release/deps"
+    cp -Rp "$programs/build" "$programs/.fingerprint" "$work/target/release"
+    cp -p "$programs"/deps/lib* "$work/target/release/deps"
+}
+
+# The checksums of the tree's own programs.
+sums() {
+    cksum "$programs/krl-server" "$programs/krl-client" "$drive"
+}
+
+compare_sums() {
+    sums | cmp -s - "$work/sums" || fail 'an edited host has taken the place of a program of the tree'
+}
+
+# Each wrong host whose edit names a test, several at a time.
+part_wrong() {
+    need_programs
+    sums >"$work/sums"
+    expect 0 'the wrong hosts' "$top/tests/wrong_hosts" --work "$work/tried"
+    sed 's/^/hosts: /' "$work/log" >&2
+    compare_sums
+}
+
+# Each other one, which the drive has to find.
+part_wrong_drives() {
+    need_programs
+    sums >"$work/sums"
+    for edit in "$top"/hosts/drive/wrong/*.edit; do
+        ! grep -q '^test: ' "$edit" || continue
+        name=$(basename "$edit" .edit)
+        edited "$edit"
+        build_edited "wrong body $name" krl_drive
+        words=$(sed -n 's/^drive: //p' "$edit")
+        # shellcheck disable=SC2086
+        finds "wrong body $name" "$work/target/release/krl_drive" ${words:-kill 20}
+    done
+    compare_sums
+}
+
+# Servers that stand by. In the failovers the server that serves, its machine or its store breaks. No lease and no
+# timeout ends these servers: only the store distinguishes them. Without network namespaces the same is done on one
+# machine.
+part_failover() {
+    has etcd || not_run 'there is no etcd: servers that stand by'
+    need_programs
+    drive 0 'stores of the greatest room' "$drive" large-stores "$work/large-stores"
+    rm -rf "$work/large-stores"
+    drive 0 'a frozen server, noticed by a client that only reads' \
+        "$drive" frozen "$work/frozen" 2 "$programs/krl-server"
+    sums >"$work/sums"
+    edited "$top/hosts/drive/heedless.edit"
+    build_edited 'heedless servers' krl-server
+    compare_sums
+    heedless=$work/target/release/krl-server
+    drive 0 'servers that stand by' "$drive" failover "$work/failover" "${KRL_FAULTS-12}" "$heedless"
+    drive 0 'servers that stand by, without leases of clients' \
+        "$drive" failover "$work/failover-leaseless" 4 "$heedless" kill,wake,cut,cross leaseless
+    sed -n 's/^NOT RUN/hosts: NOT RUN/p' "$work/log" >&2
+}
