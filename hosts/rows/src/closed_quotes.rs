@@ -26,9 +26,8 @@ enum State {
 impl State {
     fn after(self, byte: u8) -> State {
         match (self, byte) {
-            (State::Start | State::AfterQuote, b'"') => State::Quoted,
             (State::Quoted, b'"') => State::AfterQuote,
-            (State::Quoted, _) => State::Quoted,
+            (State::Quoted, _) | (State::Start | State::AfterQuote, b'"') => State::Quoted,
             (_, b',' | b'\n' | b'\r') => State::Start,
             _ => State::Plain,
         }

@@ -142,8 +142,8 @@ fn each_setting_of_the_installed_file_is_accepted() {
     };
     let settings: Vec<_> = installed.lines().filter(|line| is_setting(line)).collect();
     assert_eq!(settings.len(), installed.matches(" = ").count(), "{installed}");
-    let text: String =
-        settings.iter().map(|line| format!("{}\n", line.trim_start_matches("# "))).collect();
+    let settings: Vec<_> = settings.iter().map(|line| line.trim_start_matches("# ")).collect();
+    let text = settings.join("\n");
     let path = file(folder.path(), &text);
     let printed = run(&["config", "--config", &path]);
     assert_eq!(printed.status.code(), Some(0), "{}", errors(&printed));
