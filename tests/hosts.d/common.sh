@@ -102,8 +102,9 @@ need_programs() {
     build_programs
 }
 
+# The client for C is built by itself: together with the others cargo would build its libraries with what only they
+# need. Without it the programs are the same as those that cargo builds with the tests: none takes another's place.
 build_programs() {
-    cargo_in "$top/hosts" 'the build' build --workspace --bins --examples
-    # By itself: together with the others cargo would build its libraries with what only they need.
+    cargo_in "$top/hosts" 'the build' build --workspace --exclude krl-client-c --bins --examples
     cargo_in "$top/hosts" 'the client for C' build -p krl-client-c --lib
 }
