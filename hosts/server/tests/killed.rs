@@ -57,17 +57,17 @@ fn killed_at_each_change(words: &[&str], prepare: impl Fn(&Path), judge: impl Fn
             command.args(words).current_dir(folder.path());
             command
         };
-        let mut killed = command();
-        killed.env("LD_PRELOAD", &killer).env("KILL_BEFORE_CHANGE", change.to_string());
-        let killed = killed.output().unwrap();
+        let mut interrupted = command();
+        interrupted.env("LD_PRELOAD", &killer).env("KILL_BEFORE_CHANGE", change.to_string());
+        let interrupted = interrupted.output().unwrap();
         let again = command().output().unwrap();
         assert_eq!(again.status.code(), Some(0), "before change {change}: {}", errors(&again));
         judge(folder.path());
-        if killed.status.code() == Some(0) {
+        if interrupted.status.code() == Some(0) {
             assert!(change > 1, "no change was counted");
             return;
         }
-        assert_eq!(killed.status.signal(), Some(SIGKILL), "{}", errors(&killed));
+        assert_eq!(interrupted.status.signal(), Some(SIGKILL), "{}", errors(&interrupted));
     }
 }
 
