@@ -1,6 +1,7 @@
 //! Long reports in the worst orders. A server that has started again waits for the report of each
 //! client, and nobody may wait longer because one of them has no order.
 use crate::Found;
+use crate::strangers::HOST_HELLO;
 use krl::{Address, Client, Listener, MemoryStore, Record, Server, Snapshot, Value};
 use std::error::Error;
 use std::io::Write;
@@ -90,9 +91,10 @@ fn full_table() -> Snapshot {
     }
 }
 
-/// Sends one message on a connection of its own, which stays open.
+/// Sends one message on a connection of its own, after its host's Hello. The connection stays open.
 fn say(at: SocketAddr, message: &[u8]) -> Result<TcpStream, Box<dyn Error>> {
     let mut stream = TcpStream::connect(at)?;
+    stream.write_all(&HOST_HELLO)?;
     stream.write_all(&(message.len() as u64).to_le_bytes())?;
     stream.write_all(message)?;
     Ok(stream)

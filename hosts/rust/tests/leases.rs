@@ -6,7 +6,7 @@ mod shared_store;
 use krl::{Address, Client, Error, JoinError, Leases, Listener, Outcome, Refusal, Row, Server};
 use krl::{Value, evict};
 use network::Network;
-use peer::{HELLO, Peer, frame};
+use peer::{HELLO, HOST_HELLO, Peer, frame};
 use shared_store::SharedStore;
 use std::path::PathBuf;
 use std::thread;
@@ -226,11 +226,12 @@ fn who_joined_without_a_lease_is_left_to_an_operator() {
 }
 
 #[test]
-fn a_host_that_says_no_signs_is_served_and_left_to_an_operator() {
+fn a_host_that_sends_no_signs_is_served_and_left_to_an_operator() {
     let (folder, server) = (Folder::new("older"), server(T));
     let mut older = Peer::new(&server);
+    older.say(&HOST_HELLO);
     older.say(&frame(HELLO, 50, 1, &[]));
-    assert!(!older.hear(T / 2).is_empty(), "it is answered, by no host frame");
+    assert!(!older.hear_messages(T / 2).is_empty(), "it is answered");
     thread::sleep(3 * T);
     let status = server.status();
     assert_eq!((status.evicted, &status.unleased[..]), (0, &[50][..]), "{status}");
