@@ -17,8 +17,8 @@ read_clocks() {
 part() {
     words=$1
     shift
-    measured=$work/times.$(echo "$words" | tr -c 'a-z_\n' '-')
-    read_clocks "$measured"
+    times_file=$work/times.$(echo "$words" | tr -c 'a-z_\n' '-')
+    read_clocks "$times_file"
     began=$clock spent=$processor
     if "$@" </dev/null >&2; then
         outcome=passed
@@ -26,7 +26,7 @@ part() {
         outcome="FAILED: this runs only that: $words"
         echo "$words" >>"$KRL_FAILED"
     fi
-    read_clocks "$measured"
+    read_clocks "$times_file"
     printf '== %s: %s seconds, %s of a processor: %s\n' \
         "$words" $((clock - began)) $((processor - spent)) "$outcome" >&2
     [ "$outcome" = passed ]
