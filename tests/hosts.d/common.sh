@@ -5,6 +5,7 @@ top=$(CDPATH='' cd -- "$(dirname -- "$0")/../.." && pwd)
 CARGO_TARGET_DIR=${CARGO_TARGET_DIR-$top/hosts/target}
 export CARGO_TARGET_DIR
 unset KRL_LIBRARY
+profile=release
 programs=$CARGO_TARGET_DIR/release
 drive=$programs/krl_drive
 simulation=$programs/krl-simulation
@@ -73,7 +74,17 @@ cargo_in() {
     folder=$1 what=$2 command=$3
     shift 3
     # shellcheck disable=SC2086
-    (cd "$folder" && expect 0 "$folder: $what" cargo "$command" --release --quiet $config "$@")
+    (cd "$folder" && expect 0 "$folder: $what" cargo "$command" --profile "$profile" --quiet $config "$@")
+}
+
+# Builds or runs the tests, for which cargo has a profile of its own: `test_hosts WORD..`. Those of the client for C are
+# built by themselves, as the client is.
+test_hosts() {
+    (
+        profile=tests
+        cargo_in "$top/hosts" 'the tests' test "$@" --workspace --exclude krl-client-c
+        cargo_in "$top/hosts" 'the tests of the client for C' test "$@" -p krl-client-c
+    )
 }
 
 # The words of cargo that take the dependencies from Debian's packages, if all of them are installed: in $config.
@@ -103,7 +114,7 @@ need_programs() {
 }
 
 # The client for C is built by itself: together with the others cargo would build its libraries with what only they
-# need. Without it the programs are the same as those that cargo builds with the tests: none takes another's place.
+# need.
 build_programs() {
     cargo_in "$top/hosts" 'the build' build --workspace --exclude krl-client-c --bins --examples
     cargo_in "$top/hosts" 'the client for C' build -p krl-client-c --lib

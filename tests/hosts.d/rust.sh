@@ -6,8 +6,7 @@ part_build() {
     find_crates
     expect 0 'the committed library' "$top/hosts/packaging/library" fits
     build_programs
-    cargo_in "$top/hosts" 'the tests' test --no-run --workspace --exclude krl-client-c
-    cargo_in "$top/hosts" 'the tests of the client for C' test --no-run -p krl-client-c
+    test_hosts --no-run
 }
 
 # Runs clippy, or the compiler's own check if there is no clippy: `lint WHAT WORD..`.
@@ -41,8 +40,7 @@ part_tests() {
     find_crates
     has chromium || lacks 'there is no chromium: the page of a server in a browser'
     has promtool || lacks 'there is no promtool: the alert rules for Prometheus'
-    cargo_in "$top/hosts" 'the tests' test --workspace --exclude krl-client-c
-    cargo_in "$top/hosts" 'the tests of the client for C' test -p krl-client-c
+    test_hosts
 }
 
 # Worlds in one thread, by seeds.

@@ -1,4 +1,4 @@
-# shellcheck shell=sh disable=SC2154
+# shellcheck shell=sh disable=SC2034,SC2154
 # Part of tests/hosts: hosts with an edit, which a test or a drive has to find, and the servers that stand by.
 
 # Makes a copy of the hosts with an edit, $work/wrong.
@@ -14,19 +14,22 @@ edited() {
     "$top/tests/edit" "$1" "$work/wrong" || fail "$(basename "$1"): the edit does not fit"
 }
 
-# Builds a program of the edited hosts, and leaves it in $work/target/release: `build_edited WHAT PROGRAM`. Cargo takes
-# what it has built of a copy for what it would build of the tree. In one folder, an edited server would take the place
-# of the tree's own, and be started by ./krl. So copies have another folder, which begins with the dependencies.
+# Builds a program of the edited hosts, as tests are built, and leaves it in $edited_programs: `build_edited WHAT PROGRAM`.
+# Cargo takes what it has built of a copy for what it would build of the tree. In one folder, an edited server would take
+# the place of the tree's own, and be started by ./krl. So copies have another folder, which begins with the dependencies.
+edited_programs=$work/target/tests
 build_edited() {
     find_crates
     [ -d "$work/target" ] || copy_dependencies
-    cargo_in "$work/wrong/hosts" "$1: the build" build -p "$2" --target-dir "$work/target"
+    (profile=tests && cargo_in "$work/wrong/hosts" "$1: the build" build -p "$2" --target-dir "$work/target")
 }
 
 copy_dependencies() {
-    mkdir -p "$work/target/release/deps"
-    cp -Rp "$programs/build" "$programs/.fingerprint" "$work/target/release"
-    cp -p "$programs"/deps/lib* "$work/target/release/deps"
+    built=$CARGO_TARGET_DIR/tests
+    [ -d "$built" ] || return 0
+    mkdir -p "$edited_programs/deps"
+    cp -Rp "$built/build" "$built/.fingerprint" "$edited_programs"
+    cp -p "$built"/deps/lib* "$edited_programs/deps"
 }
 
 # The checksums of the tree's own programs.
@@ -58,7 +61,7 @@ part_wrong_drives() {
         build_edited "wrong body $name" krl_drive
         words=$(sed -n 's/^drive: //p' "$edit")
         # shellcheck disable=SC2086
-        finds "wrong body $name" "$work/target/release/krl_drive" ${words:-kill 20}
+        finds "wrong body $name" "$edited_programs/krl_drive" ${words:-kill 20}
     done
     compare_sums
 }
@@ -77,7 +80,7 @@ part_failover() {
     edited "$top/hosts/drive/heedless.edit"
     build_edited 'heedless servers' krl-server
     compare_sums
-    heedless=$work/target/release/krl-server
+    heedless=$edited_programs/krl-server
     drive 0 'servers that stand by' "$drive" failover "$work/failover" "${KRL_FAULTS-12}" "$heedless"
     drive 0 'servers that stand by, without leases of clients' \
         "$drive" failover "$work/failover-leaseless" 4 "$heedless" kill,wake,cut,cross leaseless
