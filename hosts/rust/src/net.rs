@@ -4,6 +4,7 @@ pub(crate) mod carrier;
 pub(crate) mod connect_fault;
 pub(crate) mod outgoing;
 pub(crate) mod poller;
+pub(crate) mod readiness;
 pub(crate) mod servers;
 pub(crate) mod stream;
 #[cfg_attr(not(feature = "tls"), path = "net/no_tls.rs")]

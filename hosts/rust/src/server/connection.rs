@@ -6,10 +6,11 @@ use crate::log::seldom::Seldom;
 use crate::model::history::Seen;
 use crate::model::refusal::Refusal;
 use crate::net::outgoing::Outgoing;
-use crate::net::poller::{Readiness, Watched};
+use crate::net::poller::Watched;
+use crate::net::readiness::{Readiness, Unread};
 use crate::net::tls::TlsSession;
 use crate::server::close_reason::CloseReason;
-use crate::wire::frames::{Frames, GULP, HEAD};
+use crate::wire::frames::{Frames, HEAD};
 use crate::wire::host_frame::FromServer;
 use std::io::{self, ErrorKind, Read, Write};
 use std::time::{Duration, Instant};
@@ -35,15 +36,6 @@ enum Batch {
     Begun,
     /// The peer takes too little: the batch is lost.
     Lost,
-}
-
-/// What a socket has that was not read.
-#[derive(Clone, Copy, Debug, PartialEq, Eq)]
-enum Unread {
-    Nothing,
-    Something,
-    /// The last that there is, and then the end.
-    Last,
 }
 
 /// What a look at a connection found.
@@ -108,11 +100,7 @@ impl Connection {
 
     /// The system has reported that something came.
     pub fn is_readable(&mut self, readiness: Readiness) {
-        if readiness.is_last {
-            self.unread = Unread::Last;
-        } else if self.unread == Unread::Nothing {
-            self.unread = Unread::Something;
-        }
+        self.unread.report(readiness);
     }
 
     /// Whether a look may find something.
@@ -143,8 +131,13 @@ impl Connection {
 
     /// Takes what a read by [`Connection::fill`] came to, and sees whether a frame has come whole.
     pub fn has_read(&mut self, came: io::Result<usize>, now: Instant) -> Looked {
-        match self.note_read(came, now) {
-            Ok(()) => self.look(),
+        match self.unread.note(came) {
+            Ok(has_come) => {
+                if has_come {
+                    self.heard = now;
+                }
+                self.look()
+            }
             Err(error) => self.why_unread(&error),
         }
     }
@@ -189,24 +182,6 @@ impl Connection {
             Entry::Known(_) => self.incoming.fill(stream),
             Entry::Unknown(session) => session.fill(stream, &mut self.incoming),
         }
-    }
-
-    fn note_read(&mut self, came: io::Result<usize>, now: Instant) -> io::Result<()> {
-        match came {
-            Ok(0) => return Err(ErrorKind::UnexpectedEof.into()),
-            Ok(count) => {
-                self.heard = now;
-                // A socket that gives less than it could has no more. The end is no byte: a
-                // connection whose end was reported is read until it comes.
-                if count < GULP && self.unread == Unread::Something {
-                    self.unread = Unread::Nothing;
-                }
-            }
-            Err(error) if error.kind() == ErrorKind::Interrupted => {}
-            Err(error) if error.kind() == ErrorKind::WouldBlock => self.unread = Unread::Nothing,
-            Err(error) => return Err(error),
-        }
-        Ok(())
     }
 
     /// Bytes out: all that leaves passes here. It writes what the peer takes at once.

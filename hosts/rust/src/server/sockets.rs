@@ -2,7 +2,8 @@
 //! peer stops the others.
 use crate::access::Access;
 use crate::lease::clocks::Now;
-use crate::net::poller::{Poller, Readiness, Ready, Watched};
+use crate::net::poller::{Poller, Ready, Watched};
+use crate::net::readiness::Readiness;
 use crate::net::stream::{Accepted, Listener, Stream};
 use crate::server::connections::{Closed, Connections, Turn};
 use crate::server::listening::Listening;

@@ -7,7 +7,7 @@ use crate::model::change::Change;
 use crate::model::reach::Reach;
 use crate::model::room::Room;
 use crate::net::address::Address;
-use crate::net::poller::Readiness;
+use crate::net::readiness::Readiness;
 use crate::net::stream::PeerAddress;
 use crate::server::error::ServeError;
 use crate::server::event_loop::commits::Commit;
