@@ -2,7 +2,7 @@
 pub(crate) mod address;
 pub(crate) mod carrier;
 pub(crate) mod connect_fault;
-pub(crate) mod outgoing;
+pub(crate) mod outbox;
 pub(crate) mod poller;
 pub(crate) mod readiness;
 pub(crate) mod servers;

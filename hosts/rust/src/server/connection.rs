@@ -5,7 +5,7 @@ use crate::access::identity::Identity;
 use crate::log::seldom::Seldom;
 use crate::model::history::Seen;
 use crate::model::refusal::Refusal;
-use crate::net::outgoing::Outgoing;
+use crate::net::outbox::Outbox;
 use crate::net::poller::Watched;
 use crate::net::readiness::{Readiness, Unread};
 use crate::net::tls::TlsSession;
@@ -18,6 +18,9 @@ use told::Told;
 
 /// A connection on which nothing comes for this long is closed: clients tick more often.
 const SILENCE: Duration = Duration::from_secs(30);
+
+/// This much may wait before a further batch is lost: 39 of the longest messages.
+const MAX_WAITING: usize = 1 << 18;
 
 /// What has been sent to the host of a peer that takes host frames.
 #[derive(Debug, Default)]
@@ -65,7 +68,7 @@ pub(crate) struct Connection {
     incoming: Frames,
     unread: Unread,
     heard: Instant,
-    outgoing: Outgoing,
+    outbox: Outbox,
     batch: Batch,
     /// What leaves before the server's messages, as soon as it may.
     told: Told,
@@ -88,7 +91,7 @@ impl Connection {
             incoming: Frames::to_server(longest),
             unread: Unread::Nothing,
             heard: now,
-            outgoing: Outgoing::default(),
+            outbox: Outbox::default(),
             batch: Batch::NotBegun,
             told: Told::default(),
             host: None,
@@ -188,15 +191,15 @@ impl Connection {
     pub fn write(&mut self, stream: &mut impl Write, now: Instant) -> io::Result<()> {
         if let Some(session) = self.session() {
             let sealed = session.take_sealed()?;
-            self.outgoing.put(&sealed);
+            self.outbox.put(&sealed);
         }
-        self.outgoing.write(stream, now)
+        self.outbox.write(stream, now)
     }
 
     /// Puts bytes after those that leave.
     fn put(&mut self, bytes: &[u8]) {
         match &mut self.entry {
-            Entry::Known(_) => self.outgoing.put(bytes),
+            Entry::Known(_) => self.outbox.put(bytes),
             Entry::Unknown(session) => session.put(bytes),
         }
     }
@@ -226,7 +229,7 @@ impl Connection {
     /// What it has to be watched for. A socket that takes all is not watched for writes: each time
     /// that the peer reads would be reported.
     pub fn watched(&self) -> Watched {
-        match (self.outgoing.is_empty(), self.ends_for.is_some()) {
+        match (self.outbox.is_empty(), self.ends_for.is_some()) {
             (true, _) => Watched::Reads,
             (false, false) => Watched::Both,
             (false, true) => Watched::Writes,
@@ -236,7 +239,7 @@ impl Connection {
     /// How many bytes wait to be written.
     #[cfg(test)]
     pub fn waits(&self) -> usize {
-        self.outgoing.waits()
+        self.outbox.waits()
     }
 
     /// Takes nothing more from it, for this reason. It is over when nothing waits for a commit, and
@@ -260,12 +263,12 @@ impl Connection {
     }
 
     pub fn is_over(&self) -> bool {
-        self.ends_for.is_some() && self.outgoing.is_empty() && !self.told.is_waiting()
+        self.ends_for.is_some() && self.outbox.is_empty() && !self.told.is_waiting()
     }
 
     /// Why the connection is closed now, if its peer is silent or takes nothing for too long.
     pub fn why_dead(&self, now: Instant) -> Option<CloseReason> {
-        if self.outgoing.is_stuck(now) {
+        if self.outbox.is_stalled(now) {
             return Some(CloseReason::TakesNothing);
         }
         (self.silent_for(now) >= SILENCE).then_some(CloseReason::Silent)
@@ -341,7 +344,7 @@ impl Connection {
         if self.batch != Batch::NotBegun {
             return;
         }
-        let is_lost = self.outgoing.is_full();
+        let is_lost = self.outbox.waits() >= MAX_WAITING;
         self.batch = if is_lost { Batch::Lost } else { Batch::Begun };
         let mut first = Vec::new();
         if let Some(host) = &mut self.host {

@@ -101,7 +101,7 @@ fn a_host_whose_store_went_back_hears_that_and_no_mark() {
 fn a_batch_that_is_lost_is_lost_whole() {
     let (mut connection, mut peer) = connection();
     connection.greet(HELLO);
-    while !connection.outgoing.is_full() {
+    while connection.waits() < MAX_WAITING {
         send(&mut connection, &[0; 1 << 12], None);
     }
     connection.tell(b"lost");
