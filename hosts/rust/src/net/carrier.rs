@@ -49,7 +49,7 @@ impl Carrier {
 
     /// That of a stream that is connected, and on which the hand-shake is done.
     pub fn over(stream: Stream, session: Option<TlsSession>) -> io::Result<Carrier> {
-        stream.set_waiting(false)?;
+        stream.never_wait()?;
         Ok(Carrier { stream, session: session.map(|session| Arc::new(Mutex::new(session))) })
     }
 
