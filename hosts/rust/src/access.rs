@@ -112,7 +112,7 @@ impl Access {
     }
 
     fn user_of(&self, stream: &UnixStream) -> io::Result<Identity> {
-        Ok(self.of_user(user_at(stream)?, own_user()?))
+        Ok(self.of_user(user_at(stream)?, own_user()))
     }
 
     /// What this user may send to a server of the own user.

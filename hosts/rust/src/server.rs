@@ -6,7 +6,6 @@ pub(crate) mod connection;
 pub(crate) mod connections;
 pub(crate) mod error;
 pub(crate) mod event_loop;
-pub(crate) mod full;
 mod held_back;
 pub(crate) mod listening;
 pub(crate) mod lock_search;

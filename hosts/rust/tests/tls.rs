@@ -2,7 +2,7 @@
 mod secure;
 
 use krl::{Access, Address, Client, Error, Identity, JoinError, Listener, MemoryStore, Outcome};
-use krl::{Server, TlsConfig, Value, evict};
+use krl::{Refusal, Server, TlsConfig, Value, evict};
 use openssl::ssl::SslVersion;
 use openssl::ssl::{SslConnector, SslConnectorBuilder, SslFiletype, SslMethod, SslVerifyMode};
 use secure::{Setup, at, serve, serve_with, servers, settled};
@@ -94,6 +94,28 @@ fn an_operator_ends_clients_and_does_no_more() {
     evict(servers(&server, &operator), 3, setup.folder.join("3-elsewhere.lock")).unwrap();
     let five = servers(&server, &setup.config(&["krl:client:5"]));
     assert!(evict(&five, 4, setup.lock(4)).is_err());
+}
+
+#[test]
+fn a_full_server_reports_so_and_waits_for_no_stranger() {
+    let setup = Setup::new("full");
+    let listener = Listener::bind(&"tls:127.0.0.1:0".parse().unwrap()).unwrap();
+    let access = Access::new().tls(setup.config(&["krl:server"]));
+    let server = Server::builder(listener, MemoryStore::default()).access(access);
+    let server = server.max_connections(1).start().unwrap();
+    let _first = setup.join(&server, &setup.config(&["krl:client:3"]), 3).unwrap();
+    let four = servers(&server, &setup.config(&["krl:client:4"]));
+    let second = Client::builder(four, 4, setup.lock(4)).timeout(Duration::from_millis(500));
+    let full = Refusal::Full { connections: 1 };
+    let refused = second.join().unwrap_err();
+    assert!(matches!(refused, JoinError::Unserved(why) if why == full), "{refused:?}");
+    // One that has shown its certificate and sends nothing is closed as a stranger is.
+    let connector = credulous(&setup, Some(&["krl:client:5"])).build();
+    let begun = Instant::now();
+    let stream = TcpStream::connect(at(&server)).unwrap();
+    let mut silent = connector.connect("localhost", stream).unwrap();
+    assert_eq!(silent.read(&mut [0]).unwrap_or(0), 0);
+    assert!(begun.elapsed() < Duration::from_secs(20), "{:?}", begun.elapsed());
 }
 
 #[test]

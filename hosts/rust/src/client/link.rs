@@ -12,10 +12,11 @@ use crate::log::event_log;
 use crate::net::address::Address;
 use crate::net::carrier::Carrier;
 use crate::net::connect_fault::Rejection;
-use crate::net::poller::{Poller, Readiness, Ready, SecondPoller, Watched};
+use crate::net::poller::{Poller, Ready, SecondPoller, Watched};
+use crate::net::readiness::Unread;
 use crate::net::servers::Servers;
 use crate::proved::client_handle::{Cache, ClientHandle};
-use crate::wire::frames::{Frames, GULP};
+use crate::wire::frames::Frames;
 use mio::Waker;
 use std::convert::Infallible;
 use std::io::{self, ErrorKind};
@@ -76,15 +77,6 @@ struct Reading {
     is_due: Instant,
     /// Why it has to end, as a caller has found.
     failed: Option<io::Error>,
-}
-
-/// What may be read from the connection.
-#[derive(Clone, Copy, Debug, PartialEq, Eq)]
-enum Unread {
-    Nothing,
-    Something,
-    /// The last that there is, and then the end.
-    Last,
 }
 
 impl Link {
@@ -296,10 +288,14 @@ impl Link {
         reading: &mut Reading,
         ready: impl Iterator<Item = Ready>,
     ) -> io::Result<Instant> {
-        reading.unread = ready.fold(reading.unread, Unread::after);
+        for ready in ready {
+            if let Ready::Connection(_, readiness) = ready {
+                reading.unread.report(readiness);
+            }
+        }
         loop {
             let Reading { carrier, frames, unread, .. } = reading;
-            let has_come = *unread != Unread::Nothing && unread.read(carrier, frames)?;
+            let has_come = *unread != Unread::Nothing && unread.note(carrier.fill(frames))?;
             let (written, is_due) = self.proceed(has_come.then_some(frames))?;
             if reading.unread == Unread::Nothing {
                 self.watch(reading, written)?;
@@ -365,38 +361,6 @@ impl Link {
         self.session().begin_anew(client.map_err(io::Error::other)?);
         event_log::began_anew(file.number(), incarnation);
         Ok(())
-    }
-}
-
-impl Unread {
-    /// What is to be read after this has become ready.
-    fn after(self, ready: Ready) -> Unread {
-        match (ready, self) {
-            (Ready::Connection(_, Readiness { is_last: true, .. }), _) => Unread::Last,
-            (Ready::Connection(_, Readiness { reads: true, .. }), Unread::Nothing) => {
-                Unread::Something
-            }
-            _ => self,
-        }
-    }
-
-    /// Reads once. It answers whether something came, and is then what is left to be read.
-    fn read(&mut self, carrier: &mut Carrier, frames: &mut Frames) -> io::Result<bool> {
-        match carrier.fill(frames) {
-            Ok(0) => return Err(ErrorKind::UnexpectedEof.into()),
-            Ok(count) => {
-                // A socket that gives less than it could has no more. The end is no byte: who was
-                // told of it reads until it comes.
-                if count < GULP && *self == Unread::Something {
-                    *self = Unread::Nothing;
-                }
-                return Ok(true);
-            }
-            Err(error) if error.kind() == ErrorKind::Interrupted => {}
-            Err(error) if error.kind() == ErrorKind::WouldBlock => *self = Unread::Nothing,
-            Err(error) => return Err(error),
-        }
-        Ok(false)
     }
 }
 

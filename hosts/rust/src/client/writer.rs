@@ -1,11 +1,9 @@
 //! What a client writes to its connection. No caller waits for a server that takes nothing.
 use crate::net::carrier::Carrier;
+use crate::net::outbox::Outbox;
 use std::io::{self, ErrorKind};
 use std::sync::{Mutex, MutexGuard, PoisonError, TryLockError};
-use std::time::{Duration, Instant};
-
-/// A server that takes nothing for so long loses the connection.
-pub(crate) const STALL: Duration = Duration::from_secs(5);
+use std::time::Instant;
 
 /// While so many bytes wait, what is put after them is lost. A report is shorter.
 const MAX_PENDING: usize = 1 << 22;
@@ -29,19 +27,8 @@ struct Pending {
 #[derive(Debug)]
 struct Connection {
     carrier: Carrier,
-    /// What is being written, sealed if the carrier seals, and how many of its bytes are.
-    frames: Vec<u8>,
-    written: usize,
-    /// Since when the server takes nothing.
-    stuck: Option<Instant>,
-}
-
-/// How far an attempt to write has come.
-#[derive(Clone, Copy, Debug, PartialEq, Eq)]
-enum Progress {
-    All,
-    Part,
-    Failed,
+    /// What is being written, sealed if the carrier seals.
+    sealed: Outbox,
 }
 
 /// What a writer has left.
@@ -59,7 +46,7 @@ impl Writer {
     pub fn open(&self, carrier: Carrier, first: Vec<u8>) {
         let mut connection = self.connection();
         *self.pending() = Pending { frames: first, is_connected: true };
-        *connection = Some(Connection { carrier, frames: Vec::new(), written: 0, stuck: None });
+        *connection = Some(Connection { carrier, sealed: Outbox::default() });
     }
 
     /// Ends the connection. What waits is lost, and so is what is put before there is another one.
@@ -83,29 +70,26 @@ impl Writer {
     pub fn write(&self) -> Written {
         loop {
             match self.write_some() {
-                Some(Progress::Part) => return Written::Part,
-                Some(Progress::All) if !self.pending().frames.is_empty() => {}
+                Some(Written::Part) => return Written::Part,
+                Some(_) if !self.pending().frames.is_empty() => {}
                 _ => return Written::AllOrNothing,
             }
         }
     }
 
-    /// Writes once, if there is a connection to which no other thread writes just now.
-    fn write_some(&self) -> Option<Progress> {
+    /// Writes what waits, unless there is no connection, another thread writes to it just now, or
+    /// it has to be closed.
+    fn write_some(&self) -> Option<Written> {
         let mut connection = match self.connection.try_lock() {
             Ok(connection) => connection,
             Err(TryLockError::Poisoned(poisoned)) => poisoned.into_inner(),
             Err(TryLockError::WouldBlock) => return None,
         };
-        let open = connection.as_mut()?;
-        let progress = match open.fill(self.pending()) {
-            Ok(()) => open.write(Instant::now()),
-            Err(_) => Progress::Failed,
-        };
-        if progress == Progress::Failed {
+        let written = connection.as_mut()?.write(self.pending(), Instant::now());
+        if written.is_err() {
             close(&mut connection, &mut self.pending());
         }
-        Some(progress)
+        written.ok()
     }
 
     fn pending(&self) -> MutexGuard<'_, Pending> {
@@ -126,55 +110,38 @@ fn close(connection: &mut Option<Connection>, pending: &mut Pending) {
 }
 
 impl Connection {
+    /// Writes what the connection takes at once: what waits follows when all before it is written.
+    /// A server that takes nothing for too long is an error.
+    fn write(&mut self, pending: MutexGuard<'_, Pending>, now: Instant) -> io::Result<Written> {
+        self.fill(pending)?;
+        self.carrier.write(&mut self.sealed, now)?;
+        match (self.sealed.is_empty(), self.sealed.is_stalled(now)) {
+            (true, _) => Ok(Written::AllOrNothing),
+            (false, false) => Ok(Written::Part),
+            (false, true) => Err(ErrorKind::TimedOut.into()),
+        }
+    }
+
     /// Takes what waits, if all before it is written.
     fn fill(&mut self, mut pending: MutexGuard<'_, Pending>) -> io::Result<()> {
-        if self.written < self.frames.len() {
+        if !self.sealed.is_empty() {
             return Ok(());
         }
-        self.frames.clear();
-        self.written = 0;
-        std::mem::swap(&mut self.frames, &mut pending.frames);
+        let frames = self.sealed.bytes();
+        std::mem::swap(frames, &mut pending.frames);
         drop(pending);
-        self.carrier.seal(&mut self.frames)
+        self.carrier.seal(frames)
     }
-
-    fn write(&mut self, now: Instant) -> Progress {
-        if self.written == self.frames.len() {
-            return Progress::All;
-        }
-        let wrote = self.carrier.write(&self.frames[self.written..]);
-        self.note(&wrote, now)
-    }
-
-    /// Notes what one attempt has come to.
-    fn note(&mut self, wrote: &io::Result<usize>, now: Instant) -> Progress {
-        match wrote {
-            Ok(0) => Progress::Failed,
-            Ok(count) => {
-                self.written += count;
-                self.stuck = None;
-                if self.written == self.frames.len() { Progress::All } else { Progress::Part }
-            }
-            Err(error) if is_full(error.kind()) => {
-                let since = *self.stuck.get_or_insert(now);
-                if now.duration_since(since) < STALL { Progress::Part } else { Progress::Failed }
-            }
-            Err(_) => Progress::Failed,
-        }
-    }
-}
-
-/// Whether the connection takes nothing just now, which is no fault of it.
-fn is_full(kind: ErrorKind) -> bool {
-    matches!(kind, ErrorKind::WouldBlock | ErrorKind::TimedOut | ErrorKind::Interrupted)
 }
 
 #[cfg(test)]
 mod tests {
     use super::*;
+    use crate::net::outbox::STALL;
     use crate::net::stream::Stream;
     use std::io::Read;
     use std::os::unix::net::UnixStream;
+    use std::time::Duration;
 
     /// A writer, and the end of its connection that reads.
     fn pair() -> (Writer, UnixStream) {
@@ -224,19 +191,24 @@ mod tests {
     }
 
     #[test]
-    fn a_connection_that_is_stuck_for_long_is_ended() {
+    fn a_connection_that_takes_nothing_for_long_is_ended() {
         let (writer, _theirs) = pair();
+        put(&writer, &vec![7; 2_000_000]);
         let mut guard = writer.connection();
-        let open = guard.as_mut().unwrap();
-        open.frames = b"abc".to_vec();
-        let (start, full) = (Instant::now(), || Err(ErrorKind::WouldBlock.into()));
-        assert_eq!(open.note(&full(), start), Progress::Part);
-        assert_eq!(open.note(&full(), start + STALL / 2), Progress::Part);
-        assert_eq!(open.note(&Ok(1), start + STALL / 2), Progress::Part);
-        assert_eq!(open.note(&full(), start + STALL), Progress::Part);
-        assert_eq!(open.note(&full(), start + 2 * STALL), Progress::Failed);
-        assert_eq!(open.note(&Ok(2), start + 2 * STALL), Progress::All);
-        assert_eq!(open.note(&Err(ErrorKind::BrokenPipe.into()), start), Progress::Failed);
+        let (open, start) = (guard.as_mut().unwrap(), Instant::now());
+        let mut write = |after| open.write(writer.pending(), start + after);
+        assert_eq!(write(Duration::ZERO).unwrap(), Written::Part);
+        assert_eq!(write(STALL / 2).unwrap(), Written::Part);
+        assert_eq!(write(STALL).unwrap_err().kind(), ErrorKind::TimedOut);
+    }
+
+    #[test]
+    fn a_connection_that_fails_is_closed() {
+        let (writer, theirs) = pair();
+        drop(theirs);
+        put(&writer, b"lost");
+        assert_eq!(writer.write(), Written::AllOrNothing);
+        assert!(writer.connection().is_none());
     }
 
     #[test]

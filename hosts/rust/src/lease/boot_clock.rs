@@ -1,4 +1,6 @@
 //! The clock by which leases run.
+use nix::sys::time::TimeSpec;
+use nix::time::{ClockId, clock_gettime};
 use std::io;
 
 /// A moment by `CLOCK_BOOTTIME`, in nanoseconds since the machine was started. That clock continues
@@ -9,19 +11,6 @@ pub(crate) struct Moment(u64);
 
 const NANOSECONDS: u64 = 1_000_000_000;
 
-/// As in the C library of Linux on x86-64, for which the library is built.
-#[repr(C)]
-struct Timespec {
-    seconds: i64,
-    nanoseconds: i64,
-}
-
-const CLOCK_BOOTTIME: i32 = 7;
-
-unsafe extern "C" {
-    fn clock_gettime(clock: i32, time: *mut Timespec) -> i32;
-}
-
 impl Moment {
     /// The clock as it is now.
     ///
@@ -29,18 +18,13 @@ impl Moment {
     ///
     /// If the system has no such clock.
     pub fn now() -> io::Result<Moment> {
-        let mut time = Timespec { seconds: 0, nanoseconds: 0 };
-        // SAFETY: the time is this call's own, and nothing keeps its address.
-        match unsafe { clock_gettime(CLOCK_BOOTTIME, &raw mut time) } {
-            0 => Ok(Moment::of(&time)),
-            _ => Err(io::Error::last_os_error()),
-        }
+        Ok(Moment::of(clock_gettime(ClockId::CLOCK_BOOTTIME)?))
     }
 
     /// The clock counts from 0, so neither part is below it.
-    fn of(time: &Timespec) -> Moment {
-        let seconds = u64::try_from(time.seconds).unwrap_or_default();
-        let nanoseconds = u64::try_from(time.nanoseconds).unwrap_or_default();
+    fn of(time: TimeSpec) -> Moment {
+        let seconds = u64::try_from(time.tv_sec()).unwrap_or_default();
+        let nanoseconds = u64::try_from(time.tv_nsec()).unwrap_or_default();
         Moment(seconds.saturating_mul(NANOSECONDS).saturating_add(nanoseconds))
     }
 
@@ -73,8 +57,7 @@ mod tests {
 
     #[test]
     fn a_time_is_so_many_nanoseconds() {
-        let time = Timespec { seconds: 2, nanoseconds: 7 };
-        assert_eq!(Moment::of(&time), Moment::of_nanoseconds(2_000_000_007));
+        assert_eq!(Moment::of(TimeSpec::new(2, 7)), Moment::of_nanoseconds(2_000_000_007));
         assert_eq!(Moment::of_nanoseconds(3).since(Moment::of_nanoseconds(5)), 0);
     }
 }

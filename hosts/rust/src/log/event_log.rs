@@ -327,13 +327,6 @@ pub(crate) fn failed(error: &dyn Display) {
     tell!(error, %error, "the server has failed");
 }
 
-/// A connection is closed as it comes, because this many are open.
-pub(crate) fn full(seldom: &mut Seldom, open: usize) {
-    if let Some(passed_over) = seldom.lets(Instant::now()) {
-        tell!(warn, open, passed_over, "a connection is closed: no more may be open");
-    }
-}
-
 /// A connection is taken.
 pub(crate) fn opened(at: &At) {
     tell!(debug, connection = at.connection, peer = %at.peer, "a connection is open");

@@ -2,6 +2,7 @@
 //! with `tls:`.
 use crate::net::address::Address;
 use crate::net::connect_fault::NotTaken;
+use crate::net::outbox::Outbox;
 use crate::net::stream::Stream;
 use crate::net::tls::{Side, TlsConfig, TlsSession};
 use crate::wire::frames::Frames;
@@ -48,7 +49,7 @@ impl Carrier {
 
     /// That of a stream that is connected, and on which the hand-shake is done.
     pub fn over(stream: Stream, session: Option<TlsSession>) -> io::Result<Carrier> {
-        stream.set_waiting(false)?;
+        stream.never_wait()?;
         Ok(Carrier { stream, session: session.map(|session| Arc::new(Mutex::new(session))) })
     }
 
@@ -83,9 +84,9 @@ impl Carrier {
         Ok(())
     }
 
-    /// Writes once what is sealed.
-    pub fn write(&mut self, sealed: &[u8]) -> io::Result<usize> {
-        self.stream.write(sealed)
+    /// Writes what the stream takes at once of what is sealed.
+    pub fn write(&mut self, sealed: &mut Outbox, now: Instant) -> io::Result<()> {
+        sealed.write(&mut self.stream, now)
     }
 }
 

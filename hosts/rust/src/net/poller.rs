@@ -1,4 +1,5 @@
 //! Which sockets are ready: the only place that asks the system.
+use crate::net::readiness::Readiness;
 use crate::net::stream::{Listener, Stream};
 use mio::event::Event;
 use mio::unix::SourceFd;
@@ -24,18 +25,6 @@ pub(crate) enum Ready {
     Listener,
     /// A connection.
     Connection(u64, Readiness),
-}
-
-/// What a connection is ready for. It is reported once when it begins: a caller that leaves
-/// something unread or unwritten has to remember that.
-#[derive(Clone, Copy, Debug, PartialEq, Eq)]
-pub(crate) struct Readiness {
-    /// Something came, or nothing more will.
-    pub reads: bool,
-    /// Nothing comes after what is there: a read that finds nothing finds the end.
-    pub is_last: bool,
-    /// It takes more bytes.
-    pub writes: bool,
 }
 
 /// What a connection is watched for.

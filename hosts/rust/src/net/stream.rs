@@ -276,11 +276,11 @@ impl Stream {
         }
     }
 
-    /// Whether a read or a write waits until it can do something.
-    pub fn set_waiting(&self, waits: bool) -> io::Result<()> {
+    /// No read or write waits from now on.
+    pub fn never_wait(&self) -> io::Result<()> {
         match self {
-            Stream::Tcp(stream) => stream.set_nonblocking(!waits),
-            Stream::Unix(stream) => stream.set_nonblocking(!waits),
+            Stream::Tcp(stream) => stream.set_nonblocking(true),
+            Stream::Unix(stream) => stream.set_nonblocking(true),
         }
     }
 
@@ -295,15 +295,6 @@ impl Stream {
                 stream.set_write_timeout(Some(write))
             }
         }
-    }
-
-    /// Announces that nothing more will be written.
-    pub fn shut_writing(&self) {
-        // One that the other side has ended is shut already.
-        let _ = match self {
-            Stream::Tcp(stream) => stream.shutdown(Shutdown::Write),
-            Stream::Unix(stream) => stream.shutdown(Shutdown::Write),
-        };
     }
 
     /// Ends the connection for both sides, and wakes a thread that reads from it.

@@ -63,9 +63,9 @@ impl<S: Store + 'static> ServerBuilder<S> {
         self
     }
 
-    /// The most connections that are open at once: 256 by default. For one more the oldest is
-    /// closed that has not identified itself; if there is none, the new one is closed as it comes.
-    /// Each client takes one.
+    /// The most connections that have identified themselves: 256 by default. Each client takes one.
+    /// One more gets [`Refusal::Full`](crate::Refusal::Full), and is closed. Besides, at most 128
+    /// are open that have not identified themselves.
     pub fn max_connections(mut self, count: usize) -> ServerBuilder<S> {
         self.options.max_connections = count;
         self
@@ -189,7 +189,7 @@ impl Server {
         let decided = Decided { leases, shard, room, reach, max_connections };
         let opened = decided.open(&mut store, &address, Arc::clone(&timings), Now::read)?;
         let Opened { events, epoch, room } = opened;
-        let (sockets, waker) = Sockets::new(listener, max_connections, access)?;
+        let (sockets, waker) = Sockets::new(listener, access)?;
         let (requests, asked) = Requests::new(Arc::clone(&waker));
         let status = Arc::new(Mutex::new(Status { epoch, room, reach, ..Status::default() }));
         let shown = Arc::clone(&status);

@@ -33,7 +33,7 @@ pub(crate) enum CloseReason {
     OlderStore,
     /// Its client has seen another store.
     OtherStore,
-    /// There was no room for it.
+    /// There was no place for it.
     Full,
 }
 
@@ -95,6 +95,7 @@ impl CloseReason {
             }
             CloseReason::HandshakeFailed => Some("the hand-shake of TLS failed"),
             CloseReason::FrameTooLong => Some("it began a frame that is longer than it may be"),
+            CloseReason::Full => Some("no more may be open"),
             _ => None,
         }
     }

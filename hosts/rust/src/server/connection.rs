@@ -5,11 +5,12 @@ use crate::access::identity::Identity;
 use crate::log::seldom::Seldom;
 use crate::model::history::Seen;
 use crate::model::refusal::Refusal;
-use crate::net::outgoing::Outgoing;
-use crate::net::poller::{Readiness, Watched};
+use crate::net::outbox::Outbox;
+use crate::net::poller::Watched;
+use crate::net::readiness::{Readiness, Unread};
 use crate::net::tls::TlsSession;
 use crate::server::close_reason::CloseReason;
-use crate::wire::frames::{Frames, GULP, HEAD};
+use crate::wire::frames::{Frames, HEAD};
 use crate::wire::host_frame::FromServer;
 use std::io::{self, ErrorKind, Read, Write};
 use std::time::{Duration, Instant};
@@ -17,6 +18,9 @@ use told::Told;
 
 /// A connection on which nothing comes for this long is closed: clients tick more often.
 const SILENCE: Duration = Duration::from_secs(30);
+
+/// This much may wait before a further batch is lost: 39 of the longest messages.
+const MAX_WAITING: usize = 1 << 18;
 
 /// What has been sent to the host of a peer that takes host frames.
 #[derive(Debug, Default)]
@@ -35,15 +39,6 @@ enum Batch {
     Begun,
     /// The peer takes too little: the batch is lost.
     Lost,
-}
-
-/// What a socket has that was not read.
-#[derive(Clone, Copy, Debug, PartialEq, Eq)]
-enum Unread {
-    Nothing,
-    Something,
-    /// The last that there is, and then the end.
-    Last,
 }
 
 /// What a look at a connection found.
@@ -73,7 +68,7 @@ pub(crate) struct Connection {
     incoming: Frames,
     unread: Unread,
     heard: Instant,
-    outgoing: Outgoing,
+    outbox: Outbox,
     batch: Batch,
     /// What leaves before the server's messages, as soon as it may.
     told: Told,
@@ -96,7 +91,7 @@ impl Connection {
             incoming: Frames::to_server(longest),
             unread: Unread::Nothing,
             heard: now,
-            outgoing: Outgoing::default(),
+            outbox: Outbox::default(),
             batch: Batch::NotBegun,
             told: Told::default(),
             host: None,
@@ -108,11 +103,7 @@ impl Connection {
 
     /// The system has reported that something came.
     pub fn is_readable(&mut self, readiness: Readiness) {
-        if readiness.is_last {
-            self.unread = Unread::Last;
-        } else if self.unread == Unread::Nothing {
-            self.unread = Unread::Something;
-        }
+        self.unread.report(readiness);
     }
 
     /// Whether a look may find something.
@@ -143,8 +134,13 @@ impl Connection {
 
     /// Takes what a read by [`Connection::fill`] came to, and sees whether a frame has come whole.
     pub fn has_read(&mut self, came: io::Result<usize>, now: Instant) -> Looked {
-        match self.note_read(came, now) {
-            Ok(()) => self.look(),
+        match self.unread.note(came) {
+            Ok(has_come) => {
+                if has_come {
+                    self.heard = now;
+                }
+                self.look()
+            }
             Err(error) => self.why_unread(&error),
         }
     }
@@ -191,37 +187,19 @@ impl Connection {
         }
     }
 
-    fn note_read(&mut self, came: io::Result<usize>, now: Instant) -> io::Result<()> {
-        match came {
-            Ok(0) => return Err(ErrorKind::UnexpectedEof.into()),
-            Ok(count) => {
-                self.heard = now;
-                // A socket that gives less than it could has no more. The end is no byte: a
-                // connection whose end was reported is read until it comes.
-                if count < GULP && self.unread == Unread::Something {
-                    self.unread = Unread::Nothing;
-                }
-            }
-            Err(error) if error.kind() == ErrorKind::Interrupted => {}
-            Err(error) if error.kind() == ErrorKind::WouldBlock => self.unread = Unread::Nothing,
-            Err(error) => return Err(error),
-        }
-        Ok(())
-    }
-
     /// Bytes out: all that leaves passes here. It writes what the peer takes at once.
     pub fn write(&mut self, stream: &mut impl Write, now: Instant) -> io::Result<()> {
         if let Some(session) = self.session() {
             let sealed = session.take_sealed()?;
-            self.outgoing.put(&sealed);
+            self.outbox.put(&sealed);
         }
-        self.outgoing.write(stream, now)
+        self.outbox.write(stream, now)
     }
 
     /// Puts bytes after those that leave.
     fn put(&mut self, bytes: &[u8]) {
         match &mut self.entry {
-            Entry::Known(_) => self.outgoing.put(bytes),
+            Entry::Known(_) => self.outbox.put(bytes),
             Entry::Unknown(session) => session.put(bytes),
         }
     }
@@ -251,7 +229,7 @@ impl Connection {
     /// What it has to be watched for. A socket that takes all is not watched for writes: each time
     /// that the peer reads would be reported.
     pub fn watched(&self) -> Watched {
-        match (self.outgoing.is_empty(), self.ends_for.is_some()) {
+        match (self.outbox.is_empty(), self.ends_for.is_some()) {
             (true, _) => Watched::Reads,
             (false, false) => Watched::Both,
             (false, true) => Watched::Writes,
@@ -261,7 +239,7 @@ impl Connection {
     /// How many bytes wait to be written.
     #[cfg(test)]
     pub fn waits(&self) -> usize {
-        self.outgoing.waits()
+        self.outbox.waits()
     }
 
     /// Takes nothing more from it, for this reason. It is over when nothing waits for a commit, and
@@ -285,12 +263,12 @@ impl Connection {
     }
 
     pub fn is_over(&self) -> bool {
-        self.ends_for.is_some() && self.outgoing.is_empty() && !self.told.is_waiting()
+        self.ends_for.is_some() && self.outbox.is_empty() && !self.told.is_waiting()
     }
 
     /// Why the connection is closed now, if its peer is silent or takes nothing for too long.
     pub fn why_dead(&self, now: Instant) -> Option<CloseReason> {
-        if self.outgoing.is_stuck(now) {
+        if self.outbox.is_stalled(now) {
             return Some(CloseReason::TakesNothing);
         }
         (self.silent_for(now) >= SILENCE).then_some(CloseReason::Silent)
@@ -366,7 +344,7 @@ impl Connection {
         if self.batch != Batch::NotBegun {
             return;
         }
-        let is_lost = self.outgoing.is_full();
+        let is_lost = self.outbox.waits() >= MAX_WAITING;
         self.batch = if is_lost { Batch::Lost } else { Batch::Begun };
         let mut first = Vec::new();
         if let Some(host) = &mut self.host {

@@ -4,7 +4,8 @@ use crate::lease::clocks::Now;
 use crate::model::history::Seen;
 use crate::model::refusal::Refusal;
 use crate::model::room::Room;
-use crate::net::poller::{Readiness, Watched};
+use crate::net::poller::Watched;
+use crate::net::readiness::Readiness;
 use crate::net::stream::PeerAddress;
 use crate::server::close_reason::CloseReason;
 use crate::server::connection::{Connection, Looked};
@@ -19,7 +20,7 @@ use std::fmt::Display;
 use std::io::{self, Read, Write};
 use std::time::{Duration, Instant};
 
-/// The most connections that are open at once, by default. One more is closed as it comes.
+/// The most connections that have shown whose they are, by default. One more is refused.
 pub(crate) const MAX_CONNECTIONS: usize = 256;
 
 /// A client is active on a connection on which something has come within this time: each ticks more
@@ -28,7 +29,7 @@ const SPEAKS: Duration = Duration::from_secs(2);
 
 /// All open connections, and to which of them each client's messages go.
 pub(crate) struct Connections {
-    /// The most connections that are open at once.
+    /// The most connections that have shown whose they are.
     most: usize,
     /// The longest message that is taken.
     longest: usize,
@@ -84,7 +85,7 @@ pub(crate) enum Turn {
 }
 
 impl Connections {
-    /// No connections yet, and at most so many at once, of a server of this room.
+    /// No connections yet, and places for at most this many, of a server of this room.
     pub fn new(most: usize, room: Room, now: Now) -> Connections {
         Connections {
             most,

@@ -224,6 +224,10 @@ impl EventLoop {
             self.deny(connection, &frame);
             return Ok(());
         }
+        if let Some(most) = self.connections.lacks_place(connection) {
+            self.refuse_full(connection, most);
+            return Ok(());
+        }
         if !self.lets_in(connection, &frame) {
             return Ok(());
         }

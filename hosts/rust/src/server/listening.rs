@@ -1,46 +1,28 @@
-//! New connections: which are taken, and which learn that there is no room.
+//! The socket that takes new connections, and when none can be taken.
 use crate::log::event_log;
 use crate::log::seldom::Seldom;
-use crate::net::stream::{Accepted, Listener, Stream};
-use crate::server::full;
+use crate::net::stream::{Accepted, Listener};
 use std::io::{self, ErrorKind};
-use std::sync::Arc;
-use std::sync::atomic::{AtomicUsize, Ordering};
-use std::thread;
 use std::time::{Duration, Instant};
 
 /// How long to wait before another connection is taken if the system had no room for one.
 const NO_ROOM: Duration = Duration::from_millis(50);
 
-/// The most connections that are informed at once that there is no room for them. One more is
-/// closed as it comes.
-const MAX_TURNED_AWAY: usize = 16;
-
 /// The socket that takes connections. It never waits.
 pub(crate) struct Listening {
     listener: Listener,
-    max_connections: usize,
     /// The system has reported a connection, and not yet that there is none.
     has_some: bool,
     /// None is taken before that.
     not_before: Option<Instant>,
-    being_refused: Arc<AtomicUsize>,
-    full: Seldom,
     failed: Seldom,
 }
 
 impl Listening {
-    pub fn new(listener: Listener, max_connections: usize) -> io::Result<Listening> {
+    pub fn new(listener: Listener) -> io::Result<Listening> {
         listener.never_wait()?;
-        Ok(Listening {
-            listener,
-            max_connections,
-            has_some: false,
-            not_before: None,
-            being_refused: Arc::default(),
-            full: Seldom::default(),
-            failed: Seldom::default(),
-        })
+        let failed = Seldom::default();
+        Ok(Listening { listener, has_some: false, not_before: None, failed })
     }
 
     /// The system has reported that connections wait.
@@ -62,14 +44,6 @@ impl Listening {
         Ok(None)
     }
 
-    /// Closes a connection, because this many are open. One by TLS is sent nothing.
-    pub fn refuse_full(&mut self, accepted: Accepted, open: usize) {
-        event_log::full(&mut self.full, open);
-        if !accepted.is_tls {
-            refuse_full(accepted.stream, self.max_connections, &self.being_refused);
-        }
-    }
-
     fn has_failed(&mut self, error: io::Error, now: Instant) -> io::Result<()> {
         match after(&error) {
             Next::AtOnce => {}
@@ -86,35 +60,6 @@ impl Listening {
     /// A connection is closed, since the system has no room for it.
     pub fn not_taken(&mut self, error: &io::Error) {
         event_log::not_accepted(&mut self.failed, error);
-    }
-}
-
-/// One of the connections that are turned away.
-struct Permit(Arc<AtomicUsize>);
-
-impl Permit {
-    fn take(count: &Arc<AtomicUsize>) -> Permit {
-        count.fetch_add(1, Ordering::AcqRel);
-        Permit(Arc::clone(count))
-    }
-}
-
-impl Drop for Permit {
-    fn drop(&mut self) {
-        self.0.fetch_sub(1, Ordering::AcqRel);
-    }
-}
-
-/// Reports to a peer why it is closed, in a thread of its own. Without one it is closed at once.
-fn refuse_full(stream: Stream, max_connections: usize, count: &Arc<AtomicUsize>) {
-    if count.load(Ordering::Acquire) < MAX_TURNED_AWAY {
-        let permit = Permit::take(count);
-        let _ = thread::Builder::new().name("krl-full".into()).spawn(move || {
-            let _permit = permit;
-            if stream.set_waiting(true).is_ok() {
-                full::tell(stream, max_connections as u64);
-            }
-        });
     }
 }
 

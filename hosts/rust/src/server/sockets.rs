@@ -2,7 +2,8 @@
 //! peer stops the others.
 use crate::access::Access;
 use crate::lease::clocks::Now;
-use crate::net::poller::{Poller, Readiness, Ready, Watched};
+use crate::net::poller::{Poller, Ready, Watched};
+use crate::net::readiness::Readiness;
 use crate::net::stream::{Accepted, Listener, Stream};
 use crate::server::connections::{Closed, Connections, Turn};
 use crate::server::listening::Listening;
@@ -35,16 +36,11 @@ struct Socket {
 }
 
 impl Sockets {
-    /// Takes connections from the listener, and reports to those for which there is no room that
-    /// there are so many; and what wakes it from other threads.
-    pub fn new(
-        listener: Listener,
-        max_connections: usize,
-        access: Access,
-    ) -> io::Result<(Sockets, Arc<Waker>)> {
+    /// Takes connections from the listener; and what wakes it from other threads.
+    pub fn new(listener: Listener, access: Access) -> io::Result<(Sockets, Arc<Waker>)> {
         let (poller, waker) = Poller::new()?;
         poller.listen(&listener)?;
-        let listening = Listening::new(listener, max_connections)?;
+        let listening = Listening::new(listener)?;
         Ok((Sockets { poller, listening, access, open: HashMap::new() }, waker))
     }
 
@@ -75,27 +71,19 @@ impl Sockets {
             if !self.listening.is_ready(now) {
                 break;
             }
-            if let Some(accepted) = self.listening.take(now)? {
-                self.enter(accepted, connections);
+            let Some(accepted) = self.listening.take(now)? else { continue };
+            if let Err(error) = self.open(accepted, connections) {
+                // The system has no room for it: it is closed.
+                self.listening.not_taken(&error);
             }
         }
         Ok(())
     }
 
-    /// Takes a new connection, if there is room for it.
-    fn enter(&mut self, accepted: Accepted, connections: &mut Connections) {
-        if !connections.make_room() {
-            self.listening.refuse_full(accepted, connections.count());
-        } else if let Err(error) = self.open(accepted, connections) {
-            // The system has no room for it: it is closed.
-            self.listening.not_taken(&error);
-        }
-    }
-
     fn open(&mut self, accepted: Accepted, connections: &mut Connections) -> io::Result<()> {
         let entry = self.access.enter(&accepted)?;
         let Accepted { stream, peer, .. } = accepted;
-        stream.set_waiting(false)?;
+        stream.never_wait()?;
         let number = connections.enter(entry, peer);
         self.poller.add(number, &stream).inspect_err(|_| connections.is_lost(number))?;
         self.open.insert(number, Socket { stream, watched: Watched::Reads });

@@ -64,15 +64,18 @@ impl Strangers {
         gone.filter(|_| is_crowded)
     }
 
+    /// How many connections have identified themselves.
+    pub(crate) fn count_known(&self) -> usize {
+        self.known.len()
+    }
+
     /// It is closed.
     pub fn closed(&mut self, connection: u64) {
         self.waiting.retain(|stranger| stranger.connection != connection);
         self.known.retain(|(other, _)| *other != connection);
     }
 
-    /// The stranger that has waited longest.
-    #[must_use]
-    pub fn oldest(&self) -> Option<u64> {
+    fn oldest(&self) -> Option<u64> {
         self.waiting.front().map(|stranger| stranger.connection)
     }
 

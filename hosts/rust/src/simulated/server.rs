@@ -7,7 +7,7 @@ use crate::model::change::Change;
 use crate::model::reach::Reach;
 use crate::model::room::Room;
 use crate::net::address::Address;
-use crate::net::poller::Readiness;
+use crate::net::readiness::Readiness;
 use crate::net::stream::PeerAddress;
 use crate::server::error::ServeError;
 use crate::server::event_loop::commits::Commit;
@@ -105,17 +105,15 @@ impl Server {
         now
     }
 
-    /// A client connects, whose number a certificate shows, or nothing. It answers the connection's
-    /// number, if there is room.
-    pub fn connect(&mut self, client: Option<u8>, time: Duration) -> Option<u64> {
+    /// A client connects, whose number a certificate shows, or nothing. Returns the connection's
+    /// number.
+    pub fn connect(&mut self, client: Option<u8>, time: Duration) -> u64 {
         self.at(time);
         let of_client = |number: u8| number.to_string().parse().ok();
         let entry = Entry::Known(client.and_then(of_client).unwrap_or(Identity::everybody()));
-        let connections = self.events.connections();
-        let number =
-            connections.make_room().then(|| connections.enter(entry, PeerAddress::Gone))?;
+        let number = self.events.connections().enter(entry, PeerAddress::Gone);
         self.unread.insert(number, Unread::default());
-        Some(number)
+        number
     }
 
     /// Bytes have come on a connection.

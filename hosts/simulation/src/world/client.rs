@@ -129,12 +129,12 @@ impl World {
         let shown = self.weather.is_identified.then_some(number);
         let time = self.sites[site].clock.at(self.now);
         let serving = self.sites[site].serving.as_mut().filter(|_| !is_cut);
-        let opened = serving.and_then(|it| Some((it.server.connect(shown, time)?, it)));
-        let Some((connection, serving)) = opened else {
+        let Some(serving) = serving else {
             let kinds =
                 [ErrorKind::ConnectionRefused, ErrorKind::TimedOut, ErrorKind::PermissionDenied];
             return Err(self.dice.pick(&kinds).into());
         };
+        let connection = serving.server.connect(shown, time);
         let link = self.network.connect(client, site, connection);
         serving.links.insert(connection, link);
         self.machines[client].link = Some(link);

@@ -1,8 +1,8 @@
 //! What callers share with the thread of the connection.
 use super::*;
-use crate::client::writer::STALL;
 use crate::lease::boot_clock::Moment;
 use crate::model::error::Error;
+use crate::net::outbox::STALL;
 use crate::net::stream::{Listener, Stream};
 use crate::proved::client_handle::Scan;
 use crate::server::Server;

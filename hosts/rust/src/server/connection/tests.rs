@@ -1,7 +1,6 @@
 use super::*;
 use crate::model::history::Mark;
 use crate::wire::frames::LONGEST_TO_SERVER;
-use std::io::Write;
 use std::os::unix::net::UnixStream;
 
 const HELLO: FromServer = FromServer::Hello { answers_signs: true };
@@ -15,15 +14,6 @@ struct Wired {
 }
 
 impl Wired {
-    /// What it has, after it was read if that is due.
-    fn look(&mut self) -> Looked {
-        if !self.connection.has_to_read() {
-            return self.connection.look();
-        }
-        let came = self.connection.fill(&mut self.stream);
-        self.connection.has_read(came, Instant::now())
-    }
-
     fn write(&mut self) {
         self.connection.write(&mut self.stream, Instant::now()).unwrap();
     }
@@ -111,7 +101,7 @@ fn a_host_whose_store_went_back_hears_that_and_no_mark() {
 fn a_batch_that_is_lost_is_lost_whole() {
     let (mut connection, mut peer) = connection();
     connection.greet(HELLO);
-    while !connection.outgoing.is_full() {
+    while connection.waits() < MAX_WAITING {
         send(&mut connection, &[0; 1 << 12], None);
     }
     connection.tell(b"lost");
@@ -134,20 +124,4 @@ fn a_refusal_is_told_once_a_second() {
     send(&mut connection, &[], None);
     let once = [HELLO.frame(), FromServer::Refused(refusal).frame()].concat();
     assert_eq!(heard(&mut connection, &mut peer), once);
-}
-
-#[test]
-fn a_short_read_is_the_last_unless_the_end_was_told() {
-    let told = |is_last| Readiness { reads: true, is_last, writes: false };
-    let (mut connection, mut peer) = connection();
-    peer.write_all(&[3, 0]).unwrap();
-    connection.is_readable(told(false));
-    assert_eq!(connection.look(), Looked::NoFrame);
-    assert!(!connection.is_ready());
-    peer.write_all(&[0]).unwrap();
-    drop(peer);
-    connection.is_readable(told(true));
-    assert_eq!(connection.look(), Looked::NoFrame);
-    assert!(connection.is_ready());
-    assert_eq!(connection.look(), Looked::Ended);
 }

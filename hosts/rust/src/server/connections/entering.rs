@@ -1,4 +1,5 @@
-//! Connections that come: who is at the other end, and which one makes room for another.
+//! Connections that come: who is at the other end, whether there is a place for it, and which one
+//! makes room for another.
 use super::{Connections, Peer};
 use crate::access::Entry;
 use crate::access::identity::Identity;
@@ -9,21 +10,8 @@ use crate::server::close_reason::CloseReason;
 use crate::server::connection::Connection;
 
 impl Connections {
-    /// Whether there is room for one more connection. The oldest stranger makes room, if there is
-    /// one.
-    pub fn make_room(&mut self) -> bool {
-        if self.open.len() < self.most {
-            return true;
-        }
-        let Some(stranger) = self.strangers.oldest() else {
-            self.closings.counts.count(CloseReason::Full);
-            return false;
-        };
-        self.close(stranger, CloseReason::StrangerCrowded);
-        true
-    }
-
-    /// Takes a new connection, and answers its number.
+    /// Takes a new connection, and returns its number. If there are too many strangers, the oldest
+    /// is closed.
     pub fn enter(&mut self, entry: Entry, address: PeerAddress) -> u64 {
         let (number, now) = (self.next, self.now.monotonic);
         self.next += 1;
@@ -38,9 +26,9 @@ impl Connections {
     }
 
     /// Sees whether a stranger has shown whose it is. If its identity has too many connections, the
-    /// oldest of them is closed.
+    /// oldest of them is closed. One for which there is no place stays a stranger.
     pub(super) fn meet(&mut self, number: u64) {
-        if !self.strangers.has(number) {
+        if self.is_full() || !self.strangers.has(number) {
             return;
         }
         let known = self.open.get(&number).and_then(|peer| peer.connection.known());
@@ -48,6 +36,16 @@ impl Connections {
             let gone = self.strangers.is_known(number, identity);
             self.close_one(gone, CloseReason::IdentityCrowded);
         }
+    }
+
+    /// Whether as many connections are open that have shown whose they are as there may be.
+    fn is_full(&self) -> bool {
+        self.strangers.count_known() >= self.most
+    }
+
+    /// If there is no place for this connection: the most for which there is one.
+    pub fn lacks_place(&self, number: u64) -> Option<usize> {
+        (self.is_full() && self.strangers.has(number)).then_some(self.most)
     }
 
     pub(super) fn close_one(&mut self, number: Option<u64>, reason: CloseReason) {

@@ -76,7 +76,7 @@ impl std::ops::DerefMut for Rig {
 fn connections() -> (Rig, SocketAddr, Arc<Waker>) {
     let listener = TcpListener::bind("127.0.0.1:0").unwrap();
     let at = listener.local_addr().unwrap();
-    let (sockets, waker) = Sockets::new(listener.into(), MAX_CONNECTIONS, Access::new()).unwrap();
+    let (sockets, waker) = Sockets::new(listener.into(), Access::new()).unwrap();
     let connections = Connections::new(MAX_CONNECTIONS, Room::default(), Now::read());
     (Rig { connections, sockets }, at, waker)
 }
@@ -380,6 +380,30 @@ fn a_stranger_makes_room_for_one_more_and_who_has_spoken_does_not() {
     let (newest, number) = streams.last_mut().unwrap();
     newest.write_all(&frame(b"two")).unwrap();
     assert_eq!(hear(&mut connections), Some((*number, b"two".to_vec())));
+}
+
+#[test]
+fn one_for_which_there_is_no_place_stays_a_stranger() {
+    let (mut connections, at, _) = connections();
+    connections.most = 1;
+    let known = |connections: &mut Rig| {
+        let (mut stream, number) = peer(connections, at);
+        stream.write_all(&frame(b"one")).unwrap();
+        assert_eq!(hear(connections), Some((number, b"one".to_vec())));
+        (stream, number)
+    };
+    let (_first, first) = known(&mut connections);
+    let (_second, second) = known(&mut connections);
+    assert_eq!(connections.lacks_place(first), None);
+    assert_eq!(connections.lacks_place(second), Some(1));
+    connections.now = Now::read().after(PATIENCE);
+    connections.close_dead();
+    connections.settle();
+    assert_eq!(connections.open.keys().copied().collect::<Vec<_>>(), [first]);
+    // It has its place until it is closed.
+    connections.close(first, CloseReason::Ended);
+    let (_third, third) = known(&mut connections);
+    assert_eq!(connections.lacks_place(third), None);
 }
 
 #[test]

@@ -41,6 +41,14 @@ impl EventLoop {
         self.connections.end(connection, CloseReason::OtherVersion);
     }
 
+    /// Refuses a connection for which there is no place: there are this many. Nothing of it is
+    /// judged.
+    pub(super) fn refuse_full(&mut self, connection: u64, most: usize) {
+        let refusal = Refusal::Full { connections: most as u64 };
+        self.connections.greet(connection, FromServer::Refused(refusal));
+        self.connections.end(connection, CloseReason::Full);
+    }
+
     /// Refuses a client that has seen another store: its address is wrong, or a new store has
     /// replaced that one. Nothing is wrong with this server's store, so the server continues.
     /// Nothing more is taken from the connection: what the client knows is of another table.

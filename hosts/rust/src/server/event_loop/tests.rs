@@ -89,7 +89,7 @@ fn event_loop_over<S: Store + 'static>(
     store.commit(&[Change::Started { epoch }]).unwrap();
     server.confirm(&[Change::Started { epoch }], &[]).unwrap();
     let store = store_of(store, &peer);
-    let (sockets, waker) = Sockets::new(listener.into(), 4, Access::new()).unwrap();
+    let (sockets, waker) = Sockets::new(listener.into(), Access::new()).unwrap();
     let connections = Connections::new(4, Room::default(), Now::read());
     let (_, asked) = Requests::new(Arc::clone(&waker));
     let log = EventLog::started(epoch, &Address::Unix("nowhere".into()), 0, &[]);

@@ -2,28 +2,30 @@
 use std::io::{self, ErrorKind, Write};
 use std::time::{Duration, Instant};
 
-/// This much may wait before a further batch is lost: 39 of the longest messages.
-const MAX_WAITING: usize = 1 << 18;
-
 /// A peer that takes nothing for this long loses its connection.
-const STALL: Duration = Duration::from_secs(5);
+pub(crate) const STALL: Duration = Duration::from_secs(5);
 
-/// This much room is kept for the next batch when all is written.
+/// This much room is kept for what is put next when all is written.
 const KEPT: usize = 1 << 14;
 
 /// The bytes that a connection has not taken yet.
 #[derive(Debug, Default)]
-pub(crate) struct Outgoing {
+pub(crate) struct Outbox {
     bytes: Vec<u8>,
     written: usize,
     /// Since when the peer takes nothing of it.
     stalled: Option<Instant>,
 }
 
-impl Outgoing {
+impl Outbox {
     /// Puts the bytes after those that wait.
     pub fn put(&mut self, bytes: &[u8]) {
         self.bytes.extend_from_slice(bytes);
+    }
+
+    /// The buffer of the bytes that wait, for a caller that appends to it in place.
+    pub fn bytes(&mut self) -> &mut Vec<u8> {
+        &mut self.bytes
     }
 
     /// How many bytes wait.
@@ -35,13 +37,8 @@ impl Outgoing {
         self.waits() == 0
     }
 
-    /// Whether so much waits that the peer seems stuck: then a further batch is lost.
-    pub fn is_full(&self) -> bool {
-        self.waits() >= MAX_WAITING
-    }
-
     /// Whether the peer takes nothing for so long that it loses its connection.
-    pub fn is_stuck(&self, now: Instant) -> bool {
+    pub fn is_stalled(&self, now: Instant) -> bool {
         self.stalled.is_some_and(|since| now.saturating_duration_since(since) >= STALL)
     }
 
@@ -113,47 +110,36 @@ mod tests {
     fn what_a_stream_takes_in_pieces_is_written_in_order() {
         let bytes: Vec<u8> = (0..=255).collect();
         for takes in [1, 7, 128, 200] {
-            let (mut outgoing, mut stream) = (Outgoing::default(), narrow(takes));
-            outgoing.put(&bytes[..100]);
-            outgoing.write(&mut stream, Instant::now()).unwrap();
-            outgoing.put(&bytes[100..]);
-            while !outgoing.is_empty() {
-                outgoing.write(&mut stream, Instant::now()).unwrap();
+            let (mut outbox, mut stream) = (Outbox::default(), narrow(takes));
+            outbox.put(&bytes[..100]);
+            outbox.write(&mut stream, Instant::now()).unwrap();
+            outbox.put(&bytes[100..]);
+            while !outbox.is_empty() {
+                outbox.write(&mut stream, Instant::now()).unwrap();
             }
             assert_eq!(stream.took, bytes);
         }
     }
 
     #[test]
-    fn a_peer_is_stuck_that_takes_nothing_for_its_time() {
-        let (mut outgoing, start) = (Outgoing::default(), Instant::now());
-        outgoing.put(b"some bytes");
-        outgoing.write(&mut narrow(0), start).unwrap();
-        outgoing.write(&mut narrow(0), start + STALL / 2).unwrap();
-        assert!(!outgoing.is_stuck(start + STALL / 2));
-        assert!(outgoing.is_stuck(start + STALL));
+    fn a_peer_has_stalled_that_takes_nothing_for_its_time() {
+        let (mut outbox, start) = (Outbox::default(), Instant::now());
+        outbox.put(b"some bytes");
+        outbox.write(&mut narrow(0), start).unwrap();
+        outbox.write(&mut narrow(0), start + STALL / 2).unwrap();
+        assert!(!outbox.is_stalled(start + STALL / 2));
+        assert!(outbox.is_stalled(start + STALL));
         // Each byte that it takes gives it the whole time again.
-        outgoing.write(&mut narrow(1), start + STALL).unwrap();
-        assert!(!outgoing.is_stuck(start + STALL));
-        assert!(outgoing.is_stuck(start + 2 * STALL));
+        outbox.write(&mut narrow(1), start + STALL).unwrap();
+        assert!(!outbox.is_stalled(start + STALL));
+        assert!(outbox.is_stalled(start + 2 * STALL));
     }
 
     #[test]
-    fn what_waits_has_a_bound() {
-        let mut outgoing = Outgoing::default();
-        outgoing.put(&vec![0; MAX_WAITING - 1]);
-        assert!(!outgoing.is_full());
-        outgoing.put(&[0]);
-        assert!(outgoing.is_full());
-        outgoing.write(&mut narrow(1), Instant::now()).unwrap();
-        assert!(!outgoing.is_full());
-    }
-
-    #[test]
-    fn a_stream_that_fails_says_so() {
-        let mut outgoing = Outgoing::default();
-        outgoing.put(b"some bytes");
-        let ended = outgoing.write(&mut &mut [0u8; 0][..], Instant::now());
+    fn a_stream_that_fails_is_reported() {
+        let mut outbox = Outbox::default();
+        outbox.put(b"some bytes");
+        let ended = outbox.write(&mut &mut [0u8; 0][..], Instant::now());
         assert_eq!(ended.unwrap_err().kind(), ErrorKind::WriteZero);
     }
 }
