@@ -165,6 +165,9 @@ fn a_server_that_does_not_answer_is_status_3() {
         told.errors.contains("the server at 127.0.0.1:1 can't be reached: Connection refused"),
         "{told:?}"
     );
+    let told = world.run(&["--server", "127.0.0.1:1", "--timeout", "60s", "get", "1"]);
+    assert_eq!(told.status, 3, "{told:?}");
+    assert!(told.errors.contains("nothing listens at 127.0.0.1:1: Connection refused"), "{told:?}");
     let client = world.client(1);
     assert_eq!(client.insert(15, Value::from(1)), Ok(Outcome::Applied));
     let (_, pin) = client.pin_for_read(10..20).unwrap();
