@@ -108,6 +108,12 @@ WORDS
     serve redis redis-server --port "$redis" --bind 127.0.0.1 --save '' --appendonly no
     krl=$(free_port)
     serve krl "$server" serve --create --listen "127.0.0.1:$krl" --store "$folder/krl/krl.db" --status off
+    tries=0
+    until grep -q 'the server has started' "$folder/krl.log"; do
+        tries=$((tries + 1))
+        [ "$tries" -lt 100 ] || { cat "$folder/krl.log" >&2; fail 'krl does not start'; }
+        sleep 0.1
+    done
     mkdir "$folder/clients"
     echo
     echo "load $(cut -d ' ' -f 1-3 /proc/loadavg)"

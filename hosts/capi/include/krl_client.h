@@ -172,7 +172,10 @@ typedef enum krlc_code {
     /* The write was not sent within the timeout: the client was not connected, or waited for a lock. The error has the
      * server's reason if it gave one. Or the server's store went back, or the client's thread ended, before the write
      * was sent: the error's text states which. Also of one of several writes: it was not made. */
-    KRLC_NOT_MADE = 66
+    KRLC_NOT_MADE = 66,
+    /* Nothing listens at any address of the servers: each has refused connections for a second, or has no such socket.
+     * Only a client that joins returns it. */
+    KRLC_NOTHING_LISTENS = 67
 } krlc_code;
 
 /* Why a server does not serve a client. The numbers are those of `docs/STREAM.md`. */
@@ -317,8 +320,8 @@ bool krlc_is_unknown_outcome(uint32_t code);
 
 /* Joins, and waits until the server serves the client. The client is freed by `krlc_free`. Errors: KRLC_MISUSE,
  * KRLC_BAD_NUMBER, KRLC_BAD_ADDRESS, KRLC_BAD_MAP, KRLC_BAD_TLS, KRLC_BAD_RANGE, KRLC_LOCK_FILE,
- * KRLC_LOCK_FILE_TAKEN, KRLC_NO_THREAD, KRLC_TIMED_OUT, KRLC_UNSERVED, KRLC_TURNED_AWAY, KRLC_OTHER_SHARD,
- * KRLC_OUT_OF_MEMORY. Then `client` is null. */
+ * KRLC_LOCK_FILE_TAKEN, KRLC_NO_THREAD, KRLC_TIMED_OUT, KRLC_NOTHING_LISTENS, KRLC_UNSERVED, KRLC_TURNED_AWAY,
+ * KRLC_OTHER_SHARD, KRLC_OUT_OF_MEMORY. Then `client` is null. */
 KRLC_NODISCARD uint32_t krlc_join(const krlc_options *options, krlc_client **client, krlc_error *error);
 
 /* Ends the client of a number for good, if its process is gone and will not come back: an operator's call. It joins by

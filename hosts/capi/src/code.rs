@@ -62,6 +62,7 @@ codes! {
     NoThread = 64, c"KRLC_NO_THREAD";
     Disconnect = 65, c"KRLC_DISCONNECT";
     NotMade = 66, c"KRLC_NOT_MADE";
+    NothingListens = 67, c"KRLC_NOTHING_LISTENS";
 }
 
 impl Code {
@@ -138,6 +139,7 @@ impl From<&JoinError> for Code {
             JoinError::BadNumber => Code::BadNumber,
             JoinError::Incomplete(_) => Code::Misuse,
             JoinError::NoAnswer { .. } => Code::TimedOut,
+            JoinError::NothingListens { .. } => Code::NothingListens,
             JoinError::NoServer { .. } => Code::BadAddress,
             JoinError::Unserved(_) => Code::Unserved,
             JoinError::TurnedAway(_) => Code::TurnedAway,

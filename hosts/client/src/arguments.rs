@@ -4,7 +4,7 @@ mod bench_words;
 use crate::failure::{Failure, sentence};
 use crate::words::{self, Numbers};
 pub use bench_words::{BenchWords, Mix, Skew};
-use clap::{Args, Parser, Subcommand, ValueEnum};
+use clap::{Args, CommandFactory, FromArgMatches, Parser, Subcommand, ValueEnum};
 use clap_complete::Shell;
 use krl::{Servers, TableName, TlsConfig};
 use krl_rows::{Existing, ValueForm};
@@ -82,6 +82,23 @@ pub struct Arguments {
     pub options: Options,
     #[command(subcommand)]
     pub command: Option<Command>,
+}
+
+impl Arguments {
+    /// Reads the words of this process.
+    ///
+    /// The usage of each command is fixed before. By itself clap adds to that of an error each
+    /// option which an environment variable sets, as if it were one that is missing.
+    pub fn read() -> Result<Arguments, clap::Error> {
+        let mut program = Arguments::command();
+        program.build();
+        for command in program.get_subcommands_mut() {
+            let usage = command.render_usage().to_string();
+            let usage = usage.trim_start_matches("Usage: ").to_string();
+            *command = std::mem::take(command).override_usage(usage);
+        }
+        Arguments::from_arg_matches(&program.try_get_matches()?)
+    }
 }
 
 /// What holds for every command.
@@ -433,7 +450,6 @@ impl RowWords {
 #[cfg(test)]
 mod tests {
     use super::*;
-    use clap::CommandFactory;
 
     #[test]
     fn the_grammar_is_consistent() {

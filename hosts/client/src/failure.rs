@@ -185,6 +185,7 @@ impl Failure {
                  is gone. The server reports: {why}"
             )),
             JoinError::Unserved(why) => Failure::NoAnswer(why.to_string()),
+            away @ JoinError::NothingListens { .. } => Failure::NoAnswer(away.to_string()),
             no_server @ JoinError::NoServer { .. } => Failure::NotJoined(no_server.to_string()),
             JoinError::LockFile { error: LockFileError::Taken, .. } => Failure::NotJoined(format!(
                 "another process is the client of number {number}: give this one another --number"

@@ -27,7 +27,7 @@ use crate::failure::Failure;
 use crate::output::Printer;
 use crate::session::Session;
 use crate::signals::Signals;
-use clap::{CommandFactory, Parser};
+use clap::CommandFactory;
 use std::ops::Range;
 use std::process::ExitCode;
 
@@ -35,7 +35,7 @@ use std::process::ExitCode;
 const USAGE: i32 = 2;
 
 fn main() -> ExitCode {
-    let arguments = Arguments::try_parse().unwrap_or_else(|error| misunderstood(&error));
+    let arguments = Arguments::read().unwrap_or_else(|error| misunderstood(&error));
     let ended = run(&arguments).unwrap_or_else(|failure| {
         failure.tell();
         failure.status()

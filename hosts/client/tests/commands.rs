@@ -139,6 +139,20 @@ fn words_that_cannot_be_understood_are_status_2() {
 }
 
 #[test]
+fn an_option_that_a_variable_sets_is_not_shown_as_missing() {
+    let world = World::new("missing");
+    for (words, missing, usage) in [
+        (&["get"][..], "<KEY>", "krl-client get [OPTIONS] <KEY>\n"),
+        (&["hold", "1"], "<COMMAND>...", "krl-client hold [OPTIONS] <LO> [HI] -- <COMMAND>...\n"),
+    ] {
+        let ended = world.run(words);
+        assert!(ended.errors.contains(&format!("not provided:\n  {missing}\n")), "{ended:?}");
+        assert!(ended.errors.contains(&format!("Usage: {usage}")), "{ended:?}");
+        assert!(!ended.errors.contains("--server"), "KRL_SERVER is set: {ended:?}");
+    }
+}
+
+#[test]
 fn help_says_the_statuses_and_the_forms() {
     let world = World::new("help");
     let help = world.prints(&["--help"]);
@@ -165,6 +179,9 @@ fn a_server_that_does_not_answer_is_status_3() {
         told.errors.contains("the server at 127.0.0.1:1 can't be reached: Connection refused"),
         "{told:?}"
     );
+    let told = world.run(&["--server", "127.0.0.1:1", "--timeout", "60s", "get", "1"]);
+    assert_eq!(told.status, 3, "{told:?}");
+    assert!(told.errors.contains("nothing listens at 127.0.0.1:1: Connection refused"), "{told:?}");
     let client = world.client(1);
     assert_eq!(client.insert(15, Value::from(1)), Ok(Outcome::Applied));
     let (_, pin) = client.pin_for_read(10..20).unwrap();

@@ -9,7 +9,7 @@ use crate::clients::{ENDING, Process, this, wait_for};
 use crate::kill::start_server;
 use crate::log::now;
 use crate::lossy::Draws;
-use crate::nodes::end_file;
+use crate::nodes::{end_file, join_when_served};
 use check::{Change, Read, check};
 use krl::Client;
 use krl_cache::tokio_postgres::types::ToSql;
@@ -337,7 +337,7 @@ fn open(
         let lock_file = folder.join(format!("client-{number}.lock"));
         let builder = Client::builder(krl.clone(), number, lock_file);
         // A number is free when the lease of a process that died has ended.
-        let client = builder.timeout(ENDING).join()?;
+        let client = join_when_served(&builder, ENDING)?;
         client.set_timeout(timeout);
         Ok::<_, Box<dyn Error>>(client)
     };

@@ -4,15 +4,15 @@ use crate::certificates;
 use crate::log::{Log, Note, now};
 use crate::unsynced::UnsyncedStore;
 use krl::{
-    Access, Address, Client, Leases, Listener, Outcome, Row, Server, Servers, SqliteStore, Store,
-    Value,
+    Access, Address, Client, ClientBuilder, JoinError, Leases, Listener, Outcome, Row, Server,
+    Servers, SqliteStore, Store, Value,
 };
 use std::error::Error;
 use std::ops::Range;
 use std::path::{Path, PathBuf};
 use std::sync::{Mutex, PoisonError};
 use std::thread;
-use std::time::Duration;
+use std::time::{Duration, Instant};
 
 /// The numbers of the clients that only read, and of those that write too.
 pub const READERS: [u8; 2] = [0, 2];
@@ -74,8 +74,19 @@ fn join(number: u8, servers: &str, folder: &Path) -> Result<Client, Box<dyn Erro
     if servers.iter().any(Address::is_tls) {
         servers = servers.with_tls(certificates::of(&format!("client-{number}"))?);
     }
-    // A server that recovers, or is being started, answers late.
-    Ok(Client::builder(servers, number, lock).timeout(5 * TIMEOUT).join()?)
+    // A server that recovers answers late.
+    Ok(join_when_served(&Client::builder(servers, number, lock), 5 * TIMEOUT)?)
+}
+
+/// Joins. While no server runs, it tries again, for so long as an answer may take.
+pub fn join_when_served(builder: &ClientBuilder, timeout: Duration) -> Result<Client, JoinError> {
+    let end = Instant::now() + timeout;
+    loop {
+        match builder.clone().timeout(timeout).join() {
+            Err(JoinError::NothingListens { .. }) if Instant::now() < end => {}
+            joined => return joined,
+        }
+    }
 }
 
 /// Reads every writer's ranges again and again, in two threads: one reads only from the cache, and

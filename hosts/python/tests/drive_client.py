@@ -86,10 +86,17 @@ class DriveClient(Protocol):
 
 def joined(number: int, servers: str, lock_file: Path) -> DriveClient:
     """A client of the drive."""
-    # A server that recovers, or is being started, answers late.
-    client = krl.join(servers, number, lock_file, 5 * TIMEOUT, tls=tls_of(number, servers))
-    client.timeout = TIMEOUT
-    return client
+    # A server that recovers answers late, and while none runs the client tries again.
+    end = time.monotonic() + 5 * TIMEOUT
+    while True:
+        try:
+            client = krl.join(servers, number, lock_file, 5 * TIMEOUT, tls=tls_of(number, servers))
+        except krl.JoinError as error:
+            if not isinstance(error.__cause__, krl.NothingListens) or time.monotonic() >= end:
+                raise
+        else:
+            client.timeout = TIMEOUT
+            return client
 
 
 class Node:

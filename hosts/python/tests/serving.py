@@ -64,6 +64,17 @@ def free_port() -> int:
         return port
 
 
+def listens(address: str) -> bool:
+    """Whether something listens at an address of a server."""
+    kind, place = address.split(":", 1)
+    family, at = socket.AF_UNIX, place
+    if kind == "tls":
+        host, port = place.split(":")
+        family, at = socket.AF_INET, (host, int(port))
+    with socket.socket(family) as connection:
+        return connection.connect_ex(at) == 0
+
+
 def lines_of(*lines: str) -> list[str]:
     """The command by which another Python runs these lines."""
     return [sys.executable, "-c", "\n".join(("import krl, os", *lines))]
@@ -85,11 +96,14 @@ class Served(unittest.TestCase):
     def start(
         self, *more: str, store: str = "store.db", at: str = ""
     ) -> subprocess.Popen[bytes]:
-        """Starts a server. A client waits until it answers."""
-        words = ["--listen", at or self.address, "--status", "off", "--log-level", "error", *more]
+        """Starts a server, and waits until it takes connections."""
+        address = at or self.address
+        words = ["--listen", address, "--status", "off", "--log-level", "error", *more]
         variables = {name: text for name, text in os.environ.items() if name[:4] != "KRL_"}
         command = [program("KRL_SERVER_PROGRAM"), "serve", "--create", "--store"]
-        return subprocess.Popen([*command, str(self.folder / store), *words], env=variables)
+        server = subprocess.Popen([*command, str(self.folder / store), *words], env=variables)
+        until(lambda: listens(address) or server.poll() is not None)
+        return server
 
     def stop(self) -> None:
         """Kills the server."""

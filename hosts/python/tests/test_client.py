@@ -557,6 +557,8 @@ class BadInputTest(Served):
         with self.assertRaisesRegex(krl.JoinError, "did not answer in time") as raised:
             krl.join(f"unix:{self.folder}/none", 1, self.lock_file(1), 0.5)
         self.assertIsInstance(raised.exception.__cause__, krl.TimedOut)
+        with self.assertRaisesRegex(krl.JoinError, f"nothing listens at unix:{self.folder}/none"):
+            krl.join(f"unix:{self.folder}/none", 1, self.lock_file(1), PATIENCE)
         krl.join(self.address, 1, self.lock_file(1), PATIENCE).leave()
 
     def test_what_answers_at_the_address_may_be_no_krl_server(self) -> None:

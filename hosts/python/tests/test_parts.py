@@ -111,7 +111,7 @@ class HeaderTest(unittest.TestCase):
             spelled = re.sub(r"(?<!^)([A-Z])", r"_\1", kind.__name__).upper()
             name = names.get(kind.__name__, spelled)
             self.assertEqual(kind.code, self.number(f"KRLC_{name}"), kind)
-        self.assertEqual(len({kind.code for kind in refused}), 17)
+        self.assertEqual(len({kind.code for kind in refused}), 18)
 
     def test_the_library_the_package_and_the_header_have_one_version(self) -> None:
         parts = [str(self.number(f"KRLC_VERSION_{part}")) for part in ("MAJOR", "MINOR", "PATCH")]

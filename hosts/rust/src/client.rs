@@ -13,6 +13,7 @@ pub(crate) mod lock_file;
 pub(crate) mod numbers;
 pub(crate) mod pin;
 mod pins;
+mod refused_connects;
 pub(crate) mod scratch;
 pub(crate) mod session;
 pub(crate) mod set;

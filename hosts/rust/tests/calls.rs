@@ -1,6 +1,7 @@
 //! Each call of a client, over TCP and over a Unix socket.
 use krl::{Address, Client, JoinError, Leases, Listener, LockFileError, MemoryStore, Outcome};
-use krl::{Error, Row, Server, Unsent, Value, evict};
+use krl::{Error, Row, Server, Servers, Unsent, Value, evict};
+use std::os::unix::net::UnixListener;
 use std::path::{Path, PathBuf};
 use std::thread;
 use std::time::{Duration, Instant};
@@ -257,6 +258,27 @@ fn a_server_that_does_not_run_answers_nobody() {
     assert!(matches!(error, JoinError::NoAnswer { fault: Some(_), .. }), "{error:?}");
     let shown = error.to_string();
     assert!(shown.starts_with("the server at 127.0.0.1:1 did not answer in time: "), "{shown}");
+}
+
+#[test]
+fn who_joins_where_nothing_listens_learns_it_before_the_timeout() {
+    let folder = Folder::new("nothing");
+    let abandoned = folder.0.join("abandoned");
+    drop(UnixListener::bind(&abandoned).unwrap());
+    let (abandoned, none) = (abandoned.display(), folder.0.join("none"));
+    for servers in [
+        "127.0.0.1:1".to_string(),
+        "localhost:1".to_string(),
+        format!("unix:{}", none.display()),
+        format!("127.0.0.1:1,unix:{abandoned}"),
+    ] {
+        let at: Servers = servers.parse().unwrap();
+        let joined = Client::builder(at, 1, folder.lock(1)).timeout(Duration::from_secs(60)).join();
+        let error = joined.unwrap_err();
+        assert!(matches!(error, JoinError::NothingListens { .. }), "{error:?}");
+        let shown = error.to_string();
+        assert!(shown.starts_with(&format!("nothing listens at {servers}: ")), "{shown}");
+    }
 }
 
 #[test]

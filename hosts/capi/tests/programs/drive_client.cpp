@@ -120,11 +120,24 @@ krl::options options_of(const std::string &number, const std::string &servers, c
     return options;
 }
 
+/* Joins. While no server runs, it tries again. */
+krl::client joined(const krl::options &options) {
+    auto end = std::chrono::steady_clock::now() + options.timeout;
+    while (true) {
+        try {
+            return krl::client(options);
+        } catch (const krl::error &failed) {
+            if (failed.code() != KRLC_NOTHING_LISTENS || std::chrono::steady_clock::now() >= end)
+                throw;
+        }
+    }
+}
+
 /* A process of the drive. */
 class node {
   public:
     node(const std::string &number, const std::string &servers, const std::string &folder)
-        : number_(std::stoul(number)), end_(folder + "/end"), client_(options_of(number, servers, folder)),
+        : number_(std::stoul(number)), end_(folder + "/end"), client_(joined(options_of(number, servers, folder))),
           log_(folder, number) {
         client_.set_timeout(timeout);
     }

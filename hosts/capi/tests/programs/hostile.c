@@ -165,6 +165,8 @@ static void options(const world *world) {
     /* Nobody listens at the port of no service. */
     bad = good, bad.servers = "127.0.0.1:1", bad.timeout_ms = 50;
     expect_no_join(KRLC_TIMED_OUT, &bad, "did not answer");
+    bad.timeout_ms = LONG_MS;
+    expect_no_join(KRLC_NOTHING_LISTENS, &bad, "nothing listens at 127.0.0.1:1");
 
     /* The options of a later version, whose new member is set or not, and those of an earlier one. */
     struct {

@@ -312,6 +312,11 @@ impl Jobs {
         if is_its { WasSent::Yes } else { WasSent::No }
     }
 
+    /// Whether the job waits for its answer.
+    pub fn is_open(&self, job: JobId) -> bool {
+        self.open.iter().any(|(id, _)| *id == job)
+    }
+
     /// Ends this job for this reason, if it is open.
     pub fn refuse(&mut self, job: JobId, why: Error) {
         if let Some(place) = self.open.iter().position(|(id, _)| *id == job) {

@@ -98,11 +98,15 @@ fn start(
 
 /// Ends a client that has not joined: it sends Bye, and waits for nothing.
 fn not_joined(shared: &Shared, refused: Error) -> JoinError {
-    let fault = shared.link().take_fault();
-    let rejection = shared.link().rejection();
+    let link = shared.link();
+    let (fault, nothing_listens) = (link.take_fault(), link.take_nothing_listens());
+    let rejection = link.rejection();
     shared.end_by(Instant::now());
+    if let Some(fault) = nothing_listens {
+        return JoinError::NothingListens { servers: Box::new(link.servers().clone()), fault };
+    }
     match refused {
-        Error::TimedOut => not_answered(shared.link().servers(), fault),
+        Error::TimedOut => not_answered(link.servers(), fault),
         Error::Unserved(refusal) => JoinError::Unserved(refusal),
         Error::OtherShard(other) => JoinError::OtherShard(other),
         Error::TurnedAway => JoinError::TurnedAway(match rejection {

@@ -142,6 +142,11 @@ impl Link {
         self.session().take_fault()
     }
 
+    /// The refused connection for which the client gave up as it was to join, if it did.
+    pub fn take_nothing_listens(&self) -> Option<io::Error> {
+        self.session().take_nothing_listens()
+    }
+
     /// Whether there is a connection just now.
     pub fn is_connected(&self) -> bool {
         self.session().is_connected()

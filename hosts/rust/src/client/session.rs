@@ -2,6 +2,7 @@
 //! what is to be said comes out. [`crate::client::link`] is the shell around it.
 use crate::client::backoff::Backoff;
 use crate::client::jobs::{Asked, Asking, IDLE_TICK, JobId, Jobs, WasSent};
+use crate::client::refused_connects::RefusedConnects;
 use crate::client::silence::{Silence, Silent};
 use crate::lease::clocks::Now;
 use crate::log::event_log;
@@ -54,6 +55,9 @@ pub(crate) struct Session {
     rejections: Rejections,
     /// How many of the last connections in a row another program has answered.
     strangers: u32,
+    refused_connects: RefusedConnects,
+    /// The last of the refused connections for which a client that was to join gave up.
+    nothing_listens: Option<io::Error>,
     /// How much the client has seen of the server's store.
     seen: Option<Seen>,
     /// The greatest epoch that a server has said.
@@ -100,6 +104,8 @@ impl Session {
             refusal: None,
             rejections: Rejections::default(),
             strangers: 0,
+            refused_connects: RefusedConnects::default(),
+            nothing_listens: None,
             seen: None,
             epoch: 0,
             joining: None,
@@ -176,13 +182,16 @@ impl Session {
         }
         event_log::disconnected(self.address(), &fault);
         self.rejections.note(&fault);
+        self.refused_connects.note(fault.is_refused(), self.now());
         let is_stranger = matches!(fault, ConnectFault::NoServer(_));
         self.strangers = if is_stranger { self.strangers + 1 } else { 0 };
         self.fault = Some(fault.into());
         self.place = (self.place + 1) % self.servers.count();
         self.end_hopeless();
         self.end_join_among_strangers();
-        self.backoff.pause()
+        self.end_join_if_nothing_listens();
+        let pause = self.backoff.pause();
+        if self.is_joining() { self.refused_connects.shorten(pause, self.now()) } else { pause }
     }
 
     /// Takes what has come whole.
@@ -336,6 +345,22 @@ impl Session {
         }
     }
 
+    /// A client that joins gives up if nothing listens at any of its addresses. One that has joined
+    /// once waits for a server to come back.
+    fn end_join_if_nothing_listens(&mut self) {
+        if !self.is_joining() || !self.refused_connects.are_final(self.servers.count()) {
+            return;
+        }
+        self.nothing_listens = self.fault.take();
+        if let Some(Joining { job, .. }) = self.joining.take() {
+            self.jobs.refuse(job, Error::TimedOut);
+        }
+    }
+
+    fn is_joining(&self) -> bool {
+        self.joining.as_ref().is_some_and(|joining| self.jobs.is_open(joining.job))
+    }
+
     fn end_join_if_hopeless(&mut self) {
         let (Some(hint), Some(Joining { job, gives_up })) = (self.hint(), &self.joining) else {
             return;
@@ -380,6 +405,11 @@ impl Session {
     /// another one since. It is reported once.
     pub fn take_fault(&mut self) -> Option<io::Error> {
         self.fault.take()
+    }
+
+    /// The refused connection for which the client gave up as it was to join, if it did.
+    pub fn take_nothing_listens(&mut self) -> Option<io::Error> {
+        self.nothing_listens.take()
     }
 
     /// Whether there is a connection just now.

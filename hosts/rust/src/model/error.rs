@@ -104,6 +104,15 @@ pub enum JoinError {
         /// on a later one. If it is `None`, the server recovers, or is silent.
         fault: Option<io::Error>,
     },
+    /// Nothing listens at any address of the servers: each has refused connections for a second, or
+    /// has no such socket. It comes before the client's timeout, unless that is shorter. A server
+    /// that begins to listen within this second is found.
+    NothingListens {
+        /// The servers that the client tried.
+        servers: Box<Servers>,
+        /// Why the last connection was not made.
+        fault: io::Error,
+    },
     /// What answers at the client's only address is not a krl server, but a status port or another
     /// program. It comes as soon as two connections in a row were answered so. A client of several
     /// servers tries the others too, and ends with `NoAnswer` at its timeout.
@@ -290,6 +299,9 @@ impl fmt::Display for JoinError {
                 write!(f, "the server at {servers} did not answer in time")?;
                 fault.iter().try_for_each(|fault| write!(f, ": {fault}"))
             }
+            JoinError::NothingListens { servers, fault } => {
+                write!(f, "nothing listens at {servers}: {fault}")
+            }
             JoinError::NoServer { address } => NoServer(address.clone()).fmt(f),
             JoinError::Unserved(refusal) => refusal.fmt(f),
             JoinError::TurnedAway(why) => write!(f, "the connection was turned away: {why}"),
@@ -315,7 +327,9 @@ impl std::error::Error for JoinError {
         match self {
             JoinError::LockFile { error, .. } => Some(error),
             JoinError::NoAnswer { fault, .. } => fault.as_ref().map(|fault| fault as _),
-            JoinError::NoThread(error) => Some(error),
+            JoinError::NothingListens { fault: error, .. } | JoinError::NoThread(error) => {
+                Some(error)
+            }
             JoinError::Refused(refused) => Some(refused),
             JoinError::OtherShard(other) => Some(other),
             JoinError::BadNumber

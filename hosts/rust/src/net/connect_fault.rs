@@ -23,6 +23,11 @@ pub(crate) struct OtherVersion(pub u8);
 #[derive(Clone, Debug, PartialEq, Eq)]
 pub(crate) struct NoServer(pub Address);
 
+/// Nothing listens at the address, by this error of the system: it refused the connection, or there
+/// is no such socket.
+#[derive(Debug)]
+pub(crate) struct NothingListens(pub io::Error);
+
 /// Why a connection was not made, or has ended.
 #[derive(Debug)]
 pub(crate) enum ConnectFault {
@@ -95,6 +100,13 @@ pub(crate) enum Rejection {
 }
 
 impl ConnectFault {
+    /// Whether nothing listens at the address.
+    pub fn is_refused(&self) -> bool {
+        let ConnectFault::Io(error) = self else { return false };
+        let carried = error.get_ref().and_then(|carried| carried.downcast_ref());
+        matches!(carried, Some(NothingListens(_)))
+    }
+
     pub fn rejection(&self) -> Option<Rejection> {
         match self {
             ConnectFault::Io(_) | ConnectFault::NoServer(_) => None,
@@ -169,6 +181,20 @@ impl fmt::Display for OtherVersion {
 
 impl std::error::Error for OtherVersion {}
 
+impl From<NothingListens> for io::Error {
+    fn from(refused: NothingListens) -> io::Error {
+        io::Error::new(refused.0.kind(), refused)
+    }
+}
+
+impl fmt::Display for NothingListens {
+    fn fmt(&self, f: &mut fmt::Formatter<'_>) -> fmt::Result {
+        self.0.fmt(f)
+    }
+}
+
+impl std::error::Error for NothingListens {}
+
 impl NoServer {
     /// The one that an error carries.
     pub fn carried_by(error: &io::Error) -> Option<&NoServer> {
@@ -223,9 +249,18 @@ mod tests {
     }
 
     #[test]
+    fn only_a_connect_that_was_refused_is_a_refusal() {
+        let refused = || io::Error::from(ErrorKind::ConnectionRefused);
+        let is_refused = |error: io::Error| ConnectFault::from(error).is_refused();
+        assert!(is_refused(NothingListens(refused()).into()));
+        assert!(!is_refused(refused()) && !is_refused(not_taken()));
+    }
+
+    #[test]
     fn a_fault_is_the_same_error_again() {
         let no_server = NoServer(Address::Unix("here".into())).into();
-        let others = [OtherVersion(1).into(), no_server, ErrorKind::ConnectionRefused.into()];
+        let refused = NothingListens(ErrorKind::ConnectionRefused.into()).into();
+        let others = [OtherVersion(1).into(), no_server, refused];
         for error in [not_taken(), other_shard()].into_iter().chain(others) {
             let (kind, text) = (error.kind(), error.to_string());
             let again = io::Error::from(ConnectFault::from(error));

@@ -1,5 +1,6 @@
 //! Connections over TCP or over a Unix socket.
 use crate::net::address::Address;
+use crate::net::connect_fault::NothingListens;
 use crate::net::unix_peer::user_at;
 use socket2::{Domain, SockAddr, SockRef, Socket, TcpKeepalive, Type};
 use std::fmt;
@@ -224,7 +225,12 @@ fn connect_to_path(path: &Path, wait: Duration) -> io::Result<UnixStream> {
 /// Whether a connect shows that nobody listens at a Unix socket any more. A missing right or a
 /// server that is slow does not show it.
 fn is_abandoned<T>(connected: &io::Result<T>) -> bool {
-    connected.as_ref().is_err_and(|error| error.kind() == ErrorKind::ConnectionRefused)
+    connected.as_ref().is_err_and(is_refused)
+}
+
+/// Whether the system refused to connect, since nothing listens at a socket.
+fn is_refused(error: &io::Error) -> bool {
+    error.kind() == ErrorKind::ConnectionRefused
 }
 
 impl From<TcpListener> for Listener {
@@ -248,7 +254,18 @@ pub(crate) enum Stream {
 }
 
 impl Stream {
+    /// Connects. The error carries a [`NothingListens`] if the system refused it.
     pub fn connect(address: &Address, wait: Duration) -> io::Result<Stream> {
+        let connected = Stream::connect_once(address, wait);
+        let is_unix = matches!(address, Address::Unix(_));
+        connected.map_err(|error| match error.kind() {
+            _ if is_refused(&error) => NothingListens(error).into(),
+            ErrorKind::NotFound if is_unix => NothingListens(error).into(),
+            _ => error,
+        })
+    }
+
+    fn connect_once(address: &Address, wait: Duration) -> io::Result<Stream> {
         match address {
             Address::Tcp(address) | Address::Tls(address) => {
                 Stream::of_tcp(TcpStream::connect_timeout(address, wait)?)
@@ -316,16 +333,19 @@ impl AsRawFd for Stream {
     }
 }
 
-/// Connects to the first address that takes it. Each may take this long.
+/// Connects to the first address that takes it. Each may take this long. It is refused only if each
+/// address refuses it.
 fn connect_to_one(
     addresses: impl Iterator<Item = SocketAddr>,
     wait: Duration,
 ) -> io::Result<TcpStream> {
     let mut failure = io::Error::new(ErrorKind::NotFound, "the host has no address");
+    let mut has_failed = false;
     for address in addresses {
         match TcpStream::connect_timeout(&address, wait) {
             Ok(stream) => return Ok(stream),
-            Err(error) => failure = error,
+            Err(error) if is_refused(&error) && has_failed => {}
+            Err(error) => (failure, has_failed) = (error, true),
         }
     }
     Err(failure)
@@ -383,6 +403,10 @@ mod tests {
         assert_eq!(connected.peer_addr().unwrap(), both[1]);
         let refused = connect_to_one([dead].into_iter(), PROBE).unwrap_err();
         assert_eq!(refused.kind(), ErrorKind::ConnectionRefused);
+        // No connection is made to it, and nothing refuses one.
+        let broadcast = SocketAddr::from(([255, 255, 255, 255], 1));
+        let unreached = connect_to_one([broadcast, dead].into_iter(), PROBE).unwrap_err();
+        assert!(!is_refused(&unreached), "{unreached}");
         let nobody = connect_to_one(std::iter::empty(), PROBE).unwrap_err();
         assert_eq!(nobody.kind(), ErrorKind::NotFound);
     }

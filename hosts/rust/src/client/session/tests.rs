@@ -4,7 +4,7 @@ use crate::lease::terms::Answer;
 use crate::lease::terms::{Grant, Older, Sign};
 use crate::model::history::Mark;
 use crate::model::shard_fence::OtherShard;
-use crate::net::connect_fault::{NotTaken, OtherVersion};
+use crate::net::connect_fault::{NotTaken, NothingListens, OtherVersion};
 use crate::proved::client_handle::ClientHandle;
 use crate::wire::frames::split;
 use crate::wire::host_frame::{FromClient, FromServer};
@@ -225,6 +225,68 @@ fn a_client_that_has_joined_waits_for_its_server_whatever_else_answers_there() {
     let after_a_frame = [&terms(&connect(&mut session)), OF_HTTP].concat();
     let end = hear(&mut session, &after_a_frame).unwrap_err().to_string();
     assert!(end.contains("the server says what no server says"), "{end}");
+}
+
+/// An attempt to connect that is refused, and the pause after it.
+fn refuse_connect(session: &mut Session) {
+    let refused = NothingListens(ErrorKind::ConnectionRefused.into());
+    let pause = session.disconnected(refused.into());
+    pass(session, pause);
+}
+
+#[test]
+fn who_joins_gives_up_when_each_address_has_refused_for_a_second() {
+    for (servers, last) in [("unix:one", 1), ("unix:one,unix:two,unix:three", 3)] {
+        let mut session = session(servers);
+        let asked = session.join(Box::new(|_, _| false));
+        let end = session.now() + Duration::from_secs(1);
+        while session.now() < end {
+            refuse_connect(&mut session);
+            assert!(asked.answer.try_recv().is_err(), "too early for {servers}");
+        }
+        assert_eq!(session.now(), end, "an attempt finds a server that listens by now");
+        for _ in 1..last {
+            refuse_connect(&mut session);
+            assert!(asked.answer.try_recv().is_err(), "another one of {servers} is tried now");
+            assert_eq!(session.now(), end);
+        }
+        refuse_connect(&mut session);
+        assert_eq!(asked.answer.try_recv(), Ok(Err(Error::TimedOut)));
+        let why = session.take_nothing_listens().map(|error| error.kind());
+        assert_eq!(why, Some(ErrorKind::ConnectionRefused));
+        assert!(session.now() > end, "the pauses are those of the backoff again");
+    }
+}
+
+#[test]
+fn who_joins_waits_if_one_of_its_addresses_does_anything_but_refuse() {
+    let mut session = session("unix:one,unix:two");
+    let asked = session.join(Box::new(|_, _| false));
+    for _ in 0..9 {
+        refuse_connect(&mut session);
+        session.disconnected(ErrorKind::TimedOut.into());
+        pass(&mut session, Duration::from_secs(1));
+    }
+    connect(&mut session);
+    refuse_connect(&mut session);
+    assert!(asked.answer.try_recv().is_err());
+    assert!(session.take_nothing_listens().is_none());
+}
+
+#[test]
+fn a_client_that_has_joined_waits_for_a_server_that_refuses() {
+    let mut session = session("unix:one");
+    let asked = session.join(Box::new(|_, _| false));
+    session.jobs().refuse(asked.id, Error::Left);
+    let read = session.jobs().read(0..9);
+    let end = session.now() + Duration::from_secs(60);
+    let mut attempts = 0;
+    while session.now() < end {
+        refuse_connect(&mut session);
+        attempts += 1;
+    }
+    assert!(read.answer.try_recv().is_err() && attempts < 80, "{attempts}");
+    assert!(session.take_nothing_listens().is_none());
 }
 
 /// Why a job ends that was sent or not, if the last connection ended with this.
