@@ -53,6 +53,9 @@ build_hosts() {
     (cd "$top/hosts" && exec cargo build --release --package krl-server --package krl-client "$@") </dev/null \
         >"$work/cargo.log" 2>&1 &
     running=$!
+    began=$(date +%s)
+    report_crates &
+    other=$!
     wait "$running" || {
         running=
         tail -n 40 "$work/cargo.log" >&2
@@ -60,7 +63,17 @@ build_hosts() {
         exit 1
     }
     running=
+    kill "$other" 2>/dev/null || :
+    other=
     touch "$target/release/krl-server" "$target/release/krl-client"
+}
+
+# Reports every ten seconds how far cargo is. Nobody waits for the sleep, which outlives this, to close its output.
+report_crates() {
+    while sleep 10 >/dev/null 2>&1; do
+        say "cargo has compiled or compiles $(grep -c '^ *Compiling ' "$work/cargo.log") crates," \
+            "after $(($(date +%s) - began)) seconds"
+    done
 }
 
 # Runs the server or the client with these words. A server without further words is a trial: it may make its store.
