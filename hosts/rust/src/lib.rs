@@ -123,6 +123,6 @@ pub use store::{MemoryStore, Store, StoreError};
 #[cfg(feature = "unstable")]
 pub use log::seldom::Seldom;
 #[cfg(all(feature = "tls", feature = "unstable"))]
-pub use net::tls::TlsSession;
+pub use net::tls::{PeerCheck, TlsSession};
 #[cfg(feature = "unstable")]
 pub use server::strangers::Strangers;

@@ -1,13 +1,13 @@
 //! One request to a status port.
 use crate::command_line::TlsOptions;
-use crate::sealed::{self, Opened};
 use crate::settings::{BadSetting, STATUS};
 use crate::tls_files::TlsFiles;
+use crate::tls_stream;
 use hyper::body::HttpBody;
 use hyper::client::conn;
 use hyper::header::{ACCEPT, CONTENT_TYPE, HOST};
 use hyper::{Body, Method, Request, StatusCode};
-use krl::{TlsConfig, TlsSession};
+use krl::{PeerCheck, TlsConfig};
 use std::error::Error;
 use std::fmt;
 use std::time::Duration;
@@ -159,10 +159,8 @@ async fn exchange(port: &StatusPort, request: Request<Body>) -> Result<Reply, Fa
     match &port.tls {
         None => talk(socket, request).await,
         Some(tls) => {
-            let Opened { plain, sealed, .. } =
-                sealed::open(socket, TlsSession::connect(tls)?).await?;
-            tokio::spawn(sealed.carry());
-            talk(plain, request).await
+            let (stream, _) = tls_stream::shake(socket, PeerCheck::of_server(tls)?).await?;
+            talk(stream, request).await
         }
     }
 }

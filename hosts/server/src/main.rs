@@ -26,12 +26,12 @@ mod reload;
 mod reshard;
 mod restore;
 mod role;
-mod sealed;
 mod serve;
 mod settings;
 mod stand_by;
 mod status_port;
 mod tls_files;
+mod tls_stream;
 mod visitors;
 mod watchdog;
 

@@ -4,20 +4,21 @@ use crate::page::looks::Looks;
 use crate::pages::{self, Asker, Shown, Table};
 use crate::recent::{self, Recent};
 use crate::role::Role;
-use crate::sealed::{self, Opened, Sealed};
+use crate::tls_stream;
 use crate::visitors::{Visit, Visitors};
 use hyper::server::conn::Http;
 use hyper::service::service_fn;
 use hyper::{Body, Request};
-use krl::{Address, Identity, Listener, Seldom, TlsConfig, TlsSession};
+use krl::{Address, Identity, Listener, PeerCheck, Seldom, TlsConfig};
 use std::convert::Infallible;
+use std::future::ready;
 use std::io::{self, ErrorKind};
 use std::net::{SocketAddr, TcpListener};
 use std::pin::pin;
 use std::sync::{Arc, Mutex, PoisonError};
 use std::thread;
 use std::time::{Duration, Instant};
-use tokio::io::{AsyncRead, AsyncWrite};
+use tokio::io::{AsyncRead, AsyncWrite, AsyncWriteExt};
 use tokio::net::TcpStream;
 use tokio::sync::Notify;
 use tokio::time::{sleep, timeout};
@@ -34,7 +35,7 @@ const HANDSHAKE: Duration = Duration::from_secs(5);
 /// How long a connection may take from its request on, unless its order is carried out.
 const WHOLE: Duration = Duration::from_secs(90);
 
-/// How long the last bytes of an answer by TLS may take to leave.
+/// How long the last bytes of an answer may take to leave.
 const LAST_WRITES: Duration = Duration::from_secs(5);
 
 /// How long to wait before the next try when the system has no room for another connection.
@@ -142,16 +143,16 @@ async fn answer_operator(
     guest: Guest,
     refused: &Mutex<Seldom>,
 ) {
-    let Ok(session) = TlsSession::accept(tls) else { return };
+    let Ok(session) = PeerCheck::of_client(tls) else { return };
     let address = guest.peer;
-    let why = match timeout(HANDSHAKE, sealed::open(stream, session)).await {
-        Ok(Ok(Opened { plain, peer, sealed })) => {
+    let why = match timeout(HANDSHAKE, tls_stream::shake(stream, session)).await {
+        Ok(Ok((stream, peer))) => {
             if !peer.is_operator() {
                 tell_refused(address, &format!("{peer} is no operator"), refused);
-                return carry(sealed, refuse(plain, peer)).await;
+                return refuse(stream, peer).await;
             }
             guest.visit.take_place();
-            return carry(sealed, answer(plain, Guest { asker: Asker::Operator, ..guest })).await;
+            return answer(stream, Guest { asker: Asker::Operator, ..guest }).await;
         }
         Ok(Err(error)) => error.to_string(),
         Err(_) => return,
@@ -167,25 +168,29 @@ fn tell_refused(address: SocketAddr, why: &str, refused: &Mutex<Seldom>) {
     }
 }
 
-/// Carries what is answered at the plain end, and then the last of it, if the peer takes that in
-/// time.
-async fn carry(sealed: Sealed, answers: impl Future<Output = ()>) {
-    let mut carries = pin!(sealed.carry());
-    tokio::select! {
-        // A connection that is lost fails the answer.
-        _ = &mut carries => {}
-        () = answers => {
-            let _ = timeout(LAST_WRITES, carries).await;
-        }
-    }
+/// Ends a connection after its answer. What the peer still sends is read and dropped until it ends
+/// too, for a while: otherwise the system might drop the last of the answer.
+async fn end(mut stream: impl AsyncRead + AsyncWrite + Unpin) {
+    let ends = async {
+        stream.shutdown().await?;
+        tokio::io::copy(&mut stream, &mut tokio::io::sink()).await
+    };
+    let _ = timeout(LAST_WRITES, ends).await;
 }
 
 /// Answers a peer that has shown a certificate, and not an operator's, that it is refused.
 async fn refuse(stream: impl AsyncRead + AsyncWrite + Unpin + Send + 'static, peer: Identity) {
-    let answer = service_fn(|_| async move { Ok::<_, Infallible>(pages::refused(peer)) });
+    let answer = service_fn(|_| ready(Ok::<_, Infallible>(pages::refused(peer))));
+    let served = http().serve_connection(stream, answer).without_shutdown();
+    if let Ok(Ok(parts)) = timeout(HEAD, served).await {
+        end(parts.io).await;
+    }
+}
+
+fn http() -> Http {
     let mut http = Http::new();
     http.http1_only(true).http1_keep_alive(false).max_buf_size(MAX_HEAD);
-    let _ = timeout(HEAD, http.serve_connection(stream, answer)).await;
+    http
 }
 
 async fn answer(stream: impl AsyncRead + AsyncWrite + Unpin + Send + 'static, guest: Guest) {
@@ -195,19 +200,21 @@ async fn answer(stream: impl AsyncRead + AsyncWrite + Unpin + Send + 'static, gu
         visit.take_place();
         has_asked.notify_one();
         let (shown, visit) = (shown.clone(), Arc::clone(&visit));
-        async move { Ok::<_, Infallible>(pages::answer(request, asker, shown, &visit).await) }
+        let answer = async move { pages::answer(request, asker, shown, &visit).await };
+        Box::pin(async { Ok::<_, Infallible>(answer.await) })
     });
-    let mut http = Http::new();
-    http.http1_only(true).http1_keep_alive(false).max_buf_size(MAX_HEAD);
-    let mut served = pin!(http.serve_connection(stream, answer));
-    tokio::select! {
-        _ = &mut served => return,
-        () = sleep(HEAD) => return,
-        () = has_asked.notified() => {}
-    }
+    let mut served = pin!(http().serve_connection(stream, answer).without_shutdown());
     // A peer that asks and goes away, or takes too long, gets no answer.
-    let is_late = timeout(WHOLE, &mut served).await.is_err();
-    if is_late && visit.is_ordering() {
-        let _ = timeout(backup::TIMEOUT, served).await;
+    let answered = tokio::select! {
+        answered = &mut served => Ok(answered),
+        () = sleep(HEAD) => return,
+        () = has_asked.notified() => timeout(WHOLE, &mut served).await,
+    };
+    let answered = match answered {
+        Err(_) if visit.is_ordering() => timeout(backup::TIMEOUT, served).await,
+        answered => answered,
+    };
+    if let Ok(Ok(parts)) = answered {
+        end(parts.io).await;
     }
 }

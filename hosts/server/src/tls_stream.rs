@@ -1,139 +1,69 @@
-//! Connections by TLS, for HTTP: what is sealed on the socket is plain on the other end.
-use krl::{Identity, TlsSession};
+//! Connections by TLS, for HTTP.
+use krl::{Identity, PeerCheck};
+use openssl::ssl::Ssl;
 use std::io::{self, ErrorKind};
-use std::sync::{Mutex, MutexGuard, PoisonError};
-use tokio::io::{AsyncReadExt, AsyncWriteExt, DuplexStream, ReadHalf, WriteHalf, duplex, split};
+use std::pin::Pin;
+use std::task::{Context, Poll, ready};
+use tokio::io::{AsyncRead, AsyncWrite, ReadBuf};
 use tokio::net::TcpStream;
-use tokio::net::tcp::{OwnedReadHalf, OwnedWriteHalf};
-use tokio::sync::Notify;
+use tokio_openssl::SslStream;
 
-/// How much is read at once, and how much may wait between the two ends.
-const GULP: usize = 1 << 14;
+/// The most bytes that come in a hand-shake: a chain of certificates has a few thousand.
+const LONGEST_HANDSHAKE: usize = 1 << 16;
 
-/// A connection whose hand-shake is done.
-pub struct Opened {
-    /// The end that is not sealed.
-    pub plain: DuplexStream,
-    /// Who is at the other end.
-    pub peer: Identity,
-    /// The sealed end, which has to be carried.
-    pub sealed: Sealed,
+/// The socket under TLS.
+#[derive(Debug)]
+pub struct Socket {
+    stream: TcpStream,
+    /// How many bytes may still come.
+    left: usize,
 }
 
-/// The end that is sealed.
-pub struct Sealed {
-    socket: TcpStream,
-    session: TlsSession,
-    plain: DuplexStream,
-    /// What the peer has sent with the hand-shake's last bytes.
-    first: Vec<u8>,
+/// Shakes hands. Returns the connection, and who is at the other end.
+pub async fn shake(
+    stream: TcpStream,
+    (check, ssl): (PeerCheck, Ssl),
+) -> io::Result<(SslStream<Socket>, Identity)> {
+    let mut stream = SslStream::new(ssl, Socket { stream, left: LONGEST_HANDSHAKE })?;
+    let shaken = Pin::new(&mut stream).do_handshake().await;
+    shaken.map_err(|error| check.why_refused(stream.ssl(), &error))?;
+    let peer = check.peer(stream.ssl())?;
+    stream.get_mut().left = usize::MAX;
+    Ok((stream, peer))
 }
 
-/// Shakes hands.
-pub async fn open(mut socket: TcpStream, mut session: TlsSession) -> io::Result<Opened> {
-    let shaken = shake(&mut socket, &mut session).await;
-    // The other side learns why, if it was refused.
-    let sealed = session.take_sealed()?;
-    socket.write_all(&sealed).await?;
-    let (first, peer) = shaken?;
-    let (ours, theirs) = duplex(GULP);
-    Ok(Opened { plain: ours, peer, sealed: Sealed { socket, session, plain: theirs, first } })
-}
-
-/// Continues until the other end is identified; returns its identity and what it has sent.
-async fn shake(
-    socket: &mut TcpStream,
-    session: &mut TlsSession,
-) -> io::Result<(Vec<u8>, Identity)> {
-    let mut came = vec![0; GULP];
-    let mut said = Vec::new();
-    loop {
-        socket.write_all(&session.take_sealed()?).await?;
-        if let Some(peer) = session.peer() {
-            return Ok((said, peer));
+impl AsyncRead for Socket {
+    fn poll_read(
+        mut self: Pin<&mut Self>,
+        context: &mut Context<'_>,
+        room: &mut ReadBuf<'_>,
+    ) -> Poll<io::Result<()>> {
+        if self.left == 0 {
+            let error = io::Error::new(ErrorKind::InvalidData, "the hand-shake does not end");
+            return Poll::Ready(Err(error));
         }
-        match socket.read(&mut came).await? {
-            0 => return Err(ErrorKind::UnexpectedEof.into()),
-            count => said.extend(session.open(&came[..count])?),
-        }
+        let before = room.filled().len();
+        ready!(Pin::new(&mut self.stream).poll_read(context, room))?;
+        self.left = self.left.saturating_sub(room.filled().len() - before);
+        Poll::Ready(Ok(()))
     }
 }
 
-impl Sealed {
-    /// Carries what comes and what leaves, until both sides have ended. Neither way waits for the
-    /// other one. What comes after the plain end is closed is read and dropped: otherwise the
-    /// system might drop the last of the answer.
-    pub async fn carry(self) -> io::Result<()> {
-        let Sealed { socket, session, plain, first } = self;
-        let (from_socket, to_socket) = socket.into_split();
-        let (from_plain, to_plain) = split(plain);
-        let ways = Ways { session: Mutex::new(session), has_sealed: Notify::new() };
-        let out = ways.carry_out(from_plain, to_socket);
-        tokio::try_join!(out, ways.carry_in(from_socket, to_plain, first)).map(drop)
-    }
-}
-
-/// What both ways share.
-struct Ways {
-    session: Mutex<TlsSession>,
-    /// What came may have to be answered by the session itself.
-    has_sealed: Notify,
-}
-
-impl Ways {
-    fn session(&self) -> MutexGuard<'_, TlsSession> {
-        self.session.lock().unwrap_or_else(PoisonError::into_inner)
+impl AsyncWrite for Socket {
+    fn poll_write(
+        mut self: Pin<&mut Self>,
+        context: &mut Context<'_>,
+        bytes: &[u8],
+    ) -> Poll<io::Result<usize>> {
+        Pin::new(&mut self.stream).poll_write(context, bytes)
     }
 
-    async fn carry_in(
-        &self,
-        mut from_socket: OwnedReadHalf,
-        mut to_plain: WriteHalf<DuplexStream>,
-        first: Vec<u8>,
-    ) -> io::Result<()> {
-        let mut came = vec![0; GULP];
-        let mut is_read = to_plain.write_all(&first).await.is_ok();
-        loop {
-            let count = from_socket.read(&mut came).await?;
-            if count == 0 {
-                // One that is closed gets no end.
-                let _ = to_plain.shutdown().await;
-                return Ok(());
-            }
-            let opened = self.session().open(&came[..count])?;
-            self.has_sealed.notify_one();
-            is_read = is_read && to_plain.write_all(&opened).await.is_ok();
-        }
+    fn poll_flush(mut self: Pin<&mut Self>, context: &mut Context<'_>) -> Poll<io::Result<()>> {
+        Pin::new(&mut self.stream).poll_flush(context)
     }
 
-    async fn carry_out(
-        &self,
-        mut from_plain: ReadHalf<DuplexStream>,
-        mut to_socket: OwnedWriteHalf,
-    ) -> io::Result<()> {
-        let mut said = vec![0; GULP];
-        loop {
-            let count = tokio::select! {
-                count = from_plain.read(&mut said) => Some(count?),
-                () = self.has_sealed.notified() => None,
-            };
-            let sealed = self.seal(count.map(|count| &said[..count]))?;
-            to_socket.write_all(&sealed).await?;
-            if count == Some(0) {
-                return to_socket.shutdown().await;
-            }
-        }
-    }
-
-    /// Seals what is sent, if anything. `None` is the end.
-    fn seal(&self, said: Option<&[u8]>) -> io::Result<Vec<u8>> {
-        let mut session = self.session();
-        match said {
-            Some([]) => session.end()?,
-            Some(said) => session.put(said),
-            None => {}
-        }
-        session.take_sealed()
+    fn poll_shutdown(mut self: Pin<&mut Self>, context: &mut Context<'_>) -> Poll<io::Result<()>> {
+        Pin::new(&mut self.stream).poll_shutdown(context)
     }
 }
 
@@ -143,10 +73,8 @@ mod tests {
     use krl::TlsConfig;
     use std::path::Path;
     use std::process::Command;
+    use tokio::io::{AsyncReadExt, AsyncWriteExt};
     use tokio::net::TcpListener;
-
-    /// More than may wait between two ends.
-    const MUCH: usize = 8 * GULP;
 
     fn config(folder: &Path, holder: &str) -> TlsConfig {
         let script = concat!(env!("CARGO_MANIFEST_DIR"), "/../packaging/certificates");
@@ -155,37 +83,46 @@ mod tests {
         TlsConfig::from_files(folder.join("authority.crt"), certificate, key).unwrap()
     }
 
+    /// Two ends of a connection: that of a server, and another one.
+    async fn pair() -> (TcpStream, TcpStream) {
+        let listener = TcpListener::bind("127.0.0.1:0").await.unwrap();
+        let other = TcpStream::connect(listener.local_addr().unwrap()).await.unwrap();
+        (listener.accept().await.unwrap().0, other)
+    }
+
     #[tokio::test]
-    async fn an_answer_leaves_while_nobody_reads_the_request() {
+    async fn more_than_a_hand_shake_comes_after_it() {
         let folder = tempfile::tempdir().unwrap();
         let [shown, operator] = ["server", "operator"].map(|holder| config(folder.path(), holder));
-        let listener = TcpListener::bind("127.0.0.1:0").await.unwrap();
-        let at = listener.local_addr().unwrap();
-        let serves = tokio::spawn(async move {
-            let session = TlsSession::accept(&shown).unwrap();
-            let socket = listener.accept().await.unwrap().0;
-            let Opened { mut plain, peer, sealed } = open(socket, session).await.unwrap();
-            assert!(peer.is_operator());
-            let answers = async move {
-                plain.write_all(&vec![7; MUCH]).await.unwrap();
-            };
-            tokio::join!(answers, sealed.carry()).1
-        });
-        let session = TlsSession::connect(&operator).unwrap();
-        let socket = TcpStream::connect(at).await.unwrap();
-        let Opened { plain, sealed, .. } = open(socket, session).await.unwrap();
-        let carries = tokio::spawn(sealed.carry());
-        let (mut reads, mut writes) = split(plain);
-        let request = async { writes.write_all(&vec![3; MUCH]).await };
-        let answer = async {
-            let mut answer = Vec::new();
-            reads.read_to_end(&mut answer).await.map(|_| answer)
+        let (ours, theirs) = pair().await;
+        let server = shake(ours, PeerCheck::of_client(&shown).unwrap());
+        let client = shake(theirs, PeerCheck::of_server(&operator).unwrap());
+        let (server, client) = tokio::join!(server, client);
+        let ((mut server, peer), (mut client, _)) = (server.unwrap(), client.unwrap());
+        assert!(peer.is_operator());
+        let sent = vec![7; 4 * LONGEST_HANDSHAKE];
+        let sends = async {
+            client.write_all(&sent).await.unwrap();
+            client.shutdown().await.unwrap();
         };
-        let (_, answer) = tokio::join!(request, answer);
-        assert_eq!(answer.unwrap(), vec![7; MUCH]);
-        // The server waits until this side has ended too.
-        drop((reads, writes));
-        serves.await.unwrap().unwrap();
-        carries.abort();
+        let mut came = Vec::new();
+        let ((), count) = tokio::join!(sends, server.read_to_end(&mut came));
+        assert_eq!((count.unwrap(), came), (sent.len(), sent));
+    }
+
+    #[tokio::test]
+    async fn a_hand_shake_that_does_not_end_is_refused() {
+        let folder = tempfile::tempdir().unwrap();
+        let (ours, mut theirs) = pair().await;
+        let session = PeerCheck::of_client(&config(folder.path(), "server")).unwrap();
+        // A Hello of 126,976 bytes, in records.
+        let record = [&[22, 3, 1, 0x40, 0][..], &[1, 1, 0xf0, 0], &[0; 0x3ffc]].concat();
+        let next = [&[22, 3, 1, 0x40, 0][..], &[0; 0x4000]].concat();
+        let sends = async {
+            let _ = theirs.write_all(&[record, next.repeat(6)].concat()).await;
+        };
+        let (refused, ()) = tokio::join!(shake(ours, session), sends);
+        let refused = refused.unwrap_err().to_string();
+        assert!(refused.contains("the hand-shake does not end"), "{refused}");
     }
 }

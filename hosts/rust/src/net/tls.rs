@@ -13,7 +13,7 @@ use crate::access::identity::{Identity, Role, TableName};
 use crate::net::connect_fault::NotTaken;
 use crate::wire::frames::{Frames, GULP};
 use openssl::error::ErrorStack;
-use openssl::ssl::{Error, ErrorCode, Ssl, SslStream, SslVerifyMode};
+use openssl::ssl::{Error, ErrorCode, Ssl, SslRef, SslStream, SslVerifyMode};
 use openssl::x509::{X509Ref, X509StoreContextRef, X509VerifyResult};
 use pipe::Pipe;
 use std::ffi::c_ulong;
@@ -55,8 +55,7 @@ pub(crate) enum Side {
 /// It is for the programs of krl's repository, and may change in any release.
 pub struct TlsSession {
     stream: SslStream<Pipe>,
-    side: Side,
-    table: Option<TableName>,
+    check: PeerCheck,
     /// None until the hand-shake is done.
     peer: Option<Identity>,
     /// How many bytes came in the hand-shake.
@@ -67,6 +66,15 @@ pub struct TlsSession {
     room: Box<[u8]>,
     /// The other side has announced its end.
     is_ended: bool,
+}
+
+/// Judges the certificate of the other end of one connection, within the hand-shake.
+///
+/// It is for the programs of krl's repository, and may change in any release.
+#[derive(Clone, Debug)]
+pub struct PeerCheck {
+    side: Side,
+    table: Option<TableName>,
     /// Whose certificate was refused.
     refused: RefusedSubject,
 }
@@ -86,6 +94,84 @@ impl RefusedSubject {
     /// As it appears in a sentence, after "the other end".
     fn in_brackets(&self) -> String {
         self.0.get().map(|subject| format!(" ({subject})")).unwrap_or_default()
+    }
+}
+
+impl PeerCheck {
+    /// The same for a connection that this side has made, to a server. The hand-shake of the `Ssl`
+    /// is to be done.
+    ///
+    /// # Errors
+    ///
+    /// Those of OpenSSL.
+    #[cfg(feature = "unstable")]
+    pub fn of_server(config: &TlsConfig) -> io::Result<(PeerCheck, Ssl)> {
+        PeerCheck::new(config, Side::Connects)
+    }
+
+    /// The same for a connection that this side has taken, of a client or an operator.
+    ///
+    /// # Errors
+    ///
+    /// Those of OpenSSL.
+    #[cfg(feature = "unstable")]
+    pub fn of_client(config: &TlsConfig) -> io::Result<(PeerCheck, Ssl)> {
+        PeerCheck::new(config, Side::Accepts)
+    }
+
+    fn new(config: &TlsConfig, side: Side) -> io::Result<(PeerCheck, Ssl)> {
+        let mut ssl = Ssl::new(&config.context())?;
+        match side {
+            Side::Connects => ssl.set_connect_state(),
+            Side::Accepts => ssl.set_accept_state(),
+        }
+        let (table, refused) = (config.table().cloned(), RefusedSubject::default());
+        let check = PeerCheck { side, table, refused };
+        let within = check.clone();
+        let mode = SslVerifyMode::PEER | SslVerifyMode::FAIL_IF_NO_PEER_CERT;
+        ssl.set_verify_callback(mode, move |is_certified, chain| {
+            let is_taken = is_certified && is_named(chain, within.side, within.table.as_ref());
+            if !is_taken {
+                within.refused.note(chain);
+            }
+            is_taken
+        });
+        Ok((check, ssl))
+    }
+
+    /// Who is at the other end by its certificate, once the hand-shake is done.
+    ///
+    /// # Errors
+    ///
+    /// `PermissionDenied`, with a sentence, if it shows no certificate that counts.
+    pub fn peer(&self, ssl: &SslRef) -> io::Result<Identity> {
+        let certificate = ssl.peer_certificate().ok_or_else(|| not_taken(NO_NAME))?;
+        let found = peer_of(&certificate, self.side, self.table.as_ref());
+        found.ok_or_else(|| not_taken(NO_NAME))
+    }
+
+    /// Why the connection can't continue after this error: a sentence. It is `PermissionDenied` if
+    /// one side does not take the other's certificate.
+    #[must_use]
+    pub fn why_refused(&self, ssl: &SslRef, error: &Error) -> io::Error {
+        let verified = ssl.verify_result();
+        let alert = error.ssl_error().and_then(alert_of);
+        let subject = self.refused.in_brackets();
+        match (verified, alert) {
+            (X509VerifyResult::APPLICATION_VERIFICATION, _) => {
+                not_taken(&format!("{NO_NAME}{subject}"))
+            }
+            (_, Some(alert)) => {
+                not_taken(&format!("the other end does not take this certificate: {alert}"))
+            }
+            (X509VerifyResult::OK, None) => {
+                io::Error::new(ErrorKind::InvalidData, format!("TLS failed: {error}"))
+            }
+            (refused, None) => {
+                let why = refused.error_string();
+                not_taken(&format!("the certificate of the other end{subject} is not taken: {why}"))
+            }
+        }
     }
 }
 
@@ -112,29 +198,15 @@ impl TlsSession {
 
     /// A connection with this side. The hand-shake begins with the first bytes that leave or come.
     pub(crate) fn new(config: &TlsConfig, side: Side) -> io::Result<TlsSession> {
-        let mut ssl = Ssl::new(&config.context())?;
-        let table = config.table().cloned();
-        let (believed, refused) = (table.clone(), RefusedSubject::default());
-        let noted = refused.clone();
-        let mode = SslVerifyMode::PEER | SslVerifyMode::FAIL_IF_NO_PEER_CERT;
-        ssl.set_verify_callback(mode, move |is_certified, chain| {
-            let is_taken = is_certified && is_named(chain, side, believed.as_ref());
-            if !is_taken {
-                noted.note(chain);
-            }
-            is_taken
-        });
-        let stream = SslStream::new(ssl, Pipe::default())?;
+        let (check, ssl) = PeerCheck::new(config, side)?;
         let mut session = TlsSession {
-            stream,
-            side,
-            table,
+            stream: SslStream::new(ssl, Pipe::default())?,
+            check,
             peer: None,
             shaken: 0,
             unsealed: Vec::new(),
             room: vec![0; RECORD].into(),
             is_ended: false,
-            refused,
         };
         session.go_on()?;
         Ok(session)
@@ -211,18 +283,6 @@ impl TlsSession {
         Ok(self.stream.get_mut().take_outgoing())
     }
 
-    /// Announces to the other side that nothing more comes after what is to leave.
-    ///
-    /// # Errors
-    ///
-    /// Those of OpenSSL.
-    #[cfg(feature = "unstable")]
-    pub fn end(&mut self) -> io::Result<()> {
-        let unsealed = std::mem::take(&mut self.unsealed);
-        self.seal(&unsealed)?;
-        self.stream.shutdown().map(drop).map_err(|error| self.refused(&error))
-    }
-
     fn seal(&mut self, plain: &[u8]) -> io::Result<()> {
         let mut rest = plain;
         while !rest.is_empty() {
@@ -234,23 +294,12 @@ impl TlsSession {
 
     /// Continues with the hand-shake as far as it comes without more from the other side.
     fn go_on(&mut self) -> io::Result<()> {
-        let shaken = match self.side {
-            Side::Connects => self.stream.connect(),
-            Side::Accepts => self.stream.accept(),
-        };
-        match shaken {
-            Ok(()) => self.peer = Some(self.find_peer()?),
+        match self.stream.do_handshake() {
+            Ok(()) => self.peer = Some(self.check.peer(self.stream.ssl())?),
             Err(error) if error.code() == ErrorCode::WANT_READ => {}
             Err(error) => return Err(self.refused(&error)),
         }
         Ok(())
-    }
-
-    /// Who the other side is by its certificate.
-    fn find_peer(&self) -> io::Result<Identity> {
-        let certificate = self.stream.ssl().peer_certificate().ok_or_else(|| not_taken(NO_NAME))?;
-        let found = peer_of(&certificate, self.side, self.table.as_ref());
-        found.ok_or_else(|| not_taken(NO_NAME))
     }
 
     fn open_records(&mut self) -> io::Result<Vec<u8>> {
@@ -266,26 +315,8 @@ impl TlsSession {
         Ok(plain)
     }
 
-    /// Why the connection can't continue: a sentence.
     fn refused(&self, error: &Error) -> io::Error {
-        let verified = self.stream.ssl().verify_result();
-        let alert = error.ssl_error().and_then(alert_of);
-        let subject = self.refused.in_brackets();
-        match (verified, alert) {
-            (X509VerifyResult::APPLICATION_VERIFICATION, _) => {
-                not_taken(&format!("{NO_NAME}{subject}"))
-            }
-            (_, Some(alert)) => {
-                not_taken(&format!("the other end does not take this certificate: {alert}"))
-            }
-            (X509VerifyResult::OK, None) => {
-                io::Error::new(ErrorKind::InvalidData, format!("TLS failed: {error}"))
-            }
-            (refused, None) => {
-                let why = refused.error_string();
-                not_taken(&format!("the certificate of the other end{subject} is not taken: {why}"))
-            }
-        }
+        self.check.why_refused(self.stream.ssl(), error)
     }
 }
 
@@ -348,7 +379,7 @@ fn put(opened: &[u8], frames: &mut Frames) -> io::Result<()> {
 impl fmt::Debug for TlsSession {
     fn fmt(&self, f: &mut fmt::Formatter<'_>) -> fmt::Result {
         let mut shown = f.debug_struct("TlsSession");
-        shown.field("side", &self.side).field("peer", &self.peer).finish_non_exhaustive()
+        shown.field("check", &self.check).field("peer", &self.peer).finish_non_exhaustive()
     }
 }
 

@@ -423,10 +423,11 @@ impl Handle {
         let reply =
             unsafe { ffi::krl_reader_scan(&raw mut reader, keys.start, keys.end, at, length) };
         if code(reply) == Code::Done {
-            let length = rows.len() + count(reply)?;
+            let count = count(reply)?;
+            debug_assert!(count <= length, "{count} rows in a room of {length}");
             // SAFETY: the library has written that many rows after the others, for which there was
             // room.
-            unsafe { rows.set_len(length) };
+            unsafe { rows.set_len(rows.len() + count) };
         }
         Ok(reply)
     }
