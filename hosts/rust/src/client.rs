@@ -20,18 +20,17 @@ pub(crate) mod set;
 pub(crate) mod shared;
 pub(crate) mod silence;
 pub(crate) mod wakes;
-pub(crate) mod within;
 mod writer;
 
 use crate::client::changes::{Changes, Waited, WatchedRange};
-use crate::client::jobs::Jobs;
+use crate::client::jobs::{Asked, Held, Jobs, Purpose};
 use crate::client::link::Link;
 use crate::client::pin::Pin;
 use crate::client::scratch::with_room;
 use crate::client::shared::{MAX_WAIT, Shared};
-use crate::client::within::Within;
+use crate::log::span;
 use crate::model::batch::{BatchError, Mutation};
-use crate::model::change::Outcome;
+use crate::model::change::{Outcome, Write};
 use crate::model::code::Code;
 use crate::model::error::Error;
 use crate::model::range::keys_of;
@@ -88,11 +87,13 @@ use std::time::{Duration, Instant};
 #[derive(Clone)]
 pub struct Client {
     shared: Arc<Shared>,
+    /// How long the calls by this value wait, if it has a time of its own.
+    timeout: Option<Duration>,
 }
 
 impl Client {
     pub(crate) fn of(shared: Shared) -> Client {
-        Client { shared: Arc::new(shared) }
+        Client { shared: Arc::new(shared), timeout: None }
     }
 
     /// What its clones and its pins share.
@@ -105,7 +106,8 @@ impl Client {
     }
 
     /// From now on, each call waits at most this long for an answer, and a year at most. A call
-    /// that waits already continues as it began.
+    /// that waits already continues as it began, and what [`Client::within`] has returned keeps its
+    /// own time.
     pub fn set_timeout(&self, timeout: Duration) {
         self.shared.set_timeout(timeout);
     }
@@ -113,11 +115,12 @@ impl Client {
     /// How long each call waits for an answer.
     #[must_use]
     pub fn timeout(&self) -> Duration {
-        self.shared.timeout()
+        self.timeout.unwrap_or_else(|| self.shared.timeout())
     }
 
-    /// The same calls, each of which waits at most this long for an answer, and a year at most.
-    /// Calls of other threads wait as before.
+    /// The same client, whose calls by the value that is returned, and by clones of it, wait at most
+    /// this long for an answer, and a year at most. Calls by other values wait as before, and so do
+    /// the writes of a [`Pin`].
     ///
     /// ```no_run
     /// # use std::time::Duration;
@@ -126,8 +129,9 @@ impl Client {
     /// # Ok(())
     /// # }
     /// ```
-    pub fn within(&self, timeout: Duration) -> Within<'_> {
-        Within::new(&self.shared, timeout)
+    #[must_use = "it does nothing before one of its calls"]
+    pub fn within(&self, timeout: Duration) -> Client {
+        Client { shared: Arc::clone(&self.shared), timeout: Some(timeout.min(MAX_WAIT)) }
     }
 
     /// The client's number, from 0 to 63.
@@ -145,7 +149,12 @@ impl Client {
     /// `BadRange` if the range begins above its end, or ends above 2^63; `TimedOut` or `Unserved`;
     /// `TurnedAway` or `OtherShard`; `StoreWentBack`; `OutOfMemory`; `Stopped`.
     pub fn read(&self, keys: impl RangeBounds<u64>) -> Result<Vec<Row>, Error> {
-        self.within(self.timeout()).read(keys)
+        let keys = keys_of(&keys)?;
+        if let Some(rows) = with_room(|room| self.shared.scan(&keys, room).then(|| room.clone())) {
+            return Ok(rows);
+        }
+        let _span = span::of("read", self.number(), &keys);
+        self.ask(|jobs| jobs.read(keys))
     }
 
     /// The value of the row of this key, read as [`Client::read`] reads a range, or `None` if there is
@@ -222,7 +231,7 @@ impl Client {
     /// `NotSent`, `TurnedAway` or `OtherShard`: the write was not sent and changes nothing;
     /// `OutOfMemory`.
     pub fn insert(&self, key: u64, value: Value) -> Result<Outcome, Error> {
-        self.within(self.timeout()).insert(key, value)
+        self.write(Write::Insert(Row { key, value }))
     }
 
     /// Gives a row another value. The outcome is `Applied` or `Absent`.
@@ -231,7 +240,7 @@ impl Client {
     ///
     /// Those of `insert`.
     pub fn put(&self, key: u64, value: Value) -> Result<Outcome, Error> {
-        self.within(self.timeout()).put(key, value)
+        self.write(Write::Put(Row { key, value }))
     }
 
     /// Gives a key this value, whether or not it has a row. The outcome is `Applied`, or `Full` if
@@ -245,7 +254,8 @@ impl Client {
     ///
     /// Those of `insert`.
     pub fn set(&self, key: u64, value: Value) -> Result<Outcome, Error> {
-        self.within(self.timeout()).set(key, value)
+        let (first, end) = (self.shared.first_of_set(Row { key, value }), self.end());
+        set::set(first, end, |write| self.shared.write(end, write, Jobs::write))
     }
 
     /// Deletes a row. The outcome is `Applied` or `Absent`.
@@ -254,7 +264,7 @@ impl Client {
     ///
     /// Those of `insert`.
     pub fn delete(&self, key: u64) -> Result<Outcome, Error> {
-        self.within(self.timeout()).delete(key)
+        self.write(Write::Delete(key))
     }
 
     /// Makes several writes in one wait, one after the other in this order, and answers how each
@@ -291,7 +301,7 @@ impl Client {
         &self,
         writes: impl IntoIterator<Item = Mutation>,
     ) -> Result<Vec<Outcome>, BatchError> {
-        self.within(self.timeout()).write_all(writes)
+        self.shared.write_all(self.end(), writes.into_iter().collect(), Jobs::write_all)
     }
 
     /// Pins the range: what the client holds of it, or is granted while the pin lives, no callback
@@ -327,7 +337,7 @@ impl Client {
     /// it takes two of the eight until it has all; `TimedOut` or `Unserved`, `OutOfMemory`,
     /// `Stopped`. Then nothing more is pinned than before.
     pub fn pin_for_read(&self, keys: impl RangeBounds<u64>) -> Result<(Vec<Row>, Pin), Error> {
-        self.within(self.timeout()).pin_for_read(keys)
+        self.hold(&keys, Purpose::Read)
     }
 
     /// The same, and no other client pins an overlapping range for an update while the pin lives:
@@ -365,7 +375,7 @@ impl Client {
     /// }
     /// ```
     pub fn pin_for_update(&self, keys: impl RangeBounds<u64>) -> Result<(Vec<Row>, Pin), Error> {
-        self.within(self.timeout()).pin_for_update(keys)
+        self.hold(&keys, Purpose::Update)
     }
 
     /// The same, and no other client reads the range either while the pin lives: the client holds
@@ -381,7 +391,7 @@ impl Client {
     ///
     /// Those of [`Client::pin_for_read`].
     pub fn pin_for_write(&self, keys: impl RangeBounds<u64>) -> Result<(Vec<Row>, Pin), Error> {
-        self.within(self.timeout()).pin_for_write(keys)
+        self.hold(&keys, Purpose::Write)
     }
 
     /// Waits until the client no longer knows that the range has these rows: another client's write
@@ -472,7 +482,12 @@ impl Client {
     /// pin; `TimedOut` or `Unserved`; `TurnedAway` or `OtherShard`; `StoreWentBack`; `OutOfMemory`;
     /// `Stopped`.
     pub fn forget(&self, keys: impl RangeBounds<u64>) -> Result<(), Error> {
-        self.within(self.timeout()).forget(keys)
+        let keys = keys_of(&keys)?;
+        if keys.is_empty() {
+            return Ok(());
+        }
+        let _span = span::of("forget", self.number(), &keys);
+        self.ask(|jobs| jobs.forget(keys))
     }
 
     /// The spans of keys that the server has called back from the client since the last call of
@@ -495,7 +510,35 @@ impl Client {
     /// `TimedOut` or `Unserved`, `TurnedAway` or `OtherShard`, `Stopped`: other clients may wait
     /// for what this one held then, until it is evicted.
     pub fn leave(&self) -> Result<(), Error> {
-        self.within(self.timeout()).leave()
+        let _span = span::of("leave", self.number(), &(0..END + 1));
+        self.shared.finish_leaving(self.shared.begin_to_leave(), self.end())
+    }
+
+    fn hold(
+        &self,
+        keys: &impl RangeBounds<u64>,
+        purpose: Purpose,
+    ) -> Result<(Vec<Row>, Pin), Error> {
+        let keys = keys_of(keys)?;
+        if keys.is_empty() {
+            return Err(Error::BadRange);
+        }
+        let _span = span::of("pin", self.number(), &keys);
+        let Held { rows, pin } = self.ask(|jobs| jobs.hold(keys, purpose))?;
+        Ok((rows, Pin::new(Arc::clone(&self.shared), pin)))
+    }
+
+    fn write(&self, write: Write) -> Result<Outcome, Error> {
+        self.shared.write(self.end(), write, Jobs::write)
+    }
+
+    fn ask<T>(&self, ask: impl FnOnce(&mut Jobs) -> Asked<T>) -> Result<T, Error> {
+        self.link().ask(self.end(), ask)
+    }
+
+    /// Until when a call waits that begins now.
+    fn end(&self) -> Instant {
+        Instant::now() + self.timeout()
     }
 }
 

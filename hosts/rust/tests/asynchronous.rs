@@ -149,6 +149,26 @@ fn each_call_has_its_outcome_and_a_read_from_the_cache_does_not_yield() {
 }
 
 #[test]
+fn a_client_with_a_time_of_its_own_keeps_it() {
+    let server = server();
+    let (holder, other) = (client(&server, 0, "within"), client(&server, 1, "within"));
+    let (_, pin) = block_on(holder.pin_for_write(10..20)).unwrap();
+    let (begun, short) = (Instant::now(), other.client().within(Duration::from_millis(50)));
+    block_on(async {
+        let short = AsyncClient::from(short);
+        assert_eq!(short.read(10..20).await, Err(Error::TimedOut));
+        assert!(short.put(15, Value::from(1)).await.is_err());
+        assert!(short.set(15, Value::from(1)).await.is_err());
+        assert!(short.write_all([Mutation::Delete(15)]).await.is_err());
+        assert!(short.pin_for_read(10..20).await.is_err());
+    });
+    assert!(begun.elapsed() < LONG, "it waited as the other calls do");
+    assert_eq!(other.client().timeout(), LONG);
+    drop(pin);
+    server.stop().unwrap();
+}
+
+#[test]
 fn a_task_may_call_the_client_within_the_call_that_wakes_it() {
     let server = server();
     let client = client(&server, 0, "eager");

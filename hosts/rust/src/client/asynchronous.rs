@@ -21,9 +21,10 @@ use std::time::{Duration, Instant};
 /// a task within the call that wakes it.
 ///
 /// Each call is that of [`Client`] of the same name, with its outcomes and errors, and ends by the
-/// client's timeout, or a little later while the client connects. A call begins when its future is
-/// first polled. A read that the cache answers does not yield. A future that is dropped before it
-/// ends gives its call up: of a write that was sent nobody knows then whether it was made.
+/// [`Client::timeout`] of the client that this one was made of, or a little later while the client
+/// connects. A call begins when its future is first polled. A read that the cache answers does not
+/// yield. A future that is dropped before it ends gives its call up: of a write that was sent nobody
+/// knows then whether it was made.
 ///
 /// Two things wait without a future: to join, and the drop of the last clone, which waits a second
 /// at most until the server has kept that the client left. So join before the executor runs or on a
@@ -85,7 +86,7 @@ impl AsyncClient {
         let keys = keys_of(&keys)?;
         match self.client.cached(keys.clone())? {
             Some(rows) => Ok(rows),
-            None => ask(self.shared(), |jobs| jobs.read(keys)).await,
+            None => self.ask(|jobs| jobs.read(keys)).await,
         }
     }
 
@@ -95,7 +96,7 @@ impl AsyncClient {
     ///
     /// Those of [`Client::insert`].
     pub async fn insert(&self, key: u64, value: Value) -> Result<Outcome, Error> {
-        write(self.shared(), Write::Insert(Row { key, value }), Jobs::write).await
+        self.write(Write::Insert(Row { key, value })).await
     }
 
     /// Gives a row another value, as [`Client::put`] does.
@@ -104,7 +105,7 @@ impl AsyncClient {
     ///
     /// Those of [`Client::insert`].
     pub async fn put(&self, key: u64, value: Value) -> Result<Outcome, Error> {
-        write(self.shared(), Write::Put(Row { key, value }), Jobs::write).await
+        self.write(Write::Put(Row { key, value })).await
     }
 
     /// Gives a key this value, as [`Client::set`] does. The timeout is that of all its writes
@@ -114,7 +115,7 @@ impl AsyncClient {
     ///
     /// Those of [`Client::set`].
     pub async fn set(&self, key: u64, value: Value) -> Result<Outcome, Error> {
-        set_by(self.shared(), Row { key, value }, Jobs::write).await
+        set_by(self.shared(), self.client.end(), Row { key, value }, Jobs::write).await
     }
 
     /// Deletes a row, as [`Client::delete`] does.
@@ -123,7 +124,7 @@ impl AsyncClient {
     ///
     /// Those of [`Client::insert`].
     pub async fn delete(&self, key: u64) -> Result<Outcome, Error> {
-        write(self.shared(), Write::Delete(key), Jobs::write).await
+        self.write(Write::Delete(key)).await
     }
 
     /// Makes several writes, as [`Client::write_all`] does. If its future is dropped, those that
@@ -136,7 +137,8 @@ impl AsyncClient {
         &self,
         writes: impl IntoIterator<Item = Mutation>,
     ) -> Result<Vec<Outcome>, BatchError> {
-        write_all(self.shared(), writes.into_iter().collect(), Jobs::write_all).await
+        let writes = writes.into_iter().collect();
+        write_all(self.shared(), self.client.end(), writes, Jobs::write_all).await
     }
 
     /// Gives back what the client holds of the range, as [`Client::forget`] does.
@@ -146,7 +148,7 @@ impl AsyncClient {
     /// Those of [`Client::forget`].
     pub async fn forget(&self, keys: impl RangeBounds<u64>) -> Result<(), Error> {
         let keys = keys_of(&keys)?;
-        if keys.is_empty() { Ok(()) } else { ask(self.shared(), |jobs| jobs.forget(keys)).await }
+        if keys.is_empty() { Ok(()) } else { self.ask(|jobs| jobs.forget(keys)).await }
     }
 
     /// Reads the range and pins it, as [`Client::pin_for_read`] does.
@@ -217,7 +219,7 @@ impl AsyncClient {
     ///
     /// Those of [`Client::leave`].
     pub async fn leave(&self) -> Result<(), Error> {
-        ask(self.shared(), Jobs::leave).await?;
+        self.ask(Jobs::leave).await?;
         self.shared().has_left();
         Ok(())
     }
@@ -226,10 +228,18 @@ impl AsyncClient {
         if keys.is_empty() {
             return Err(Error::BadRange);
         }
-        let (link, end) = (self.shared().link(), Instant::now() + self.shared().timeout());
+        let (link, end) = (self.shared().link(), self.client.end());
         let held = Awaited::begin(link, end, |jobs| jobs.hold(keys, purpose)).or_undo(unpin).await;
         let Held { rows, pin } = held?;
         Ok((rows, AsyncPin { pin: Pin::new(Arc::clone(self.shared()), pin) }))
+    }
+
+    async fn write(&self, write: Write) -> Result<Outcome, Error> {
+        write_by(self.shared(), self.client.end(), write, &Jobs::write).await
+    }
+
+    async fn ask<T>(&self, ask: impl FnOnce(&mut Jobs) -> Asked<T>) -> Result<T, Error> {
+        Awaited::begin(self.shared().link(), self.client.end(), ask).await
     }
 
     fn shared(&self) -> &Arc<Shared> {
@@ -269,7 +279,7 @@ impl AsyncPin {
     ///
     /// Those of [`Pin::insert`].
     pub async fn insert(&self, key: u64, value: Value) -> Result<Outcome, Error> {
-        write(self.pin.shared(), Write::Insert(Row { key, value }), self.bound()).await
+        self.write(Write::Insert(Row { key, value })).await
     }
 
     /// Gives a row another value while the pin holds, or never, as [`Pin::put`] does.
@@ -278,7 +288,7 @@ impl AsyncPin {
     ///
     /// Those of [`Pin::insert`].
     pub async fn put(&self, key: u64, value: Value) -> Result<Outcome, Error> {
-        write(self.pin.shared(), Write::Put(Row { key, value }), self.bound()).await
+        self.write(Write::Put(Row { key, value })).await
     }
 
     /// Gives a key this value while the pin holds, or never, as [`Pin::set`] does.
@@ -287,7 +297,7 @@ impl AsyncPin {
     ///
     /// Those of [`Pin::insert`].
     pub async fn set(&self, key: u64, value: Value) -> Result<Outcome, Error> {
-        set_by(self.pin.shared(), Row { key, value }, self.bound()).await
+        set_by(self.pin.shared(), self.pin.end(), Row { key, value }, self.bound()).await
     }
 
     /// Deletes a row while the pin holds, or never, as [`Pin::delete`] does.
@@ -296,7 +306,7 @@ impl AsyncPin {
     ///
     /// Those of [`Pin::insert`].
     pub async fn delete(&self, key: u64) -> Result<Outcome, Error> {
-        write(self.pin.shared(), Write::Delete(key), self.bound()).await
+        self.write(Write::Delete(key)).await
     }
 
     /// Makes several writes, as [`Pin::write_all`] does.
@@ -310,7 +320,11 @@ impl AsyncPin {
     ) -> Result<Vec<Outcome>, BatchError> {
         let pin = self.pin.id();
         let ask = |jobs: &mut Jobs, writes| jobs.write_all_under(pin, writes);
-        write_all(self.pin.shared(), writes.into_iter().collect(), ask).await
+        write_all(self.pin.shared(), self.pin.end(), writes.into_iter().collect(), ask).await
+    }
+
+    async fn write(&self, write: Write) -> Result<Outcome, Error> {
+        write_by(self.pin.shared(), self.pin.end(), write, &self.bound()).await
     }
 
     fn bound(&self) -> impl Fn(&mut Jobs, Write) -> Asked<Outcome> + use<> {
@@ -356,30 +370,21 @@ fn unpin(link: &Link, held: &Held) {
     link.flush();
 }
 
-/// Asks for something, until the client's timeout.
-async fn ask<T>(shared: &Arc<Shared>, ask: impl FnOnce(&mut Jobs) -> Asked<T>) -> Result<T, Error> {
-    Awaited::begin(shared.link(), Instant::now() + shared.timeout(), ask).await
-}
-
 async fn write_all(
     shared: &Arc<Shared>,
+    end: Instant,
     writes: Vec<Mutation>,
-    ask_for: impl FnOnce(&mut Jobs, Vec<Mutation>) -> Asked<Judged>,
+    ask: impl FnOnce(&mut Jobs, Vec<Mutation>) -> Asked<Judged>,
 ) -> Result<Vec<Outcome>, BatchError> {
     let count = writes.len();
     let judged = match batch::refused(&writes) {
         Some(refused) => refused,
-        None => ask(shared, |jobs| ask_for(jobs, writes)).await.unwrap_or_else(Judged::nothing),
+        None => {
+            let judged = Awaited::begin(shared.link(), end, |jobs| ask(jobs, writes)).await;
+            judged.unwrap_or_else(Judged::nothing)
+        }
     };
     judged.all(count)
-}
-
-async fn write(
-    shared: &Arc<Shared>,
-    write: Write,
-    ask: impl Fn(&mut Jobs, Write) -> Asked<Outcome>,
-) -> Result<Outcome, Error> {
-    write_by(shared, Instant::now() + shared.timeout(), write, &ask).await
 }
 
 async fn write_by(
@@ -396,10 +401,10 @@ async fn write_by(
 
 async fn set_by(
     shared: &Arc<Shared>,
+    end: Instant,
     row: Row,
     ask: impl Fn(&mut Jobs, Write) -> Asked<Outcome>,
 ) -> Result<Outcome, Error> {
-    let end = Instant::now() + shared.timeout();
     let mut next = shared.first_of_set(row);
     loop {
         let outcome = write_by(shared, end, next, &ask).await?;

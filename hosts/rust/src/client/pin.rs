@@ -66,6 +66,11 @@ impl Pin {
         self.shared.timeout()
     }
 
+    /// Until when a write waits that begins now.
+    pub(crate) fn end(&self) -> Instant {
+        Instant::now() + self.timeout()
+    }
+
     /// Inserts a row while the pin holds, or never. The outcome is that of [`Client::insert`]. The
     /// key may lie outside the pinned range.
     ///
