@@ -21,10 +21,16 @@ const ATTEMPTS: u32 = 3;
 /// What an error of TLS contains after which another attempt fails too.
 const REFUSED_BY_TLS: [&str; 2] = ["certificate verify failed", "server does not support TLS"];
 
-/// All that is stored, as it was at one moment.
+/// What a load finds.
 pub(crate) struct Loaded {
     /// Whether the database writes to the disk what it reports as written.
     pub is_safe: bool,
+    /// `None` if there is no store: the first commit makes one.
+    pub stored: Option<Stored>,
+}
+
+/// All that is stored, as it was at one moment.
+pub(crate) struct Stored {
     pub head: Row,
     pub starts: Vec<Row>,
     pub entries: Vec<Row>,
@@ -43,9 +49,16 @@ pub(crate) struct Link {
 /// A connection, with what is asked often.
 struct Session {
     client: Client,
+    /// `None` until the connection has seen that all tables are there.
+    statements: Option<Statements>,
+    _carrier: Carrier,
+}
+
+/// What is asked often.
+#[derive(Clone)]
+struct Statements {
     commit: Statement,
     confirm: Statement,
-    _carrier: Carrier,
 }
 
 impl Link {
@@ -62,7 +75,7 @@ impl Link {
     /// Loads all.
     pub fn load(&mut self, end: Instant) -> Result<Loaded, Failure> {
         self.again(end, |link, end| {
-            link.ask(end, async |session: &mut Session| load(&mut session.client).await)
+            link.ask(end, async |session: &mut Session| load(session).await)
         })
     }
 
@@ -141,24 +154,42 @@ impl Link {
     }
 }
 
-/// Connects, and makes the tables, unless they are there.
 async fn connect(connector: &Connector) -> Result<Session, Error> {
     let (client, carrier) = connector.connect().await?;
     client.batch_execute(sql::SESSION).await?;
-    let has_tables: bool = client.query_one(sql::HAS_TABLES, &[]).await?.try_get(0)?;
-    if !has_tables {
-        client.batch_execute(sql::TABLES).await?;
-    }
-    let (commit, confirm) =
-        (client.prepare(sql::COMMIT).await?, client.prepare(sql::CONFIRM).await?);
-    Ok(Session { client, commit, confirm, _carrier: carrier })
+    Ok(Session { client, statements: None, _carrier: carrier })
 }
 
-async fn load(client: &mut Client) -> Result<Loaded, Error> {
-    let all = client.build_transaction().isolation_level(IsolationLevel::RepeatableRead);
+impl Session {
+    /// What is asked often. It makes the tables, unless they are there.
+    async fn statements(&mut self) -> Result<Statements, Error> {
+        if let Some(statements) = &self.statements {
+            return Ok(statements.clone());
+        }
+        if !is_so(&self.client, sql::HAS_TABLES).await? {
+            self.client.batch_execute(sql::TABLES).await?;
+        }
+        let commit = self.client.prepare(sql::COMMIT).await?;
+        let confirm = self.client.prepare(sql::CONFIRM).await?;
+        Ok(self.statements.insert(Statements { commit, confirm }).clone())
+    }
+}
+
+async fn is_so(client: &Client, question: &str) -> Result<bool, Error> {
+    client.query_one(question, &[]).await?.try_get(0)
+}
+
+/// Loads what is there, and makes nothing where there is no store: whether one may be made is for
+/// the server to judge. A store that an older version made gets the tables that it lacks.
+async fn load(session: &mut Session) -> Result<Loaded, Error> {
+    let is_safe = is_so(&session.client, sql::IS_SAFE).await?;
+    if !is_so(&session.client, sql::HAS_STORE).await? {
+        return Ok(Loaded { is_safe, stored: None });
+    }
+    session.statements().await?;
+    let all = session.client.build_transaction().isolation_level(IsolationLevel::RepeatableRead);
     let all = all.read_only(true).start().await?;
-    let loaded = Loaded {
-        is_safe: all.query_one(sql::IS_SAFE, &[]).await?.try_get(0)?,
+    let stored = Stored {
         head: all.query_one(sql::HEAD, &[]).await?,
         starts: all.query(sql::STARTS, &[]).await?,
         entries: all.query(sql::ENTRIES, &[]).await?,
@@ -167,11 +198,11 @@ async fn load(client: &mut Client) -> Result<Loaded, Error> {
         room: all.query_opt(sql::ROOM, &[]).await?,
     };
     all.commit().await?;
-    Ok(loaded)
+    Ok(Loaded { is_safe, stored: Some(stored) })
 }
 
 async fn commit(
-    session: &Session,
+    session: &mut Session,
     last: &Fence,
     next: &Fence,
     batch: &Batch,
@@ -209,16 +240,18 @@ async fn commit(
         &room,
         &first_start,
     ];
-    let count: i64 = session.client.query_one(&session.commit, &values).await?.try_get(0)?;
+    let Statements { commit, .. } = session.statements().await?;
+    let count: i64 = session.client.query_one(&commit, &values).await?.try_get(0)?;
     // An attempt whose answer was lost may have set it. Then the replicas may still lack it.
     if count == 1 { Ok(Some(*next)) } else { confirm(session, next).await }
 }
 
 /// The head as it stands. If it is the one that is expected, the replicas have it too.
-async fn confirm(session: &Session, expected: &Fence) -> Result<Option<Fence>, Error> {
+async fn confirm(session: &mut Session, expected: &Fence) -> Result<Option<Fence>, Error> {
     let ([epoch, transaction, commits], owner) = columns(expected);
     let values: [&(dyn ToSql + Sync); 4] = [&epoch, &owner, &transaction, &commits];
-    let count: i64 = session.client.query_one(&session.confirm, &values).await?.try_get(0)?;
+    let Statements { confirm, .. } = session.statements().await?;
+    let count: i64 = session.client.query_one(&confirm, &values).await?.try_get(0)?;
     if count == 1 { Ok(Some(*expected)) } else { head(&session.client).await }
 }
 

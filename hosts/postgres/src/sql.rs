@@ -1,5 +1,8 @@
 //! What is asked of the database.
 
+/// Whether there is a store, of whatever version.
+pub(crate) const HAS_STORE: &str = "SELECT to_regclass('krl.head') IS NOT NULL";
+
 /// Whether all tables are there. The question needs no right to make any.
 pub(crate) const HAS_TABLES: &str = "
     SELECT bool_and(to_regclass('krl.' || name) IS NOT NULL)

@@ -3,7 +3,7 @@ use crate::address::PostgresAddress;
 use crate::batch::{self, Batch};
 use crate::connector::Connector;
 use crate::head::fence_of;
-use crate::link::{Link, Loaded};
+use crate::link::{Link, Stored};
 use krl::fence::{Failure, Fence, Ownership};
 use krl::{
     Change, ClientSet, History, LeaseRecord, Mark, Room, Snapshot, Store, StoreError, Value,
@@ -131,9 +131,13 @@ impl PostgresStore {
                 "PostgreSQL runs with fsync or full_page_writes off: it loses what it answers";
             return Err(Failure::Refused(why.to_string()));
         }
-        let head = fence_of(&loaded.head).ok_or_else(|| strange("head"))?;
-        self.snapshot = snapshot(&loaded, head.epoch)?;
-        self.starts = loaded.starts.iter().map(mark).collect::<Result<_, _>>()?;
+        let Some(stored) = loaded.stored else {
+            self.next = Fence::with_new_owner(self.head.epoch)?;
+            return Ok(());
+        };
+        let head = fence_of(&stored.head).ok_or_else(|| strange("head"))?;
+        self.snapshot = snapshot(&stored, head.epoch)?;
+        self.starts = stored.starts.iter().map(mark).collect::<Result<_, _>>()?;
         self.head = head;
         self.next = Fence::with_new_owner(head.epoch)?;
         Ok(())
@@ -211,11 +215,11 @@ fn strange(table: &str) -> Failure {
     Failure::Refused(format!("the table krl.{table} has what no server of krl keeps"))
 }
 
-fn snapshot(loaded: &Loaded, epoch: u64) -> Result<Snapshot, Failure> {
-    let rows = loaded.entries.iter().map(entry).collect::<Result<_, _>>()?;
-    let records = loaded.clients.iter().map(record).collect::<Result<_, _>>()?;
-    let room = loaded.room.as_ref().map(room).transpose()?;
-    let leases = leases(&loaded.leases)?;
+fn snapshot(stored: &Stored, epoch: u64) -> Result<Snapshot, Failure> {
+    let rows = stored.entries.iter().map(entry).collect::<Result<_, _>>()?;
+    let records = stored.clients.iter().map(record).collect::<Result<_, _>>()?;
+    let room = stored.room.as_ref().map(room).transpose()?;
+    let leases = leases(&stored.leases)?;
     Ok(Snapshot { epoch, rows, records, leases, room, first_start: None })
 }
 

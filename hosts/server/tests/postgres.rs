@@ -24,6 +24,8 @@ fn a_server_that_is_started_again_serves_what_was_written() {
     let refused = output_within_a_minute(over(&database).args(words));
     assert_eq!(refused.status.code(), Some(1));
     assert!(errors(&refused).contains(" holds nothing. "), "{}", errors(&refused));
+    let schemas = database.connect().query("SELECT FROM pg_namespace WHERE nspname = 'krl'");
+    assert_eq!(schemas.len(), 0, "nothing is left of it");
     let first = Serving::start_by(&mut over(&database));
     let client = first.join(folder.path(), 3);
     assert_eq!(client.insert(1, Value::from(7)), Ok(Outcome::Applied));

@@ -140,13 +140,27 @@ fn what_no_server_commits_is_not_loaded() {
 }
 
 #[test]
+fn a_load_makes_nothing_where_there_is_no_store() {
+    let Some(database) = Database::start() else { return };
+    let sql = database.connect();
+    let schemas = || sql.query("SELECT FROM pg_namespace WHERE nspname = 'krl'").len();
+    let (mut store, found) = loaded(&database);
+    assert_eq!((found, schemas()), (Snapshot::default(), 0));
+    store.commit(&[Change::Started { epoch: 1 }]).unwrap();
+    assert_eq!(schemas(), 1);
+    assert_eq!(loaded(&database).1.epoch, 1);
+}
+
+#[test]
 fn a_user_who_may_make_no_tables_serves_from_those_that_are_there() {
     let Some(database) = Database::start() else { return };
     let sql = database.connect();
     sql.run("CREATE ROLE worker LOGIN");
     let worker = ("worker".to_string(), String::new());
     let open = || PostgresStore::open(&database.address(), Some(&worker)).unwrap();
-    let error = open().load().unwrap_err().to_string();
+    let mut store = open();
+    store.load().unwrap();
+    let error = store.commit(&[Change::Started { epoch: 1 }]).unwrap_err().to_string();
     assert!(error.contains("permission denied"), "{error}");
     loaded(&database).0.commit(&[Change::Started { epoch: 1 }, REGISTER]).unwrap();
     sql.run("GRANT USAGE ON SCHEMA krl TO worker");

@@ -1,7 +1,7 @@
 use super::{MAX_PLACES, OF_LATE, PAUSE};
 use crate::client::jobs::bound::Wanted;
 use crate::client::jobs::world::{World, pass, row};
-use crate::client::jobs::{Asking, Jobs};
+use crate::client::jobs::{Asking, Jobs, Purpose};
 use crate::model::change::{Outcome, Write};
 use crate::model::error::Error;
 use crate::wire::message::kind::{ACK, LOCK, RELEASE};
@@ -185,6 +185,24 @@ fn a_read_by_the_client_that_gave_a_write_up_waits_until_it_is_decided() {
     world.clients[WRITER].tick();
     world.settle();
     assert_eq!(read.answer.try_recv(), Ok(Ok(vec![row(10, 1), row(15, 1), row(20, 1)])));
+}
+
+#[test]
+fn a_write_by_a_pin_that_was_given_up_bars_others_until_it_is_decided() {
+    let mut world = world();
+    let held = world.clients[WRITER].hold(15..16, Purpose::Write);
+    world.settle();
+    let pin = held.answer.try_recv().unwrap().unwrap().pin;
+    let asked = world.clients[WRITER].write_under(pin, Write::Insert(row(15, 1)));
+    assert_eq!(world.said(WRITER).last().unwrap()[1], INSERT, "this one is lost");
+    world.clients[WRITER].abandon(asked.id, Error::TimedOut);
+    world.clients[WRITER].unpin(pin);
+    let read = world.clients[OTHER].read(15..16);
+    world.settle();
+    assert!(read.answer.try_recv().is_err(), "the write is not decided");
+    world.clients[WRITER].tick();
+    world.settle();
+    assert_eq!(read.answer.try_recv(), Ok(Ok(vec![row(15, 1)])));
 }
 
 #[test]

@@ -221,6 +221,27 @@ fn a_write_that_is_bound_to_a_pin_is_made_while_the_pin_holds_or_never() {
     assert_eq!(world.read(1, 0..20), [row(10, 2), row(12, 3)]);
 }
 
+/// The next incarnation could insert it where its caller has read that there is no row.
+#[test]
+fn an_insert_whose_lease_has_ended_is_not_repeated() {
+    let mut world = World::new();
+    let sent = world.clients[0].write(Write::Insert(row(10, 1)));
+    while world.clients[0].was_sent(sent.id) == super::super::WasSent::No {
+        assert!(world.round(), "its lock comes");
+    }
+    assert!(!world.said(0).is_empty(), "this is lost");
+    lease_for(&mut world.clients[0], nanoseconds(SHORT));
+    pass(&mut world.clients[0], SHORT);
+    world.clients[0].end_lease_if_over();
+    assert_eq!(sent.answer.try_recv(), Ok(Err(Error::LeaseEnded)));
+    world.clients[0].begin_anew(ClientHandle::open_behind(0, 2, Older::IsOver(1)).unwrap());
+    world.clients[0].confirm_incarnation().unwrap();
+    lease_for(&mut world.clients[0], LONG);
+    world.clients[0].tick();
+    world.settle();
+    assert_eq!(world.read(0, 0..20), []);
+}
+
 #[test]
 fn a_write_that_is_bound_to_a_pin_ends_with_it_if_the_store_goes_back() {
     let mut world = World::new();
