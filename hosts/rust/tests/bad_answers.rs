@@ -94,13 +94,15 @@ fn who_joins_another_program_is_told_so_at_once() {
     assert!(matches!(&error, JoinError::NoServer { address } if *address == at), "{error:?}");
     let sentence = format!("what answers at {at} is not a krl server");
     assert!(error.to_string().starts_with(&sentence), "{error}");
-    wait_for("two connections are counted", || relay.count() == 2);
+    // On a busy machine the client may connect once more before it ends.
+    wait_for("two connections are counted", || relay.count() >= 2);
     relay.plan([UNAVAILABLE]);
     let client = builder().join().unwrap();
+    let joined = relay.count();
     relay.plan(vec![UNAVAILABLE; 3]);
     relay.end();
     assert_eq!(client.read(20..30), Ok(vec![]), "a client that has joined waits for its server");
-    assert_eq!(relay.count(), 8);
+    assert_eq!(relay.count(), joined + 4);
 }
 
 #[test]
