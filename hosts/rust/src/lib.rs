@@ -111,7 +111,7 @@ pub use store::fence;
 #[cfg(feature = "sqlite")]
 pub use store::sqlite::SqliteStore;
 #[cfg(feature = "sqlite")]
-pub use store::sqlite::checksum::Checksum;
+pub use store::sqlite::checksum::{Checksum, CutOff};
 #[cfg(feature = "sqlite")]
 pub use store::sqlite::copy::StoreFile;
 #[cfg(feature = "store-tests")]

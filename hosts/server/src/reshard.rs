@@ -19,8 +19,8 @@ type Done = Result<(), Box<dyn Error>>;
 /// the rows that move; it has their only copy.
 pub fn split(store: &Path, at: u64, new: &Path, is_empty_allowed: bool, map: &SplitMap) -> Done {
     let _owner = own(store)?;
-    let kept = read(store)?;
-    let before = moved_by_an_earlier_split(&kept, at, new).unwrap_or(kept);
+    let kept = read_file(store)?;
+    let before = moved_by_an_earlier_split(&kept, at, new).unwrap_or(kept.snapshot);
     let next = map.next(at, &before)?;
     let (lower, upper) = before.split(at);
     if upper.rows.is_empty() && !is_empty_allowed {
@@ -35,7 +35,7 @@ pub fn split(store: &Path, at: u64, new: &Path, is_empty_allowed: bool, map: &Sp
     judge(store, &lower)?;
     judge(new, &upper)?;
     create(new, &upper)?;
-    remove_from(store, at).map_err(|error| {
+    cut_off(store, at, &upper).map_err(|error| {
         format!("{} may have all its rows still: {error}. Split it again", store.display())
     })?;
     let (below, from) = (lower.rows.len(), upper.rows.len());
@@ -50,10 +50,11 @@ pub fn split(store: &Path, at: u64, new: &Path, is_empty_allowed: bool, map: &Sp
 }
 
 /// The store as it was before a split that was killed after it had moved the rows, if the new store
-/// is that split's.
-fn moved_by_an_earlier_split(kept: &Snapshot, at: u64, new: &Path) -> Option<Snapshot> {
+/// is that split's: the old one keeps the new one's checksum.
+fn moved_by_an_earlier_split(kept: &StoreFile, at: u64, new: &Path) -> Option<Snapshot> {
     let moved = SqliteStore::read(new).ok().filter(|file| file.checksum == Checksum::Matches)?;
-    rejoined(kept, at, &moved.snapshot)
+    kept.cut_off.filter(|cut_off| cut_off.is(&moved.snapshot))?;
+    rejoined(&kept.snapshot, at, &moved.snapshot)
 }
 
 /// The snapshot of which a split at this key makes these two, if there is one.
@@ -94,12 +95,16 @@ pub fn own(store: &Path) -> Result<Owner, Box<dyn Error>> {
 
 /// All that was kept, if no client may still answer for it.
 pub fn read(store: &Path) -> Result<Snapshot, Box<dyn Error>> {
+    read_file(store).map(|file| file.snapshot)
+}
+
+fn read_file(store: &Path) -> Result<StoreFile, Box<dyn Error>> {
     let file = SqliteStore::read(store).and_then(StoreFile::undamaged).map_err(|error| {
         format!("{} can't be read as a store: {}", store.display(), cause(&error))
     })?;
     let present = file.snapshot.present();
     if present.is_empty() {
-        return Ok(file.snapshot);
+        return Ok(file);
     }
     let clients: Vec<String> = present.iter().map(u8::to_string).collect();
     let (store, clients) = (store.display(), clients.join(", "));
@@ -120,10 +125,10 @@ fn create(new: &Path, snapshot: &Snapshot) -> Done {
     SqliteStore::create(new, snapshot).map_err(|error| cause(&error).into())
 }
 
-fn remove_from(store: &Path, at: u64) -> Done {
+fn cut_off(store: &Path, at: u64, upper: &Snapshot) -> Done {
     let mut file = SqliteStore::open(store).map_err(|error| cause(&error))?;
     file.load().map_err(|error| cause(&error))?;
-    file.remove_from(at).map_err(|error| cause(&error))?;
+    file.cut_off(at, upper).map_err(|error| cause(&error))?;
     Ok(())
 }
 

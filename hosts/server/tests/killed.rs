@@ -177,6 +177,21 @@ fn a_split_that_moves_no_row_has_to_be_asked_for() {
 }
 
 #[test]
+fn a_split_takes_no_other_store_for_its_own() {
+    let folder = tempfile::tempdir().unwrap();
+    let path = |name: &str| folder.path().join(name).to_str().unwrap().to_string();
+    let [krl, other] = ["krl.db", "other.db"].map(path);
+    // Of the same epoch and with the same records.
+    SqliteStore::create(&krl, &store(0..20)).unwrap();
+    SqliteStore::create(&other, &store(20..40)).unwrap();
+    let refused = run(&["split", &krl, "20", &other]);
+    assert_eq!(refused.status.code(), Some(1), "{}", text(&refused));
+    let why = format!("{other} is not the new store of a split at this key");
+    assert!(errors(&refused).contains(&why), "{}", errors(&refused));
+    assert_eq!([rows(Path::new(&krl)), rows(Path::new(&other))], [keys(0..20), keys(20..40)]);
+}
+
+#[test]
 fn a_split_does_not_continue_over_a_store_that_was_served_since() {
     let folder = tempfile::tempdir().unwrap();
     let path = |name: &str| folder.path().join(name).to_str().unwrap().to_string();

@@ -110,15 +110,17 @@ impl SqliteStore {
     }
 
     /// Takes the rows of this key and of all greater ones away, all or none: they are in another
-    /// store by now. No server may run on it, and each client has left.
+    /// store by now, which has this snapshot. [`SqliteStore::read`] shows that store's checksum as
+    /// what was cut off. No server may run on it, and each client has left.
     ///
     /// # Errors
     ///
     /// `Deposed` if somebody else has changed the store since it was loaded; `Failed` if SQLite
     /// can't write it.
-    pub fn remove_from(&mut self, key: u64) -> Result<(), StoreError> {
+    pub fn cut_off(&mut self, key: u64, upper: &Snapshot) -> Result<(), StoreError> {
         let transaction = self.begin()?;
         run(&transaction, DELETE_FROM, params![signed(key)?])?;
+        checksum::write_cut(&transaction, upper)?;
         self.known = finish(transaction, self.known, &[])?;
         Ok(())
     }
@@ -291,7 +293,7 @@ pub(crate) fn load(connection: &Connection) -> Result<Snapshot, StoreError> {
 }
 
 /// Whether the file has this table. One of an older version, which is only read, may have none.
-fn has_table(connection: &Connection, name: &str) -> Result<bool, StoreError> {
+pub(crate) fn has_table(connection: &Connection, name: &str) -> Result<bool, StoreError> {
     let named = "SELECT count(*) FROM sqlite_master WHERE type = 'table' AND name = ?1";
     let tables: i64 = connection.query_row(named, [name], |row| row.get(0))?;
     Ok(tables > 0)

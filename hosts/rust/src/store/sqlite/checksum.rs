@@ -1,7 +1,9 @@
-//! The checksum of a store that no server has changed since it was made, such as a backup.
+//! The checksum of a store that no server has changed since it was made, such as a backup; and the
+//! one by which a store that was cut knows the other part.
 use crate::model::change::Record;
 use crate::model::snapshot::Snapshot;
 use crate::store::StoreError;
+use crate::store::sqlite::has_table;
 use rusqlite::{Connection, OptionalExtension, params};
 use sha2::{Digest, Sha256};
 
@@ -47,13 +49,44 @@ pub(crate) fn compare(
 
 /// Whether the file has a checksum.
 pub(crate) fn is_there(connection: &Connection) -> Result<bool, StoreError> {
-    let named = "SELECT count(*) FROM sqlite_master WHERE type = 'table' AND name = 'checksum'";
-    Ok(connection.query_row(named, [], |row| row.get::<_, i64>(0))? > 0)
+    has_table(connection, "checksum")
 }
 
 /// Removes the checksum: what it is of changes from now on.
 pub(crate) fn remove(connection: &Connection) -> Result<(), StoreError> {
     Ok(connection.execute_batch(REMOVE)?)
+}
+
+const MAKE_CUT: &str = "
+    CREATE TABLE IF NOT EXISTS cut (id INTEGER PRIMARY KEY CHECK (id = 0), sha256 BLOB NOT NULL)";
+const INSERT_CUT: &str = "INSERT OR REPLACE INTO cut VALUES (0, ?1)";
+const SELECT_CUT: &str = "SELECT sha256 FROM cut";
+
+/// The checksum of the store that was cut off from another one.
+#[derive(Clone, Copy, Debug, PartialEq, Eq)]
+pub struct CutOff([u8; 32]);
+
+impl CutOff {
+    /// Whether this is what was cut off.
+    #[must_use]
+    pub fn is(&self, snapshot: &Snapshot) -> bool {
+        self.0 == digest(snapshot)
+    }
+
+    /// What was last cut off from the file.
+    pub(crate) fn read(connection: &Connection) -> Result<Option<CutOff>, StoreError> {
+        if !has_table(connection, "cut")? {
+            return Ok(None);
+        }
+        Ok(connection.query_row(SELECT_CUT, [], |row| row.get(0).map(CutOff)).optional()?)
+    }
+}
+
+/// Writes what is cut off, within the transaction that removes it.
+pub(crate) fn write_cut(connection: &Connection, snapshot: &Snapshot) -> Result<(), StoreError> {
+    connection.execute_batch(MAKE_CUT)?;
+    connection.execute(INSERT_CUT, params![digest(snapshot)])?;
+    Ok(())
 }
 
 /// SHA-256 of all that is kept, whatever the pages of the file are.

@@ -1,7 +1,7 @@
 //! Stores as files: one that is read, and a new one that is written.
 use crate::model::snapshot::Snapshot;
 use crate::store::StoreError;
-use crate::store::sqlite::checksum::{self, Checksum};
+use crate::store::sqlite::checksum::{self, Checksum, CutOff};
 use crate::store::sqlite::copy::part::Part;
 use crate::store::sqlite::version::{self, Found, VERSION, look};
 use crate::store::sqlite::{self, SqliteStore};
@@ -27,6 +27,8 @@ pub struct StoreFile {
     pub snapshot: Snapshot,
     /// Whether that is what was written when the file was made, if no server has opened it since.
     pub checksum: Checksum,
+    /// What was last cut off from the store, if something was.
+    pub cut_off: Option<CutOff>,
 }
 
 impl StoreFile {
@@ -61,7 +63,8 @@ impl SqliteStore {
         let page_size = sqlite::page_size(&connection)?;
         let snapshot = sqlite::load(&connection)?;
         let checksum = checksum::compare(&connection, &snapshot)?;
-        Ok(StoreFile { version, page_size, snapshot, checksum })
+        let cut_off = CutOff::read(&connection)?;
+        Ok(StoreFile { version, page_size, snapshot, checksum, cut_off })
     }
 
     /// Looks at the first bytes of the file, and opens nothing by SQLite: so it does not matter
@@ -268,8 +271,9 @@ pub(crate) mod tests {
         SqliteStore::create(&file, &snapshot()).unwrap();
         assert_eq!(folder.names(), ["copy.db"]);
         assert_eq!(file.metadata().unwrap().permissions().mode() & 0o777, 0o600);
-        let checksum = Checksum::Matches;
-        let expected = StoreFile { version: 5, page_size: 1024, snapshot: snapshot(), checksum };
+        let (checksum, cut_off) = (Checksum::Matches, None);
+        let expected =
+            StoreFile { version: 5, page_size: 1024, snapshot: snapshot(), checksum, cut_off };
         assert_eq!(SqliteStore::read(&file).unwrap(), expected);
         assert_eq!(folder.names(), ["copy.db"]);
         assert_eq!(SqliteStore::open(&file).unwrap().load().unwrap(), snapshot());
