@@ -5,6 +5,7 @@
 proved=$top/crates/krl_embed/out/libkrl_embed.a
 committed=$top/hosts/rust/rules/x86_64-linux.s
 target=${CARGO_TARGET_DIR-$top/hosts/target}
+first=$target/first
 requirements=$top/hosts/packaging/requirements
 
 # Whether the file $1 is there, and nothing below the other folders is newer.
@@ -50,7 +51,7 @@ build_hosts() {
     ! "$requirements" debian || { set -- --config debian.toml; from="Debian's packages"; }
     say "building krl-server and krl-client by cargo over $from: a minute or two on four processors"
     # Waited for, so that what ends the launcher ends cargo.
-    (cd "$top/hosts" && exec cargo build --release --package krl-server --package krl-client "$@") </dev/null \
+    (cd "$top/hosts" && exec cargo build --profile first --package krl-server --package krl-client "$@") </dev/null \
         >"$work/cargo.log" 2>&1 &
     running=$!
     began=$(date +%s)
@@ -65,7 +66,7 @@ build_hosts() {
     running=
     kill "$other" 2>/dev/null || :
     other=
-    touch "$target/release/krl-server" "$target/release/krl-client"
+    touch "$first/krl-server" "$first/krl-client"
 }
 
 # Reports every ten seconds how far cargo is. Nobody waits for the sleep, which outlives this, to close its output.
@@ -83,13 +84,13 @@ run() {
     [ "$*" != serve ] || set -- serve --create
     case $1 in
     serve)
-        [ -x "$target/release/krl-server" ] || ! asks_for_help "$@" ||
+        is_there krl-server || ! asks_for_help "$@" ||
             tell_without_help krl-server './krl serve' docs/OPERATING.md
         build_if_older krl-server "$hosts/rust" "$hosts/server" "$hosts/etcd" "$hosts/postgres" "$hosts/rows"
         ;;
     *)
         shift
-        [ -x "$target/release/krl-client" ] || ! asks_for_help "$@" ||
+        is_there krl-client || ! asks_for_help "$@" ||
             tell_without_help krl-client './krl client' hosts/client/README.md
         build_if_older krl-client "$hosts/rust" "$hosts/client" "$hosts/rows"
         ;;
@@ -103,12 +104,20 @@ run() {
 build_if_older() {
     host=$1
     shift
-    program=$target/release/$host
+    find_program
     find_library
     ! is_newest "$program" "$library" "$hosts/Cargo.toml" "$@" || return 0
     "$requirements" build || exit 1
     [ -z "$made_of_what" ] || say "$made_of_what; './krl --prove $given' proves it here"
     build_hosts
+    program=$first/$host
+}
+
+# Names in $program the program $host that was built last.
+find_program() {
+    program=$target/release/$host
+    [ -x "$first/$host" ] || return 0
+    [ -n "$(find "$program" -newer "$first/$host" 2>/dev/null)" ] || program=$first/$host
 }
 
 # Runs the simulator with these words.
@@ -156,6 +165,11 @@ find_library() {
     [ -n "$asked" ] || ! is_newer_than_sources "$program" krl_embed || return 0
     [ -z "$asked" ] && made_of_what=$("$top/hosts/packaging/library" fits) && return
     make_library
+}
+
+# Whether this program is built.
+is_there() {
+    [ -x "$target/release/$1" ] || [ -x "$first/$1" ]
 }
 
 # If help is asked for of a program that is not built, names where else it is: nobody waits for a build to read it.
