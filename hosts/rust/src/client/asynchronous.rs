@@ -377,12 +377,11 @@ async fn write_all(
     ask: impl FnOnce(&mut Jobs, Vec<Mutation>) -> Asked<Judged>,
 ) -> Result<Vec<Outcome>, BatchError> {
     let count = writes.len();
-    let judged = match batch::refused(&writes) {
-        Some(refused) => refused,
-        None => {
-            let judged = Awaited::begin(shared.link(), end, |jobs| ask(jobs, writes)).await;
-            judged.unwrap_or_else(Judged::nothing)
-        }
+    let judged = if let Some(refused) = batch::refused(&writes) {
+        refused
+    } else {
+        let judged = Awaited::begin(shared.link(), end, |jobs| ask(jobs, writes)).await;
+        judged.unwrap_or_else(Judged::nothing)
     };
     judged.all(count)
 }
