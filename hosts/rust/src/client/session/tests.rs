@@ -281,7 +281,7 @@ fn a_client_that_has_joined_waits_for_a_server_that_refuses() {
     let read = session.jobs().read(0..9);
     let end = session.now() + Duration::from_secs(60);
     let mut attempts = 0;
-    while session.now() < end {
+    while session.now() < end && attempts < 80 {
         refuse_connect(&mut session);
         attempts += 1;
     }
