@@ -14,7 +14,7 @@ edited() {
     "$top/tests/edit" "$1" "$work/wrong" || fail "$(basename "$1"): the edit does not fit"
 }
 
-# Builds a program of the edited hosts, as tests are built: `build_edited WHAT PROGRAM`. It is in $edited_programs. Cargo
+# Builds a program of the edited hosts as tests are built: `build_edited WHAT PROGRAM`. It is in $edited_programs. Cargo
 # takes what it has built of a copy for what it would build of the tree. In one folder, an edited server would take the
 # place of the tree's own, and be started by ./krl. So copies have another folder, which begins with the dependencies.
 edited_programs=$work/target/tests
