@@ -40,7 +40,7 @@ part_tests() {
     find_crates
     has chromium || lacks 'there is no chromium: the page of a server in a browser'
     has promtool || lacks 'there is no promtool: the alert rules for Prometheus'
-    test_hosts
+    test_hosts --no-fail-fast
 }
 
 # Worlds in one thread, by seeds.

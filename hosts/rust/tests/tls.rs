@@ -105,7 +105,7 @@ fn a_full_server_reports_so_and_waits_for_no_stranger() {
     let server = server.max_connections(1).start().unwrap();
     let _first = setup.join(&server, &setup.config(&["krl:client:3"]), 3).unwrap();
     let four = servers(&server, &setup.config(&["krl:client:4"]));
-    let second = Client::builder(four, 4, setup.lock(4)).timeout(Duration::from_millis(500));
+    let second = Client::builder(four, 4, setup.lock(4)).timeout(Duration::from_secs(5));
     let full = Refusal::Full { connections: 1 };
     let refused = second.join().unwrap_err();
     assert!(matches!(refused, JoinError::Unserved(why) if why == full), "{refused:?}");
