@@ -31,7 +31,7 @@ fn a_full_server_takes_a_client_when_another_one_has_left() {
     let locks = [lock_file("one"), lock_file("two")];
     let first = Client::join(server.address(), 1, &locks[0]).unwrap();
     let second = || Client::builder(server.address(), 2, &locks[1]);
-    let refused = second().timeout(Duration::from_millis(500)).join().unwrap_err();
+    let refused = second().timeout(Duration::from_secs(3)).join().unwrap_err();
     let full = Refusal::Full { connections: 1 };
     assert!(matches!(refused, JoinError::Unserved(why) if why == full), "{refused:?}");
     assert_eq!(refused.to_string(), "the server has all its connections, which are 1");
