@@ -116,7 +116,7 @@ impl World {
     }
 
     fn build_at(&self, compiler: &str, source: &str, words: &[&str]) {
-        let libraries = libraries();
+        let library = self.library();
         let standard = if compiler.ends_with("++") { "-std=c++17" } else { "-std=c11" };
         run(Command::new(compiler)
             .args([standard, "-g", "-Wall", "-Wextra", "-Wpedantic", "-Werror", "-pthread"])
@@ -126,8 +126,19 @@ impl World {
             .arg(source)
             .arg("-o")
             .arg(self.program())
-            .arg(libraries.join("libkrl_client.so"))
-            .arg(format!("-Wl,-rpath,{}", libraries.display())));
+            .arg(library)
+            .arg(format!("-Wl,-rpath,{}", self.folder.display())));
+    }
+
+    /// The shared library, where cargo has left it: this test stands there too. In the folder of
+    /// the test it gets the name that programs look for.
+    fn library(&self) -> PathBuf {
+        let library = std::env::current_exe().unwrap().with_file_name("libkrl_client.so");
+        let name = self.folder.join("libkrl_client.so.0");
+        // An earlier program of the test may have made it.
+        let _ = std::os::unix::fs::symlink(&library, &name);
+        assert!(name.exists(), "there is no {}", name.display());
+        library
     }
 
     /// Runs the program that was built, and gives what it prints. A finding of a sanitizer is a
@@ -159,17 +170,6 @@ fn folder_of(test: &str) -> PathBuf {
 
 fn text(path: &Path) -> String {
     path.to_str().unwrap().into()
-}
-
-/// Where cargo has left the shared library: this test stands there too. It gets the name that
-/// programs look for.
-fn libraries() -> PathBuf {
-    let folder = std::env::current_exe().unwrap().parent().unwrap().to_path_buf();
-    let name = folder.join("libkrl_client.so.0");
-    // Another test may have made it.
-    let _ = std::os::unix::fs::symlink("libkrl_client.so", &name);
-    assert!(name.exists(), "there is no {}", name.display());
-    folder
 }
 
 fn run(command: &mut Command) -> String {
