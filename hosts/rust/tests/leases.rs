@@ -12,10 +12,10 @@ use std::path::PathBuf;
 use std::thread;
 use std::time::{Duration, Instant};
 
-const T: Duration = Duration::from_millis(600);
+const T: Duration = Duration::from_millis(1500);
 
 /// How much later than it could a server may evict on a busy machine.
-const LATE: Duration = Duration::from_millis(1500);
+const LATE: Duration = Duration::from_secs(4);
 
 struct Folder(PathBuf);
 
