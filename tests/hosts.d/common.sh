@@ -13,8 +13,10 @@ work=$(mktemp -d)
 # shellcheck source-path=SCRIPTDIR source=../parts.sh
 . "$top/tests/parts.sh"
 
+# The failed tests of cargo may stand far above the end of what it printed.
 fail() {
     printf 'hosts: %s\n' "$1" >&2
+    ! grep '^---- .* ----$' "$work/log" >&2 2>/dev/null || echo '..' >&2
     [ ! -s "$work/log" ] || tail -n 40 "$work/log" >&2
     exit 1
 }
@@ -77,13 +79,13 @@ cargo_in() {
     (cd "$folder" && expect 0 "$folder: $what" cargo "$command" --profile "$profile" --quiet $config "$@")
 }
 
-# Builds or runs the tests, for which cargo has a profile of its own: `test_hosts WORD..`. Those of the client for C are
-# built by themselves, as the client is.
-test_hosts() {
+# Builds the tests, for which cargo has a profile of its own. Those of the client for C are built by themselves, as the
+# client is.
+build_tests() {
     (
         profile=tests
-        cargo_in "$top/hosts" 'the tests' test "$@" --workspace --exclude krl-client-c
-        cargo_in "$top/hosts" 'the tests of the client for C' test "$@" -p krl-client-c
+        cargo_in "$top/hosts" 'the build of the tests' test --no-run --workspace --exclude krl-client-c
+        cargo_in "$top/hosts" 'the build of the tests of the client for C' test --no-run -p krl-client-c
     )
 }
 

@@ -6,7 +6,7 @@ part_build() {
     find_crates
     expect 0 'the committed library' "$top/hosts/packaging/library" fits
     build_programs
-    test_hosts --no-run
+    build_tests
 }
 
 # Runs clippy, or the compiler's own check if there is no clippy: `lint WHAT WORD..`.
@@ -36,11 +36,35 @@ part_features() {
     cargo_in "$top/hosts" 'the documentation' doc --workspace --no-deps
 }
 
+# Runs tests that are built: `run_tests WORD..`, the words by which cargo chooses them.
+run_tests() {
+    work=$(mktemp -d "$work/XXXXXX")
+    profile=tests
+    cargo_in "$top/hosts" "cargo test $*" test --no-fail-fast "$@"
+}
+
+# Most of the tests wait for something: so they run in lanes next to each other.
 part_tests() {
     find_crates
     has chromium || lacks 'there is no chromium: the page of a server in a browser'
     has promtool || lacks 'there is no promtool: the alert rules for Prometheus'
-    test_hosts --no-fail-fast
+    build_tests
+    run_tests -p krl-client-c &
+    running=$!
+    for targets in '--lib --bins' --doc '--test [a-l]*' '--test [!a-l]*'; do
+        # The words of cargo, without the names of files that they match.
+        set -f
+        # shellcheck disable=SC2086
+        run_tests --workspace --exclude krl-client-c $targets &
+        set +f
+        running="$running $!"
+    done
+    red=0
+    for lane in $running; do
+        wait "$lane" || red=1
+    done
+    running=
+    return "$red"
 }
 
 # Worlds in one thread, by seeds.

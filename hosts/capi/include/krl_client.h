@@ -173,8 +173,8 @@ typedef enum krlc_code {
      * server's reason if it gave one. Or the server's store went back, or the client's thread ended, before the write
      * was sent: the error's text states which. Also of one of several writes: it was not made. */
     KRLC_NOT_MADE = 66,
-    /* Nothing listens at any address of the servers: each has refused connections for a second, or has no such socket.
-     * Only a client that joins returns it. */
+    /* Nothing listens at the only address of the servers: it has refused connections for a second, or there is no such
+     * socket. Only a client that joins returns it. */
     KRLC_NOTHING_LISTENS = 67
 } krlc_code;
 

@@ -63,5 +63,5 @@ class LeaseEnded(Refused, code=43): """The client's lease ended during the write
 class TurnedAway(Refused, code=60): """This side of the connection has no right to the number."""
 class OtherShard(Refused, code=61): """The server serves another shard, or by another map."""
 class PinIsVoid(Refused, code=62): """The pin of the write is free or void: it was not made."""
-class NothingListens(Refused, code=67): """Each address has refused connections for a second."""
+class NothingListens(Refused, code=67): """The only address has refused connections for a second."""
 class OutOfMemory(Refused, MemoryError, code=63): """Memory was refused. Nothing has changed."""

@@ -89,13 +89,14 @@ impl ClientBuilder {
 impl Client {
     /// Joins the server as the client of this number. `lock_file` is the file of this number on
     /// this machine: it keeps a second process off the number. Two machines have to have different
-    /// numbers. It waits fifteen seconds for an answer, and one second if nothing listens there.
+    /// numbers. It waits fifteen seconds for an answer, and one second if nothing listens at the
+    /// only address.
     ///
     /// # Errors
     ///
     /// `BadNumber` above 63; `LockFile` if another process has the file, or it can't be used;
-    /// `NoThread`; `NoAnswer`, with the reason if the connection failed; `NothingListens`, if each
-    /// address has refused connections for a second; `NoServer`, if what answers is not a krl
+    /// `NoThread`; `NoAnswer`, with the reason if the connection failed; `NothingListens`, if the
+    /// only address has refused connections for a second; `NoServer`, if what answers is not a krl
     /// server; `Unserved`, if the server tells why it does not serve the client; `TurnedAway`, if
     /// this side has no right to the client; `OtherShard`, if the server serves another shard than
     /// the client takes it for; `Refused` if memory is refused.

@@ -191,7 +191,10 @@ impl Session {
         self.end_join_among_strangers();
         self.end_join_if_nothing_listens();
         let pause = self.backoff.pause();
-        if self.is_joining() { self.refused_connects.shorten(pause, self.now()) } else { pause }
+        if self.gives_up_if_refused() {
+            return self.refused_connects.shorten(pause, self.now());
+        }
+        pause
     }
 
     /// Takes what has come whole.
@@ -345,10 +348,11 @@ impl Session {
         }
     }
 
-    /// A client that joins gives up if nothing listens at any of its addresses. One that has joined
-    /// once waits for a server to come back.
+    /// A client that joins gives up if nothing listens at its only address. Of several servers the
+    /// others stand by, and refuse until one of them has taken over. A client that has joined once
+    /// waits for a server to come back.
     fn end_join_if_nothing_listens(&mut self) {
-        if !self.is_joining() || !self.refused_connects.are_final(self.servers.count()) {
+        if !self.gives_up_if_refused() || !self.refused_connects.are_final() {
             return;
         }
         self.nothing_listens = self.fault.take();
@@ -357,8 +361,9 @@ impl Session {
         }
     }
 
-    fn is_joining(&self) -> bool {
-        self.joining.as_ref().is_some_and(|joining| self.jobs.is_open(joining.job))
+    fn gives_up_if_refused(&self) -> bool {
+        let is_joining = |joining: &Joining| self.jobs.is_open(joining.job);
+        !self.servers.are_several() && self.joining.as_ref().is_some_and(is_joining)
     }
 
     fn end_join_if_hopeless(&mut self) {

@@ -104,9 +104,10 @@ pub enum JoinError {
         /// on a later one. If it is `None`, the server recovers, or is silent.
         fault: Option<io::Error>,
     },
-    /// Nothing listens at any address of the servers: each has refused connections for a second, or
-    /// has no such socket. It comes before the client's timeout, unless that is shorter. A server
-    /// that begins to listen within this second is found.
+    /// Nothing listens at the client's only address: it has refused connections for a second, or
+    /// there is no such socket. It comes before the client's timeout, unless that is shorter. A
+    /// server that begins to listen within this second is found. A client of several servers waits
+    /// for one of them to take over, and ends with `NoAnswer` at its timeout.
     NothingListens {
         /// The servers that the client tried.
         servers: Box<Servers>,

@@ -235,32 +235,25 @@ fn refuse_connect(session: &mut Session) {
 }
 
 #[test]
-fn who_joins_gives_up_when_each_address_has_refused_for_a_second() {
-    for (servers, last) in [("unix:one", 1), ("unix:one,unix:two,unix:three", 3)] {
-        let mut session = session(servers);
-        let asked = session.join(Box::new(|_, _| false));
-        let end = session.now() + Duration::from_secs(1);
-        while session.now() < end {
-            refuse_connect(&mut session);
-            assert!(asked.answer.try_recv().is_err(), "too early for {servers}");
-        }
-        assert_eq!(session.now(), end, "an attempt finds a server that listens by now");
-        for _ in 1..last {
-            refuse_connect(&mut session);
-            assert!(asked.answer.try_recv().is_err(), "another one of {servers} is tried now");
-            assert_eq!(session.now(), end);
-        }
+fn who_joins_gives_up_when_the_only_address_has_refused_for_a_second() {
+    let mut session = session("unix:one");
+    let asked = session.join(Box::new(|_, _| false));
+    let end = session.now() + Duration::from_secs(1);
+    while session.now() < end {
         refuse_connect(&mut session);
-        assert_eq!(asked.answer.try_recv(), Ok(Err(Error::TimedOut)));
-        let why = session.take_nothing_listens().map(|error| error.kind());
-        assert_eq!(why, Some(ErrorKind::ConnectionRefused));
-        assert!(session.now() > end, "the pauses are those of the backoff again");
+        assert!(asked.answer.try_recv().is_err(), "too early");
     }
+    assert_eq!(session.now(), end, "an attempt finds a server that listens by now");
+    refuse_connect(&mut session);
+    assert_eq!(asked.answer.try_recv(), Ok(Err(Error::TimedOut)));
+    let why = session.take_nothing_listens().map(|error| error.kind());
+    assert_eq!(why, Some(ErrorKind::ConnectionRefused));
+    assert!(session.now() > end, "the pauses are those of the backoff again");
 }
 
 #[test]
-fn who_joins_waits_if_one_of_its_addresses_does_anything_but_refuse() {
-    let mut session = session("unix:one,unix:two");
+fn who_joins_waits_if_its_address_does_anything_but_refuse() {
+    let mut session = session("unix:one");
     let asked = session.join(Box::new(|_, _| false));
     for _ in 0..9 {
         refuse_connect(&mut session);
@@ -269,6 +262,19 @@ fn who_joins_waits_if_one_of_its_addresses_does_anything_but_refuse() {
     }
     connect(&mut session);
     refuse_connect(&mut session);
+    assert!(asked.answer.try_recv().is_err());
+    assert!(session.take_nothing_listens().is_none());
+}
+
+/// Servers that stand by refuse connections until one of them has taken over.
+#[test]
+fn who_joins_waits_for_one_of_several_servers() {
+    let mut session = session("unix:one,unix:two");
+    let asked = session.join(Box::new(|_, _| false));
+    let end = session.now() + Duration::from_secs(9);
+    while session.now() < end {
+        refuse_connect(&mut session);
+    }
     assert!(asked.answer.try_recv().is_err());
     assert!(session.take_nothing_listens().is_none());
 }
