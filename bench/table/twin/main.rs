@@ -174,14 +174,13 @@ fn scan(bench: &mut Bench, i: u64) -> u64 {
     (0..SCAN).map(|n| bench.lock(0, 10 * (i + n) + 3, Mode { range: 1, key: 1 }, true)).sum()
 }
 
-fn times(entries: u64) {
-    let mut bench = Bench::open(entries);
+fn scans(bench: &mut Bench, entries: u64) {
     let (mut locked, mut released, mut sum, mut word) = (0, 0, 0, 1);
     for _ in 0..1000 {
         word = next(word);
         let i = pick(word, entries);
         let start = now();
-        sum += scan(&mut bench, i);
+        sum += scan(bench, i);
         let middle = now();
         bench.release(0, 10 * i, 10 * (i + SCAN));
         locked += middle - start;
@@ -189,6 +188,9 @@ fn times(entries: u64) {
     }
     print("grant", entries, locked, 1000 * SCAN, sum);
     print("lower", entries, released, 1000 * SCAN, 1000);
+}
+
+fn locks(bench: &mut Bench, entries: u64) {
     for (kind, at_once) in [("at-once", true), ("by-queue", false)] {
         let (mut word, mut sum) = (1, 0);
         let start = now();
@@ -200,12 +202,15 @@ fn times(entries: u64) {
         }
         print(kind, entries, now() - start, 100000, sum);
     }
+}
+
+fn hellos(bench: &mut Bench, entries: u64) {
     for (kind, holds) in [("hello-of-none", false), ("hello-of-101", true)] {
         let (mut cleared, mut sum, mut word) = (0, 0, 1);
         for _ in 0..1000 {
             word = next(word);
             if holds {
-                sum += scan(&mut bench, pick(word, entries));
+                sum += scan(bench, pick(word, entries));
             }
             let start = now();
             bench.clear(0);
@@ -213,6 +218,9 @@ fn times(entries: u64) {
         }
         print(kind, entries, cleared, 1000, sum);
     }
+}
+
+fn starts(entries: u64) {
     let mut made = 0;
     for _ in 0..STARTS {
         let start = now();
@@ -220,6 +228,9 @@ fn times(entries: u64) {
         made += now() - start;
     }
     print("start", entries, made, STARTS, STARTS);
+}
+
+fn reports(bench: &mut Bench, entries: u64) {
     for (kind, in_order) in [("report-of-1000", true), ("unordered-of-1000", false)] {
         let apart = entries / RANGES;
         let pieces: Vec<_> = (0..RANGES)
@@ -235,6 +246,9 @@ fn times(entries: u64) {
         }
         print(kind, entries, reported, 20, sum);
     }
+}
+
+fn changes(bench: &mut Bench, entries: u64) {
     for slot in (0..entries).map(|i| 10 * i + 9).chain([END]) {
         bench.rows.entry(slot).or_insert_with(Row::blank).modes[0] = Mode { range: 3, key: 2 };
     }
@@ -250,6 +264,16 @@ fn times(entries: u64) {
     }
     print("delete", entries, deleted, 50 * PLACES, gone);
     print("insert", entries, inserted, 50 * PLACES, come);
+}
+
+fn times(entries: u64) {
+    let mut bench = Bench::open(entries);
+    scans(&mut bench, entries);
+    locks(&mut bench, entries);
+    hellos(&mut bench, entries);
+    starts(entries);
+    reports(&mut bench, entries);
+    changes(&mut bench, entries);
 }
 
 fn main() {
