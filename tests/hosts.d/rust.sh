@@ -36,35 +36,26 @@ part_features() {
     cargo_in "$top/hosts" 'the documentation' doc --workspace --no-deps
 }
 
-# Runs tests that are built: `run_tests WORD..`, the words by which cargo chooses them.
+# Runs tests of cargo: `run_tests WORD..`, the words by which cargo chooses them.
 run_tests() {
-    work=$(mktemp -d "$work/XXXXXX")
-    profile=tests
-    cargo_in "$top/hosts" "cargo test $*" test --no-fail-fast "$@"
+    (
+        profile=tests
+        cargo_in "$top/hosts" "cargo test $*" test --no-fail-fast "$@"
+    )
 }
 
-# Most of the tests wait for something: so they run in lanes next to each other.
-part_tests() {
+part_units() {
+    find_crates
+    run_tests --workspace --exclude krl-client-c --lib --bins
+    run_tests --workspace --exclude krl-client-c --doc
+    run_tests -p krl-client-c
+}
+
+part_integration() {
     find_crates
     has chromium || lacks 'there is no chromium: the page of a server in a browser'
     has promtool || lacks 'there is no promtool: the alert rules for Prometheus'
-    build_tests
-    run_tests -p krl-client-c &
-    running=$!
-    for targets in '--lib --bins' --doc '--test [a-l]*' '--test [!a-l]*'; do
-        # The words of cargo, without the names of files that they match.
-        set -f
-        # shellcheck disable=SC2086
-        run_tests --workspace --exclude krl-client-c $targets &
-        set +f
-        running="$running $!"
-    done
-    red=0
-    for lane in $running; do
-        wait "$lane" || red=1
-    done
-    running=
-    return "$red"
+    run_tests --workspace --exclude krl-client-c --test '*'
 }
 
 # Worlds in one thread, by seeds.
