@@ -62,7 +62,7 @@ pub use client::builder::ClientBuilder;
 pub use client::changes::{Changes, Waited};
 pub use client::evict::evict;
 pub use client::lock_file::LockFileError;
-pub use client::pin::{Pin, PinWithin};
+pub use client::pin::Pin;
 pub use lease::terms::{BadLeases, LeaseLeft, Leases};
 pub use model::batch::{BatchError, Fate, Mutation};
 pub use model::change::{Change, Outcome, Record, Write};

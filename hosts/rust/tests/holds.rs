@@ -208,6 +208,21 @@ fn a_pin_that_was_not_had_leaves_nothing_pinned() {
 }
 
 #[test]
+fn a_range_is_free_when_the_last_clone_of_its_pin_is_dropped() {
+    let world = World::new("clones");
+    world.insert_rows([10]);
+    let (holder, writer) = (world.join(1), world.join_impatient(2));
+    let (_, pin) = holder.pin_for_read(10..11).unwrap();
+    let clone = pin.within(SHORT);
+    assert_eq!((clone.timeout(), pin.timeout()), (SHORT, holder.timeout()));
+    drop(pin);
+    assert!(clone.holds());
+    assert_eq!(writer.put(10, Value::from(1)), Err(Error::NotSent(Unsent::TimedOut)));
+    drop(clone);
+    assert_eq!(writer.within(LONG).put(10, Value::from(1)), Ok(Outcome::Applied));
+}
+
+#[test]
 fn whoever_waits_for_a_row_has_pinned_those_below_it_alone() {
     let world = World::new("prefix");
     let (first, second) = (world.join(1), world.join(2));

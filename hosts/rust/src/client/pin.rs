@@ -10,60 +10,68 @@ use std::fmt;
 use std::sync::Arc;
 use std::time::{Duration, Instant};
 
-/// A pinned range: no other client takes away what the client holds of it, as long as this lives.
-/// If the server's store goes back, or the client's lease ends, the pin is void: [`Client`] says
-/// more.
+/// A pinned range: no other client takes away what the client holds of it, as long as this or a
+/// clone of it lives. If the server's store goes back, or the client's lease ends, the pin is void:
+/// [`Client`] describes more.
 ///
 /// **Whoever decides what to write by what is pinned writes by the pin's own calls.** They make the
 /// write while the pin holds, or never: no other client has changed what was pinned before that
 /// write. The calls of [`Client`] are not bound to the pin: after the end of a lease they continue,
 /// and another client may have written in between.
 ///
-/// If such a write was sent and is not answered when the pin is dropped, other clients wait for the
-/// range until it is judged.
+/// If such a write was sent and is not answered when the last clone is dropped, other clients wait
+/// for the range until it is judged.
 ///
 /// A pin borrows nothing: it may be kept in a struct, and be sent to another thread. It keeps its
 /// client, which does not end before it.
 ///
 /// [`Client`]: crate::Client
-#[must_use = "the range is free again as soon as this is dropped"]
+#[derive(Clone)]
+#[must_use = "the range is free again as soon as the last clone is dropped"]
 pub struct Pin {
+    pinned: Arc<Pinned>,
+    /// How long the writes by this value wait, if it has a time of its own.
+    timeout: Option<Duration>,
+}
+
+/// What the clones of a pin share. The range is free again when the last of them is dropped.
+struct Pinned {
     shared: Arc<Shared>,
     id: u64,
 }
 
 impl Pin {
     pub(crate) fn new(shared: Arc<Shared>, id: u64) -> Pin {
-        Pin { shared, id }
+        Pin { pinned: Arc::new(Pinned { shared, id }), timeout: None }
     }
 
     pub(crate) fn shared(&self) -> &Arc<Shared> {
-        &self.shared
+        &self.pinned.shared
     }
 
     pub(crate) fn id(&self) -> u64 {
-        self.id
+        self.pinned.id
     }
 
     /// Whether no other client has taken what was held of the range. Who has to know asks **after**
     /// the work: the answer is that of one moment of this call.
     #[must_use]
     pub fn holds(&self) -> bool {
-        self.shared.link().with_jobs(|jobs| jobs.holds_pin(self.id))
+        self.shared().link().with_jobs(|jobs| jobs.holds_pin(self.id()))
     }
 
-    /// The same writes, each of which waits so long for an answer, a year at most.
-    pub fn within(&self, timeout: Duration) -> PinWithin<'_> {
-        PinWithin { pin: self, timeout: timeout.min(MAX_WAIT) }
+    /// The same pin, whose writes by the value that is returned, and by clones of it, wait at most
+    /// this long for an answer, and a year at most. Writes by other values wait as before.
+    #[must_use = "it does nothing before one of its calls"]
+    pub fn within(&self, timeout: Duration) -> Pin {
+        Pin { pinned: Arc::clone(&self.pinned), timeout: Some(timeout.min(MAX_WAIT)) }
     }
 
-    fn by_default(&self) -> PinWithin<'_> {
-        self.within(self.timeout())
-    }
-
-    /// How long each of its writes waits: as long as its client's calls.
-    pub(crate) fn timeout(&self) -> Duration {
-        self.shared.timeout()
+    /// How long each of its writes waits for an answer: as long as the calls of its client, unless
+    /// [`Pin::within`] gave it a time of its own.
+    #[must_use]
+    pub fn timeout(&self) -> Duration {
+        self.timeout.unwrap_or_else(|| self.shared().timeout())
     }
 
     /// Until when a write waits that begins now.
@@ -83,7 +91,7 @@ impl Pin {
     ///
     /// [`Client::insert`]: crate::Client::insert
     pub fn insert(&self, key: u64, value: Value) -> Result<Outcome, Error> {
-        self.by_default().insert(key, value)
+        self.write(self.end(), Write::Insert(Row { key, value }))
     }
 
     /// Gives a row another value while the pin holds, or never. The outcome is that of
@@ -95,7 +103,7 @@ impl Pin {
     ///
     /// [`Client::put`]: crate::Client::put
     pub fn put(&self, key: u64, value: Value) -> Result<Outcome, Error> {
-        self.by_default().put(key, value)
+        self.write(self.end(), Write::Put(Row { key, value }))
     }
 
     /// Gives a key this value, whether or not it has a row, while the pin holds, or never. The
@@ -107,7 +115,8 @@ impl Pin {
     ///
     /// [`Client::set`]: crate::Client::set
     pub fn set(&self, key: u64, value: Value) -> Result<Outcome, Error> {
-        self.by_default().set(key, value)
+        let (first, end) = (self.shared().first_of_set(Row { key, value }), self.end());
+        set::set(first, end, |write| self.write(end, write))
     }
 
     /// Deletes a row while the pin holds, or never. The outcome is that of [`Client::delete`]. The
@@ -119,7 +128,7 @@ impl Pin {
     ///
     /// [`Client::delete`]: crate::Client::delete
     pub fn delete(&self, key: u64) -> Result<Outcome, Error> {
-        self.by_default().delete(key)
+        self.write(self.end(), Write::Delete(key))
     }
 
     /// Makes several writes, as [`Client::write_all`] does, each while the pin holds, or never.
@@ -137,90 +146,23 @@ impl Pin {
         &self,
         writes: impl IntoIterator<Item = Mutation>,
     ) -> Result<Vec<Outcome>, BatchError> {
-        self.by_default().write_all(writes)
-    }
-}
-
-/// A pin whose writes wait for another time than [`Client::timeout`]: see [`Pin::within`].
-///
-/// Each call is that of [`Pin`] of the same name, with its outcomes and errors.
-///
-/// [`Client::timeout`]: crate::Client::timeout
-#[derive(Clone, Copy, Debug)]
-#[must_use = "it does nothing before one of its calls"]
-pub struct PinWithin<'p> {
-    pin: &'p Pin,
-    timeout: Duration,
-}
-
-impl PinWithin<'_> {
-    /// Inserts a row, as [`Pin::insert`] does.
-    ///
-    /// # Errors
-    ///
-    /// Those of [`Pin::insert`].
-    pub fn insert(self, key: u64, value: Value) -> Result<Outcome, Error> {
-        self.write(self.end(), Write::Insert(Row { key, value }))
+        let ask = |jobs: &mut Jobs, writes| jobs.write_all_under(self.id(), writes);
+        self.shared().write_all(self.end(), writes.into_iter().collect(), ask)
     }
 
-    /// Gives a row another value, as [`Pin::put`] does.
-    ///
-    /// # Errors
-    ///
-    /// Those of [`Pin::insert`].
-    pub fn put(self, key: u64, value: Value) -> Result<Outcome, Error> {
-        self.write(self.end(), Write::Put(Row { key, value }))
-    }
-
-    /// Gives a key this value, as [`Pin::set`] does. The time is that of all its writes together.
-    ///
-    /// # Errors
-    ///
-    /// Those of [`Pin::insert`].
-    pub fn set(self, key: u64, value: Value) -> Result<Outcome, Error> {
-        let (first, end) = (self.pin.shared.first_of_set(Row { key, value }), self.end());
-        set::set(first, end, |write| self.write(end, write))
-    }
-
-    /// Deletes a row, as [`Pin::delete`] does.
-    ///
-    /// # Errors
-    ///
-    /// Those of [`Pin::insert`].
-    pub fn delete(self, key: u64) -> Result<Outcome, Error> {
-        self.write(self.end(), Write::Delete(key))
-    }
-
-    /// Makes several writes, as [`Pin::write_all`] does. The time is that of all of them together.
-    ///
-    /// # Errors
-    ///
-    /// Those of [`Pin::write_all`].
-    pub fn write_all(
-        self,
-        writes: impl IntoIterator<Item = Mutation>,
-    ) -> Result<Vec<Outcome>, BatchError> {
-        let ask = |jobs: &mut Jobs, writes| jobs.write_all_under(self.pin.id, writes);
-        self.pin.shared.write_all(self.end(), writes.into_iter().collect(), ask)
-    }
-
-    fn write(self, end: Instant, write: Write) -> Result<Outcome, Error> {
-        let ask = |jobs: &mut Jobs, write| jobs.write_under(self.pin.id, write);
-        self.pin.shared.write(end, write, ask)
-    }
-
-    fn end(self) -> Instant {
-        Instant::now() + self.timeout
+    fn write(&self, end: Instant, write: Write) -> Result<Outcome, Error> {
+        let ask = |jobs: &mut Jobs, write| jobs.write_under(self.id(), write);
+        self.shared().write(end, write, ask)
     }
 }
 
 impl fmt::Debug for Pin {
     fn fmt(&self, f: &mut fmt::Formatter<'_>) -> fmt::Result {
-        f.debug_struct("Pin").field("id", &self.id).finish_non_exhaustive()
+        f.debug_struct("Pin").field("id", &self.id()).finish_non_exhaustive()
     }
 }
 
-impl Drop for Pin {
+impl Drop for Pinned {
     fn drop(&mut self) {
         self.shared.link().with_jobs(|jobs| jobs.unpin(self.id));
         self.shared.link().flush();
