@@ -21,7 +21,7 @@ use crate::options::{NUMBERS, Options, options_at};
 use crate::status::Status;
 use crate::table::{Table, Write};
 use crate::writes::{GivenWrite, write_all, writes};
-use krl::{Error, Row, Waited};
+use krl::{ErrorKind, Row, Waited};
 use std::ffi::{c_char, c_void};
 use std::ptr;
 use std::time::Duration;
@@ -256,7 +256,7 @@ pub unsafe extern "C" fn krlc_cached_row(client: *mut Client, key: u64, row: *mu
         let mut found = None;
         // A range of one key is none only if its shard is not joined.
         let is_cached = table.for_each_cached(input::key(key)?, |row| found = Some(*row));
-        if !is_cached.map_err(|_| Error::BadKey)? {
+        if !is_cached.map_err(|_| ErrorKind::BadKey)? {
             return Ok(Code::Miss);
         }
         let Some(found) = found else { return Ok(Code::Absent) };

@@ -1,6 +1,6 @@
 //! A pin as C has it.
 use crate::table::{Judged, Purpose, Table, TablePin, Write};
-use krl::{Mutation, Outcome, Row, ShardError};
+use krl::{Error, Mutation, Outcome, Row};
 use std::ops::Range;
 use std::sync::Arc;
 use std::time::Duration;
@@ -18,7 +18,7 @@ impl OwnPin {
         table: &Arc<Table>,
         keys: Range<u64>,
         timeout: Duration,
-    ) -> Result<OwnPin, ShardError> {
+    ) -> Result<OwnPin, Error> {
         table.pin(keys, timeout).map(|pin| OwnPin { pin, table: Arc::clone(table) })
     }
 
@@ -28,7 +28,7 @@ impl OwnPin {
         keys: Range<u64>,
         purpose: Purpose,
         timeout: Duration,
-    ) -> Result<(Vec<Row>, OwnPin), ShardError> {
+    ) -> Result<(Vec<Row>, OwnPin), Error> {
         let (rows, pin) = table.pin_for(keys, purpose, timeout)?;
         Ok((rows, OwnPin { pin, table: Arc::clone(table) }))
     }
@@ -38,7 +38,7 @@ impl OwnPin {
     }
 
     /// Makes a write that waits for this many milliseconds; 0 stands for the timeout.
-    pub fn write(&self, write: Write, timeout_ms: u64) -> Result<Outcome, ShardError> {
+    pub fn write(&self, write: Write, timeout_ms: u64) -> Result<Outcome, Error> {
         self.pin.write(write, self.table.timeout_of(timeout_ms))
     }
 

@@ -1,5 +1,5 @@
 //! The table that a client works on: that of one server, or that of all servers of a map.
-use krl::{BatchError, Client, Mutation, Outcome, Pin, Row, ShardError, ShardedClient, ShardedPin};
+use krl::{BatchError, Client, Error, Mutation, Outcome, Pin, Row, ShardedClient, ShardedPin};
 use krl::{Value, Waited};
 use std::ops::Range;
 use std::time::Duration;
@@ -35,10 +35,10 @@ pub enum Write {
     Delete(u64),
 }
 
-type Answer<T> = Result<T, ShardError>;
+type Answer<T> = Result<T, Error>;
 
 /// How several writes were judged.
-pub type Judged = Result<Vec<Outcome>, BatchError<ShardError>>;
+pub type Judged = Result<Vec<Outcome>, BatchError>;
 
 /// Makes a write by what has the calls for it: clients and pins, of one server or of several.
 macro_rules! written {

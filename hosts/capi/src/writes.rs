@@ -76,7 +76,7 @@ fn mutation_of(given: &GivenWrite) -> Result<Mutation, Fault> {
 #[cfg(test)]
 mod tests {
     use super::*;
-    use krl::{Error, Outcome, ShardError};
+    use krl::{ErrorKind, Outcome};
     use std::ptr;
 
     fn given(kind: u32, key: u64, length: u64) -> GivenWrite {
@@ -118,8 +118,8 @@ mod tests {
         assert_eq!(outcomes(&given), [0, Code::Unknown as u32, Code::NotMade as u32]);
     }
 
-    fn lost(fates: Vec<Fate>) -> krl::BatchError<ShardError> {
-        krl::BatchError::new(fates, Error::TimedOut.into())
+    fn lost(fates: Vec<Fate>) -> krl::BatchError {
+        krl::BatchError::new(fates, ErrorKind::TimedOut.into())
     }
 
     #[test]

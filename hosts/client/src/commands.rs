@@ -5,7 +5,7 @@ use crate::output::Printer;
 use crate::session::Session;
 use crate::signals::Signals;
 use crate::{deleting, exporting, holding, pinging, watching, words};
-use krl::{Outcome, Row, ShardError};
+use krl::{Error, Outcome, Row};
 
 /// What commands run with.
 pub struct Context<'c> {
@@ -67,7 +67,7 @@ impl Context<'_> {
         self.judged(outcome, key)
     }
 
-    fn judged(&self, outcome: Result<Outcome, ShardError>, key: u64) -> Result<(), Failure> {
+    fn judged(&self, outcome: Result<Outcome, Error>, key: u64) -> Result<(), Failure> {
         let outcome = outcome.map_err(|refused| Failure::of_write(refused, key))?;
         self.printer.outcome(outcome)?;
         applied(self.session, outcome, key)

@@ -4,7 +4,6 @@ use crate::commands::Context;
 use crate::failure::Failure;
 use crate::output::{print, print_json};
 use crate::place::Station;
-use krl::Error;
 use serde_json::json;
 use std::time::{Duration, Instant};
 
@@ -23,7 +22,7 @@ fn ping_one(context: &Context<'_>, station: &Station<'_>) -> Result<(), Failure>
     table.forget(probed)?;
     let epoch = table
         .epoch(station.shard)
-        .map_err(|refused: Error| Failure::from(refused).at_shard(station.shard))?;
+        .map_err(|refused| Failure::from(refused).at_shard(station.shard))?;
     tell(context, station, took, epoch)
 }
 

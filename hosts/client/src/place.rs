@@ -16,7 +16,7 @@ pub enum Place {
 /// One server of a table, and a point that it has.
 pub struct Station<'p> {
     /// The shard, if the table has some.
-    pub shard: Option<usize>,
+    pub shard: Option<u8>,
     pub servers: &'p Servers,
     /// The greatest key there.
     pub point: u64,
@@ -43,17 +43,17 @@ impl Place {
             Place::One(servers) => vec![Station { shard: None, servers, point: END - 1 }],
             Place::Sharded(map, _) => {
                 let ends = map.shards().iter().skip(1).map(|next| next.first);
-                let stations = map.shards().iter().enumerate().zip(ends.chain([END]));
+                let stations = (0..).zip(map.shards()).zip(ends.chain([END]));
                 stations.map(|((shard, it), end)| station(shard, it, end)).collect()
             }
         }
     }
 
     /// The server of a shard.
-    pub fn servers_of(&self, shard: Option<usize>) -> Option<&Servers> {
+    pub fn servers_of(&self, shard: Option<u8>) -> Option<&Servers> {
         match self {
             Place::One(servers) => Some(servers),
-            Place::Sharded(map, _) => Some(&map.shards().get(shard?)?.servers),
+            Place::Sharded(map, _) => Some(&map.shards().get(usize::from(shard?))?.servers),
         }
     }
 
@@ -72,7 +72,7 @@ impl Place {
 }
 
 /// The last shard may begin at END, where no key is.
-fn station(shard: usize, it: &Shard, end: u64) -> Station<'_> {
+fn station(shard: u8, it: &Shard, end: u64) -> Station<'_> {
     Station { shard: Some(shard), servers: &it.servers, point: it.first.max(end - 1) }
 }
 

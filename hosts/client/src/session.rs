@@ -5,7 +5,7 @@ use crate::output::tell;
 use crate::place::Place;
 use crate::table::Table;
 use crate::waiting::told_if_long;
-use krl::{Client, JoinError, LockFileError, Refusal, ShardJoinError, ShardedClient};
+use krl::{Client, JoinError, JoinErrorKind, LockFileError, Refusal, ShardedClient};
 use std::collections::VecDeque;
 use std::env;
 use std::fs::DirBuilder;
@@ -124,12 +124,12 @@ fn try_number(
     }
     match join_table(options, place, number, files, IN_USE) {
         Ok(session) => Ok(Tried::Joined(session)),
-        Err(ShardJoinError {
-            error: JoinError::LockFile { error: LockFileError::Taken, .. },
+        Err(JoinError {
+            kind: JoinErrorKind::LockFile { error: LockFileError::Taken, .. },
             ..
         }) => Ok(Tried::Taken),
-        Err(ShardJoinError {
-            error: JoinError::Unserved(Refusal::LeaseRuns { .. } | Refusal::Incarnation { .. }),
+        Err(JoinError {
+            kind: JoinErrorKind::Unserved(Refusal::LeaseRuns { .. } | Refusal::Incarnation { .. }),
             ..
         }) => Ok(Tried::InUse),
         Err(error) if is_far_ahead(&error) => {
@@ -139,8 +139,8 @@ fn try_number(
     }
 }
 
-fn is_far_ahead(error: &ShardJoinError) -> bool {
-    matches!(error.error, JoinError::Unserved(Refusal::FarAhead { .. }))
+fn is_far_ahead(error: &JoinError) -> bool {
+    matches!(error.kind, JoinErrorKind::Unserved(Refusal::FarAhead { .. }))
 }
 
 /// Joins as the client of this number, and waits for this time for another process that has it.
@@ -160,12 +160,12 @@ fn not_joined(
     place: &Place,
     number: u8,
     files: &LockFiles,
-    error: ShardJoinError,
+    error: JoinError,
 ) -> Failure {
     let needs_new_file = is_far_ahead(&error);
-    let ShardJoinError { shard, error, .. } = error;
+    let shard = error.shard;
     let server = place.servers_of(shard).unwrap_or(&options.server);
-    let failure = Failure::of_join(error, number, server).at_shard(shard);
+    let failure = Failure::of_join(error.kind, number, server).at_shard(shard);
     if !needs_new_file {
         return failure;
     }
@@ -179,7 +179,7 @@ fn join_table(
     number: u8,
     files: &LockFiles,
     if_in_use: Duration,
-) -> Result<Session, ShardJoinError> {
+) -> Result<Session, JoinError> {
     let (begun, timeout) = (Instant::now(), options.timeout);
     let table = match place {
         Place::One(servers) => {

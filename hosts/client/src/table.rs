@@ -1,6 +1,6 @@
 //! The table that a client works on: that of one server, or that of all servers of a map.
 use krl::{
-    Client, Error, Outcome, Pin, Row, ShardError, ShardStatus, ShardedClient, ShardedPin, Value,
+    Client, Error, ErrorKind, Outcome, Pin, Row, ShardStatus, ShardedClient, ShardedPin, Value,
     Waited,
 };
 use std::ops::Range;
@@ -36,7 +36,7 @@ impl TablePin {
     }
 }
 
-type Answer<T> = Result<T, ShardError>;
+type Answer<T> = Result<T, Error>;
 
 impl Table {
     pub fn read(&self, keys: Range<u64>) -> Answer<Vec<Row>> {
@@ -90,13 +90,13 @@ impl Table {
     }
 
     /// How many times the server of this shard had started when the client joined it.
-    pub fn epoch(&self, shard: Option<usize>) -> Result<u64, Error> {
+    pub fn epoch(&self, shard: Option<u8>) -> Result<u64, Error> {
         match self {
             Table::One(client) => client.epoch(),
             Table::Sharded(client) => {
                 let status = client.status();
-                let shard = shard.and_then(|shard| status.get(shard));
-                shard.map_or(Err(Error::Stopped), |shard| shard.epoch)
+                let shard = shard.and_then(|shard| status.get(usize::from(shard)));
+                shard.map_or(Err(ErrorKind::Stopped.into()), |shard| shard.epoch)
             }
         }
     }

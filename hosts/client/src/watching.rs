@@ -3,7 +3,7 @@ use crate::commands::Context;
 use crate::failure::Failure;
 use crate::signals::Taken;
 use crate::table::Table;
-use krl::{Error, Row, ShardError, Waited};
+use krl::{Error, ErrorKind, Row, Waited};
 use std::ops::Range;
 use std::time::Duration;
 
@@ -46,7 +46,7 @@ fn next_change(
     keys: &Range<u64>,
     rows: &[Row],
     signals: &Taken<'_>,
-) -> Result<Option<Vec<Row>>, ShardError> {
+) -> Result<Option<Vec<Row>>, Error> {
     while !signals.is_ended() {
         if table.wait_for_change(keys.clone(), rows, LOOK)? == Waited::Unchanged {
             continue;
@@ -55,7 +55,7 @@ fn next_change(
             Ok(read) if read != rows => return Ok(Some(read)),
             // It is as it was, or another client still has it.
             Ok(_) => {}
-            Err(refused) if is_waiting(refused.error) => {}
+            Err(refused) if is_waiting(refused.kind) => {}
             Err(refused) => return Err(refused),
         }
     }
@@ -63,6 +63,6 @@ fn next_change(
 }
 
 /// Whether an answer may still come.
-fn is_waiting(refused: Error) -> bool {
-    matches!(refused, Error::TimedOut | Error::Unserved(_))
+fn is_waiting(refused: ErrorKind) -> bool {
+    matches!(refused, ErrorKind::TimedOut | ErrorKind::Unserved(_))
 }

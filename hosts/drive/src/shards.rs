@@ -7,7 +7,7 @@ use crate::Found;
 use crate::applied::applied;
 use crate::clients::Process;
 use crate::kill::start_server;
-use krl::{Outcome, Row, Shard, ShardError, ShardMap, ShardedClient, Value};
+use krl::{Outcome, Row, Shard, ShardMap, ShardedClient, Value};
 use krl_testing::ports::free_address;
 use std::error::Error;
 use std::net::SocketAddr;
@@ -100,8 +100,8 @@ pub fn run(folder: &Path, seconds: u64, kills: u64) -> Found {
 }
 
 /// What a thread that panicked comes to.
-fn refused() -> ShardError {
-    krl::Error::Stopped.into()
+fn refused() -> krl::Error {
+    krl::ErrorKind::Stopped.into()
 }
 
 fn start(folder: &Path) -> Result<ShardServer, Box<dyn Error>> {
@@ -135,7 +135,7 @@ impl Run {
 
     /// Gives both rows the next number, again and again. A write that is not answered is made once
     /// more.
-    fn write_again(&self, client: &ShardedClient) -> Result<(), ShardError> {
+    fn write_again(&self, client: &ShardedClient) -> Result<(), krl::Error> {
         client.set_timeout(TIMEOUT);
         let mut number = 0;
         while self.goes_on() {
@@ -169,7 +169,7 @@ impl Run {
         count
     }
 
-    fn read_again(&self, client: &ShardedClient) -> Result<Count, ShardError> {
+    fn read_again(&self, client: &ShardedClient) -> Result<Count, krl::Error> {
         let (mut count, mut last) = (Count::default(), [0, 0]);
         while self.goes_on() {
             let before = self.answered.load(Ordering::SeqCst);
@@ -221,13 +221,13 @@ impl Run {
 }
 
 /// What was answered, if anything was.
-fn answered<T>(result: Result<T, ShardError>) -> Result<Option<T>, ShardError> {
-    let is_unanswered = |error| {
-        matches!(error, krl::Error::TimedOut | krl::Error::Unserved(_) | krl::Error::NotSent(_))
-    };
+fn answered<T>(result: Result<T, krl::Error>) -> Result<Option<T>, krl::Error> {
+    use krl::ErrorKind::{NotSent, TimedOut, Unserved};
     match result {
         Ok(found) => Ok(Some(found)),
-        Err(ShardError { error, .. }) if is_unanswered(error) => Ok(None),
-        Err(refused) => Err(refused),
+        Err(refused) => match refused.kind {
+            TimedOut | Unserved(_) | NotSent(_) => Ok(None),
+            _ => Err(refused),
+        },
     }
 }

@@ -32,7 +32,7 @@ use crate::log::span;
 use crate::model::batch::{BatchError, Mutation};
 use crate::model::change::{Outcome, Write};
 use crate::model::code::Code;
-use crate::model::error::Error;
+use crate::model::error::{Error, ErrorKind};
 use crate::model::range::keys_of;
 use crate::model::row::{END, Row, Value};
 use std::fmt;
@@ -47,7 +47,7 @@ use std::time::{Duration, Instant};
 ///
 /// If the server's store went back, since an older copy of it was brought back, the client drops
 /// its cache as if it had crashed, and joins again: calls that wait just then end with
-/// [`Error::StoreWentBack`]. Until it has joined, `cached` answers `None`, and other calls wait. A
+/// [`ErrorKind::StoreWentBack`]. Until it has joined, `cached` answers `None`, and other calls wait. A
 /// store without a history reports nothing about it.
 ///
 /// If the server serves another store than the one that the client has seen, the client drops its
@@ -56,7 +56,7 @@ use std::time::{Duration, Instant};
 ///
 /// A server with leases lets the client answer from its cache only for a limited time after the
 /// client's last sign. When its lease ends the client drops its cache and joins again, as above:
-/// only a write that is on its way ends with [`Error::LeaseEnded`], and all other calls continue.
+/// only a write that is on its way ends with [`ErrorKind::LeaseEnded`], and all other calls continue.
 ///
 /// When its last clone and its last pin are dropped, the client sends Bye, and waits a second at
 /// most until the server has kept that. A process that ends without a Bye leaves what it held:
@@ -165,7 +165,7 @@ impl Client {
     /// `BadKey` if the key is 2^63 - 1 or more; those of [`Client::read`].
     pub fn get(&self, key: u64) -> Result<Option<Value>, Error> {
         if key >= END {
-            return Err(Error::BadKey);
+            return Err(ErrorKind::BadKey.into());
         }
         Ok(self.read(key..=key)?.first().map(|row| row.value))
     }
@@ -255,7 +255,7 @@ impl Client {
     /// Those of `insert`.
     pub fn set(&self, key: u64, value: Value) -> Result<Outcome, Error> {
         let (first, end) = (self.shared.first_of_set(Row { key, value }), self.end());
-        set::set(first, end, |write| self.shared.write(end, write, Jobs::write))
+        Ok(set::set(first, end, |write| self.shared.write(end, write, Jobs::write))?)
     }
 
     /// Deletes a row. The outcome is `Applied` or `Absent`.
@@ -414,8 +414,8 @@ impl Client {
         let end = Instant::now() + timeout.min(MAX_WAIT);
         match self.link().ask(end, |jobs| jobs.watch(keys, rows.to_vec())) {
             Ok(()) => Ok(Waited::Changed),
-            Err(Error::TimedOut | Error::Unserved(_)) => Ok(Waited::Unchanged),
-            Err(refused) => Err(refused),
+            Err(ErrorKind::TimedOut | ErrorKind::Unserved(_)) => Ok(Waited::Unchanged),
+            Err(refused) => Err(refused.into()),
         }
     }
 
@@ -439,7 +439,7 @@ impl Client {
     pub fn changes(&self, keys: impl RangeBounds<u64>) -> Result<Changes, Error> {
         let keys = keys_of(&keys)?;
         if keys.is_empty() {
-            return Err(Error::BadRange);
+            return Err(ErrorKind::BadRange.into());
         }
         Ok(Changes::of(RangeOfClient { client: self.clone(), keys }))
     }
@@ -511,7 +511,7 @@ impl Client {
     /// for what this one held then, until it is evicted.
     pub fn leave(&self) -> Result<(), Error> {
         let _span = span::of("leave", self.number(), &(0..END + 1));
-        self.shared.finish_leaving(self.shared.begin_to_leave(), self.end())
+        Ok(self.shared.finish_leaving(self.shared.begin_to_leave(), self.end())?)
     }
 
     fn hold(
@@ -521,7 +521,7 @@ impl Client {
     ) -> Result<(Vec<Row>, Pin), Error> {
         let keys = keys_of(keys)?;
         if keys.is_empty() {
-            return Err(Error::BadRange);
+            return Err(ErrorKind::BadRange.into());
         }
         let _span = span::of("pin", self.number(), &keys);
         let Held { rows, pin } = self.ask(|jobs| jobs.hold(keys, purpose))?;
@@ -529,11 +529,11 @@ impl Client {
     }
 
     fn write(&self, write: Write) -> Result<Outcome, Error> {
-        self.shared.write(self.end(), write, Jobs::write)
+        Ok(self.shared.write(self.end(), write, Jobs::write)?)
     }
 
     fn ask<T>(&self, ask: impl FnOnce(&mut Jobs) -> Asked<T>) -> Result<T, Error> {
-        self.link().ask(self.end(), ask)
+        Ok(self.link().ask(self.end(), ask)?)
     }
 
     /// Until when a call waits that begins now.
@@ -548,17 +548,13 @@ struct RangeOfClient {
     keys: Range<u64>,
 }
 
-impl WatchedRange<Error> for RangeOfClient {
+impl WatchedRange for RangeOfClient {
     fn read(&self) -> Result<Vec<Row>, Error> {
         self.client.read(self.keys.clone())
     }
 
     fn wait_for_change(&self, rows: &[Row], timeout: Duration) -> Result<Waited, Error> {
         self.client.wait_for_change(self.keys.clone(), rows, timeout)
-    }
-
-    fn has_left(&self, error: &Error) -> bool {
-        *error == Error::Left
     }
 }
 

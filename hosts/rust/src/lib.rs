@@ -68,7 +68,7 @@ pub use model::batch::{BatchError, Fate, Mutation};
 pub use model::change::{Change, Outcome, Record, Write};
 pub use model::client_set::ClientSet;
 pub use model::code::Code;
-pub use model::error::{Error, JoinError, Unsent};
+pub use model::error::{Error, ErrorKind, JoinError, JoinErrorKind, Unsent};
 pub use model::history::{History, Mark};
 pub use model::lease_record::LeaseRecord;
 pub use model::lock::{HeldSlot, Mode};
@@ -100,7 +100,6 @@ pub use server::shown::timings::{Counts, Measured};
 pub use server::shown::watch::{HeldSlots, Wait};
 pub use shards::builder::ShardedBuilder;
 pub use shards::client::{ShardStatus, ShardedClient};
-pub use shards::error::{ShardError, ShardJoinError};
 pub use shards::map::{BadShardMap, Shard, ShardMap};
 #[cfg(feature = "map-file")]
 pub use shards::map_file::BadMapFile;

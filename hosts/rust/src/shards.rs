@@ -2,7 +2,6 @@
 pub(crate) mod batch;
 pub(crate) mod builder;
 pub(crate) mod client;
-pub(crate) mod error;
 pub(crate) mod joined;
 pub(crate) mod map;
 mod map_change;

@@ -1,6 +1,8 @@
 //! Calls of a client that are futures, by an executor of 20 lines.
-use krl::Waited;
-use krl::{AsyncClient, Client, Error, Fate, MemoryStore, Mutation, Outcome, Row, Server, Value};
+use krl::{
+    AsyncClient, Client, ErrorKind, Fate, MemoryStore, Mutation, Outcome, Row, Server, Value,
+    Waited,
+};
 use std::future::Future;
 use std::pin::{Pin, pin};
 use std::sync::atomic::{AtomicUsize, Ordering};
@@ -134,7 +136,7 @@ fn each_call_has_its_outcome_and_a_read_from_the_cache_does_not_yield() {
         assert_eq!(client.client().cached(10..20), Ok(None));
         assert_eq!(client.delete(16).await, Ok(Outcome::Applied));
         assert_eq!(client.read(10..20).await, Ok(vec![row(15, 2)]));
-        assert_eq!(client.put(krl::END, Value::from(1)).await, Err(Error::BadKey));
+        assert_eq!(client.put(krl::END, Value::from(1)).await, Err(ErrorKind::BadKey.into()));
         let (rows, pin) = client.pin_for_update(10..20).await.unwrap();
         assert_eq!(rows, [row(15, 2)]);
         assert_eq!(pin.set(17, Value::from(1)).await, Ok(Outcome::Applied));
@@ -156,7 +158,7 @@ fn a_client_with_a_time_of_its_own_keeps_it() {
     let (begun, short) = (Instant::now(), other.client().within(Duration::from_millis(50)));
     block_on(async {
         let short = AsyncClient::from(short);
-        assert_eq!(short.read(10..20).await, Err(Error::TimedOut));
+        assert_eq!(short.read(10..20).await, Err(ErrorKind::TimedOut.into()));
         assert!(short.put(15, Value::from(1)).await.is_err());
         assert!(short.set(15, Value::from(1)).await.is_err());
         assert!(short.write_all([Mutation::Delete(15)]).await.is_err());
@@ -281,9 +283,9 @@ fn a_call_ends_by_its_timeout_while_there_is_no_server() {
     server.stop().unwrap();
     client.client().set_timeout(Duration::from_millis(100));
     let begun = Instant::now();
-    assert_eq!(block_on(client.read(0..9)), Err(Error::TimedOut));
+    assert_eq!(block_on(client.read(0..9)), Err(ErrorKind::TimedOut.into()));
     assert!(begun.elapsed() >= Duration::from_millis(100));
-    assert_eq!(block_on(client.leave()), Err(Error::TimedOut));
+    assert_eq!(block_on(client.leave()), Err(ErrorKind::TimedOut.into()));
 }
 
 #[test]

@@ -3,8 +3,10 @@ mod network;
 mod peer;
 mod shared_store;
 
-use krl::{Address, Client, Error, JoinError, Leases, Listener, Outcome, Refusal, Row, Server};
-use krl::{Value, evict};
+use krl::{
+    Address, Client, ErrorKind, JoinError, JoinErrorKind, Leases, Listener, Outcome, Refusal, Row,
+    Server, Value, evict,
+};
 use network::Network;
 use peer::{HELLO, HOST_HELLO, Peer, frame};
 use shared_store::SharedStore;
@@ -120,7 +122,7 @@ fn a_write_that_was_on_its_way_is_told_as_such() {
     assert_eq!(client.insert(10, Value::from(1)), Ok(Outcome::Applied));
     network.cut(true);
     // It holds the entry, so this is a write and no request.
-    assert_eq!(client.put(10, Value::from(2)), Err(Error::LeaseEnded));
+    assert_eq!(client.put(10, Value::from(2)), Err(ErrorKind::LeaseEnded.into()));
     network.cut(false);
     let rows = client.read(0..100).unwrap();
     assert!(rows == [row(10, 1)] || rows == [row(10, 2)], "{rows:?}");
@@ -160,7 +162,7 @@ fn a_pin_ends_with_the_lease() {
     assert!(!pin.holds() && next.holds());
     // It is a pin of the older incarnation, whatever its number is.
     drop(pin);
-    assert!(cut.forget(0..100) == Err(Error::Pinned) && next.holds());
+    assert!(cut.forget(0..100) == Err(ErrorKind::Pinned.into()) && next.holds());
 }
 
 #[test]
@@ -253,7 +255,7 @@ fn a_second_process_of_a_number_waits_for_the_first_ones_lease() {
     };
     let refused = join(3 * T).unwrap_err();
     let runs = |error: &JoinError| {
-        matches!(error, JoinError::Unserved(Refusal::LeaseRuns { client: 0, .. }))
+        matches!(error.kind, JoinErrorKind::Unserved(Refusal::LeaseRuns { client: 0, .. }))
     };
     assert!(runs(&refused), "the first one lives: {refused}");
     assert!(first.cached(0..100).unwrap().is_some());

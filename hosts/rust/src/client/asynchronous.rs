@@ -8,7 +8,7 @@ use crate::client::set;
 use crate::client::shared::{MAX_WAIT, Shared};
 use crate::model::batch::{self, BatchError, Judged, Mutation};
 use crate::model::change::{Outcome, Write};
-use crate::model::error::{Error, Unsent};
+use crate::model::error::{Error, ErrorKind, Unsent};
 use crate::model::range::keys_of;
 use crate::model::row::{END, Row, Value};
 use std::fmt;
@@ -195,8 +195,8 @@ impl AsyncClient {
         let watch = |jobs: &mut Jobs| jobs.watch(keys, rows.to_vec());
         match Awaited::begin(self.shared().link(), end, watch).await {
             Ok(()) => Ok(Waited::Changed),
-            Err(Error::TimedOut | Error::Unserved(_)) => Ok(Waited::Unchanged),
-            Err(refused) => Err(refused),
+            Err(ErrorKind::TimedOut | ErrorKind::Unserved(_)) => Ok(Waited::Unchanged),
+            Err(refused) => Err(refused.into()),
         }
     }
 
@@ -208,7 +208,7 @@ impl AsyncClient {
     pub fn changes(&self, keys: impl RangeBounds<u64>) -> Result<AsyncChanges, Error> {
         let keys = keys_of(&keys)?;
         if keys.is_empty() {
-            return Err(Error::BadRange);
+            return Err(ErrorKind::BadRange.into());
         }
         Ok(AsyncChanges { client: self.clone(), keys, last: None })
     }
@@ -226,7 +226,7 @@ impl AsyncClient {
 
     async fn hold(&self, keys: Range<u64>, purpose: Purpose) -> Pinned {
         if keys.is_empty() {
-            return Err(Error::BadRange);
+            return Err(ErrorKind::BadRange.into());
         }
         let (link, end) = (self.shared().link(), self.client.end());
         let held = Awaited::begin(link, end, |jobs| jobs.hold(keys, purpose)).or_undo(unpin).await;
@@ -239,7 +239,7 @@ impl AsyncClient {
     }
 
     async fn ask<T>(&self, ask: impl FnOnce(&mut Jobs) -> Asked<T>) -> Result<T, Error> {
-        Awaited::begin(self.shared().link(), self.client.end(), ask).await
+        Ok(Awaited::begin(self.shared().link(), self.client.end(), ask).await?)
     }
 
     fn shared(&self) -> &Arc<Shared> {
@@ -357,7 +357,7 @@ impl AsyncChanges {
                     self.last = Some(rows.clone());
                     return Some(Ok(rows));
                 }
-                Err(Error::Left) => return None,
+                Err(error) if error.kind == ErrorKind::Left => return None,
                 Err(error) => return Some(Err(error)),
             }
         }
@@ -393,9 +393,9 @@ async fn write_by(
     ask: &impl Fn(&mut Jobs, Write) -> Asked<Outcome>,
 ) -> Result<Outcome, Error> {
     if write.key() >= END {
-        return Err(Error::BadKey);
+        return Err(ErrorKind::BadKey.into());
     }
-    Awaited::begin(shared.link(), end, |jobs| ask(jobs, write)).await
+    Ok(Awaited::begin(shared.link(), end, |jobs| ask(jobs, write)).await?)
 }
 
 async fn set_by(
@@ -410,7 +410,7 @@ async fn set_by(
         let Some(following) = set::after(next, outcome) else { return Ok(outcome) };
         next = following;
         if Instant::now() >= end {
-            return Err(Error::NotSent(Unsent::TimedOut));
+            return Err(ErrorKind::NotSent(Unsent::TimedOut).into());
         }
     }
 }

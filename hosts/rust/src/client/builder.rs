@@ -2,7 +2,7 @@
 use crate::client::Client;
 use crate::client::joining::{self, Errand, Waits};
 use crate::client::numbers;
-use crate::model::error::JoinError;
+use crate::model::error::{JoinError, JoinErrorKind};
 use crate::net::servers::Servers;
 #[cfg(feature = "tls")]
 use crate::net::tls::TlsConfig;
@@ -71,16 +71,16 @@ impl ClientBuilder {
             joining::join(servers.clone(), number, lock_file, waits, Errand::Work)
         };
         let (numbers, folder) = match self.numbers {
-            Numbers::One(number, lock_file) => return join(number, waits, &lock_file),
+            Numbers::One(number, lock_file) => return Ok(join(number, waits, &lock_file)?),
             Numbers::FirstFree(numbers, folder) => (numbers, folder),
         };
         let join =
-            |number, waits| join(number, waits, &folder.join(format!("client-{number}.lock")));
+            |number, waits| Ok(join(number, waits, &folder.join(format!("client-{number}.lock")))?);
         match numbers[..] {
             [number] => join(number, waits),
             ref numbers => {
-                let joined = numbers::join_first(numbers, waits, join, |error| error);
-                joined.unwrap_or(Err(JoinError::Incomplete("a number")))
+                let joined = numbers::join_first(numbers, waits, join);
+                joined.unwrap_or(Err(JoinErrorKind::Incomplete("a number").into()))
             }
         }
     }
@@ -105,7 +105,7 @@ impl Client {
         lock_file: impl AsRef<Path>,
     ) -> Result<Client, JoinError> {
         let (waits, lock_file) = (Waits::by_default(), lock_file.as_ref());
-        joining::join(servers.into(), number, lock_file, waits, Errand::Work)
+        Ok(joining::join(servers.into(), number, lock_file, waits, Errand::Work)?)
     }
 
     /// A builder for a client of this number with this lock file, as [`Client::join`] takes them: it

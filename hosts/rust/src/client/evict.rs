@@ -1,6 +1,6 @@
 //! The operator's eviction of a client.
 use crate::client::joining::{self, Errand, Waits};
-use crate::model::error::JoinError;
+use crate::model::error::{JoinError, JoinErrorKind};
 use crate::model::refusal::Refusal;
 use crate::net::servers::Servers;
 use std::path::Path;
@@ -33,19 +33,21 @@ pub fn evict(
     let (waits, lock_file, mut above) = (Waits::by_default(), lock_file.as_ref(), 0);
     loop {
         match joining::join(servers.clone(), number, lock_file, waits, Errand::Evict { above }) {
-            Ok(client) => return client.leave().map_err(JoinError::Refused),
-            Err(JoinError::Unserved(Refusal::Incarnation { registered, .. }))
+            Ok(client) => {
+                return Ok(client.leave().map_err(|error| JoinErrorKind::Refused(error.kind))?);
+            }
+            Err(JoinErrorKind::Unserved(Refusal::Incarnation { registered, .. }))
                 if registered > above =>
             {
                 above = registered;
             }
-            Err(error) if end <= Instant::now() || !is_early(&error) => return Err(error),
+            Err(error) if end <= Instant::now() || !is_early(&error) => return Err(error.into()),
             Err(_) => {}
         }
     }
 }
 
 /// Whether the lease of the older incarnation had not ended yet.
-fn is_early(error: &JoinError) -> bool {
-    matches!(error, JoinError::Unserved(Refusal::LeaseRuns { .. }))
+fn is_early(error: &JoinErrorKind) -> bool {
+    matches!(error, JoinErrorKind::Unserved(Refusal::LeaseRuns { .. }))
 }

@@ -7,7 +7,7 @@ use crate::client::shared::Shared;
 use crate::lease::clocks::Now;
 use crate::lease::terms::Older;
 use crate::model::client_number::ClientNumber;
-use crate::model::error::{Error, JoinError};
+use crate::model::error::{ErrorKind, JoinErrorKind};
 use crate::model::refusal::Refusal;
 use crate::net::connect_fault::{NoServer, NotTaken, Rejection};
 use crate::net::servers::Servers;
@@ -53,7 +53,7 @@ pub(crate) fn join(
     lock_file: &Path,
     waits: Waits,
     errand: Errand,
-) -> Result<Client, JoinError> {
+) -> Result<Client, JoinErrorKind> {
     let shared = start(servers, number, lock_file, waits, errand)?;
     let begun = Instant::now();
     let gives_up = move |refusal, now: Instant| match errand {
@@ -79,51 +79,52 @@ fn start(
     lock_file: &Path,
     waits: Waits,
     errand: Errand,
-) -> Result<Shared, JoinError> {
+) -> Result<Shared, JoinErrorKind> {
     if ClientNumber::of(number).is_none() {
-        return Err(JoinError::BadNumber);
+        return Err(JoinErrorKind::BadNumber);
     }
     let taken = LockFile::take(lock_file, number);
-    let (mut lock_file, incarnation) = taken.map_err(JoinError::of_lock_file(lock_file))?;
+    let (mut lock_file, incarnation) = taken.map_err(JoinErrorKind::of_lock_file(lock_file))?;
     let (incarnation, older) = match errand {
         Errand::Work => (incarnation, lock_file.older()),
         Errand::Evict { above } => (lock_file.rise_above(above), Older::Vouched),
     };
     let handle = ClientHandle::open_behind(number, incarnation, older);
-    let handle = handle.map_err(Error::from)?;
+    let handle = handle.map_err(|code| JoinErrorKind::Refused(code.into()))?;
     let jobs = Jobs::new(handle, Now::read());
-    let (link, poller) = Link::new(servers, jobs, Some(lock_file)).map_err(JoinError::NoThread)?;
-    Shared::start(number, link, poller, waits.timeout).map_err(JoinError::NoThread)
+    let (link, poller) =
+        Link::new(servers, jobs, Some(lock_file)).map_err(JoinErrorKind::NoThread)?;
+    Shared::start(number, link, poller, waits.timeout).map_err(JoinErrorKind::NoThread)
 }
 
 /// Ends a client that has not joined: it sends Bye, and waits for nothing.
-fn not_joined(shared: &Shared, refused: Error) -> JoinError {
+fn not_joined(shared: &Shared, refused: ErrorKind) -> JoinErrorKind {
     let link = shared.link();
     let (fault, nothing_listens) = (link.take_fault(), link.take_nothing_listens());
     let rejection = link.rejection();
     shared.end_by(Instant::now());
     if let Some(fault) = nothing_listens {
-        return JoinError::NothingListens { servers: Box::new(link.servers().clone()), fault };
+        return JoinErrorKind::NothingListens { servers: Box::new(link.servers().clone()), fault };
     }
     match refused {
-        Error::TimedOut => not_answered(link.servers(), fault),
-        Error::Unserved(refusal) => JoinError::Unserved(refusal),
-        Error::OtherShard(other) => JoinError::OtherShard(other),
-        Error::TurnedAway => JoinError::TurnedAway(match rejection {
+        ErrorKind::TimedOut => not_answered(link.servers(), fault),
+        ErrorKind::Unserved(refusal) => JoinErrorKind::Unserved(refusal),
+        ErrorKind::OtherShard(other) => JoinErrorKind::OtherShard(other),
+        ErrorKind::TurnedAway => JoinErrorKind::TurnedAway(match rejection {
             Some(Rejection::NotTaken(NotTaken(why))) => why,
             _ => String::new(),
         }),
-        refused => JoinError::Refused(refused),
+        refused => JoinErrorKind::Refused(refused),
     }
 }
 
 /// Why a client did not join whose last connection ended by this fault.
-fn not_answered(servers: &Servers, fault: Option<io::Error>) -> JoinError {
+fn not_answered(servers: &Servers, fault: Option<io::Error>) -> JoinErrorKind {
     match fault.as_ref().and_then(NoServer::carried_by) {
         Some(NoServer(address)) if !servers.are_several() => {
-            JoinError::NoServer { address: address.clone() }
+            JoinErrorKind::NoServer { address: address.clone() }
         }
-        _ => JoinError::NoAnswer { servers: Box::new(servers.clone()), fault },
+        _ => JoinErrorKind::NoAnswer { servers: Box::new(servers.clone()), fault },
     }
 }
 

@@ -1,7 +1,7 @@
 //! The first number of several that is free.
 use crate::client::joining::Waits;
 use crate::client::lock_file::LockFileError;
-use crate::model::error::JoinError;
+use crate::model::error::{JoinError, JoinErrorKind};
 use crate::model::refusal::Refusal;
 use std::time::Duration;
 
@@ -13,12 +13,11 @@ const IN_USE: Duration = Duration::from_secs(1);
 /// that it is in use after a moment. If no other one is free, the first of the latter is waited for.
 /// If the lock files of all are of no use, the error is that of the last number. `None` if there are
 /// no numbers.
-pub(crate) fn join_first<C, E>(
+pub(crate) fn join_first<C>(
     numbers: &[u8],
     waits: Waits,
-    join: impl Fn(u8, Waits) -> Result<C, E>,
-    why: impl Fn(&E) -> &JoinError,
-) -> Option<Result<C, E>> {
+    join: impl Fn(u8, Waits) -> Result<C, JoinError>,
+) -> Option<Result<C, JoinError>> {
     let short = Waits { if_in_use: waits.if_in_use.min(IN_USE), ..waits };
     let (mut in_use, mut taken) = (None, None);
     for &number in numbers {
@@ -26,10 +25,10 @@ pub(crate) fn join_first<C, E>(
             Ok(client) => return Some(Ok(client)),
             Err(error) => error,
         };
-        match why(&error) {
-            JoinError::LockFile { error: LockFileError::Taken, .. }
-            | JoinError::Unserved(Refusal::FarAhead { .. }) => taken = Some(Err(error)),
-            JoinError::Unserved(Refusal::LeaseRuns { .. } | Refusal::Incarnation { .. }) => {
+        match error.kind {
+            JoinErrorKind::LockFile { error: LockFileError::Taken, .. }
+            | JoinErrorKind::Unserved(Refusal::FarAhead { .. }) => taken = Some(Err(error)),
+            JoinErrorKind::Unserved(Refusal::LeaseRuns { .. } | Refusal::Incarnation { .. }) => {
                 in_use.get_or_insert(number);
             }
             _ => return Some(Err(error)),
@@ -56,19 +55,28 @@ mod tests {
             tried.borrow_mut().push((number, waits.if_in_use == WAITS.if_in_use));
             match numbers.iter().find(|(other, _)| *other == number).unwrap().1 {
                 'l' => Err(taken(number)),
-                'u' => Err(JoinError::Unserved(Refusal::Incarnation { client: 1, registered: 2 })),
-                'a' => Err(JoinError::Unserved(Refusal::FarAhead { client: 1, latest: 2 })),
-                'f' => Err(JoinError::BadNumber),
+                'u' => Err(unserved(Refusal::Incarnation { client: 1, registered: 2 })),
+                'a' => Err(unserved(Refusal::FarAhead { client: 1, latest: 2 })),
+                'f' => Err(JoinErrorKind::BadNumber.into()),
                 _ => Ok(number),
             }
         };
         let all: Vec<u8> = numbers.iter().map(|(number, _)| *number).collect();
-        let joined = join_first(&all, WAITS, join, |error| error);
+        let joined = join_first(&all, WAITS, join);
         (joined, tried.into_inner())
     }
 
     fn taken(number: u8) -> JoinError {
-        JoinError::LockFile { path: number.to_string().into(), error: LockFileError::Taken }
+        let error = LockFileError::Taken;
+        JoinErrorKind::LockFile { path: number.to_string().into(), error }.into()
+    }
+
+    fn unserved(refusal: Refusal) -> JoinError {
+        JoinErrorKind::Unserved(refusal).into()
+    }
+
+    fn kind(joined: Option<Result<u8, JoinError>>) -> Option<JoinErrorKind> {
+        joined?.err().map(|error| error.kind)
     }
 
     #[test]
@@ -81,7 +89,7 @@ mod tests {
     #[test]
     fn one_that_is_in_use_is_waited_for_if_no_other_one_is_free() {
         let (joined, tried) = run(&[(3, 'u'), (4, 'l'), (5, 'u')]);
-        assert!(matches!(joined, Some(Err(JoinError::Unserved(_)))));
+        assert!(matches!(kind(joined), Some(JoinErrorKind::Unserved(_))));
         assert_eq!(tried, [(3, false), (4, false), (5, false), (3, true)]);
     }
 
@@ -95,7 +103,7 @@ mod tests {
     #[test]
     fn another_failure_ends_the_search() {
         let (joined, tried) = run(&[(3, 'f'), (4, ' ')]);
-        assert!(matches!(joined, Some(Err(JoinError::BadNumber))));
+        assert!(matches!(kind(joined), Some(JoinErrorKind::BadNumber)));
         assert_eq!(tried, [(3, false)]);
     }
 }

@@ -4,7 +4,7 @@ use crate::client::set;
 use crate::client::shared::{MAX_WAIT, Shared};
 use crate::model::batch::{BatchError, Mutation};
 use crate::model::change::{Outcome, Write};
-use crate::model::error::Error;
+use crate::model::error::{Error, ErrorKind};
 use crate::model::row::{Row, Value};
 use std::fmt;
 use std::sync::Arc;
@@ -91,7 +91,7 @@ impl Pin {
     ///
     /// [`Client::insert`]: crate::Client::insert
     pub fn insert(&self, key: u64, value: Value) -> Result<Outcome, Error> {
-        self.write(self.end(), Write::Insert(Row { key, value }))
+        Ok(self.write(self.end(), Write::Insert(Row { key, value }))?)
     }
 
     /// Gives a row another value while the pin holds, or never. The outcome is that of
@@ -103,7 +103,7 @@ impl Pin {
     ///
     /// [`Client::put`]: crate::Client::put
     pub fn put(&self, key: u64, value: Value) -> Result<Outcome, Error> {
-        self.write(self.end(), Write::Put(Row { key, value }))
+        Ok(self.write(self.end(), Write::Put(Row { key, value }))?)
     }
 
     /// Gives a key this value, whether or not it has a row, while the pin holds, or never. The
@@ -116,7 +116,7 @@ impl Pin {
     /// [`Client::set`]: crate::Client::set
     pub fn set(&self, key: u64, value: Value) -> Result<Outcome, Error> {
         let (first, end) = (self.shared().first_of_set(Row { key, value }), self.end());
-        set::set(first, end, |write| self.write(end, write))
+        Ok(set::set(first, end, |write| self.write(end, write))?)
     }
 
     /// Deletes a row while the pin holds, or never. The outcome is that of [`Client::delete`]. The
@@ -128,7 +128,7 @@ impl Pin {
     ///
     /// [`Client::delete`]: crate::Client::delete
     pub fn delete(&self, key: u64) -> Result<Outcome, Error> {
-        self.write(self.end(), Write::Delete(key))
+        Ok(self.write(self.end(), Write::Delete(key))?)
     }
 
     /// Makes several writes, as [`Client::write_all`] does, each while the pin holds, or never.
@@ -150,7 +150,7 @@ impl Pin {
         self.shared().write_all(self.end(), writes.into_iter().collect(), ask)
     }
 
-    fn write(&self, end: Instant, write: Write) -> Result<Outcome, Error> {
+    fn write(&self, end: Instant, write: Write) -> Result<Outcome, ErrorKind> {
         let ask = |jobs: &mut Jobs, write| jobs.write_under(self.id(), write);
         self.shared().write(end, write, ask)
     }

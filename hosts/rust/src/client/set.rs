@@ -1,23 +1,23 @@
 //! A write of a key of which it does not matter whether it has a row.
 use crate::model::change::{Outcome, Write};
-use crate::model::error::{Error, Unsent};
+use crate::model::error::{ErrorKind, Unsent};
 use std::time::Instant;
 
 /// Makes the write; if it is a put and there is no row, an insert in its place, and if it is an
 /// insert and there is a row, a put. Other clients may make and delete the row in between: then it
 /// continues by turns, until the deadline. So the outcome is `Applied` or `Full`.
-pub(crate) fn set<E: From<Error>>(
+pub(crate) fn set(
     first: Write,
     end: Instant,
-    mut write: impl FnMut(Write) -> Result<Outcome, E>,
-) -> Result<Outcome, E> {
+    mut write: impl FnMut(Write) -> Result<Outcome, ErrorKind>,
+) -> Result<Outcome, ErrorKind> {
     let mut next = first;
     loop {
         let outcome = write(next)?;
         let Some(following) = after(next, outcome) else { return Ok(outcome) };
         next = following;
         if Instant::now() >= end {
-            return Err(Error::NotSent(Unsent::TimedOut).into());
+            return Err(ErrorKind::NotSent(Unsent::TimedOut));
         }
     }
 }
@@ -53,8 +53,8 @@ mod tests {
     /// What comes of a set whose writes are answered so, and which writes it makes.
     fn run(
         first: Write,
-        answers: &[Result<Outcome, Error>],
-    ) -> (Result<Outcome, Error>, Vec<Write>) {
+        answers: &[Result<Outcome, ErrorKind>],
+    ) -> (Result<Outcome, ErrorKind>, Vec<Write>) {
         let (mut answers, mut made) = (answers.iter(), Vec::new());
         let end = Instant::now() + Duration::from_secs(3600);
         let ended = set(first, end, |write| {
@@ -79,7 +79,7 @@ mod tests {
 
     #[test]
     fn no_write_follows_one_that_may_have_been_applied() {
-        let lost = Err(Error::LeaseEnded);
+        let lost = Err(ErrorKind::LeaseEnded);
         assert_eq!(run(put(), &[lost]), (lost, vec![put()]));
         assert_eq!(run(put(), &[Ok(Outcome::Absent), lost]), (lost, vec![put(), insert()]));
     }
@@ -88,11 +88,11 @@ mod tests {
     fn it_ends_at_its_deadline_though_other_clients_go_on() {
         let mut count = 0;
         let end = Instant::now() + Duration::from_millis(20);
-        let ended = set(put(), end, |write| -> Result<Outcome, Error> {
+        let ended = set(put(), end, |write| -> Result<Outcome, ErrorKind> {
             count += 1;
             Ok(if write == put() { Outcome::Absent } else { Outcome::Exists })
         });
-        assert_eq!(ended, Err(Error::NotSent(Unsent::TimedOut)));
+        assert_eq!(ended, Err(ErrorKind::NotSent(Unsent::TimedOut)));
         assert!(count > 1 && Instant::now() >= end);
     }
 }

@@ -5,7 +5,7 @@ use crate::lease::boot_clock::Moment;
 use crate::log::span;
 use crate::model::batch::{self, BatchError, Judged, Mutation};
 use crate::model::change::{Outcome, Write};
-use crate::model::error::Error;
+use crate::model::error::ErrorKind;
 use crate::model::row::{END, Row};
 use crate::net::poller::Poller;
 use crate::proved::client_handle::Scan;
@@ -86,9 +86,9 @@ impl Shared {
         end: Instant,
         write: Write,
         ask: impl FnOnce(&mut Jobs, Write) -> Asked<Outcome>,
-    ) -> Result<Outcome, Error> {
+    ) -> Result<Outcome, ErrorKind> {
         if write.key() >= END {
-            return Err(Error::BadKey);
+            return Err(ErrorKind::BadKey);
         }
         let key = write.key();
         let _span = span::of(name_of(write), self.number, &(key..key + 1));
@@ -118,7 +118,7 @@ impl Shared {
 
     /// Waits until the deadline for the server to keep that the client left. Then its thread has
     /// ended, and its number is free.
-    pub fn finish_leaving(&self, leaving: Asked<()>, end: Instant) -> Result<(), Error> {
+    pub fn finish_leaving(&self, leaving: Asked<()>, end: Instant) -> Result<(), ErrorKind> {
         self.link.finish(leaving, end)?;
         self.end(end);
         Ok(())

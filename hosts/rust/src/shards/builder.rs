@@ -2,10 +2,9 @@
 use crate::client::Client;
 use crate::client::joining::{self, Errand, Waits};
 use crate::client::numbers;
-use crate::model::error::JoinError;
+use crate::model::error::{JoinError, JoinErrorKind};
 use crate::model::row::END;
 use crate::shards::client::ShardedClient;
-use crate::shards::error::ShardJoinError;
 use crate::shards::joined::Joined;
 use crate::shards::map::{Shard, ShardMap};
 use std::ops::Range;
@@ -27,7 +26,7 @@ pub struct ShardedBuilder {
     waits: Waits,
 }
 
-type JoinedShard = Result<Client, JoinError>;
+type JoinedShard = Result<Client, JoinErrorKind>;
 
 impl ShardedBuilder {
     /// The keys for which the client is: all of them by default. It joins only the shards that have
@@ -61,15 +60,14 @@ impl ShardedBuilder {
     /// `Incomplete` if no shard has any of the keys, or there are no numbers; `LockFile` if other
     /// processes have the lock files of all numbers; otherwise those of [`Client::join`], with the
     /// shard.
-    pub fn join(self) -> Result<ShardedClient, ShardJoinError> {
-        let of_none = |error| ShardJoinError { shard: None, error };
-        let places = self.places().ok_or(of_none(JoinError::Incomplete("keys of a shard")))?;
+    pub fn join(self) -> Result<ShardedClient, JoinError> {
+        let places = self.places().ok_or(JoinErrorKind::Incomplete("keys of a shard"))?;
         let join = |number, waits| self.join_as(number, waits, places.clone());
         match self.numbers[..] {
             [number] => join(number, self.waits),
             ref numbers => {
-                let joined = numbers::join_first(numbers, self.waits, join, |failed| &failed.error);
-                joined.unwrap_or(Err(of_none(JoinError::Incomplete("a number"))))
+                let joined = numbers::join_first(numbers, self.waits, join);
+                joined.unwrap_or(Err(JoinErrorKind::Incomplete("a number").into()))
             }
         }
     }
@@ -80,7 +78,7 @@ impl ShardedBuilder {
         number: u8,
         waits: Waits,
         places: Range<usize>,
-    ) -> Result<ShardedClient, ShardJoinError> {
+    ) -> Result<ShardedClient, JoinError> {
         let joined: Vec<JoinedShard> = thread::scope(|scope| {
             let joining = places.clone().map(|place| {
                 let shard = &self.map.shards()[place];
@@ -96,8 +94,8 @@ impl ShardedBuilder {
         for (shard, joined) in places.clone().zip(joined) {
             match joined {
                 Ok(client) => clients.push(client),
-                Err(error) => {
-                    failed.get_or_insert(ShardJoinError { shard: Some(shard), error });
+                Err(kind) => {
+                    failed.get_or_insert(JoinError::at(shard)(kind));
                 }
             }
         }
@@ -123,7 +121,7 @@ impl ShardedClient {
         map: ShardMap,
         number: u8,
         lock_folder: impl AsRef<Path>,
-    ) -> Result<ShardedClient, ShardJoinError> {
+    ) -> Result<ShardedClient, JoinError> {
         ShardedClient::builder(map, number, lock_folder.as_ref()).join()
     }
 
@@ -154,6 +152,6 @@ fn lock_file(folder: &Path, shard: &Shard, number: u8) -> PathBuf {
 
 /// Waits until a shard's client has joined, or has not.
 fn wait(joining: std::io::Result<ScopedJoinHandle<'_, JoinedShard>>) -> JoinedShard {
-    let joining = joining.map_err(JoinError::NoThread)?;
+    let joining = joining.map_err(JoinErrorKind::NoThread)?;
     joining.join().unwrap_or_else(|panic| resume_unwind(panic))
 }

@@ -5,10 +5,9 @@ use crate::client::changes::{Changes, WatchedRange};
 use crate::client::scratch::with_room;
 use crate::model::batch::{BatchError, Mutation};
 use crate::model::change::Outcome;
-use crate::model::error::Error;
+use crate::model::error::{Error, ErrorKind};
 use crate::model::range::keys_of;
 use crate::model::row::{Row, Value};
-use crate::shards::error::ShardError;
 use crate::shards::joined::Joined;
 use crate::shards::map::ShardMap;
 use crate::shards::pin::ShardedPin;
@@ -132,7 +131,7 @@ impl ShardedClient {
     /// # Errors
     ///
     /// Those of [`Client::read`], with the shard.
-    pub fn read(&self, keys: impl RangeBounds<u64>) -> Result<Vec<Row>, ShardError> {
+    pub fn read(&self, keys: impl RangeBounds<u64>) -> Result<Vec<Row>, Error> {
         self.within(self.timeout()).read(keys)
     }
 
@@ -172,7 +171,7 @@ impl ShardedClient {
     /// # Errors
     ///
     /// Those of [`ShardedClient::pin_for_read`].
-    pub fn pin(&self, keys: impl RangeBounds<u64>) -> Result<ShardedPin, ShardError> {
+    pub fn pin(&self, keys: impl RangeBounds<u64>) -> Result<ShardedPin, Error> {
         self.pin_for_read(keys).map(|(_, pin)| pin)
     }
 
@@ -181,7 +180,7 @@ impl ShardedClient {
     /// # Errors
     ///
     /// Those of [`Client::insert`], with the shard.
-    pub fn insert(&self, key: u64, value: Value) -> Result<Outcome, ShardError> {
+    pub fn insert(&self, key: u64, value: Value) -> Result<Outcome, Error> {
         self.joined.at(key, |client| client.insert(key, value))
     }
 
@@ -190,7 +189,7 @@ impl ShardedClient {
     /// # Errors
     ///
     /// Those of [`ShardedClient::insert`].
-    pub fn put(&self, key: u64, value: Value) -> Result<Outcome, ShardError> {
+    pub fn put(&self, key: u64, value: Value) -> Result<Outcome, Error> {
         self.joined.at(key, |client| client.put(key, value))
     }
 
@@ -200,7 +199,7 @@ impl ShardedClient {
     /// # Errors
     ///
     /// Those of [`ShardedClient::insert`].
-    pub fn set(&self, key: u64, value: Value) -> Result<Outcome, ShardError> {
+    pub fn set(&self, key: u64, value: Value) -> Result<Outcome, Error> {
         self.joined.at(key, |client| client.set(key, value))
     }
 
@@ -209,7 +208,7 @@ impl ShardedClient {
     /// # Errors
     ///
     /// Those of [`ShardedClient::insert`].
-    pub fn delete(&self, key: u64) -> Result<Outcome, ShardError> {
+    pub fn delete(&self, key: u64) -> Result<Outcome, Error> {
         self.joined.at(key, |client| client.delete(key))
     }
 
@@ -224,7 +223,7 @@ impl ShardedClient {
     pub fn write_all(
         &self,
         writes: impl IntoIterator<Item = Mutation>,
-    ) -> Result<Vec<Outcome>, BatchError<ShardError>> {
+    ) -> Result<Vec<Outcome>, BatchError> {
         self.within(self.timeout()).write_all(writes)
     }
 
@@ -233,7 +232,7 @@ impl ShardedClient {
     /// # Errors
     ///
     /// Those of [`Client::forget`], with the first shard that refused. The others have done it.
-    pub fn forget(&self, keys: impl RangeBounds<u64>) -> Result<(), ShardError> {
+    pub fn forget(&self, keys: impl RangeBounds<u64>) -> Result<(), Error> {
         self.within(self.timeout()).forget(keys)
     }
 
@@ -245,7 +244,7 @@ impl ShardedClient {
     ///
     /// `BadRange`, without a shard, if the range begins above its end, ends above 2^63, or has keys
     /// of a shard that is not joined.
-    pub fn cached(&self, keys: impl RangeBounds<u64>) -> Result<Option<Vec<Row>>, ShardError> {
+    pub fn cached(&self, keys: impl RangeBounds<u64>) -> Result<Option<Vec<Row>>, Error> {
         with_room(|room| Ok(self.cached_into(keys, room)?.then(|| room.clone())))
     }
 
@@ -259,7 +258,7 @@ impl ShardedClient {
         &self,
         keys: impl RangeBounds<u64>,
         rows: &mut Vec<Row>,
-    ) -> Result<bool, ShardError> {
+    ) -> Result<bool, Error> {
         rows.clear();
         Ok(self.joined.is_known(&self.joined.parts(keys)?, rows))
     }
@@ -275,7 +274,7 @@ impl ShardedClient {
         &self,
         keys: impl RangeBounds<u64>,
         visit: impl FnMut(&Row),
-    ) -> Result<bool, ShardError> {
+    ) -> Result<bool, Error> {
         with_room(|room| {
             let is_cached = self.cached_into(keys, room)?;
             if is_cached {
@@ -297,7 +296,7 @@ impl ShardedClient {
         keys: impl RangeBounds<u64>,
         rows: &[Row],
         timeout: Duration,
-    ) -> Result<Waited, ShardError> {
+    ) -> Result<Waited, Error> {
         self.joined.wait_for_change(keys, rows, timeout)
     }
 
@@ -308,10 +307,10 @@ impl ShardedClient {
     ///
     /// `BadRange` if the range is empty or not valid, or has keys of a shard that is not joined.
     /// Items are the errors of [`ShardedClient::read`].
-    pub fn changes(&self, keys: impl RangeBounds<u64>) -> Result<Changes<ShardError>, ShardError> {
+    pub fn changes(&self, keys: impl RangeBounds<u64>) -> Result<Changes, Error> {
         let keys = keys_of(&keys)?;
         if self.joined.parts(keys.clone())?.is_empty() {
-            return Err(Error::BadRange.into());
+            return Err(ErrorKind::BadRange.into());
         }
         Ok(Changes::of(RangeOfShards { client: self.clone(), keys }))
     }
@@ -322,7 +321,7 @@ impl ShardedClient {
     /// # Errors
     ///
     /// Those of [`Client::leave`], with the first shard that did not answer. The others are left.
-    pub fn leave(&self) -> Result<(), ShardError> {
+    pub fn leave(&self) -> Result<(), Error> {
         self.within(self.timeout()).leave()
     }
 }
@@ -333,16 +332,12 @@ struct RangeOfShards {
     keys: Range<u64>,
 }
 
-impl WatchedRange<ShardError> for RangeOfShards {
-    fn read(&self) -> Result<Vec<Row>, ShardError> {
+impl WatchedRange for RangeOfShards {
+    fn read(&self) -> Result<Vec<Row>, Error> {
         self.client.read(self.keys.clone())
     }
 
-    fn wait_for_change(&self, rows: &[Row], timeout: Duration) -> Result<Waited, ShardError> {
+    fn wait_for_change(&self, rows: &[Row], timeout: Duration) -> Result<Waited, Error> {
         self.client.wait_for_change(self.keys.clone(), rows, timeout)
-    }
-
-    fn has_left(&self, error: &ShardError) -> bool {
-        error.error == Error::Left
     }
 }

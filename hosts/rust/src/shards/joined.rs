@@ -7,12 +7,11 @@ use crate::client::pin::Pin;
 use crate::client::shared::{FAREWELL, MAX_WAIT, Shared};
 use crate::model::batch::{BatchError, Judged, Mutation};
 use crate::model::change::Outcome;
-use crate::model::error::Error;
+use crate::model::error::{Error, ErrorKind};
 use crate::model::range::keys_of;
 use crate::model::row::Row;
 use crate::proved::partition::Part;
 use crate::shards::batch::{PartOfBatch, Spread};
-use crate::shards::error::ShardError;
 use crate::shards::map::ShardMap;
 use crate::shards::one_moment::{self, Known};
 use std::ops::{Range, RangeBounds};
@@ -38,7 +37,7 @@ pub(crate) struct PinOfShard {
 }
 
 /// The rows of a range, and the pins of its parts.
-type Pinned = Result<(Vec<Row>, Vec<PinOfShard>), ShardError>;
+type Pinned = Result<(Vec<Row>, Vec<PinOfShard>), Error>;
 
 impl Joined {
     /// So many shards of the map, from this one on.
@@ -71,15 +70,11 @@ impl Joined {
     pub fn parts(&self, keys: impl RangeBounds<u64>) -> Result<Vec<Part>, Error> {
         let parts = self.map.parts(keys)?;
         let are_joined = parts.iter().all(|part| self.has(part.shard));
-        are_joined.then_some(parts).ok_or(Error::BadRange)
+        are_joined.then_some(parts).ok_or(ErrorKind::BadRange.into())
     }
 
     /// Reads until the deadline.
-    pub fn read_by(
-        &self,
-        keys: impl RangeBounds<u64>,
-        end: Instant,
-    ) -> Result<Vec<Row>, ShardError> {
+    pub fn read_by(&self, keys: impl RangeBounds<u64>, end: Instant) -> Result<Vec<Row>, Error> {
         let parts = self.parts(keys)?;
         let mut rows = Vec::new();
         while !self.is_known(&parts, &mut rows) {
@@ -92,9 +87,9 @@ impl Joined {
             match self.take(&parts, Purpose::Read, end) {
                 Ok((taken, _pin)) => return Ok(taken),
                 // The caller's own pins leave no room for others, so it continues without.
-                Err(ShardError { error: Error::TooManyPins, shard }) => {
+                Err(Error { kind: ErrorKind::TooManyPins, shard }) => {
                     if Instant::now() >= end {
-                        return Err(ShardError { error: Error::TimedOut, shard });
+                        return Err(Error { kind: ErrorKind::TimedOut, shard });
                     }
                 }
                 Err(refused) => return Err(refused),
@@ -114,7 +109,7 @@ impl Joined {
     }
 
     /// Asks for all parts at once, and waits until each was known at some moment.
-    fn fetch(&self, parts: &[Part], end: Instant) -> Result<(), ShardError> {
+    fn fetch(&self, parts: &[Part], end: Instant) -> Result<(), Error> {
         let read = |jobs: &mut Jobs, keys: &Range<u64>| jobs.read(keys.clone());
         self.ask_all(parts, end, read).map(drop)
     }
@@ -126,12 +121,12 @@ impl Joined {
         parts: &[Part],
         end: Instant,
         ask: impl Fn(&mut Jobs, &Range<u64>) -> Asked<T>,
-    ) -> Result<Vec<T>, ShardError> {
+    ) -> Result<Vec<T>, Error> {
         let begin =
             |part: &Part| (part.shard, self.link(part.shard).begin(|jobs| ask(jobs, &part.keys)));
         let asked: Vec<_> = parts.iter().map(begin).collect();
         let finish = |(shard, asked): (usize, Asked<T>)| {
-            self.link(shard).finish(asked, end).map_err(ShardError::at(shard))
+            self.link(shard).finish(asked, end).map_err(Error::at(shard))
         };
         let answered: Vec<_> = asked.into_iter().map(finish).collect();
         answered.into_iter().collect()
@@ -153,7 +148,7 @@ impl Joined {
             // Another thread of this client writes there, or a server's store went back.
             drop(pins);
             if Instant::now() >= end {
-                return Err(Error::TimedOut.into());
+                return Err(ErrorKind::TimedOut.into());
             }
         }
     }
@@ -163,10 +158,10 @@ impl Joined {
         Part { shard, keys }: &Part,
         purpose: Purpose,
         end: Instant,
-    ) -> Result<PinOfShard, ShardError> {
+    ) -> Result<PinOfShard, Error> {
         let shared = self.client(*shard).shared();
         let held = shared.link().ask(end, |jobs| jobs.hold(keys.clone(), purpose));
-        let Held { pin, .. } = held.map_err(ShardError::at(*shard))?;
+        let Held { pin, .. } = held.map_err(Error::at(*shard))?;
         Ok(PinOfShard { shard: *shard, pin: Pin::new(Arc::clone(shared), pin) })
     }
 
@@ -174,7 +169,7 @@ impl Joined {
     pub fn pin(&self, keys: &impl RangeBounds<u64>, purpose: Purpose, end: Instant) -> Pinned {
         let keys = keys_of(keys)?;
         if keys.is_empty() {
-            return Err(Error::BadRange.into());
+            return Err(ErrorKind::BadRange.into());
         }
         let parts = self.parts(keys)?;
         if purpose == Purpose::Read {
@@ -188,15 +183,15 @@ impl Joined {
         &self,
         key: u64,
         call: impl FnOnce(&Client) -> Result<Outcome, Error>,
-    ) -> Result<Outcome, ShardError> {
+    ) -> Result<Outcome, Error> {
         let shard = self.shard_of(key)?;
-        call(self.client(shard)).map_err(ShardError::at(shard))
+        call(self.client(shard)).map_err(|refused| Error::at(shard)(refused.kind))
     }
 
     /// The shard of the key, if it is joined.
-    pub fn shard_of(&self, key: u64) -> Result<usize, ShardError> {
+    pub fn shard_of(&self, key: u64) -> Result<usize, Error> {
         let shard = self.map.shard_of(key)?;
-        if self.has(shard) { Ok(shard) } else { Err(Error::BadKey.into()) }
+        if self.has(shard) { Ok(shard) } else { Err(ErrorKind::BadKey.into()) }
     }
 
     /// Makes the writes at all shards at once, as `ask` does at one, until the deadline.
@@ -205,7 +200,7 @@ impl Joined {
         spread: &Spread,
         end: Instant,
         ask: impl Fn(&mut Jobs, usize, Vec<Mutation>) -> Asked<Judged>,
-    ) -> Result<Vec<Outcome>, BatchError<ShardError>> {
+    ) -> Result<Vec<Outcome>, BatchError> {
         let begin = |PartOfBatch { shard, writes, .. }: &PartOfBatch| {
             let link = self.link(*shard);
             (link, link.begin(|jobs| ask(jobs, *shard, writes.clone())))
@@ -218,7 +213,7 @@ impl Joined {
     }
 
     /// Gives back what the client holds of the range, until the deadline.
-    pub fn forget_by(&self, keys: impl RangeBounds<u64>, end: Instant) -> Result<(), ShardError> {
+    pub fn forget_by(&self, keys: impl RangeBounds<u64>, end: Instant) -> Result<(), Error> {
         let forget = |jobs: &mut Jobs, keys: &Range<u64>| jobs.forget(keys.clone());
         self.ask_all(&self.parts(keys)?, end, forget).map(drop)
     }
@@ -229,7 +224,7 @@ impl Joined {
         keys: impl RangeBounds<u64>,
         rows: &[Row],
         timeout: Duration,
-    ) -> Result<Waited, ShardError> {
+    ) -> Result<Waited, Error> {
         let parts = self.parts(keys)?;
         if parts.is_empty() {
             return Ok(Waited::Changed);
@@ -251,12 +246,12 @@ impl Joined {
     }
 
     /// Leaves all shards at once, and waits for each until the deadline.
-    pub fn leave(&self, end: Instant) -> Result<(), ShardError> {
+    pub fn leave(&self, end: Instant) -> Result<(), Error> {
         let begin = |(shard, client): (usize, &Client)| (shard, client.shared().begin_to_leave());
         let leaving: Vec<_> = self.clients().map(begin).collect();
         let finish = |(shard, leaving): (usize, Asked<()>)| {
             let left = self.client(shard).shared().finish_leaving(leaving, end);
-            left.map_err(ShardError::at(shard))
+            left.map_err(Error::at(shard))
         };
         leaving.into_iter().map(finish).fold(Ok(()), Result::and)
     }

@@ -1,6 +1,6 @@
 //! Which servers have which keys.
 use crate::model::code::Code;
-use crate::model::error::Error;
+use crate::model::error::{Error, ErrorKind};
 use crate::model::range::keys_of;
 use crate::model::row::END;
 use crate::model::shard_bounds::ShardBounds;
@@ -108,7 +108,7 @@ impl ShardMap {
     /// `BadKey` for a key of 2^63 - 1 or more.
     pub fn shard_of(&self, key: u64) -> Result<usize, Error> {
         if key >= END {
-            return Err(Error::BadKey);
+            return Err(ErrorKind::BadKey.into());
         }
         Ok(self.partition.shard_of(key)?)
     }
@@ -162,11 +162,11 @@ mod tests {
     fn keys_and_ranges_have_their_shards() {
         let map = map(&[0, 10]).unwrap();
         assert_eq!([9, 10, END - 1].map(|key| map.shard_of(key)), [Ok(0), Ok(1), Ok(1)]);
-        assert_eq!(map.shard_of(END), Err(Error::BadKey));
+        assert_eq!(map.shard_of(END), Err(ErrorKind::BadKey.into()));
         let whole = [Part { shard: 0, keys: 0..10 }, Part { shard: 1, keys: 10..END + 1 }];
         assert_eq!(map.parts(..).unwrap(), whole);
         assert_eq!(map.parts(5..5), Ok(Vec::new()));
-        assert_eq!(map.parts(..=u64::MAX), Err(Error::BadRange));
+        assert_eq!(map.parts(..=u64::MAX), Err(ErrorKind::BadRange.into()));
     }
 
     #[test]

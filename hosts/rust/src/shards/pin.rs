@@ -4,10 +4,9 @@ use crate::client::pin::Pin;
 use crate::client::shared::MAX_WAIT;
 use crate::model::batch::{BatchError, Mutation};
 use crate::model::change::Outcome;
-use crate::model::error::Error;
+use crate::model::error::{Error, ErrorKind};
 use crate::model::row::Value;
 use crate::shards::batch::Spread;
-use crate::shards::error::ShardError;
 use crate::shards::joined::{Joined, PinOfShard};
 use std::sync::Arc;
 use std::time::{Duration, Instant};
@@ -49,7 +48,7 @@ impl ShardedPin {
     ///
     /// Those of [`Pin::insert`], with the shard; `PinIsVoid` also if no part of the pinned range is
     /// at the shard of the key.
-    pub fn insert(&self, key: u64, value: Value) -> Result<Outcome, ShardError> {
+    pub fn insert(&self, key: u64, value: Value) -> Result<Outcome, Error> {
         self.at(key, |pin| pin.insert(key, value))
     }
 
@@ -59,7 +58,7 @@ impl ShardedPin {
     /// # Errors
     ///
     /// Those of [`ShardedPin::insert`].
-    pub fn put(&self, key: u64, value: Value) -> Result<Outcome, ShardError> {
+    pub fn put(&self, key: u64, value: Value) -> Result<Outcome, Error> {
         self.at(key, |pin| pin.put(key, value))
     }
 
@@ -69,7 +68,7 @@ impl ShardedPin {
     /// # Errors
     ///
     /// Those of [`ShardedPin::insert`].
-    pub fn set(&self, key: u64, value: Value) -> Result<Outcome, ShardError> {
+    pub fn set(&self, key: u64, value: Value) -> Result<Outcome, Error> {
         self.at(key, |pin| pin.set(key, value))
     }
 
@@ -78,7 +77,7 @@ impl ShardedPin {
     /// # Errors
     ///
     /// Those of [`ShardedPin::insert`].
-    pub fn delete(&self, key: u64) -> Result<Outcome, ShardError> {
+    pub fn delete(&self, key: u64) -> Result<Outcome, Error> {
         self.at(key, |pin| pin.delete(key))
     }
 
@@ -94,7 +93,7 @@ impl ShardedPin {
     pub fn write_all(
         &self,
         writes: impl IntoIterator<Item = Mutation>,
-    ) -> Result<Vec<Outcome>, BatchError<ShardError>> {
+    ) -> Result<Vec<Outcome>, BatchError> {
         self.write_all_within(writes, Pin::timeout)
     }
 
@@ -102,7 +101,7 @@ impl ShardedPin {
         &self,
         writes: impl IntoIterator<Item = Mutation>,
         timeout: impl FnOnce(&Pin) -> Duration,
-    ) -> Result<Vec<Outcome>, BatchError<ShardError>> {
+    ) -> Result<Vec<Outcome>, BatchError> {
         let writes: Vec<_> = writes.into_iter().collect();
         let spread = Spread::new(&writes, |key| self.part_of(key).map(|part| part.shard))?;
         let waits = self.pins.first().map_or(Duration::ZERO, |part| timeout(&part.pin));
@@ -115,10 +114,10 @@ impl ShardedPin {
     }
 
     /// The part of the pinned range at the shard of the key.
-    fn part_of(&self, key: u64) -> Result<&PinOfShard, ShardError> {
+    fn part_of(&self, key: u64) -> Result<&PinOfShard, Error> {
         let shard = self.joined.map().shard_of(key)?;
         let part = self.pins.iter().find(|part| part.shard == shard);
-        part.ok_or(ShardError::at(shard)(Error::PinIsVoid))
+        part.ok_or(Error::at(shard)(ErrorKind::PinIsVoid))
     }
 
     /// Makes a call by the pin at the shard of the key.
@@ -126,9 +125,9 @@ impl ShardedPin {
         &self,
         key: u64,
         call: impl FnOnce(&Pin) -> Result<Outcome, Error>,
-    ) -> Result<Outcome, ShardError> {
+    ) -> Result<Outcome, Error> {
         let part = self.part_of(key)?;
-        call(&part.pin).map_err(ShardError::at(part.shard))
+        call(&part.pin).map_err(|refused| Error::at(part.shard)(refused.kind))
     }
 }
 
@@ -153,7 +152,7 @@ impl<'p> ShardedPinWithin<'p> {
     /// # Errors
     ///
     /// Those of [`ShardedPin::insert`].
-    pub fn insert(self, key: u64, value: Value) -> Result<Outcome, ShardError> {
+    pub fn insert(self, key: u64, value: Value) -> Result<Outcome, Error> {
         self.pin.at(key, |pin| pin.within(self.timeout).insert(key, value))
     }
 
@@ -162,7 +161,7 @@ impl<'p> ShardedPinWithin<'p> {
     /// # Errors
     ///
     /// Those of [`ShardedPin::insert`].
-    pub fn put(self, key: u64, value: Value) -> Result<Outcome, ShardError> {
+    pub fn put(self, key: u64, value: Value) -> Result<Outcome, Error> {
         self.pin.at(key, |pin| pin.within(self.timeout).put(key, value))
     }
 
@@ -172,7 +171,7 @@ impl<'p> ShardedPinWithin<'p> {
     /// # Errors
     ///
     /// Those of [`ShardedPin::insert`].
-    pub fn set(self, key: u64, value: Value) -> Result<Outcome, ShardError> {
+    pub fn set(self, key: u64, value: Value) -> Result<Outcome, Error> {
         self.pin.at(key, |pin| pin.within(self.timeout).set(key, value))
     }
 
@@ -181,7 +180,7 @@ impl<'p> ShardedPinWithin<'p> {
     /// # Errors
     ///
     /// Those of [`ShardedPin::insert`].
-    pub fn delete(self, key: u64) -> Result<Outcome, ShardError> {
+    pub fn delete(self, key: u64) -> Result<Outcome, Error> {
         self.pin.at(key, |pin| pin.within(self.timeout).delete(key))
     }
 
@@ -194,7 +193,7 @@ impl<'p> ShardedPinWithin<'p> {
     pub fn write_all(
         self,
         writes: impl IntoIterator<Item = Mutation>,
-    ) -> Result<Vec<Outcome>, BatchError<ShardError>> {
+    ) -> Result<Vec<Outcome>, BatchError> {
         self.pin.write_all_within(writes, |_| self.timeout.min(MAX_WAIT))
     }
 }

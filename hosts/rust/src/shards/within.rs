@@ -3,9 +3,9 @@ use crate::client::jobs::Purpose;
 use crate::client::shared::MAX_WAIT;
 use crate::model::batch::{BatchError, Mutation};
 use crate::model::change::Outcome;
+use crate::model::error::Error;
 use crate::model::row::{Row, Value};
 use crate::shards::batch::Spread;
-use crate::shards::error::ShardError;
 use crate::shards::joined::Joined;
 use crate::shards::pin::ShardedPin;
 use std::ops::RangeBounds;
@@ -13,7 +13,7 @@ use std::sync::Arc;
 use std::time::{Duration, Instant};
 
 /// Rows that were read, and their pin.
-pub(crate) type Pinned = Result<(Vec<Row>, ShardedPin), ShardError>;
+pub(crate) type Pinned = Result<(Vec<Row>, ShardedPin), Error>;
 
 /// A sharded client whose calls wait for another time than [`ShardedClient::timeout`]: see
 /// [`ShardedClient::within`].
@@ -46,7 +46,7 @@ impl<'c> ShardedWithin<'c> {
     /// Those of [`ShardedClient::read`].
     ///
     /// [`ShardedClient::read`]: crate::ShardedClient::read
-    pub fn read(self, keys: impl RangeBounds<u64>) -> Result<Vec<Row>, ShardError> {
+    pub fn read(self, keys: impl RangeBounds<u64>) -> Result<Vec<Row>, Error> {
         self.joined.read_by(keys, self.end())
     }
 
@@ -57,7 +57,7 @@ impl<'c> ShardedWithin<'c> {
     /// Those of [`ShardedClient::insert`].
     ///
     /// [`ShardedClient::insert`]: crate::ShardedClient::insert
-    pub fn insert(self, key: u64, value: Value) -> Result<Outcome, ShardError> {
+    pub fn insert(self, key: u64, value: Value) -> Result<Outcome, Error> {
         self.joined.at(key, |client| client.within(self.timeout).insert(key, value))
     }
 
@@ -69,7 +69,7 @@ impl<'c> ShardedWithin<'c> {
     ///
     /// [`ShardedClient::put`]: crate::ShardedClient::put
     /// [`ShardedClient::insert`]: crate::ShardedClient::insert
-    pub fn put(self, key: u64, value: Value) -> Result<Outcome, ShardError> {
+    pub fn put(self, key: u64, value: Value) -> Result<Outcome, Error> {
         self.joined.at(key, |client| client.within(self.timeout).put(key, value))
     }
 
@@ -82,7 +82,7 @@ impl<'c> ShardedWithin<'c> {
     ///
     /// [`ShardedClient::set`]: crate::ShardedClient::set
     /// [`ShardedClient::insert`]: crate::ShardedClient::insert
-    pub fn set(self, key: u64, value: Value) -> Result<Outcome, ShardError> {
+    pub fn set(self, key: u64, value: Value) -> Result<Outcome, Error> {
         self.joined.at(key, |client| client.within(self.timeout).set(key, value))
     }
 
@@ -94,7 +94,7 @@ impl<'c> ShardedWithin<'c> {
     ///
     /// [`ShardedClient::delete`]: crate::ShardedClient::delete
     /// [`ShardedClient::insert`]: crate::ShardedClient::insert
-    pub fn delete(self, key: u64) -> Result<Outcome, ShardError> {
+    pub fn delete(self, key: u64) -> Result<Outcome, Error> {
         self.joined.at(key, |client| client.within(self.timeout).delete(key))
     }
 
@@ -109,7 +109,7 @@ impl<'c> ShardedWithin<'c> {
     pub fn write_all(
         self,
         writes: impl IntoIterator<Item = Mutation>,
-    ) -> Result<Vec<Outcome>, BatchError<ShardError>> {
+    ) -> Result<Vec<Outcome>, BatchError> {
         let writes: Vec<_> = writes.into_iter().collect();
         let spread = Spread::new(&writes, |key| self.joined.shard_of(key))?;
         self.joined.write_all(&spread, self.end(), |jobs, _, writes| jobs.write_all(writes))
@@ -122,7 +122,7 @@ impl<'c> ShardedWithin<'c> {
     /// Those of [`ShardedClient::forget`].
     ///
     /// [`ShardedClient::forget`]: crate::ShardedClient::forget
-    pub fn forget(self, keys: impl RangeBounds<u64>) -> Result<(), ShardError> {
+    pub fn forget(self, keys: impl RangeBounds<u64>) -> Result<(), Error> {
         self.joined.forget_by(keys, self.end())
     }
 
@@ -173,7 +173,7 @@ impl<'c> ShardedWithin<'c> {
     /// Those of [`ShardedClient::leave`].
     ///
     /// [`ShardedClient::leave`]: crate::ShardedClient::leave
-    pub fn leave(self) -> Result<(), ShardError> {
+    pub fn leave(self) -> Result<(), Error> {
         self.joined.leave(self.end())
     }
 }

@@ -6,7 +6,7 @@ use super::{Asked, Job, JobId, Jobs, Reply};
 use crate::client::set;
 use crate::model::batch::{Judged, Mutation};
 use crate::model::change::{Outcome, Write};
-use crate::model::error::Error;
+use crate::model::error::ErrorKind;
 use std::collections::VecDeque;
 
 /// Where it goes how a write was judged.
@@ -27,7 +27,7 @@ pub(super) struct Batch {
 
 impl Report {
     /// The write was not judged, for this reason, and none after it is made.
-    pub fn refuse(self, why: Error) {
+    pub fn refuse(self, why: ErrorKind) {
         match self {
             Report::Once(reply) => reply.end(Err(why)),
             Report::Together(batch) => batch.end(Some(why)),
@@ -36,7 +36,7 @@ impl Report {
 }
 
 impl Batch {
-    fn end(self, ended: Option<Error>) {
+    fn end(self, ended: Option<ErrorKind>) {
         self.reply.end(Ok(Judged { outcomes: self.outcomes, ended }));
     }
 
@@ -73,7 +73,7 @@ impl Jobs {
         if self.may_ask_to_write(bond) {
             self.write_all_bound(bond, writes)
         } else {
-            self.answer_at_once(Ok(Judged::nothing(Error::PinIsVoid)))
+            self.answer_at_once(Ok(Judged::nothing(ErrorKind::PinIsVoid)))
         }
     }
 

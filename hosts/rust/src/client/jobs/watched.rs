@@ -3,7 +3,7 @@ use super::{Asked, JobId, Jobs, Reply, Stage};
 use crate::client::answer::place;
 use crate::client::scratch::kept;
 use crate::model::code::Code;
-use crate::model::error::Error;
+use crate::model::error::ErrorKind;
 use crate::model::row::Row;
 use crate::proved::client_handle::Scan;
 use std::ops::Range;
@@ -18,7 +18,7 @@ pub(super) struct Watched {
 }
 
 impl Watched {
-    pub fn refuse(self, why: Error) {
+    pub fn refuse(self, why: ErrorKind) {
         self.reply.end(Err(why));
     }
 }
@@ -35,7 +35,7 @@ impl Jobs {
         &mut self,
         keys: Range<u64>,
         rows: Vec<Row>,
-        told: SyncSender<Result<(), Error>>,
+        told: SyncSender<Result<(), ErrorKind>>,
     ) -> JobId {
         self.watch_for(keys, rows, Reply::Shared(told))
     }
@@ -43,7 +43,7 @@ impl Jobs {
     fn watch_for(&mut self, keys: Range<u64>, rows: Vec<Row>, reply: Reply<()>) -> JobId {
         self.next += 1;
         if self.stage == Stage::Ended {
-            reply.end(Err(Error::Stopped));
+            reply.end(Err(ErrorKind::Stopped));
         } else {
             self.watched.push(Watched { id: self.next, keys, rows, reply });
             self.is_changed = true;
