@@ -3,7 +3,7 @@ mod peer;
 
 use krl::{
     Change, Client, Error, ErrorKind, JoinError, JoinErrorKind, MemoryStore, Outcome, Refusal, Row,
-    ServeError, Server, Shard, ShardBounds, ShardMap, ShardedClient, Value, evict,
+    ServeError, Server, Shard, ShardBounds, ShardMap, Value, evict,
 };
 use peer::{HELLO, HOST_ANSWER, HOST_HELLO, Peer, frame};
 use std::io::{Read, Write};
@@ -181,7 +181,7 @@ fn who_has_an_old_map_behind_a_split_writes_to_no_side_of_it() {
     let one = server(Some("0..@1"));
     let old_map = map(1, &[(0, &one)]);
     let join = |map: &ShardMap, number| {
-        ShardedClient::builder(map.clone(), number, &folder.0).timeout(LONG).join()
+        Client::builder(map.clone(), number, &folder.0).timeout(LONG).join()
     };
     let old = join(&old_map, 1).unwrap();
     assert_eq!(old.insert(50, Value::from(1)), Ok(Outcome::Applied));

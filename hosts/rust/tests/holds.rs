@@ -319,5 +319,5 @@ fn a_client_departs_while_another_thread_waits() {
     assert_eq!(ended.load(Ordering::Relaxed), 1);
     drop(pin);
     assert_eq!(other.put(15, Value::from(2)), Ok(Outcome::Applied));
-    assert_eq!(other.epoch(), Ok(1));
+    assert_eq!(other.status()[0].epoch, Ok(1));
 }

@@ -102,7 +102,7 @@ fn a_client_that_is_cut_off_stops_before_another_goes_on() {
         cut.cached(0..100).unwrap().is_some()
     };
     assert!((0..20).any(|_| stays()), "its lease ends while it is idle");
-    let (before, evicted) = (cut.incarnation(), server.status().evicted);
+    let (before, evicted) = (cut.status()[0].incarnation, server.status().evicted);
     network.cut(true);
     let (last, done) = last_answer_and_write(&cut, || other.put(10, Value::from(2)).unwrap());
     assert!(last < done && last <= T, "the last answer after {last:?}, the write after {done:?}");
@@ -110,7 +110,7 @@ fn a_client_that_is_cut_off_stops_before_another_goes_on() {
     assert_eq!(cut.cached(0..100), Ok(None));
     network.cut(false);
     assert_eq!(cut.read(0..100), Ok(vec![row(10, 2)]), "it is back by itself");
-    assert!(cut.incarnation() > before);
+    assert!(cut.status()[0].incarnation > before);
     assert_eq!(server.status().evicted, evicted + 1);
 }
 
@@ -139,7 +139,7 @@ fn a_read_that_waits_goes_on_behind_the_end() {
     thread::scope(|scope| {
         let read = scope.spawn(|| client.read(0..100));
         thread::sleep(3 * T);
-        assert_eq!(client.lease_left(), Some(Duration::ZERO));
+        assert_eq!(client.status()[0].lease_left, Some(Duration::ZERO));
         network.cut(false);
         assert_eq!(read.join().unwrap(), Ok(vec![]));
     });
@@ -152,10 +152,12 @@ fn a_pin_ends_with_the_lease() {
     let (cut, other) = (folder.join(&network.address(), 0), folder.join(server.address(), 1));
     cut.read(0..100).unwrap();
     let pin = cut.pin(0..100).unwrap();
-    assert!(pin.holds() && cut.lease_left().unwrap() <= T);
+    assert!(pin.holds() && cut.status()[0].lease_left.unwrap() <= T);
     network.cut(true);
+    assert_eq!(pin.write_all([]), Ok(vec![]));
     assert_eq!(other.insert(10, Value::from(1)), Ok(Outcome::Applied));
     assert!(!pin.holds());
+    assert_eq!(pin.write_all([]).unwrap_err().error.kind, ErrorKind::PinIsVoid);
     network.cut(false);
     assert_eq!(cut.read(0..100), Ok(vec![row(10, 1)]));
     let next = cut.pin(0..100).unwrap();
@@ -210,7 +212,7 @@ fn who_joined_without_a_lease_is_left_to_an_operator() {
     let network = Network::to(server.address());
     let (gone, other) = (folder.join(&network.address(), 0), folder.join(server.address(), 1));
     gone.read(0..100).unwrap();
-    assert_eq!(gone.lease_left(), None);
+    assert_eq!(gone.status()[0].lease_left, None);
     network.cut(true);
     let address = server.address().clone();
     server.stop().unwrap();
@@ -224,7 +226,7 @@ fn who_joined_without_a_lease_is_left_to_an_operator() {
     assert_eq!(other.insert(10, Value::from(1)), Ok(Outcome::Applied));
     assert!(gone.read(0..100).is_ok());
     assert!(wait_until(|| again.status().unleased.is_empty()), "{}", again.status());
-    assert!(wait_until(|| gone.lease_left().is_some_and(|left| left <= T)));
+    assert!(wait_until(|| gone.status()[0].lease_left.is_some_and(|left| left <= T)));
 }
 
 #[test]

@@ -167,11 +167,11 @@ fn a_copy_whose_next_epoch_is_the_one_that_the_client_has_joined() {
     let server = place.serve();
     assert_eq!(client.put(1, Value::from(2)), Ok(Outcome::Applied));
     client.read(1..2).unwrap();
-    assert_eq!(client.epoch(), Ok(2));
+    assert_eq!(client.status()[0].epoch, Ok(2));
     server.stop().unwrap();
     place.bring_back();
     notices(&place, &client);
-    assert_eq!(client.epoch(), Ok(2));
+    assert_eq!(client.status()[0].epoch, Ok(2));
 }
 
 #[test]

@@ -1,7 +1,7 @@
 //! A client of two servers, each with a part of the keys.
 use krl::{
     Client, Error, ErrorKind, JoinErrorKind, Listener, LockFileError, MemoryStore, Outcome, Row,
-    Server, Shard, ShardMap, ShardedClient, Unsent, Value,
+    Server, Shard, ShardMap, Unsent, Value, Waited,
 };
 use std::path::PathBuf;
 use std::thread;
@@ -37,8 +37,8 @@ impl World {
         World { map: map.unwrap(), servers, folder }
     }
 
-    fn join(&self, number: u8) -> ShardedClient {
-        let builder = ShardedClient::builder(self.map.clone(), number, &self.folder);
+    fn join(&self, number: u8) -> Client {
+        let builder = Client::builder(self.map.clone(), number, &self.folder);
         builder.timeout(LONG).join().unwrap()
     }
 
@@ -136,7 +136,7 @@ fn a_client_of_some_keys_joins_their_shards_alone() {
     let mut world = World::new("keys");
     world.insert_rows([10, 300]);
     world.servers.remove(0).stop().unwrap();
-    let builder = ShardedClient::builder(world.map.clone(), 1, &world.folder).timeout(LONG);
+    let builder = Client::builder(world.map.clone(), 1, &world.folder).timeout(LONG);
     let client = builder.keys(200..301).join().unwrap();
     assert_eq!(client.read(BOUND..), Ok(vec![row(300, 300)]));
     assert_eq!(client.cached(200..), Ok(Some(vec![row(300, 300)])));
@@ -148,7 +148,7 @@ fn a_client_of_some_keys_joins_their_shards_alone() {
     assert_eq!(client.cached(0..5), Err(ErrorKind::BadRange.into()));
     assert_eq!(client.put(99, Value::from(1)), Err(ErrorKind::BadKey.into()));
     client.leave().unwrap();
-    let builder = ShardedClient::builder(world.map.clone(), 1, &world.folder);
+    let builder = Client::builder(world.map.clone(), 1, &world.folder);
     let error = builder.keys(5..5).join().unwrap_err();
     assert!(matches!(error.kind, JoinErrorKind::Incomplete(_)), "{error}");
 }
@@ -157,17 +157,63 @@ fn a_client_of_some_keys_joins_their_shards_alone() {
 fn a_number_that_is_taken_at_one_shard_is_not_joined() {
     let world = World::new("number");
     let first = world.join(1);
-    let error = ShardedClient::join(world.map.clone(), 1, &world.folder).unwrap_err();
-    assert_eq!(error.shard, Some(0));
+    let error = Client::join(world.map.clone(), 1, &world.folder).unwrap_err();
+    assert_eq!((error.number, error.shard), (Some(1), Some(0)));
     let is_taken =
         matches!(error.kind, JoinErrorKind::LockFile { error: LockFileError::Taken, .. });
     assert!(is_taken, "{error:?}");
     first.leave().unwrap();
     world.join(1).leave().unwrap();
-    let none = ShardedClient::builder_with_numbers(world.map.clone(), [], &world.folder);
+    let none = Client::builder_with_numbers(world.map.clone(), [], &world.folder);
     let incomplete = none.join().unwrap_err();
     assert!(matches!(incomplete.kind, JoinErrorKind::Incomplete("a number")), "{incomplete}");
-    assert_eq!(incomplete.shard, None);
+    assert_eq!((incomplete.number, incomplete.shard), (None, None));
+}
+
+#[test]
+fn a_thread_that_waits_is_woken_by_a_change_at_any_shard() {
+    let world = World::new("woken");
+    world.insert_rows([10, 300]);
+    let (watcher, writer) = (world.join(1), world.join(2));
+    for (key, value) in [(10, 1), (300, 1), (300, 2), (10, 2)] {
+        let (rows, begun) = (watcher.read(..).unwrap(), Instant::now());
+        let short = Duration::from_millis(20);
+        assert_eq!(watcher.wait_for_change(.., &rows, short), Ok(Waited::Unchanged));
+        thread::scope(|scope| {
+            let waiting = scope.spawn(|| watcher.wait_for_change(.., &rows, 3 * LONG));
+            assert_eq!(writer.put(key, Value::from(value)), Ok(Outcome::Applied));
+            assert_eq!(waiting.join().unwrap(), Ok(Waited::Changed));
+        });
+        assert!(begun.elapsed() < 3 * LONG, "nobody woke the thread: {key}");
+    }
+}
+
+/// One that did not send Bye would keep others waiting for what it has written.
+#[test]
+fn a_client_that_is_dropped_leaves_each_shard() {
+    let mut world = World::new("dropped");
+    world.insert_rows([10, 300]);
+    let other = world.join(2);
+    let join_and_write = || {
+        let client = world.join(1);
+        for key in [10, 300] {
+            assert_eq!(client.put(key, Value::from(1)), Ok(Outcome::Applied));
+        }
+        client
+    };
+    let client = join_and_write();
+    let (_, pin) = client.pin_for_read(0..400).unwrap();
+    drop(client);
+    assert!(pin.holds(), "a pin keeps its client");
+    drop(pin);
+    for key in [10, 300] {
+        assert_eq!(other.put(key, Value::from(2)), Ok(Outcome::Applied));
+    }
+    // A server that is down does not keep it from leaving another one.
+    let client = join_and_write();
+    world.servers.remove(0).stop().unwrap();
+    drop(client);
+    assert_eq!(other.put(300, Value::from(3)), Ok(Outcome::Applied));
 }
 
 #[test]
@@ -211,8 +257,6 @@ fn a_write_is_bound_to_the_pin_at_the_shard_of_its_key() {
     assert_eq!(client.read(0..400), Ok(vec![row(10, 1), row(200, 2)]));
 }
 
-/// A client that waits for a point has pinned nothing from there on: so no client that has that
-/// point waits for this one.
 #[test]
 fn a_call_waits_for_a_time_of_its_own() {
     let world = World::new("within");
@@ -243,19 +287,22 @@ fn a_call_waits_for_a_time_of_its_own() {
     assert!(begun.elapsed() < other.timeout(), "it waited as its other calls do");
     drop(pin);
     assert_eq!(other.within(Duration::MAX).set(100, Value::from(2)), Ok(Outcome::Applied));
-    drop(pinned);
+    // What `within` has returned is a clone of the pin.
+    drop((pinned, own));
     assert_eq!(other.within(LONG).forget(..), Ok(()));
 }
 
+/// A client that waits for a point has pinned nothing from there on: so no client that has that
+/// point waits for this one.
 #[test]
 fn a_client_that_waits_keeps_nothing_that_comes_behind() {
     let world = World::new("waits");
     world.insert_rows([10, 300]);
     for calls in [
-        |client: &ShardedClient| client.read(0..400),
-        |client: &ShardedClient| client.pin_for_read(0..400).map(|(rows, _)| rows),
-        |client: &ShardedClient| client.pin_for_update(0..400).map(|(rows, _)| rows),
-        |client: &ShardedClient| client.pin(0..400).and_then(|_| client.read(0..400)),
+        |client: &Client| client.read(0..400),
+        |client: &Client| client.pin_for_read(0..400).map(|(rows, _)| rows),
+        |client: &Client| client.pin_for_update(0..400).map(|(rows, _)| rows),
+        |client: &Client| client.pin(0..400).and_then(|_| client.read(0..400)),
     ] {
         let client = world.join(1);
         // It has the second part, and another client has pinned the first one to write it.

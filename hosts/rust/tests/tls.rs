@@ -3,7 +3,7 @@ mod secure;
 
 use krl::{
     Access, Address, Client, ErrorKind, Identity, JoinErrorKind, Listener, MemoryStore, Outcome,
-    Refusal, Server, TlsConfig, Value, evict,
+    Refusal, Server, Shard, ShardMap, TlsConfig, Value, evict,
 };
 use openssl::ssl::SslVersion;
 use openssl::ssl::{SslConnector, SslConnectorBuilder, SslFiletype, SslMethod, SslVerifyMode};
@@ -36,6 +36,20 @@ fn a_client_says_its_own_numbers_and_no_other() {
     assert!(status.denied > 0 && !status.connected.contains(&4));
     assert!(status.taken < taken + 20, "only the ticks of client 3 were taken");
     assert_eq!(client.read(0..100).unwrap().len(), 1);
+}
+
+#[test]
+fn a_client_of_a_map_shows_its_certificate_to_each_server() {
+    let setup = Setup::new("map");
+    let servers = [serve(&setup), serve(&setup)];
+    let shard = |(first, server): (u64, &Server)| Shard { first, servers: server.address().into() };
+    let map = ShardMap::new([0, 100].into_iter().zip(&servers).map(shard).collect()).unwrap();
+    let builder = Client::builder(&map, 3, &setup.folder);
+    let client = builder.tls(setup.config(&["krl:client:3"])).join().unwrap();
+    for key in [99, 100] {
+        assert_eq!(client.insert(key, Value::from(key)), Ok(Outcome::Applied));
+    }
+    assert_eq!(client.read(..).unwrap().len(), 2);
 }
 
 #[test]

@@ -89,7 +89,7 @@ fn a_client_that_lives_through_a_restore_drops_its_cache_and_joins_anew() {
         assert_eq!(old.count(), 1, "{looked:?}");
         serving
     });
-    assert_eq!(client.epoch(), Ok(4_294_967_298));
+    assert_eq!(client.status()[0].epoch, Ok(4_294_967_298));
     assert_eq!(client.insert(2, Value::from(3)), Ok(Outcome::Applied));
     is_told(&serving);
     client.leave().unwrap();

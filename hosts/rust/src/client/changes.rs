@@ -1,22 +1,13 @@
 //! The states of a range, one after the other.
-use crate::client::shared::MAX_WAIT;
+use crate::client::calls::Waited;
+use crate::client::timeout::MAX_WAIT;
 use crate::model::error::{Error, ErrorKind};
 use crate::model::row::Row;
 use std::fmt;
 use std::time::{Duration, Instant};
 
-/// How a wait for a change ended.
-#[derive(Clone, Copy, Debug, PartialEq, Eq)]
-#[must_use]
-pub enum Waited {
-    /// The client no longer knows that the range has these rows: they are to be read again.
-    Changed,
-    /// The time is over, and the rows are as they were.
-    Unchanged,
-}
-
-/// The states of a range, one after the other, from [`Client::changes`] or
-/// [`ShardedClient::changes`].
+/// The states of a range, one after the other, from [`Client::changes`]. Over several shards each
+/// is that of all of them together at one moment.
 ///
 /// **The first item** is the rows of the range as they are at some moment of the first call. **Each
 /// later item** is the rows at a later moment, and they differ from those of the item before. What
@@ -33,7 +24,6 @@ pub enum Waited {
 /// called back, as for any reader.
 ///
 /// [`Client::changes`]: crate::Client::changes
-/// [`ShardedClient::changes`]: crate::ShardedClient::changes
 #[must_use = "it reads nothing before it is asked"]
 pub struct Changes {
     range: Box<dyn WatchedRange + Send + Sync>,

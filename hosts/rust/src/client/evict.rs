@@ -31,17 +31,19 @@ pub fn evict(
 ) -> Result<(), JoinError> {
     let (servers, end) = (servers.into(), Instant::now() + LEASE_ENDS);
     let (waits, lock_file, mut above) = (Waits::by_default(), lock_file.as_ref(), 0);
+    let of_number = JoinError::of(number, None);
     loop {
         match joining::join(servers.clone(), number, lock_file, waits, Errand::Evict { above }) {
             Ok(client) => {
-                return Ok(client.leave().map_err(|error| JoinErrorKind::Refused(error.kind))?);
+                let left = client.leave_by(Instant::now() + waits.timeout);
+                return left.map_err(|refused| of_number(JoinErrorKind::Refused(refused)));
             }
             Err(JoinErrorKind::Unserved(Refusal::Incarnation { registered, .. }))
                 if registered > above =>
             {
                 above = registered;
             }
-            Err(error) if end <= Instant::now() || !is_early(&error) => return Err(error.into()),
+            Err(kind) if end <= Instant::now() || !is_early(&kind) => return Err(of_number(kind)),
             Err(_) => {}
         }
     }

@@ -28,7 +28,6 @@ use crate::model::row::Row;
 use crate::proved::client_handle::{Cache, ClientHandle, Scan};
 use crate::wire::message::Message;
 use std::ops::Range;
-use std::sync::mpsc::SyncSender;
 use std::time::{Duration, Instant};
 
 use acknowledging::Acknowledging;
@@ -60,28 +59,15 @@ pub(crate) type JobId = u64;
 /// A job that was asked for: its name, and where its answer comes.
 pub(crate) struct Asked<T> {
     pub id: JobId,
-    /// The client sends it again until it is answered.
-    pub is_urgent: bool,
     pub answer: Answer<Result<T, ErrorKind>>,
 }
 
 /// Where the answer to a job goes, once.
-enum Reply<T> {
-    /// To whoever waits for this job.
-    Own(Answering<Result<T, ErrorKind>>),
-    /// To one who waits for several jobs.
-    Shared(SyncSender<Result<T, ErrorKind>>),
-}
+struct Reply<T>(Answering<Result<T, ErrorKind>>);
 
 impl<T> Reply<T> {
     fn end(self, answer: Result<T, ErrorKind>) {
-        match self {
-            Reply::Own(place) => place.give(answer),
-            Reply::Shared(sender) => {
-                // One who waits no longer hears nothing.
-                let _ = sender.send(answer);
-            }
-        }
+        self.0.give(answer);
     }
 
     /// Gives the answer, if there is one. Otherwise the job continues.
@@ -277,7 +263,7 @@ impl Jobs {
         self.next += 1;
         self.end_lease_if_over();
         let (reply, answer) = place(&self.wakes);
-        let job = job(Reply::Own(reply));
+        let job = job(Reply(reply));
         match self.stage {
             Stage::Ended => job.refuse(ErrorKind::Stopped),
             Stage::Gone => job.end_after_bye(),
@@ -286,7 +272,7 @@ impl Jobs {
                 self.advance(Asking::Allowed);
             }
         }
-        Asked { id: self.next, is_urgent: true, answer }
+        Asked { id: self.next, answer }
     }
 
     /// The answer to something that needs no job.
@@ -294,7 +280,7 @@ impl Jobs {
         self.next += 1;
         let (reply, asked) = place(&self.wakes);
         reply.give(answer);
-        Asked { id: self.next, is_urgent: true, answer: asked }
+        Asked { id: self.next, answer: asked }
     }
 
     /// Nobody waits for the job any more: it ends for this reason.

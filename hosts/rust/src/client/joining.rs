@@ -1,9 +1,9 @@
 //! How a client joins.
-use crate::client::Client;
 use crate::client::jobs::Jobs;
 use crate::client::link::Link;
 use crate::client::lock_file::LockFile;
-use crate::client::shared::Shared;
+use crate::client::shard_client::ShardClient;
+use crate::client::timeout::MAX_WAIT;
 use crate::lease::clocks::Now;
 use crate::lease::terms::Older;
 use crate::model::client_number::ClientNumber;
@@ -46,15 +46,15 @@ pub(crate) enum Errand {
     },
 }
 
-/// Joins the servers as the client of this number.
+/// Joins one server as the client of this number.
 pub(crate) fn join(
     servers: Servers,
     number: u8,
     lock_file: &Path,
     waits: Waits,
     errand: Errand,
-) -> Result<Client, JoinErrorKind> {
-    let shared = start(servers, number, lock_file, waits, errand)?;
+) -> Result<ShardClient, JoinErrorKind> {
+    let client = start(servers, number, lock_file, errand)?;
     let begun = Instant::now();
     let gives_up = move |refusal, now: Instant| match errand {
         Errand::Work => {
@@ -66,9 +66,9 @@ pub(crate) fn join(
         // A greater incarnation is taken then.
         Errand::Evict { .. } => matches!(refusal, Refusal::Incarnation { .. }),
     };
-    match shared.link().join(shared.timeout(), gives_up) {
-        Ok(()) => Ok(Client::of(shared)),
-        Err(refused) => Err(not_joined(&shared, refused)),
+    match client.link().join(waits.timeout.min(MAX_WAIT), gives_up) {
+        Ok(()) => Ok(client),
+        Err(refused) => Err(not_joined(&client, refused)),
     }
 }
 
@@ -77,9 +77,8 @@ fn start(
     servers: Servers,
     number: u8,
     lock_file: &Path,
-    waits: Waits,
     errand: Errand,
-) -> Result<Shared, JoinErrorKind> {
+) -> Result<ShardClient, JoinErrorKind> {
     if ClientNumber::of(number).is_none() {
         return Err(JoinErrorKind::BadNumber);
     }
@@ -94,15 +93,15 @@ fn start(
     let jobs = Jobs::new(handle, Now::read());
     let (link, poller) =
         Link::new(servers, jobs, Some(lock_file)).map_err(JoinErrorKind::NoThread)?;
-    Shared::start(number, link, poller, waits.timeout).map_err(JoinErrorKind::NoThread)
+    ShardClient::start(number, link, poller).map_err(JoinErrorKind::NoThread)
 }
 
 /// Ends a client that has not joined: it sends Bye, and waits for nothing.
-fn not_joined(shared: &Shared, refused: ErrorKind) -> JoinErrorKind {
-    let link = shared.link();
+fn not_joined(client: &ShardClient, refused: ErrorKind) -> JoinErrorKind {
+    let link = client.link();
     let (fault, nothing_listens) = (link.take_fault(), link.take_nothing_listens());
     let rejection = link.rejection();
-    shared.end_by(Instant::now());
+    client.end_by(Instant::now());
     if let Some(fault) = nothing_listens {
         return JoinErrorKind::NothingListens { servers: Box::new(link.servers().clone()), fault };
     }

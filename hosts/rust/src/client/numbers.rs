@@ -11,30 +11,30 @@ const IN_USE: Duration = Duration::from_secs(1);
 /// Joins by the first of these numbers that is free. A number whose lock file another process has, or
 /// is of a clock that was wrong, is left for the next one at once, and one of which the server reports
 /// that it is in use after a moment. If no other one is free, the first of the latter is waited for.
-/// If the lock files of all are of no use, the error is that of the last number. `None` if there are
-/// no numbers.
+/// If there is none of these either, the error is that of the last number whose file is of a wrong
+/// clock, which does not pass by itself, or that of the last number. `None` if there are no numbers.
 pub(crate) fn join_first<C>(
     numbers: &[u8],
     waits: Waits,
     join: impl Fn(u8, Waits) -> Result<C, JoinError>,
 ) -> Option<Result<C, JoinError>> {
     let short = Waits { if_in_use: waits.if_in_use.min(IN_USE), ..waits };
-    let (mut in_use, mut taken) = (None, None);
+    let (mut in_use, mut far_ahead, mut taken) = (None, None, None);
     for &number in numbers {
         let error = match join(number, short) {
             Ok(client) => return Some(Ok(client)),
             Err(error) => error,
         };
         match error.kind {
-            JoinErrorKind::LockFile { error: LockFileError::Taken, .. }
-            | JoinErrorKind::Unserved(Refusal::FarAhead { .. }) => taken = Some(Err(error)),
+            JoinErrorKind::LockFile { error: LockFileError::Taken, .. } => taken = Some(error),
+            JoinErrorKind::Unserved(Refusal::FarAhead { .. }) => far_ahead = Some(error),
             JoinErrorKind::Unserved(Refusal::LeaseRuns { .. } | Refusal::Incarnation { .. }) => {
                 in_use.get_or_insert(number);
             }
             _ => return Some(Err(error)),
         }
     }
-    in_use.map(|number| join(number, waits)).or(taken)
+    in_use.map(|number| join(number, waits)).or(far_ahead.or(taken).map(Err))
 }
 
 #[cfg(test)]
@@ -80,7 +80,7 @@ mod tests {
     }
 
     #[test]
-    fn the_first_free_number_is_taken() {
+    fn the_first_free_number_taken() {
         let (joined, tried) = run(&[(3, 'l'), (4, 'u'), (5, 'a'), (6, ' '), (7, ' ')]);
         assert!(matches!(joined, Some(Ok(6))));
         assert_eq!(tried, [(3, false), (4, false), (5, false), (6, false)]);
@@ -94,9 +94,12 @@ mod tests {
     }
 
     #[test]
-    fn a_lock_file_is_named_if_all_are_taken() {
-        let (joined, _) = run(&[(3, 'a'), (4, 'l')]);
+    fn a_lock_file_is_named_if_all_are_taken_and_one_of_a_wrong_clock_first() {
+        let (joined, _) = run(&[(3, 'l'), (4, 'l')]);
         assert_eq!(joined.unwrap().unwrap_err().to_string(), taken(4).to_string());
+        let (joined, _) = run(&[(3, 'a'), (4, 'l')]);
+        let far_ahead = |kind| matches!(kind, JoinErrorKind::Unserved(Refusal::FarAhead { .. }));
+        assert!(kind(joined).is_some_and(far_ahead));
         assert!(run(&[]).0.is_none());
     }
 

@@ -1,23 +1,23 @@
 //! A pinned range, and the writes that are bound to it.
-use crate::client::jobs::Jobs;
-use crate::client::set;
-use crate::client::shared::{MAX_WAIT, Shared};
+use crate::client::calls::Calls;
+use crate::client::pinned::Pinned;
+use crate::client::timeout::MAX_WAIT;
 use crate::model::batch::{BatchError, Mutation};
 use crate::model::change::{Outcome, Write};
-use crate::model::error::{Error, ErrorKind};
+use crate::model::error::Error;
 use crate::model::row::{Row, Value};
 use std::fmt;
 use std::sync::Arc;
-use std::time::{Duration, Instant};
+use std::time::Duration;
 
 /// A pinned range: no other client takes away what the client holds of it, as long as this or a
-/// clone of it lives. If the server's store goes back, or the client's lease ends, the pin is void:
-/// [`Client`] describes more.
+/// clone of it lives. If a server's store goes back, or the client's lease there ends, the pin is
+/// void at that server: [`Client`] describes more.
 ///
-/// **Whoever decides what to write by what is pinned writes by the pin's own calls.** They make the
-/// write while the pin holds, or never: no other client has changed what was pinned before that
-/// write. The calls of [`Client`] are not bound to the pin: after the end of a lease they continue,
-/// and another client may have written in between.
+/// **A caller that decides what to write by what is pinned uses the pin's own calls.** They make the
+/// write while the pin holds at the server of its key, or never: no other client has changed what
+/// was pinned there before that write. The calls of [`Client`] are not bound to the pin: after the
+/// end of a lease they continue, and another client may have written in between.
 ///
 /// If such a write was sent and is not answered when the last clone is dropped, other clients wait
 /// for the range until it is judged.
@@ -34,30 +34,16 @@ pub struct Pin {
     timeout: Option<Duration>,
 }
 
-/// What the clones of a pin share. The range is free again when the last of them is dropped.
-struct Pinned {
-    shared: Arc<Shared>,
-    id: u64,
-}
-
 impl Pin {
-    pub(crate) fn new(shared: Arc<Shared>, id: u64) -> Pin {
-        Pin { pinned: Arc::new(Pinned { shared, id }), timeout: None }
+    pub(crate) fn of(pinned: Pinned) -> Pin {
+        Pin { pinned: Arc::new(pinned), timeout: None }
     }
 
-    pub(crate) fn shared(&self) -> &Arc<Shared> {
-        &self.pinned.shared
-    }
-
-    pub(crate) fn id(&self) -> u64 {
-        self.pinned.id
-    }
-
-    /// Whether no other client has taken what was held of the range. Who has to know asks **after**
-    /// the work: the answer is that of one moment of this call.
+    /// Returns whether no other client has taken what was held of the range, at any server, at one
+    /// moment of this call. Call it **after** the work that the pin is for.
     #[must_use]
     pub fn holds(&self) -> bool {
-        self.shared().link().with_jobs(|jobs| jobs.holds_pin(self.id()))
+        self.pinned.holds()
     }
 
     /// The same pin, whose writes by the value that is returned, and by clones of it, wait at most
@@ -71,12 +57,12 @@ impl Pin {
     /// [`Pin::within`] gave it a time of its own.
     #[must_use]
     pub fn timeout(&self) -> Duration {
-        self.timeout.unwrap_or_else(|| self.shared().timeout())
+        self.timeout.unwrap_or_else(|| self.pinned.joined().timeout.get())
     }
 
-    /// Until when a write waits that begins now.
-    pub(crate) fn end(&self) -> Instant {
-        Instant::now() + self.timeout()
+    /// Calls that begin now.
+    pub(crate) fn calls(&self) -> Calls<'_> {
+        Calls::of_pin(&self.pinned, self.timeout())
     }
 
     /// Inserts a row while the pin holds, or never. The outcome is that of [`Client::insert`]. The
@@ -84,14 +70,14 @@ impl Pin {
     ///
     /// # Errors
     ///
-    /// `PinIsVoid` if the pin no longer held when the write could be sent: the write changes
-    /// nothing. Otherwise those of [`Client::insert`]. After an error for which
-    /// [`Error::is_unknown_outcome`] is true, the table may have changed; if it has, then before
-    /// any other client changed what was pinned.
+    /// `PinIsVoid` if the pin no longer held when the write could be sent, or no part of the range
+    /// is at the shard of the key: the write changes nothing. Otherwise those of
+    /// [`Client::insert`]. After an error for which [`Error::is_unknown_outcome`] is true, the
+    /// table may have changed; if it has, then before any other client changed what was pinned.
     ///
     /// [`Client::insert`]: crate::Client::insert
     pub fn insert(&self, key: u64, value: Value) -> Result<Outcome, Error> {
-        Ok(self.write(self.end(), Write::Insert(Row { key, value }))?)
+        self.calls().block_on_write(Write::Insert(Row { key, value }))
     }
 
     /// Gives a row another value while the pin holds, or never. The outcome is that of
@@ -103,7 +89,7 @@ impl Pin {
     ///
     /// [`Client::put`]: crate::Client::put
     pub fn put(&self, key: u64, value: Value) -> Result<Outcome, Error> {
-        Ok(self.write(self.end(), Write::Put(Row { key, value }))?)
+        self.calls().block_on_write(Write::Put(Row { key, value }))
     }
 
     /// Gives a key this value, whether or not it has a row, while the pin holds, or never. The
@@ -115,8 +101,7 @@ impl Pin {
     ///
     /// [`Client::set`]: crate::Client::set
     pub fn set(&self, key: u64, value: Value) -> Result<Outcome, Error> {
-        let (first, end) = (self.shared().first_of_set(Row { key, value }), self.end());
-        Ok(set::set(first, end, |write| self.write(end, write))?)
+        self.calls().block_on_set(Row { key, value })
     }
 
     /// Deletes a row while the pin holds, or never. The outcome is that of [`Client::delete`]. The
@@ -128,7 +113,7 @@ impl Pin {
     ///
     /// [`Client::delete`]: crate::Client::delete
     pub fn delete(&self, key: u64) -> Result<Outcome, Error> {
-        Ok(self.write(self.end(), Write::Delete(key))?)
+        self.calls().block_on_write(Write::Delete(key))
     }
 
     /// Makes several writes, as [`Client::write_all`] does, each while the pin holds, or never.
@@ -146,25 +131,12 @@ impl Pin {
         &self,
         writes: impl IntoIterator<Item = Mutation>,
     ) -> Result<Vec<Outcome>, BatchError> {
-        let ask = |jobs: &mut Jobs, writes| jobs.write_all_under(self.id(), writes);
-        self.shared().write_all(self.end(), writes.into_iter().collect(), ask)
-    }
-
-    fn write(&self, end: Instant, write: Write) -> Result<Outcome, ErrorKind> {
-        let ask = |jobs: &mut Jobs, write| jobs.write_under(self.id(), write);
-        self.shared().write(end, write, ask)
+        self.calls().block_on_all(writes.into_iter().collect())
     }
 }
 
 impl fmt::Debug for Pin {
     fn fmt(&self, f: &mut fmt::Formatter<'_>) -> fmt::Result {
-        f.debug_struct("Pin").field("id", &self.id()).finish_non_exhaustive()
-    }
-}
-
-impl Drop for Pinned {
-    fn drop(&mut self) {
-        self.shared.link().with_jobs(|jobs| jobs.unpin(self.id));
-        self.shared.link().flush();
+        f.debug_tuple("Pin").field(&self.pinned).finish()
     }
 }

@@ -1,7 +1,7 @@
 //! Several writes of one call, and how far they came.
 use crate::model::change::{Outcome, Write};
 use crate::model::error::{Error, ErrorKind};
-use crate::model::row::{END, Row};
+use crate::model::row::Row;
 use std::fmt;
 
 /// One of the writes of a [`Client::write_all`](crate::Client::write_all).
@@ -68,12 +68,6 @@ impl From<Write> for Mutation {
     }
 }
 
-/// Why none of these writes is made, if one has a key that is not valid.
-pub(crate) fn refused(writes: &[Mutation]) -> Option<Judged> {
-    let has_bad_key = writes.iter().any(|write| write.key() >= END);
-    has_bad_key.then(|| Judged::nothing(ErrorKind::BadKey))
-}
-
 impl Judged {
     /// One of which nothing was judged.
     pub fn nothing(why: ErrorKind) -> Judged {
@@ -91,12 +85,10 @@ impl Judged {
         fates
     }
 
-    /// The outcomes of `count` writes if all were judged.
-    pub fn all(self, count: usize) -> Result<Vec<Outcome>, BatchError> {
-        match self.ended {
-            None => Ok(self.outcomes),
-            Some(kind) => Err(BatchError { fates: self.fates(count), error: kind.into() }),
-        }
+    /// The outcome of the only write.
+    pub fn only(self) -> Result<Outcome, ErrorKind> {
+        let outcome = self.outcomes.first().copied();
+        outcome.ok_or(self.ended.unwrap_or(ErrorKind::Stopped))
     }
 }
 
@@ -170,14 +162,19 @@ mod tests {
             assert_eq!(ended(why).fates(4), [&judged[..], &[NotMade, NotMade]].concat());
         }
         let whole = Judged { outcomes: vec![Applied, Exists], ended: None };
-        assert_eq!(whole.clone().all(2), Ok(vec![Applied, Exists]));
         assert_eq!(whole.fates(2), judged);
+    }
+
+    #[test]
+    fn a_batch_of_one_write_has_its_outcome_or_why_there_is_none() {
+        assert_eq!(Judged { outcomes: vec![Exists], ended: None }.only(), Ok(Exists));
+        assert_eq!(Judged::nothing(ErrorKind::TimedOut).only(), Err(ErrorKind::TimedOut));
     }
 
     #[test]
     fn an_error_names_the_places_of_its_writes() {
         let judged = Judged { outcomes: vec![Applied, Exists], ended: Some(ErrorKind::TimedOut) };
-        let error = judged.all(4).unwrap_err();
+        let error = BatchError::new(judged.fates(4), ErrorKind::TimedOut.into());
         assert_eq!(error.applied().collect::<Vec<_>>(), [0]);
         assert_eq!(error.unknown().collect::<Vec<_>>(), [2]);
         assert_eq!(error.not_made().collect::<Vec<_>>(), [3]);

@@ -64,9 +64,10 @@ pub enum ErrorKind {
     /// The client's own thread has ended by a panic: it answers nothing more but from its cache. A
     /// write was sent, and may have changed the table: one that was not sent ends with `NotSent`.
     Stopped,
-    /// The range begins above its end, ends above 2^63, or is empty and may not be.
+    /// The range begins above its end, ends above 2^63, has keys of a shard that is not joined, or
+    /// is empty and may not be.
     BadRange,
-    /// A key of 2^63 - 1 or more.
+    /// A key of 2^63 - 1 or more, or of a shard that is not joined.
     BadKey,
     /// The range meets a pin.
     Pinned,
@@ -93,12 +94,15 @@ pub enum Unsent {
     Stopped,
 }
 
-/// Why a client did not join, and at which shard.
+/// Why a client did not join, by which number, and at which shard.
 #[derive(Debug)]
 #[non_exhaustive]
 pub struct JoinError {
     /// Why.
     pub kind: JoinErrorKind,
+    /// The number by which the client did not join, of several the one that the kind is about.
+    /// `None` if there is no number.
+    pub number: Option<u8>,
     /// The first shard whose client did not join, from 0. `None` of a client without a map, and if
     /// no shard was asked.
     pub shard: Option<u8>,
@@ -161,12 +165,6 @@ pub enum JoinErrorKind {
 }
 
 impl Error {
-    /// Makes an error of this shard.
-    pub(crate) fn at(shard: usize) -> impl Fn(ErrorKind) -> Error {
-        let shard = u8::try_from(shard).ok();
-        move |kind| Error { kind, shard }
-    }
-
     /// Whether the same call may be made again as it is, and may do then what it should: a server
     /// that is down comes back, and a client that has dropped its cache joins again.
     ///
@@ -242,10 +240,10 @@ impl ErrorKind {
 }
 
 impl JoinError {
-    /// Makes an error of this shard.
-    pub(crate) fn at(shard: usize) -> impl Fn(JoinErrorKind) -> JoinError {
-        let shard = u8::try_from(shard).ok();
-        move |kind| JoinError { kind, shard }
+    /// Makes errors of the client of this number, at this shard if there is a map.
+    pub(crate) fn of(number: u8, shard: Option<usize>) -> impl Fn(JoinErrorKind) -> JoinError {
+        let shard = shard.and_then(|shard| u8::try_from(shard).ok());
+        move |kind| JoinError { kind, number: Some(number), shard }
     }
 }
 
@@ -423,7 +421,7 @@ impl std::error::Error for JoinError {
 
 impl From<JoinErrorKind> for JoinError {
     fn from(kind: JoinErrorKind) -> JoinError {
-        JoinError { kind, shard: None }
+        JoinError { kind, number: None, shard: None }
     }
 }
 

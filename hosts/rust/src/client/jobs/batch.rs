@@ -3,7 +3,6 @@
 //! caller.
 use super::bound::{Bond, Wanted};
 use super::{Asked, Job, JobId, Jobs, Reply};
-use crate::client::set;
 use crate::model::batch::{Judged, Mutation};
 use crate::model::change::{Outcome, Write};
 use crate::model::error::ErrorKind;
@@ -43,13 +42,23 @@ impl Batch {
     /// The write was judged so. It answers what is to be written next.
     fn next_after(&mut self, write: &Write, outcome: Outcome) -> Option<Next> {
         if let Some(Mutation::Set(_)) = self.left.front()
-            && let Some(other) = set::after(*write, outcome)
+            && let Some(other) = after(*write, outcome)
         {
             return Some(Next::Same(other));
         }
         self.left.pop_front();
         self.outcomes.push(outcome);
         self.left.front().copied().map(Next::Other)
+    }
+}
+
+/// The write that follows one of a set with this outcome, or none if the key has its value, or the
+/// index is full. Other clients may make and delete the row in between: then it continues by turns.
+fn after(write: Write, outcome: Outcome) -> Option<Write> {
+    match (write, outcome) {
+        (Write::Put(row), Outcome::Absent) => Some(Write::Insert(row)),
+        (Write::Insert(row), Outcome::Exists) => Some(Write::Put(row)),
+        _ => None,
     }
 }
 

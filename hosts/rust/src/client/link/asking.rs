@@ -45,14 +45,12 @@ impl Link {
     /// sends again what is not answered. It may sleep until a tick of a client that was asked
     /// nothing: so one who waits for longer than until the first tick wakes it once.
     pub fn finish<T>(&self, asked: Asked<T>, end: Instant) -> Result<T, ErrorKind> {
-        let Asked { id, is_urgent, answer } = asked;
-        if is_urgent
-            && let Some(answered) = self.read_until(&answer, end.min(Instant::now() + BUSY_TICK))
-        {
+        let Asked { id, answer } = asked;
+        if let Some(answered) = self.read_until(&answer, end.min(Instant::now() + BUSY_TICK)) {
             return answered;
         }
         let left = until(end);
-        let first = if is_urgent { left.min(BUSY_TICK) } else { left };
+        let first = left.min(BUSY_TICK);
         let mut answered = answer.recv_timeout(first);
         if matches!(answered, Err(RecvTimeoutError::Timeout)) && first < left {
             self.hurry();

@@ -1,4 +1,4 @@
-//! How tasks wait for answers.
+//! How callers wait for answers: on their threads, or as tasks.
 use super::Link;
 use crate::client::jobs::{Asked, Jobs};
 use crate::model::error::ErrorKind;
@@ -36,7 +36,13 @@ impl<T> Awaited<T> {
         self
     }
 
-    /// Nobody waits any more. It answers why there was no answer, unless there is one after all.
+    /// Waits on this thread.
+    pub fn wait(mut self) -> Result<T, ErrorKind> {
+        let asked = self.asked.take();
+        asked.map_or(Err(ErrorKind::Stopped), |asked| self.link.finish(asked, self.end))
+    }
+
+    /// Nobody waits any more. Returns why there was no answer, unless there is one after all.
     fn give_up(&mut self) -> Option<Result<T, ErrorKind>> {
         let asked = self.asked.take()?;
         self.link.deadlines.remove(self.end, asked.id);

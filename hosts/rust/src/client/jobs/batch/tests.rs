@@ -24,6 +24,16 @@ fn writes_said(world: &mut World) -> Vec<Vec<u8>> {
 }
 
 #[test]
+fn a_set_puts_and_inserts_by_turns_until_its_row_has_the_value() {
+    let (put, insert) = (Write::Put(row(10, 1)), Write::Insert(row(10, 1)));
+    assert_eq!(after(put, Absent), Some(insert));
+    assert_eq!(after(insert, Exists), Some(put));
+    for (write, outcome) in [(put, Applied), (insert, Applied), (insert, Outcome::Full)] {
+        assert_eq!(after(write, outcome), None);
+    }
+}
+
+#[test]
 fn each_write_is_made_in_its_order_and_judged_by_itself() {
     let mut world = World::new();
     let writes = vec![
