@@ -5,7 +5,7 @@ use crate::mark::{GUARD, MARK, mark_of};
 use crate::origin::{Filling, Origin};
 use crate::steps::Step;
 use crate::version::Version;
-use krl::{Error, Outcome, Pin, Value};
+use krl::{ErrorKind, Outcome, Pin, Value};
 use std::collections::BTreeMap;
 use std::iter;
 use std::ops::Range;
@@ -94,7 +94,7 @@ impl<O: Origin> Cache<O> {
             progress(done, all);
         }
         if !pin.holds() {
-            return Err(Error::PinIsVoid.into());
+            return Err(CacheError::Krl(ErrorKind::PinIsVoid.into()));
         }
         // Before the mark: nobody names a filling that the database does not have. Who names an
         // earlier one is refused from now on, and nobody reads before the mark is set.

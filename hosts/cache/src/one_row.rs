@@ -12,7 +12,7 @@ use crate::transact::{Changes, Failure, commit_unannounced};
 use crate::version::Version;
 use crate::work::Work;
 use crate::writing::Writing;
-use krl::Error;
+use krl::ErrorKind;
 use std::sync::Arc;
 
 /// What a write of one row changes.
@@ -174,7 +174,7 @@ impl<O: Origin> Cache<O> {
         changes: &Changes<O::Body>,
     ) -> Result<(), CacheError> {
         if !is_still_announced(pinned) {
-            return Err(Error::PinIsVoid.into());
+            return Err(CacheError::Krl(ErrorKind::PinIsVoid.into()));
         }
         self.step(Step::Confirmed);
         let committed = transaction.apply_and_commit(changes.version, &changes.changes);

@@ -6,7 +6,7 @@ use crate::pinned::Pinned;
 use crate::repair::Known;
 use crate::transact::Changes;
 use crate::version::Version;
-use krl::Error;
+use krl::{Error, ErrorKind};
 use std::collections::BTreeMap;
 use std::thread;
 use std::time::{Duration, Instant};
@@ -80,7 +80,8 @@ impl<O: Origin> Cache<O> {
         let look = changes.look(&stored, pinned.holds());
         if look == Look::RolledBack {
             for key in keys {
-                let known = self.writer.cached(key..=key)?.ok_or(Error::PinIsVoid)?;
+                let known =
+                    self.writer.cached(key..=key)?.ok_or(Error::from(ErrorKind::PinIsVoid))?;
                 let stored = stored.get(&key).copied();
                 self.settle(pinned.pin_of(key)?, key, Known::of(known.first()), stored)?;
             }

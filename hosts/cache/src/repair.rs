@@ -5,7 +5,7 @@ use crate::error::CacheError;
 use crate::origin::{Origin, Transaction};
 use crate::steps::Step;
 use crate::version::Version;
-use krl::{Error, Outcome, Pin};
+use krl::{ErrorKind, Outcome, Pin};
 
 /// What krl has of a key.
 #[derive(Clone, Copy, Debug, PartialEq, Eq)]
@@ -86,6 +86,6 @@ fn applied(outcome: Outcome) -> Result<(), CacheError> {
         Outcome::Applied => Ok(()),
         Outcome::Full => Err(CacheError::Full),
         // Under a pin that holds, krl has the row that it had.
-        _ => Err(Error::PinIsVoid.into()),
+        _ => Err(CacheError::Krl(ErrorKind::PinIsVoid.into())),
     }
 }

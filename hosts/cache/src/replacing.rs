@@ -7,7 +7,7 @@ use crate::pinned::Pinned;
 use crate::steps::Step;
 use crate::transact::Changes;
 use crate::version::Version;
-use krl::Error;
+use krl::ErrorKind;
 use std::sync::Arc;
 
 impl<O: Origin> Cache<O> {
@@ -42,7 +42,7 @@ impl<O: Origin> Cache<O> {
         let transaction = self.begin_replacing(&replacement, pinned, &changes)?;
         self.step(Step::Locked);
         if !is_still_announced(pinned) {
-            return Err(Error::PinIsVoid.into());
+            return Err(CacheError::Krl(ErrorKind::PinIsVoid.into()));
         }
         self.step(Step::Confirmed);
         self.conclude(transaction.commit(), pinned, &changes)?;

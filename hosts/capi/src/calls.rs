@@ -19,9 +19,8 @@ use crate::handle::{Handle, Kind};
 use crate::input::{self, GivenRow, range};
 use crate::options::{NUMBERS, Options, options_at};
 use crate::status::Status;
-use crate::table::{Table, Write};
 use crate::writes::{GivenWrite, write_all, writes};
-use krl::{Error, Row, Waited};
+use krl::{ErrorKind, Outcome, Row, Waited};
 use std::ffi::{c_char, c_void};
 use std::ptr;
 use std::time::Duration;
@@ -31,14 +30,14 @@ type Rows = Handle<Vec<Row>>;
 
 static CLIENTS: Kind<Joined> = Kind::new("client");
 
-/// The table of a client of this process.
+/// A client of this process.
 ///
 /// # Safety
 ///
 /// `client` is null or a client's handle, which no other call frees as long as the answer lives.
-unsafe fn table<'a>(client: *const Client) -> Result<&'a Table, Fault> {
+unsafe fn own<'a>(client: *const Client) -> Result<&'a Joined, Fault> {
     // SAFETY: the caller vouches for the handle.
-    unsafe { CLIENTS.own_value(client) }.map(Joined::table)
+    unsafe { CLIENTS.own_value(client) }
 }
 
 /// Writes an output parameter.
@@ -118,8 +117,7 @@ pub unsafe extern "C" fn krlc_leave(
 ) -> u32 {
     let leave = || {
         // SAFETY: the caller frees the client after this call.
-        let table = unsafe { table(client) }?;
-        table.leave(table.timeout_of(timeout_ms))?;
+        unsafe { own(client) }?.within(timeout_ms).leave()?;
         Ok(Code::Ok)
     };
     // SAFETY: the caller vouches for the room of the error.
@@ -140,11 +138,11 @@ pub unsafe extern "C" fn krlc_set_timeout(
 ) -> u32 {
     let set = || {
         // SAFETY: the caller frees the client after this call.
-        let table = unsafe { table(client) }?;
+        let joined = unsafe { own(client) }?;
         if timeout_ms == 0 {
             return Err(Fault::misuse("a timeout is at least 1 millisecond"));
         }
-        table.set_timeout(Duration::from_millis(timeout_ms));
+        joined.client().set_timeout(Duration::from_millis(timeout_ms));
         Ok(Code::Ok)
     };
     // SAFETY: the caller vouches for the room of the error.
@@ -155,7 +153,7 @@ pub unsafe extern "C" fn krlc_set_timeout(
 pub unsafe extern "C" fn krlc_reload_tls(client: *mut Client, error: *mut ErrorRoom) -> u32 {
     let reload = || {
         // SAFETY: the caller frees the client after this call.
-        unsafe { CLIENTS.own_value(client) }?.reload_tls()?;
+        unsafe { own(client) }?.reload_tls()?;
         Ok(Code::Ok)
     };
     // SAFETY: the caller vouches for the room of the error.
@@ -165,14 +163,14 @@ pub unsafe extern "C" fn krlc_reload_tls(client: *mut Client, error: *mut ErrorR
 #[unsafe(no_mangle)]
 pub unsafe extern "C" fn krlc_number(client: *mut Client) -> u32 {
     // SAFETY: the caller frees the client after this call.
-    let number = || unsafe { table(client) }.map_or(NUMBERS, |table| table.number().into());
+    let number = || unsafe { own(client) }.map_or(NUMBERS, |it| it.client().number().into());
     quiet(number).unwrap_or(NUMBERS)
 }
 
 #[unsafe(no_mangle)]
 pub unsafe extern "C" fn krlc_joined(client: *mut Client) -> usize {
     // SAFETY: the caller frees the client after this call.
-    let joined = || unsafe { table(client) }.map_or(0, Table::joined);
+    let joined = || unsafe { own(client) }.map_or(0, |it| it.client().status().len());
     quiet(joined).unwrap_or(0)
 }
 
@@ -185,7 +183,7 @@ pub unsafe extern "C" fn krlc_status_at(
 ) -> u32 {
     let show = || {
         // SAFETY: the caller frees the client after this call.
-        let shown = unsafe { table(client) }?.status_at(place)?;
+        let shown = Status::at(unsafe { own(client) }?.client(), place)?;
         // SAFETY: the caller vouches for the room.
         unsafe { put_out("a status", status, shown) }?;
         Ok(Code::Ok)
@@ -203,8 +201,8 @@ pub unsafe extern "C" fn krlc_cached(
 ) -> u32 {
     let read = || {
         // SAFETY: the caller frees both after this call, and uses the rows in no other one.
-        let (table, rows) = unsafe { (table(client)?, emptied(rows)?) };
-        let is_cached = table.cached_into(range(lo, hi)?, rows)?;
+        let (joined, rows) = unsafe { (own(client)?, emptied(rows)?) };
+        let is_cached = joined.client().cached_into(range(lo, hi)?, rows)?;
         if !is_cached {
             rows.clear();
         }
@@ -225,7 +223,7 @@ pub unsafe extern "C" fn krlc_cached_into(
 ) -> u32 {
     let read = || {
         // SAFETY: the caller frees the client after this call.
-        let table = unsafe { table(client) }?;
+        let joined = unsafe { own(client) }?;
         if at.is_null() && room > 0 {
             return Err(Fault::misuse("the pointer to room for rows is null"));
         }
@@ -237,7 +235,7 @@ pub unsafe extern "C" fn krlc_cached_into(
             }
             found += 1;
         };
-        if !table.for_each_cached(range(lo, hi)?, copy)? {
+        if !joined.client().for_each_cached(range(lo, hi)?, copy)? {
             return Ok(Code::Miss);
         }
         // SAFETY: the caller vouches for the room.
@@ -252,11 +250,11 @@ pub unsafe extern "C" fn krlc_cached_into(
 pub unsafe extern "C" fn krlc_cached_row(client: *mut Client, key: u64, row: *mut Row) -> u32 {
     let read = || {
         // SAFETY: the caller frees the client after this call.
-        let table = unsafe { table(client) }?;
+        let joined = unsafe { own(client) }?;
         let mut found = None;
         // A range of one key is none only if its shard is not joined.
-        let is_cached = table.for_each_cached(input::key(key)?, |row| found = Some(*row));
-        if !is_cached.map_err(|_| Error::BadKey)? {
+        let is_cached = joined.client().for_each_cached(input::key(key)?, |row| found = Some(*row));
+        if !is_cached.map_err(|_| ErrorKind::BadKey)? {
             return Ok(Code::Miss);
         }
         let Some(found) = found else { return Ok(Code::Absent) };
@@ -279,11 +277,11 @@ pub unsafe extern "C" fn krlc_read(
 ) -> u32 {
     let read = || {
         // SAFETY: the caller frees both after this call, and uses the rows in no other one.
-        let (table, rows) = unsafe { (table(client)?, emptied(rows)?) };
+        let (joined, rows) = unsafe { (own(client)?, emptied(rows)?) };
         let keys = range(lo, hi)?;
-        if !table.cached_into(keys.clone(), rows)? {
+        if !joined.client().cached_into(keys.clone(), rows)? {
             rows.clear();
-            *rows = table.read(keys, table.timeout_of(timeout_ms))?;
+            *rows = joined.within(timeout_ms).read(keys)?;
         }
         Ok(Code::Ok)
     };
@@ -303,9 +301,9 @@ pub unsafe extern "C" fn krlc_wait_for_change(
 ) -> u32 {
     let wait = || {
         // SAFETY: the caller frees the client after this call, and vouches for this many rows.
-        let (table, rows) = unsafe { (table(client)?, input::rows(rows, count)?) };
+        let (joined, rows) = unsafe { (own(client)?, input::rows(rows, count)?) };
         let timeout = Duration::from_millis(timeout_ms);
-        Ok(match table.wait_for_change(range(lo, hi)?, &rows, timeout)? {
+        Ok(match joined.client().wait_for_change(range(lo, hi)?, &rows, timeout)? {
             Waited::Changed => Code::Ok,
             Waited::Unchanged => Code::Unchanged,
         })
@@ -324,8 +322,7 @@ pub unsafe extern "C" fn krlc_forget(
 ) -> u32 {
     let forget = || {
         // SAFETY: the caller frees the client after this call.
-        let table = unsafe { table(client) }?;
-        table.forget(range(lo, hi)?, table.timeout_of(timeout_ms))?;
+        unsafe { own(client) }?.within(timeout_ms).forget(range(lo, hi)?)?;
         Ok(Code::Ok)
     };
     // SAFETY: the caller vouches for the room of the error.
@@ -341,12 +338,12 @@ unsafe fn write(
     client: *mut Client,
     timeout_ms: u64,
     error: *mut ErrorRoom,
-    write: impl FnOnce() -> Result<Write, Fault>,
+    write: impl FnOnce(&krl::Client) -> Result<Outcome, Fault>,
 ) -> u32 {
     let write = || {
         // SAFETY: the caller frees the client after this call.
-        let table = unsafe { table(client) }?;
-        Ok(table.write(write()?, table.timeout_of(timeout_ms))?.into())
+        let client = unsafe { own(client) }?.within(timeout_ms);
+        Ok(write(&client)?.into())
     };
     // SAFETY: the caller vouches for the room of the error.
     unsafe { answer(error, write) }
@@ -364,7 +361,7 @@ pub unsafe extern "C" fn krlc_insert(
     // SAFETY: the caller vouches for this many bytes.
     let value = || unsafe { input::value(bytes.cast(), length) };
     // SAFETY: the caller vouches for the client and the room.
-    unsafe { write(client, timeout_ms, error, || Ok(Write::Insert(key, value()?))) }
+    unsafe { write(client, timeout_ms, error, |client| Ok(client.insert(key, value()?)?)) }
 }
 
 #[unsafe(no_mangle)]
@@ -379,7 +376,7 @@ pub unsafe extern "C" fn krlc_put(
     // SAFETY: the caller vouches for this many bytes.
     let value = || unsafe { input::value(bytes.cast(), length) };
     // SAFETY: the caller vouches for the client and the room.
-    unsafe { write(client, timeout_ms, error, || Ok(Write::Put(key, value()?))) }
+    unsafe { write(client, timeout_ms, error, |client| Ok(client.put(key, value()?)?)) }
 }
 
 #[unsafe(no_mangle)]
@@ -394,7 +391,7 @@ pub unsafe extern "C" fn krlc_set(
     // SAFETY: the caller vouches for this many bytes.
     let value = || unsafe { input::value(bytes.cast(), length) };
     // SAFETY: the caller vouches for the client and the room.
-    unsafe { write(client, timeout_ms, error, || Ok(Write::Set(key, value()?))) }
+    unsafe { write(client, timeout_ms, error, |client| Ok(client.set(key, value()?)?)) }
 }
 
 #[unsafe(no_mangle)]
@@ -405,7 +402,7 @@ pub unsafe extern "C" fn krlc_delete(
     error: *mut ErrorRoom,
 ) -> u32 {
     // SAFETY: the caller vouches for the client and the room.
-    unsafe { write(client, timeout_ms, error, || Ok(Write::Delete(key))) }
+    unsafe { write(client, timeout_ms, error, |client| Ok(client.delete(key)?)) }
 }
 
 #[unsafe(no_mangle)]
@@ -418,8 +415,8 @@ pub unsafe extern "C" fn krlc_write_all(
 ) -> u32 {
     let write = || {
         // SAFETY: the caller vouches for this many writes, and frees the client after this call.
-        let (given, table) = unsafe { (writes(at, count)?, table(client)?) };
-        write_all(given, |wanted| table.write_all(wanted, table.timeout_of(timeout_ms)))
+        let (given, joined) = unsafe { (writes(at, count)?, own(client)?) };
+        write_all(given, |wanted| joined.within(timeout_ms).write_all(wanted))
     };
     // SAFETY: the caller vouches for the room of the error.
     unsafe { answer(error, write) }

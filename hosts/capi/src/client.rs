@@ -1,53 +1,50 @@
 //! What C holds of a client.
 use crate::fault::Fault;
 use crate::pin::OwnPin;
-use crate::table::{Purpose, Table};
 use crate::tls::Tls;
-use krl::Row;
-use std::ops::Range;
+use krl::Client;
 use std::sync::Arc;
 use std::time::Duration;
 
 /// How long a client that is freed waits until its servers have kept that it left.
 const FAREWELL: Duration = Duration::from_secs(1);
 
-/// A client that has joined. Its pins share the table.
+/// A client that has joined. Its pins share it.
 #[derive(Debug)]
 pub struct Joined {
-    table: Arc<Table>,
+    client: Arc<Client>,
     tls: Tls,
 }
 
 impl Joined {
-    pub fn new(table: Table, tls: Tls) -> Joined {
-        Joined { table: Arc::new(table), tls }
+    pub fn new(client: Client, tls: Tls) -> Joined {
+        Joined { client: Arc::new(client), tls }
     }
 
-    pub fn table(&self) -> &Table {
-        &self.table
+    pub fn client(&self) -> &Client {
+        &self.client
+    }
+
+    /// The client, whose calls wait for this many milliseconds; 0 stands for its timeout.
+    pub fn within(&self, timeout_ms: u64) -> Client {
+        match timeout_ms {
+            0 => Client::clone(&self.client),
+            _ => self.client.within(Duration::from_millis(timeout_ms)),
+        }
     }
 
     pub fn reload_tls(&self) -> Result<(), Fault> {
         self.tls.reload()
     }
 
-    pub fn pin_held(&self, keys: Range<u64>, timeout_ms: u64) -> Result<OwnPin, Fault> {
-        Ok(OwnPin::of_held(&self.table, keys, self.table.timeout_of(timeout_ms))?)
+    pub fn own(&self, pin: krl::Pin) -> OwnPin {
+        OwnPin::new(pin, &self.client)
     }
 
-    pub fn pin_for(
-        &self,
-        keys: Range<u64>,
-        purpose: Purpose,
-        timeout_ms: u64,
-    ) -> Result<(Vec<Row>, OwnPin), Fault> {
-        Ok(OwnPin::of_read(&self.table, keys, purpose, self.table.timeout_of(timeout_ms))?)
-    }
-
-    /// Leaves. While it has pins the table stays, so it has to leave before.
+    /// Leaves. While it has pins the client stays, so it has to leave before.
     pub fn end(self) {
-        if Arc::strong_count(&self.table) > 1 {
-            let _ = self.table.leave(FAREWELL);
+        if Arc::strong_count(&self.client) > 1 {
+            let _ = self.client.within(FAREWELL).leave();
         }
     }
 }

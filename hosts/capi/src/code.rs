@@ -1,5 +1,5 @@
 //! What a call returns.
-use krl::{Error, Fate, JoinError, LockFileError, Outcome};
+use krl::{ErrorKind, Fate, JoinErrorKind, LockFileError, Outcome};
 use std::ffi::CStr;
 
 macro_rules! codes {
@@ -108,44 +108,44 @@ impl From<Fate> for Code {
     }
 }
 
-impl From<&Error> for Code {
-    fn from(refused: &Error) -> Code {
+impl From<&ErrorKind> for Code {
+    fn from(refused: &ErrorKind) -> Code {
         match refused {
-            Error::TimedOut => Code::TimedOut,
-            Error::Unserved(_) => Code::Unserved,
-            Error::NotSent(_) => Code::NotMade,
-            Error::TurnedAway => Code::TurnedAway,
-            Error::OtherShard(_) => Code::OtherShard,
-            Error::StoreWentBack => Code::StoreWentBack,
-            Error::LeaseEnded => Code::LeaseEnded,
-            Error::PinIsVoid => Code::PinIsVoid,
-            Error::Stopped => Code::Stopped,
-            Error::BadRange => Code::BadRange,
-            Error::BadKey => Code::BadKey,
-            Error::Pinned => Code::Pinned,
-            Error::TooManyPins => Code::TooManyPins,
-            Error::OutOfMemory => Code::OutOfMemory,
-            Error::Left => Code::Left,
+            ErrorKind::TimedOut => Code::TimedOut,
+            ErrorKind::Unserved(_) => Code::Unserved,
+            ErrorKind::NotSent(_) => Code::NotMade,
+            ErrorKind::TurnedAway => Code::TurnedAway,
+            ErrorKind::OtherShard(_) => Code::OtherShard,
+            ErrorKind::StoreWentBack => Code::StoreWentBack,
+            ErrorKind::LeaseEnded => Code::LeaseEnded,
+            ErrorKind::PinIsVoid => Code::PinIsVoid,
+            ErrorKind::Stopped => Code::Stopped,
+            ErrorKind::BadRange => Code::BadRange,
+            ErrorKind::BadKey => Code::BadKey,
+            ErrorKind::Pinned => Code::Pinned,
+            ErrorKind::TooManyPins => Code::TooManyPins,
+            ErrorKind::OutOfMemory => Code::OutOfMemory,
+            ErrorKind::Left => Code::Left,
             _ => Code::Internal,
         }
     }
 }
 
-impl From<&JoinError> for Code {
-    fn from(error: &JoinError) -> Code {
+impl From<&JoinErrorKind> for Code {
+    fn from(error: &JoinErrorKind) -> Code {
         match error {
-            JoinError::LockFile { error: LockFileError::Taken, .. } => Code::LockFileTaken,
-            JoinError::LockFile { .. } => Code::LockFile,
-            JoinError::BadNumber => Code::BadNumber,
-            JoinError::Incomplete(_) => Code::Misuse,
-            JoinError::NoAnswer { .. } => Code::TimedOut,
-            JoinError::NothingListens { .. } => Code::NothingListens,
-            JoinError::NoServer { .. } => Code::BadAddress,
-            JoinError::Unserved(_) => Code::Unserved,
-            JoinError::TurnedAway(_) => Code::TurnedAway,
-            JoinError::OtherShard(_) => Code::OtherShard,
-            JoinError::NoThread(_) => Code::NoThread,
-            JoinError::Refused(refused) => refused.into(),
+            JoinErrorKind::LockFile { error: LockFileError::Taken, .. } => Code::LockFileTaken,
+            JoinErrorKind::LockFile { .. } => Code::LockFile,
+            JoinErrorKind::BadNumber => Code::BadNumber,
+            JoinErrorKind::Incomplete(_) => Code::Misuse,
+            JoinErrorKind::NoAnswer { .. } => Code::TimedOut,
+            JoinErrorKind::NothingListens { .. } => Code::NothingListens,
+            JoinErrorKind::NoServer { .. } => Code::BadAddress,
+            JoinErrorKind::Unserved(_) => Code::Unserved,
+            JoinErrorKind::TurnedAway(_) => Code::TurnedAway,
+            JoinErrorKind::OtherShard(_) => Code::OtherShard,
+            JoinErrorKind::NoThread(_) => Code::NoThread,
+            JoinErrorKind::Refused(refused) => refused.into(),
             _ => Code::Internal,
         }
     }
@@ -154,34 +154,38 @@ impl From<&JoinError> for Code {
 #[cfg(test)]
 mod tests {
     use super::*;
-    use krl::{Code as LibraryCode, Unsent};
+    use krl::{Code as LibraryCode, Error, Unsent};
 
     #[test]
     fn a_write_is_unknown_exactly_where_the_crate_calls_it_so() {
-        let errors = [
-            Error::TimedOut,
-            Error::Unserved(krl::Refusal::Denied),
-            Error::NotSent(Unsent::TimedOut),
-            Error::NotSent(Unsent::StoreWentBack),
-            Error::NotSent(Unsent::Stopped),
-            Error::TurnedAway,
-            Error::StoreWentBack,
-            Error::LeaseEnded,
-            Error::PinIsVoid,
-            Error::Stopped,
-            Error::BadRange,
-            Error::BadKey,
-            Error::Pinned,
-            Error::TooManyPins,
-            Error::OutOfMemory,
-            Error::Left,
+        let kinds = [
+            ErrorKind::TimedOut,
+            ErrorKind::Unserved(krl::Refusal::Denied),
+            ErrorKind::NotSent(Unsent::TimedOut),
+            ErrorKind::NotSent(Unsent::StoreWentBack),
+            ErrorKind::NotSent(Unsent::Stopped),
+            ErrorKind::TurnedAway,
+            ErrorKind::StoreWentBack,
+            ErrorKind::LeaseEnded,
+            ErrorKind::PinIsVoid,
+            ErrorKind::Stopped,
+            ErrorKind::BadRange,
+            ErrorKind::BadKey,
+            ErrorKind::Pinned,
+            ErrorKind::TooManyPins,
+            ErrorKind::OutOfMemory,
+            ErrorKind::Left,
         ];
-        for refused in errors {
-            let code = Code::from(&refused);
-            assert_eq!(code.is_unknown_outcome(), refused.is_unknown_outcome(), "{refused:?}");
+        for kind in kinds {
+            let code = Code::from(&kind);
+            assert_eq!(
+                code.is_unknown_outcome(),
+                Error::from(kind).is_unknown_outcome(),
+                "{kind:?}"
+            );
         }
         // A code that no call should return counts as the worst.
-        assert!(Code::from(&Error::Other(LibraryCode::Busy)).is_unknown_outcome());
+        assert!(Code::from(&ErrorKind::Other(LibraryCode::Busy)).is_unknown_outcome());
     }
 
     #[test]

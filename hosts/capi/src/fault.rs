@@ -1,7 +1,7 @@
 //! Why a call failed, and how C learns it.
 use crate::code::Code;
 use crate::reason::Reason;
-use krl::{Error, JoinError, ShardError, ShardJoinError};
+use krl::{Error, ErrorKind, JoinError};
 use std::borrow::Cow;
 use std::fmt::Display;
 use std::mem;
@@ -14,7 +14,7 @@ pub const MAX_SENTENCE_BYTES: usize = 500;
 #[derive(Debug)]
 pub struct Fault {
     pub code: Code,
-    shard: Option<usize>,
+    shard: Option<u8>,
     reason: Reason,
     sentence: Cow<'static, str>,
 }
@@ -48,7 +48,7 @@ impl Fault {
         let mut sentence = [0; MAX_SENTENCE_BYTES];
         let end = self.sentence.floor_of(MAX_SENTENCE_BYTES - 1);
         sentence[..end].copy_from_slice(&self.sentence.as_bytes()[..end]);
-        let shard = self.shard.and_then(|shard| i32::try_from(shard).ok()).unwrap_or(-1);
+        let shard = self.shard.map_or(-1, i32::from);
         ErrorRoom { code: self.code as u32, shard, reason: self.reason as i32, sentence }
     }
 }
@@ -64,32 +64,26 @@ impl FloorOf for str {
     }
 }
 
-impl From<Error> for Fault {
-    fn from(refused: Error) -> Fault {
-        ShardError::from(refused).into()
+impl From<ErrorKind> for Fault {
+    fn from(refused: ErrorKind) -> Fault {
+        Error::from(refused).into()
     }
 }
 
-impl From<ShardError> for Fault {
-    fn from(refused: ShardError) -> Fault {
-        let code = Code::from(&refused.error);
+impl From<Error> for Fault {
+    fn from(refused: Error) -> Fault {
+        let code = Code::from(&refused.kind);
         let sentence = match code {
             Code::Left => Cow::Borrowed("the client has left"),
             _ => Cow::Owned(refused.to_string()),
         };
-        Fault { code, shard: refused.shard, reason: Reason::of_call(&refused.error), sentence }
+        Fault { code, shard: refused.shard, reason: Reason::of_call(&refused.kind), sentence }
     }
 }
 
 impl From<JoinError> for Fault {
     fn from(error: JoinError) -> Fault {
-        ShardJoinError::from(error).into()
-    }
-}
-
-impl From<ShardJoinError> for Fault {
-    fn from(error: ShardJoinError) -> Fault {
-        let (code, reason) = (Code::from(&error.error), Reason::of_join(&error.error));
+        let (code, reason) = (Code::from(&error.kind), Reason::of_join(&error.kind));
         Fault { code, shard: error.shard, reason, sentence: Cow::Owned(error.to_string()) }
     }
 }
@@ -124,6 +118,7 @@ pub fn quiet<T>(call: impl FnOnce() -> T) -> Option<T> {
 #[cfg(test)]
 mod tests {
     use super::*;
+    use krl::JoinErrorKind;
     use std::ptr;
 
     #[test]
@@ -150,7 +145,7 @@ mod tests {
 
     #[test]
     fn a_fault_names_its_shard() {
-        let refused = ShardError::from(Error::TimedOut);
+        let refused = ErrorKind::TimedOut;
         assert_eq!(Fault::from(refused).written().shard, -1);
         let fault = Fault { shard: Some(3), ..Fault::from(refused) };
         assert_eq!(fault.written().shard, 3);
@@ -158,12 +153,13 @@ mod tests {
 
     #[test]
     fn a_fault_has_the_reason_of_the_server() {
-        let unserved = Error::Unserved(krl::Refusal::Denied);
+        let of_join = |kind: JoinErrorKind| Fault::from(JoinError::from(kind));
+        let unserved = ErrorKind::Unserved(krl::Refusal::Denied);
         assert_eq!(Fault::from(unserved).written().reason, 6);
-        assert_eq!(Fault::from(JoinError::Refused(unserved)).written().reason, 6);
+        assert_eq!(of_join(JoinErrorKind::Refused(unserved)).written().reason, 6);
         let full = krl::Refusal::Full { connections: 2 };
-        assert_eq!(Fault::from(JoinError::Unserved(full)).written().reason, 3);
-        assert_eq!(Fault::from(Error::TimedOut).written().reason, -1);
+        assert_eq!(of_join(JoinErrorKind::Unserved(full)).written().reason, 3);
+        assert_eq!(Fault::from(ErrorKind::TimedOut).written().reason, -1);
         assert_eq!(Fault::misuse("").written().reason, -1);
     }
 }

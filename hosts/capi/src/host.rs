@@ -4,7 +4,7 @@ use crate::fault::Fault;
 use krl::sans_io::{CacheView, Call, Client, Held, Purpose};
 use krl::{Error, Outcome, Row, Write};
 use std::ffi::{CString, c_char, c_void};
-use std::io::{self, ErrorKind};
+use std::io;
 use std::ops::Range;
 use std::ptr;
 use std::sync::{Mutex, MutexGuard, PoisonError};
@@ -96,7 +96,7 @@ impl Answered {
     }
 
     fn refused(refused: Error) -> Answered {
-        Answered { sentence: refused.to_string(), ..Answered::of(Code::from(&refused)) }
+        Answered { sentence: refused.to_string(), ..Answered::of(Code::from(&refused.kind)) }
     }
 }
 
@@ -308,7 +308,7 @@ impl Host {
     pub fn disconnected(&self, now: u64) -> Result<u64, Fault> {
         self.drive(|state| {
             let now = state.at(now);
-            let why = state.end.take().unwrap_or_else(|| ErrorKind::UnexpectedEof.into());
+            let why = state.end.take().unwrap_or_else(|| io::ErrorKind::UnexpectedEof.into());
             state.is_connected = false;
             Ok(nanoseconds(state.client.disconnected(now, why)))
         })

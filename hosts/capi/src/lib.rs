@@ -16,7 +16,6 @@ mod options;
 mod pin;
 mod reason;
 mod status;
-mod table;
 #[cfg_attr(not(feature = "tls"), path = "no_tls.rs")]
 mod tls;
 mod writes;

@@ -1,7 +1,7 @@
 //! Without the feature `tls` a client shows nothing, and files for TLS are refused.
 use crate::code::Code;
 use crate::fault::Fault;
-use krl::Servers;
+use krl::{ClientBuilder, Servers};
 
 /// The files for TLS, and the table, as far as they are named.
 #[derive(Clone, Copy, Debug)]
@@ -26,6 +26,11 @@ impl Tls {
     #[allow(clippy::unused_self, reason = "as with the feature")]
     pub fn show_to(&self, servers: Servers) -> Servers {
         servers
+    }
+
+    #[allow(clippy::unused_self, reason = "as with the feature")]
+    pub fn show_by(&self, builder: ClientBuilder) -> ClientBuilder {
+        builder
     }
 
     #[allow(clippy::unused_self, reason = "as with the feature")]

@@ -3,9 +3,8 @@ use crate::client::Joined;
 use crate::code::Code;
 use crate::fault::Fault;
 use crate::input::{range, text};
-use crate::table::Table;
 use crate::tls::{Tls, TlsTexts};
-use krl::{Client, END, Servers, Shard, ShardMap, ShardedClient, evict};
+use krl::{Client, END, Place, ShardMap, evict};
 use std::ffi::c_char;
 use std::mem::MaybeUninit;
 use std::ops::Range;
@@ -60,12 +59,6 @@ enum Number {
     FirstOf(Vec<u8>),
 }
 
-#[derive(Debug)]
-enum Place {
-    One(Servers),
-    Sharded(ShardMap),
-}
-
 /// The options that the caller has. An earlier version of the header has fewer.
 ///
 /// # Safety
@@ -117,7 +110,7 @@ impl Options {
             // SAFETY: the caller vouches for each text.
             unsafe { text(what, at) }
         };
-        let place = Place::new(text("servers", self.servers)?, text("map", self.map)?)?;
+        let place = place_of(text("servers", self.servers)?, text("map", self.map)?)?;
         let lock_file = text("lock_file", self.lock_file)?;
         let lock_file = lock_file.ok_or(Fault::misuse("the option `lock_file` is null"))?;
         let tls = TlsTexts {
@@ -172,35 +165,21 @@ impl Number {
     }
 }
 
-impl Place {
-    fn new(servers: Option<&str>, map: Option<&str>) -> Result<Place, Fault> {
-        match (servers, map) {
-            (Some(servers), None) => {
-                let bad = |error| {
-                    Fault::about(Code::BadAddress, &format!("the servers '{servers}'"), &error)
-                };
-                servers.parse().map(Place::One).map_err(bad)
-            }
-            (None, Some(map)) => {
-                let bad = |error| Fault::about(Code::BadMap, &format!("the map '{map}'"), &error);
-                ShardMap::from_file(map).map(Place::Sharded).map_err(bad)
-            }
-            (None, None) => Err(Fault::misuse("neither `servers` nor `map` is set")),
-            (Some(_), Some(_)) => Err(Fault::misuse("`servers` and `map` are both set")),
+/// The place that the options name.
+fn place_of(servers: Option<&str>, map: Option<&str>) -> Result<Place, Fault> {
+    match (servers, map) {
+        (Some(servers), None) => {
+            let bad =
+                |error| Fault::about(Code::BadAddress, &format!("the servers '{servers}'"), &error);
+            servers.parse().map(Place::Server).map_err(bad)
         }
+        (None, Some(map)) => {
+            let bad = |error| Fault::about(Code::BadMap, &format!("the map '{map}'"), &error);
+            ShardMap::from_file(map).map(Place::Map).map_err(bad)
+        }
+        (None, None) => Err(Fault::misuse("neither `servers` nor `map` is set")),
+        (Some(_), Some(_)) => Err(Fault::misuse("`servers` and `map` are both set")),
     }
-}
-
-/// The same map, to whose servers a client shows this.
-fn with_tls(map: &ShardMap, tls: &Tls) -> Result<ShardMap, Fault> {
-    let shard =
-        |shard: &Shard| Shard { first: shard.first, servers: tls.show_to(shard.servers.clone()) };
-    let same = ShardMap::new(map.shards().iter().map(shard).collect());
-    let same = same.map_err(|error| Fault::about(Code::BadMap, "the map", &error))?;
-    Ok(match map.version() {
-        Some(version) => same.with_version(version),
-        None => same,
-    })
 }
 
 impl Wish<'_> {
@@ -210,50 +189,28 @@ impl Wish<'_> {
             return Err(Fault::misuse("an eviction has no options of time"));
         }
         match self.place {
-            Place::One(servers) => {
+            Place::Server(servers) => {
                 Ok(evict(self.tls.show_to(servers), self.number.one()?, self.lock_file)?)
             }
-            Place::Sharded(_) => Err(Fault::misuse("a client is evicted at one server, not a map")),
+            Place::Map(_) => Err(Fault::misuse("a client is evicted at one server, not a map")),
         }
     }
 
     /// Joins.
     pub fn join(self) -> Result<Joined, Fault> {
-        let table = match self.place {
-            Place::One(servers) => {
-                let servers = self.tls.show_to(servers);
-                let mut builder = match self.number {
-                    Number::One(number) => Client::builder(servers, number, self.lock_file),
-                    Number::FirstOf(numbers) => {
-                        Client::builder_with_numbers(servers, numbers, self.lock_file)
-                    }
-                };
-                if let Some(timeout) = self.timeout {
-                    builder = builder.timeout(timeout);
-                }
-                if let Some(wait) = self.wait_if_in_use {
-                    builder = builder.wait_if_in_use(wait);
-                }
-                Table::One(builder.join()?)
-            }
-            Place::Sharded(map) => {
-                let (map, folder) = (with_tls(&map, &self.tls)?, self.lock_file);
-                let builder = match self.number {
-                    Number::One(number) => ShardedClient::builder(map, number, folder),
-                    Number::FirstOf(numbers) => {
-                        ShardedClient::builder_with_numbers(map, numbers, folder)
-                    }
-                };
-                let mut builder = builder.keys(self.keys);
-                if let Some(timeout) = self.timeout {
-                    builder = builder.timeout(timeout);
-                }
-                if let Some(wait) = self.wait_if_in_use {
-                    builder = builder.wait_if_in_use(wait);
-                }
-                Table::Sharded(builder.join()?)
+        let builder = match self.number {
+            Number::One(number) => Client::builder(self.place, number, self.lock_file),
+            Number::FirstOf(numbers) => {
+                Client::builder_with_numbers(self.place, numbers, self.lock_file)
             }
         };
-        Ok(Joined::new(table, self.tls))
+        let mut builder = self.tls.show_by(builder.keys(self.keys));
+        if let Some(timeout) = self.timeout {
+            builder = builder.timeout(timeout);
+        }
+        if let Some(wait) = self.wait_if_in_use {
+            builder = builder.wait_if_in_use(wait);
+        }
+        Ok(Joined::new(builder.join()?, self.tls))
     }
 }

@@ -1,5 +1,5 @@
 //! Why a server does not serve a client, as a number.
-use krl::{Error, JoinError, Refusal, Unsent};
+use krl::{ErrorKind, JoinErrorKind, Refusal, Unsent};
 
 /// A `krlc_reason` of the header: a server's reason has the number that it has on the wire.
 #[derive(Clone, Copy, Debug, PartialEq, Eq)]
@@ -20,9 +20,9 @@ pub enum Reason {
 
 impl Reason {
     /// That of a call that was refused.
-    pub fn of_call(refused: &Error) -> Reason {
+    pub fn of_call(refused: &ErrorKind) -> Reason {
         match refused {
-            Error::Unserved(refusal) | Error::NotSent(Unsent::Unserved(refusal)) => {
+            ErrorKind::Unserved(refusal) | ErrorKind::NotSent(Unsent::Unserved(refusal)) => {
                 (*refusal).into()
             }
             _ => Reason::None,
@@ -30,10 +30,10 @@ impl Reason {
     }
 
     /// That of a client that did not join.
-    pub fn of_join(error: &JoinError) -> Reason {
+    pub fn of_join(error: &JoinErrorKind) -> Reason {
         match error {
-            JoinError::Unserved(refusal) => (*refusal).into(),
-            JoinError::Refused(refused) => Reason::of_call(refused),
+            JoinErrorKind::Unserved(refusal) => (*refusal).into(),
+            JoinErrorKind::Refused(refused) => Reason::of_call(refused),
             _ => Reason::None,
         }
     }

@@ -1,6 +1,5 @@
 //! What a client shows of its servers.
 use crate::fault::Fault;
-use crate::table::Table;
 use krl::{Client, ShardStatus};
 use std::time::Duration;
 
@@ -19,35 +18,11 @@ pub struct Status {
     pub is_connected: bool,
 }
 
-impl Table {
-    /// How many shards the client has joined.
-    pub fn joined(&self) -> usize {
-        match self {
-            Table::One(_) => 1,
-            Table::Sharded(client) => client.status().len(),
-        }
-    }
-
-    /// What it shows of one of these.
-    pub fn status_at(&self, place: usize) -> Result<Status, Fault> {
+impl Status {
+    /// What a client shows of one of the servers that it has joined.
+    pub fn at(client: &Client, place: usize) -> Result<Status, Fault> {
         let none = || Fault::misuse(format!("the client has joined no shard at place {place}"));
-        match self {
-            Table::One(client) if place == 0 => Ok(Status::from(client)),
-            Table::One(_) => Err(none()),
-            Table::Sharded(client) => client.status().get(place).map(Status::from).ok_or_else(none),
-        }
-    }
-}
-
-impl From<&Client> for Status {
-    fn from(client: &Client) -> Status {
-        Status {
-            shard: 0,
-            epoch: client.epoch().unwrap_or(0),
-            incarnation: client.incarnation(),
-            lease_left_ms: milliseconds(client.lease_left()),
-            is_connected: client.is_connected(),
-        }
+        client.status().get(place).map(Status::from).ok_or_else(none)
     }
 }
 

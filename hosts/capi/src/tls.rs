@@ -1,7 +1,7 @@
 //! What a client shows to servers by TLS, and whom it believes.
 use crate::code::Code;
 use crate::fault::Fault;
-use krl::{Servers, TableName, TlsConfig, TlsError};
+use krl::{ClientBuilder, Servers, TableName, TlsConfig, TlsError};
 use std::error::Error;
 
 /// The files for TLS, and the table, as far as they are named.
@@ -38,6 +38,14 @@ impl Tls {
         match &self.0 {
             Some(config) => servers.with_tls(config.clone()),
             None => servers,
+        }
+    }
+
+    /// The same builder, whose client shows this.
+    pub fn show_by(&self, builder: ClientBuilder) -> ClientBuilder {
+        match &self.0 {
+            Some(config) => builder.tls(config.clone()),
+            None => builder,
         }
     }
 

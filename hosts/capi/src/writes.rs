@@ -2,8 +2,7 @@
 use crate::code::Code;
 use crate::fault::Fault;
 use crate::input::{GivenRow, row_of};
-use crate::table::Judged;
-use krl::{Fate, Mutation};
+use krl::{BatchError, Fate, Mutation, Outcome};
 use std::slice;
 
 /// The most writes of a call: this many fit into memory.
@@ -18,6 +17,9 @@ pub struct GivenWrite {
     pub outcome: u32,
     pub row: GivenRow,
 }
+
+/// How several writes were judged.
+type Judged = Result<Vec<Outcome>, BatchError>;
 
 /// The writes that a caller names. From now on each is one that was not made.
 ///
@@ -76,7 +78,7 @@ fn mutation_of(given: &GivenWrite) -> Result<Mutation, Fault> {
 #[cfg(test)]
 mod tests {
     use super::*;
-    use krl::{Error, Outcome, ShardError};
+    use krl::ErrorKind;
     use std::ptr;
 
     fn given(kind: u32, key: u64, length: u64) -> GivenWrite {
@@ -118,8 +120,8 @@ mod tests {
         assert_eq!(outcomes(&given), [0, Code::Unknown as u32, Code::NotMade as u32]);
     }
 
-    fn lost(fates: Vec<Fate>) -> krl::BatchError<ShardError> {
-        krl::BatchError::new(fates, Error::TimedOut.into())
+    fn lost(fates: Vec<Fate>) -> BatchError {
+        BatchError::new(fates, ErrorKind::TimedOut.into())
     }
 
     #[test]

@@ -181,16 +181,16 @@ pub struct Options {
 }
 
 impl Options {
-    /// The servers, with what is shown to them.
-    pub fn with_tls(&self, servers: Servers) -> Result<Servers, Failure> {
+    /// What is shown to the servers by TLS.
+    pub fn tls(&self) -> Result<Option<TlsConfig>, Failure> {
         let (Some(authority), Some(certificate), Some(key)) =
             (&self.tls_authority, &self.tls_certificate, &self.tls_key)
         else {
-            return Ok(servers);
+            return Ok(None);
         };
         let config = TlsConfig::from_files(authority, certificate, key)
             .map_err(|error| Failure::Usage(sentence(&error)))?;
-        Ok(servers.with_tls(match &self.table {
+        Ok(Some(match &self.table {
             Some(table) => config.for_table(table.clone()),
             None => config,
         }))

@@ -7,12 +7,12 @@ use crate::arguments::{BenchWords, Options};
 use crate::failure::Failure;
 use crate::session::Session;
 use crate::signals::{FAREWELL, Signals, Taken};
-use crate::table::Table;
 use crate::waiting::tell_at_terminal;
-use krl::{END, Outcome, Row};
+use krl::{Client, END, Outcome};
 use rand::SeedableRng;
 use rand::rngs::StdRng;
 use std::ops::Range;
+use std::sync::Arc;
 use std::thread;
 use std::time::{Duration, Instant};
 use workload::{Measured, Span, Worker, random_value};
@@ -23,7 +23,7 @@ pub fn run(options: &Options, words: &BenchWords, signals: &Signals) -> Result<u
     refuse_clients(options, words)?;
     let sessions = Session::join_some(options, &keys, usize::from(words.clients))?;
     for session in &sessions {
-        signals.ends(&session.table);
+        signals.ends(&session.client);
     }
     let taken = signals.to_loop();
     let ended = measure_all(&sessions, &keys, words, &taken);
@@ -74,7 +74,7 @@ fn measure_all(
     words: &BenchWords,
     signals: &Taken<'_>,
 ) -> Result<(Measured, Duration), Failure> {
-    let maker = sessions.first().map(|session| &session.table);
+    let maker = sessions.first().map(|session| &session.client);
     let maker = maker.ok_or_else(|| Failure::Usage("a benchmark needs a client".into()))?;
     refuse_rows(maker, keys)?;
     let mut made = keys.start..keys.start;
@@ -94,8 +94,8 @@ fn measure_all(
 }
 
 /// A benchmark overwrites nobody's rows.
-fn refuse_rows(table: &Table, keys: &Range<u64>) -> Result<(), Failure> {
-    if table.read(keys.clone())?.is_empty() {
+fn refuse_rows(client: &Client, keys: &Range<u64>) -> Result<(), Failure> {
+    if client.read(keys.clone())?.is_empty() {
         return Ok(());
     }
     Err(Failure::Refused(format!(
@@ -108,7 +108,7 @@ fn refuse_rows(table: &Table, keys: &Range<u64>) -> Result<(), Failure> {
 
 /// Makes the rows, and returns the keys of those that it has made.
 fn make_rows(
-    table: &Table,
+    client: &Client,
     keys: &Range<u64>,
     value_size: u8,
     made: &mut Range<u64>,
@@ -119,19 +119,18 @@ fn make_rows(
         if signals.is_ended() {
             break;
         }
-        let row = Row { key, value: random_value(&mut random, value_size) };
-        let outcome = table.insert(&row)?;
+        let outcome = client.insert(key, random_value(&mut random, value_size))?;
         if outcome != Outcome::Applied {
             return Err(Failure::Refused(format!("the row of key {key} can't be made: {outcome}")));
         }
         made.end = key + 1;
     }
     // Each client begins with an empty cache.
-    Ok(table.forget(keys.clone())?)
+    Ok(client.forget(keys.clone())?)
 }
 
-fn delete_rows(table: &Table, mut made: Range<u64>) -> Result<(), Failure> {
-    made.try_for_each(|key| table.delete(key).map(drop))?;
+fn delete_rows(client: &Client, mut made: Range<u64>) -> Result<(), Failure> {
+    made.try_for_each(|key| client.delete(key).map(drop))?;
     Ok(())
 }
 
@@ -144,10 +143,10 @@ fn measure(
     signals: &Taken<'_>,
 ) -> Result<(Measured, Duration), Failure> {
     let span = Span::from(Instant::now(), words.warm_up, words.seconds);
-    let tables = sessions.iter().map(|session| &session.table);
-    let workers: Result<Vec<Worker>, Failure> = tables
-        .flat_map(|table| (0..words.threads).map(move |_| table))
-        .map(|table| Worker::new(table.clone(), keys, words))
+    let clients = sessions.iter().map(|session| &session.client);
+    let workers: Result<Vec<Worker>, Failure> = clients
+        .flat_map(|client| (0..words.threads).map(move |_| client))
+        .map(|client| Worker::new(Arc::clone(client), keys, words))
         .collect();
     let mut all = Measured::default();
     thread::scope(|scope| {

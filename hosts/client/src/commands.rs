@@ -5,7 +5,7 @@ use crate::output::Printer;
 use crate::session::Session;
 use crate::signals::Signals;
 use crate::{deleting, exporting, holding, pinging, watching, words};
-use krl::{Outcome, Row, ShardError};
+use krl::{Error, Outcome, Row};
 
 /// What commands run with.
 pub struct Context<'c> {
@@ -20,7 +20,7 @@ impl Context<'_> {
         match command {
             ClientCommand::Get { key } => self.get(words::key(key)?)?,
             ClientCommand::Scan { range } => {
-                self.printer.rows(&self.session.table.read(range.range()?)?)?;
+                self.printer.rows(&self.session.client.read(range.range()?)?)?;
             }
             ClientCommand::Insert { row } => self.insert(&row.row(self.printer.values)?)?,
             ClientCommand::Put { row } => self.put(&row.row(self.printer.values)?)?,
@@ -42,32 +42,32 @@ impl Context<'_> {
     }
 
     fn get(&self, key: u64) -> Result<(), Failure> {
-        let rows = self.session.table.read(key..key + 1)?;
+        let rows = self.session.client.read(key..=key)?;
         self.printer.rows(&rows)?;
         if rows.is_empty() { Err(no_row(key)) } else { Ok(()) }
     }
 
     fn insert(&self, row: &Row) -> Result<(), Failure> {
-        let outcome = self.session.table.insert(row);
+        let outcome = self.session.client.insert(row.key, row.value);
         self.judged(outcome, row.key)
     }
 
     fn put(&self, row: &Row) -> Result<(), Failure> {
-        let outcome = self.session.table.put(row.key, row.value);
+        let outcome = self.session.client.put(row.key, row.value);
         self.judged(outcome, row.key)
     }
 
     fn set(&self, row: &Row) -> Result<(), Failure> {
-        let outcome = self.session.table.set(row.key, row.value);
+        let outcome = self.session.client.set(row.key, row.value);
         self.judged(outcome, row.key)
     }
 
     fn delete(&self, key: u64) -> Result<(), Failure> {
-        let outcome = self.session.table.delete(key);
+        let outcome = self.session.client.delete(key);
         self.judged(outcome, key)
     }
 
-    fn judged(&self, outcome: Result<Outcome, ShardError>, key: u64) -> Result<(), Failure> {
+    fn judged(&self, outcome: Result<Outcome, Error>, key: u64) -> Result<(), Failure> {
         let outcome = outcome.map_err(|refused| Failure::of_write(refused, key))?;
         self.printer.outcome(outcome)?;
         applied(self.session, outcome, key)

@@ -8,12 +8,12 @@ use std::ops::Range;
 /// Deletes the rows that the range has at one moment, one after the other. Those that others delete
 /// before are not counted, and those that others insert meanwhile stay.
 pub fn delete(context: &Context<'_>, keys: Range<u64>) -> Result<(), Failure> {
-    let table = &context.session.table;
-    let rows = table.read(keys)?;
+    let client = &context.session.client;
+    let rows = client.read(keys)?;
     let progress = Progress::new("deleting rows", Some(rows.len() as u64));
     let mut deleted = 0;
     for row in &rows {
-        let outcome = table.delete(row.key);
+        let outcome = client.delete(row.key);
         let outcome = outcome.map_err(|refused| Failure::of_write(refused, row.key));
         let is_deleted = outcome.and_then(|outcome| match outcome {
             Outcome::Absent => Ok(false),

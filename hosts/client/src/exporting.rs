@@ -8,7 +8,7 @@ use std::ops::Range;
 
 /// Prints the rows of the range as a file that `import` reads. They are those of one moment.
 pub fn export(context: &Context<'_>, keys: Range<u64>) -> Result<(), Failure> {
-    let rows = context.session.table.read(keys)?;
+    let rows = context.session.client.read(keys)?;
     let format = match context.printer.format {
         Format::Text => FileFormat::Csv,
         Format::Json => FileFormat::JsonLines,

@@ -1,6 +1,6 @@
 //! Why a command did not do what it should, and the exit status that reports it.
 use crate::output;
-use krl::{Error, JoinError, LockFileError, Refusal, ShardError, Unsent};
+use krl::{Error, ErrorKind, JoinErrorKind, LockFileError, Refusal, Unsent};
 use krl_rows::{BadFile, BadValue};
 use std::fmt;
 use std::io;
@@ -84,35 +84,45 @@ impl From<io::Error> for Failure {
 
 impl From<Error> for Failure {
     fn from(refused: Error) -> Failure {
+        Failure::of_call(refused.kind).at_shard(refused.shard)
+    }
+}
+
+impl Failure {
+    fn of_call(refused: ErrorKind) -> Failure {
         match refused {
-            Error::TimedOut => Failure::NoAnswer(
+            ErrorKind::TimedOut => Failure::NoAnswer(
                 "the server did not answer in time: it is away, or another client holds what \
                  this command needs (its status page shows who waits for whom)"
                     .into(),
             ),
-            Error::NotSent(Unsent::TimedOut) => Failure::NoAnswer(
+            ErrorKind::NotSent(Unsent::TimedOut) => Failure::NoAnswer(
                 "the write was not made: it was not sent in time, since the server is away, or \
                  another client holds what it needs (its status page shows who waits for whom)"
                     .into(),
             ),
-            Error::Unserved(why) => Failure::NoAnswer(why.to_string()),
-            Error::NotSent(Unsent::Unserved(why)) => {
+            ErrorKind::Unserved(why) => Failure::NoAnswer(why.to_string()),
+            ErrorKind::NotSent(Unsent::Unserved(why)) => {
                 Failure::NoAnswer(format!("the write was not made: {why}"))
             }
-            Error::StoreWentBack | Error::LeaseEnded | Error::Stopped => {
+            ErrorKind::StoreWentBack | ErrorKind::LeaseEnded | ErrorKind::Stopped => {
                 Failure::NoAnswer(refused.to_string())
             }
-            Error::NotSent(_) => Failure::NoAnswer(refused.to_string()),
-            Error::TurnedAway | Error::OtherShard(_) => Failure::NotJoined(refused.to_string()),
-            Error::BadRange | Error::BadKey => Failure::Usage(refused.to_string()),
-            Error::Pinned
-            | Error::PinIsVoid
-            | Error::Left
-            | Error::TooManyPins
-            | Error::OutOfMemory
-            | Error::Other(_) => Failure::Refused(refused.to_string()),
+            ErrorKind::NotSent(_) => Failure::NoAnswer(refused.to_string()),
+            ErrorKind::TurnedAway | ErrorKind::OtherShard(_) => {
+                Failure::NotJoined(refused.to_string())
+            }
+            ErrorKind::BadRange | ErrorKind::BadKey => Failure::Usage(refused.to_string()),
+            ErrorKind::Pinned
+            | ErrorKind::PinIsVoid
+            | ErrorKind::Left
+            | ErrorKind::TooManyPins
+            | ErrorKind::OutOfMemory
+            | ErrorKind::Other(_) => Failure::Refused(refused.to_string()),
             // One that a later release of the library adds.
-            unknown if unknown.is_unknown_outcome() => Failure::NoAnswer(unknown.to_string()),
+            unknown if Error::from(unknown).is_unknown_outcome() => {
+                Failure::NoAnswer(unknown.to_string())
+            }
             unknown => Failure::Refused(unknown.to_string()),
         }
     }
@@ -130,16 +140,10 @@ impl From<BadValue> for Failure {
     }
 }
 
-impl From<ShardError> for Failure {
-    fn from(ShardError { shard, error, .. }: ShardError) -> Failure {
-        Failure::from(error).at_shard(shard)
-    }
-}
-
 impl Failure {
     /// A write of this key that was not answered by an outcome.
-    pub fn of_write(refused: ShardError, key: u64) -> Failure {
-        let is_unknown = refused.error.is_unknown_outcome();
+    pub fn of_write(refused: Error, key: u64) -> Failure {
+        let is_unknown = refused.is_unknown_outcome();
         match Failure::from(refused) {
             Failure::NoAnswer(why) if is_unknown => Failure::NoAnswer(format!(
                 "{why}; the write may have been applied: read the key {key}"
@@ -149,7 +153,7 @@ impl Failure {
     }
 
     /// The same failure, at this shard of the table, if it has some.
-    pub fn at_shard(self, shard: Option<usize>) -> Failure {
+    pub fn at_shard(self, shard: Option<u8>) -> Failure {
         let Some(shard) = shard else { return self };
         self.reworded(|why| format!("shard {shard}: {why}"))
     }
@@ -168,28 +172,30 @@ impl Failure {
     }
 
     /// A client that did not join under this number.
-    pub fn of_join(error: JoinError, number: u8, server: &krl::Servers) -> Failure {
+    pub fn of_join(error: JoinErrorKind, number: u8, server: &krl::Servers) -> Failure {
         match error {
-            JoinError::NoAnswer { fault: Some(fault), .. } => {
+            JoinErrorKind::NoAnswer { fault: Some(fault), .. } => {
                 Failure::NoAnswer(format!("the server at {server} can't be reached: {fault}"))
             }
-            JoinError::NoAnswer { fault: None, .. } => Failure::NoAnswer(format!(
+            JoinErrorKind::NoAnswer { fault: None, .. } => Failure::NoAnswer(format!(
                 "the server at {server} did not answer in time: it may wait for clients that it \
                  misses after a restart, which its status page shows, or know a later client of \
                  number {number}"
             )),
-            JoinError::Unserved(
+            JoinErrorKind::Unserved(
                 why @ (Refusal::LeaseRuns { .. } | Refusal::Incarnation { .. }),
             ) => Failure::NoAnswer(format!(
                 "number {number} is in use: give another one by --number, or wait if its process \
                  is gone. The server reports: {why}"
             )),
-            JoinError::Unserved(why) => Failure::NoAnswer(why.to_string()),
-            away @ JoinError::NothingListens { .. } => Failure::NoAnswer(away.to_string()),
-            no_server @ JoinError::NoServer { .. } => Failure::NotJoined(no_server.to_string()),
-            JoinError::LockFile { error: LockFileError::Taken, .. } => Failure::NotJoined(format!(
-                "another process is the client of number {number}: give this one another --number"
-            )),
+            JoinErrorKind::Unserved(why) => Failure::NoAnswer(why.to_string()),
+            away @ JoinErrorKind::NothingListens { .. } => Failure::NoAnswer(away.to_string()),
+            no_server @ JoinErrorKind::NoServer { .. } => Failure::NotJoined(no_server.to_string()),
+            JoinErrorKind::LockFile { error: LockFileError::Taken, .. } => {
+                Failure::NotJoined(format!(
+                    "another process is the client of number {number}: give this one another --number"
+                ))
+            }
             error => {
                 Failure::NotJoined(format!("the client of number {number} can't join: {error}"))
             }
@@ -227,23 +233,23 @@ mod tests {
         let of_kind = |kind: io::ErrorKind| Failure::Output(kind.into()).status();
         assert_eq!(Failure::Refused(String::new()).status(), 1);
         assert_eq!(Failure::Usage(String::new()).status(), 2);
-        assert_eq!(Failure::from(Error::TimedOut).status(), 3);
+        assert_eq!(Failure::of_call(ErrorKind::TimedOut).status(), 3);
         assert_eq!(of_kind(io::ErrorKind::BrokenPipe), 141);
         assert_eq!(of_kind(io::ErrorKind::StorageFull), 1);
         let server: krl::Servers = "127.0.0.1:1".parse().unwrap();
-        let silent = JoinError::NoAnswer { servers: Box::new(server.clone()), fault: None };
+        let silent = JoinErrorKind::NoAnswer { servers: Box::new(server.clone()), fault: None };
         assert_eq!(Failure::of_join(silent, 1, &server).status(), 3);
         let full = Refusal::Full { connections: 256 };
-        let refused = Failure::of_join(JoinError::Unserved(full), 1, &server);
+        let refused = Failure::of_join(JoinErrorKind::Unserved(full), 1, &server);
         assert_eq!((refused.status(), refused.to_string()), (3, full.to_string()));
-        assert_eq!(Failure::from(Error::Unserved(full)).status(), 3);
-        assert_eq!(Failure::of_join(JoinError::BadNumber, 64, &server).status(), 4);
+        assert_eq!(Failure::of_call(ErrorKind::Unserved(full)).status(), 3);
+        assert_eq!(Failure::of_join(JoinErrorKind::BadNumber, 64, &server).status(), 4);
         let address = "127.0.0.1:1".parse().unwrap();
-        let no_server = Failure::of_join(JoinError::NoServer { address }, 1, &server);
+        let no_server = Failure::of_join(JoinErrorKind::NoServer { address }, 1, &server);
         assert_eq!(no_server.status(), 4);
         assert!(no_server.to_string().starts_with("what answers at 127.0.0.1:1 is not"));
         let error = LockFileError::Taken;
-        let taken = JoinError::LockFile { path: "client-1.lock".into(), error };
+        let taken = JoinErrorKind::LockFile { path: "client-1.lock".into(), error };
         assert_eq!(Failure::of_join(taken, 1, &server).status(), 4);
     }
 
@@ -251,28 +257,28 @@ mod tests {
     fn each_reason_has_its_status_and_a_write_is_told_if_it_may_be_applied() {
         let full = Refusal::Full { connections: 256 };
         for (refused, status) in [
-            (Error::TimedOut, 3),
-            (Error::Unserved(full), 3),
-            (Error::NotSent(Unsent::TimedOut), 3),
-            (Error::NotSent(Unsent::Unserved(full)), 3),
-            (Error::NotSent(Unsent::StoreWentBack), 3),
-            (Error::NotSent(Unsent::Stopped), 3),
-            (Error::StoreWentBack, 3),
-            (Error::LeaseEnded, 3),
-            (Error::Stopped, 3),
-            (Error::TurnedAway, 4),
-            (Error::BadRange, 2),
-            (Error::BadKey, 2),
-            (Error::Pinned, 1),
-            (Error::PinIsVoid, 1),
-            (Error::TooManyPins, 1),
-            (Error::OutOfMemory, 1),
+            (ErrorKind::TimedOut, 3),
+            (ErrorKind::Unserved(full), 3),
+            (ErrorKind::NotSent(Unsent::TimedOut), 3),
+            (ErrorKind::NotSent(Unsent::Unserved(full)), 3),
+            (ErrorKind::NotSent(Unsent::StoreWentBack), 3),
+            (ErrorKind::NotSent(Unsent::Stopped), 3),
+            (ErrorKind::StoreWentBack, 3),
+            (ErrorKind::LeaseEnded, 3),
+            (ErrorKind::Stopped, 3),
+            (ErrorKind::TurnedAway, 4),
+            (ErrorKind::BadRange, 2),
+            (ErrorKind::BadKey, 2),
+            (ErrorKind::Pinned, 1),
+            (ErrorKind::PinIsVoid, 1),
+            (ErrorKind::TooManyPins, 1),
+            (ErrorKind::OutOfMemory, 1),
         ] {
-            assert_eq!(Failure::from(refused).status(), status, "{refused:?}");
+            assert_eq!(Failure::of_call(refused).status(), status, "{refused:?}");
             let written = Failure::of_write(refused.into(), 15);
             assert_eq!(written.status(), status, "{refused:?}");
             let is_told = written.to_string().ends_with("may have been applied: read the key 15");
-            assert_eq!(is_told, refused.is_unknown_outcome(), "{written}");
+            assert_eq!(is_told, Error::from(refused).is_unknown_outcome(), "{written}");
         }
     }
 }

@@ -2,6 +2,7 @@
 use crate::commands::Context;
 use crate::failure::{Failure, SIGNALLED};
 use crate::signals::Taken;
+use krl::{Client, ShardStatus};
 use nix::errno::Errno;
 use nix::sys::wait::{Id, WaitPidFlag, waitid};
 use nix::unistd::Pid;
@@ -22,11 +23,13 @@ pub fn hold(
     for_update: bool,
     words: &[OsString],
 ) -> Result<u8, Failure> {
-    let pin = context.session.table.pin(keys, for_update)?;
+    let client = &context.session.client;
+    let (_, pin) =
+        if for_update { client.pin_for_update(keys) } else { client.pin_for_read(keys) }?;
     let [name, arguments @ ..] = words else {
         return Err(Failure::Usage("a command is expected after --".into()));
     };
-    let incarnation = context.session.table.incarnation();
+    let incarnation = incarnation_of(client);
     let start = || Command::new(name).args(arguments).env(INCARNATION, &incarnation).spawn();
     let (mut command, number, signals) = context.signals.to_command(start).map_err(|error| {
         let why = format!("{} can't be run: {error}", name.to_string_lossy());
@@ -37,6 +40,15 @@ pub fn hold(
         Failure::NotStarted(why, error.kind())
     })?;
     if pin.holds() { Ok(status_of(status)) } else { Err(Failure::NotHeld(status)) }
+}
+
+/// The incarnation of the client; of a client of shards, that of each shard, as `SHARD:NUMBER`.
+fn incarnation_of(client: &Client) -> String {
+    let shown = |it: &ShardStatus| match client.map() {
+        None => it.incarnation.to_string(),
+        Some(_) => format!("{}:{}", it.shard, it.incarnation),
+    };
+    client.status().iter().map(shown).collect::<Vec<_>>().join(",")
 }
 
 /// Waits for the command. Its process number is its own until no signal goes to it any more.

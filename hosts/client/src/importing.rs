@@ -33,7 +33,7 @@ pub fn import(options: &Options, words: &ImportWords, signals: &Signals) -> Resu
     let lines = read_file(&words.file, format, printer.values)?;
     let sessions = Session::join_some(options, &words::ALL, usize::from(words.clients))?;
     for session in &sessions {
-        signals.ends(&session.table);
+        signals.ends(&session.client);
     }
     let (written, kept, ended) = write_all(&sessions, &lines, words.existing);
     Session::leave_all(sessions, options.timeout);
@@ -98,8 +98,8 @@ impl Imported {
 /// Writes a row. It answers whether the table has changed by it.
 fn write(session: &Session, row: &Row, existing: Existing) -> Result<bool, Failure> {
     let outcome = match existing {
-        Existing::Replace => session.table.set(row.key, row.value),
-        Existing::Refuse | Existing::Keep => session.table.insert(row),
+        Existing::Replace => session.client.set(row.key, row.value),
+        Existing::Refuse | Existing::Keep => session.client.insert(row.key, row.value),
     };
     let outcome = outcome.map_err(|refused| Failure::of_write(refused, row.key))?;
     match outcome {

@@ -16,7 +16,6 @@ mod prompt;
 mod session;
 mod signals;
 mod suggestion;
-mod table;
 mod waiting;
 mod watching;
 mod words;
@@ -64,7 +63,7 @@ fn run(arguments: &Arguments) -> Result<u8, Failure> {
         Some(Command::Client(_)) | None => {}
     }
     let session = Session::join(options, &keys_of(arguments.command.as_ref())?)?;
-    signals.ends(&session.table);
+    signals.ends(&session.client);
     let context = Context { session: &session, printer: Printer::of(options), signals: &signals };
     let ended = match &arguments.command {
         Some(command) => run_one(command, options, &context),

@@ -4,7 +4,7 @@ use crate::commands::Context;
 use crate::failure::Failure;
 use crate::output::{print, print_json};
 use crate::place::Station;
-use krl::Error;
+use krl::ErrorKind;
 use serde_json::json;
 use std::time::{Duration, Instant};
 
@@ -15,15 +15,15 @@ pub fn ping(context: &Context<'_>) -> Result<(), Failure> {
 
 /// The greatest key is read again, which asks the server whatever the cache has.
 fn ping_one(context: &Context<'_>, station: &Station<'_>) -> Result<(), Failure> {
-    let (table, probed) = (&context.session.table, station.point..station.point + 1);
-    table.forget(probed.clone())?;
+    let (client, probed) = (&context.session.client, station.point..station.point + 1);
+    client.forget(probed.clone())?;
     let begun = Instant::now();
-    table.read(probed.clone())?;
+    client.read(probed.clone())?;
     let took = begun.elapsed();
-    table.forget(probed)?;
-    let epoch = table
-        .epoch(station.shard)
-        .map_err(|refused: Error| Failure::from(refused).at_shard(station.shard))?;
+    client.forget(probed)?;
+    let (shard, joined) = (station.shard.map_or(0, usize::from), client.status());
+    let status = joined.iter().find(|status| status.shard == shard);
+    let epoch = status.map_or(Err(ErrorKind::Stopped.into()), |status| status.epoch)?;
     tell(context, station, took, epoch)
 }
 
@@ -33,7 +33,7 @@ fn tell(
     took: Duration,
     epoch: u64,
 ) -> Result<(), Failure> {
-    let (number, joined) = (context.session.number, context.session.joined_in);
+    let (number, joined) = (context.session.client.number(), context.session.joined_in);
     match context.printer.format {
         Format::Text => print(&format!(
             "{station} answered in {took:.1?}; client {number} joined in {joined:.1?}, epoch \

@@ -1,22 +1,23 @@
 //! Where a table is: at one server, or at the servers of a map.
 use crate::arguments::Options;
 use crate::failure::{Failure, sentence};
-use krl::{END, Servers, Shard, ShardMap};
+use krl::{ClientBuilder, END, Servers, Shard, ShardMap, TlsConfig};
 use std::fmt;
 use std::ops::Range;
 
-/// Where a table is.
+/// Where a table is, and what a client of it is given.
 #[derive(Clone, Debug)]
-pub enum Place {
-    One(Servers),
-    /// The servers of a map. Only those are joined that have some of these keys.
-    Sharded(ShardMap, Range<u64>),
+pub struct Place {
+    pub at: krl::Place,
+    /// Only those shards are joined that have some of these keys.
+    keys: Range<u64>,
+    tls: Option<TlsConfig>,
 }
 
 /// One server of a table, and a point that it has.
 pub struct Station<'p> {
     /// The shard, if the table has some.
-    pub shard: Option<usize>,
+    pub shard: Option<u8>,
     pub servers: &'p Servers,
     /// The greatest key there.
     pub point: u64,
@@ -25,43 +26,64 @@ pub struct Station<'p> {
 impl Place {
     /// The place that the options name: a map comes before a server.
     pub fn of(options: &Options, keys: Range<u64>) -> Result<Place, Failure> {
-        match &options.map {
-            None => Ok(Place::One(options.with_tls(options.server.clone())?)),
-            Some(path) => {
-                let map = ShardMap::from_file(path).map_err(|error| {
-                    let why = sentence(&error);
-                    Failure::Usage(format!("the map {} can't be used: {why}", path.display()))
-                })?;
-                Ok(Place::Sharded(with_tls(&map, options)?, keys))
-            }
+        let tls = options.tls()?;
+        let at = match &options.map {
+            None => krl::Place::from(&options.server),
+            Some(path) => krl::Place::from(ShardMap::from_file(path).map_err(|error| {
+                let why = sentence(&error);
+                Failure::Usage(format!("the map {} can't be used: {why}", path.display()))
+            })?),
+        };
+        Ok(Place { at, keys, tls })
+    }
+
+    /// The same builder, with what a client is given for the place.
+    pub fn configure(&self, builder: ClientBuilder) -> ClientBuilder {
+        let builder = builder.keys(self.keys.clone());
+        match &self.tls {
+            Some(config) => builder.tls(config.clone()),
+            None => builder,
         }
     }
 
     /// Each server of the table.
     pub fn stations(&self) -> Vec<Station<'_>> {
-        match self {
-            Place::One(servers) => vec![Station { shard: None, servers, point: END - 1 }],
-            Place::Sharded(map, _) => {
+        match &self.at {
+            krl::Place::Server(servers) => vec![Station { shard: None, servers, point: END - 1 }],
+            krl::Place::Map(map) => {
                 let ends = map.shards().iter().skip(1).map(|next| next.first);
-                let stations = map.shards().iter().enumerate().zip(ends.chain([END]));
+                let stations = (0..).zip(map.shards()).zip(ends.chain([END]));
                 stations.map(|((shard, it), end)| station(shard, it, end)).collect()
             }
         }
     }
 
     /// The server of a shard.
-    pub fn servers_of(&self, shard: Option<usize>) -> Option<&Servers> {
-        match self {
-            Place::One(servers) => Some(servers),
-            Place::Sharded(map, _) => Some(&map.shards().get(shard?)?.servers),
+    pub fn servers_of(&self, shard: Option<u8>) -> Option<&Servers> {
+        match &self.at {
+            krl::Place::Server(servers) => Some(servers),
+            krl::Place::Map(map) => Some(&map.shards().get(usize::from(shard?))?.servers),
+        }
+    }
+
+    /// The name of the lock file that the library takes in a folder, for a number at this server.
+    pub fn lock_file_name(&self, number: u8, shard: Option<u8>) -> String {
+        match (&self.at, shard) {
+            (krl::Place::Map(map), Some(shard)) => {
+                let first = map.shards().get(usize::from(shard)).map_or(0, |shard| shard.first);
+                format!("shard-{first}-client-{number}.lock")
+            }
+            _ => format!("client-{number}.lock"),
         }
     }
 
     /// That no row fits in where this key is.
     pub fn full(&self, key: u64) -> String {
-        match self {
-            Place::One(_) => "the table has all the rows that its server has room for".into(),
-            Place::Sharded(map, _) => {
+        match &self.at {
+            krl::Place::Server(_) => {
+                "the table has all the rows that its server has room for".into()
+            }
+            krl::Place::Map(map) => {
                 let shard = map.shard_of(key).map_or(String::new(), |shard| shard.to_string());
                 format!(
                     "shard {shard} has all the rows that its server has room for: it has to be split"
@@ -72,17 +94,8 @@ impl Place {
 }
 
 /// The last shard may begin at END, where no key is.
-fn station(shard: usize, it: &Shard, end: u64) -> Station<'_> {
+fn station(shard: u8, it: &Shard, end: u64) -> Station<'_> {
     Station { shard: Some(shard), servers: &it.servers, point: it.first.max(end - 1) }
-}
-
-/// The same map, whose servers are shown the certificate of the options.
-fn with_tls(map: &ShardMap, options: &Options) -> Result<ShardMap, Failure> {
-    let shard =
-        |it: &Shard| Ok(Shard { first: it.first, servers: options.with_tls(it.servers.clone())? });
-    let shards = map.shards().iter().map(shard).collect::<Result<_, Failure>>()?;
-    let same = ShardMap::new(shards).map_err(|error| Failure::Usage(error.to_string()))?;
-    Ok(map.version().map_or(same.clone(), |version| same.with_version(version)))
 }
 
 impl fmt::Display for Station<'_> {

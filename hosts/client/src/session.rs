@@ -3,26 +3,22 @@ use crate::arguments::Options;
 use crate::failure::Failure;
 use crate::output::tell;
 use crate::place::Place;
-use crate::table::Table;
 use crate::waiting::told_if_long;
-use krl::{Client, JoinError, LockFileError, Refusal, ShardJoinError, ShardedClient};
+use krl::{Client, ClientBuilder, JoinError, JoinErrorKind, LockFileError, Refusal};
 use std::collections::VecDeque;
 use std::env;
 use std::fs::DirBuilder;
 use std::ops::Range;
 use std::os::unix::fs::DirBuilderExt;
-use std::path::{Path, PathBuf};
+use std::path::PathBuf;
+use std::sync::Arc;
 use std::thread;
 use std::time::{Duration, Instant};
 
-/// How long one of several numbers is tried if the server reports that another process has it.
-const IN_USE: Duration = Duration::from_secs(1);
-
 /// A client that has joined.
 pub struct Session {
-    pub table: Table,
+    pub client: Arc<Client>,
     pub place: Place,
-    pub number: u8,
     /// How long the join took.
     pub joined_in: Duration,
 }
@@ -50,32 +46,36 @@ impl Session {
         count: usize,
     ) -> Result<Vec<Session>, Failure> {
         let (place, files) = (Place::of(options, keys.clone())?, LockFiles::of(options)?);
-        let (mut sessions, mut in_use, mut refused) = (Vec::new(), VecDeque::new(), None);
-        let mut numbers = options.number.0.clone().rev();
-        while sessions.len() < count
-            && let Some(number) = numbers.next()
-        {
-            match try_number(options, &place, number, &files)? {
-                Tried::Joined(session) => sessions.push(session),
-                Tried::Taken => {}
-                Tried::InUse => in_use.push_back(number),
-                Tried::Refused(failure) => refused = Some(failure),
-            }
-        }
-        while sessions.len() < count
-            && let Some(number) = in_use.pop_front()
-        {
-            sessions.push(join_as(options, &place, number, &files, options.timeout)?);
-        }
-        if sessions.len() < count {
-            return Err(refused.unwrap_or_else(|| none_is_free(options)));
+        let mut numbers: VecDeque<u8> = options.number.0.clone().rev().collect();
+        let mut sessions = Vec::new();
+        while sessions.len() < count {
+            let session = Session::join_first(options, &place, &files, &numbers)?;
+            let is_passed_over = |number: &&u8| **number != session.client.number();
+            numbers.rotate_left(numbers.iter().take_while(is_passed_over).count());
+            numbers.pop_front();
+            sessions.push(session);
         }
         Ok(sessions)
     }
 
+    /// Joins by the first of these numbers that is free.
+    fn join_first(
+        options: &Options,
+        place: &Place,
+        files: &LockFiles,
+        numbers: &VecDeque<u8>,
+    ) -> Result<Session, Failure> {
+        let begun = Instant::now();
+        let builder = place.configure(files.builder(&place.at, numbers)).timeout(options.timeout);
+        let joined = builder.wait_if_in_use(options.timeout).join();
+        let client = joined.map_err(|error| not_joined(options, place, files, error))?;
+        let (client, joined_in) = (Arc::new(client), begun.elapsed());
+        Ok(Session { client, place: place.clone(), joined_in })
+    }
+
     /// Gives all back. If the server does not answer, it reports what others may notice.
     pub fn leave(self) {
-        let timeout = self.table.timeout();
+        let timeout = self.client.timeout();
         Session::leave_all(vec![self], timeout);
     }
 
@@ -83,8 +83,8 @@ impl Session {
     pub fn leave_all(sessions: Vec<Session>, timeout: Duration) {
         let unheard: Vec<String> = thread::scope(|scope| {
             let leave = |session: Session| {
-                let is_unheard = session.table.leave(timeout).is_err();
-                is_unheard.then_some(session.number.to_string())
+                let is_unheard = session.client.within(timeout).leave().is_err();
+                is_unheard.then(|| session.client.number().to_string())
             };
             let leaving = sessions.into_iter().map(|it| scope.spawn(move || leave(it)));
             let leaving: Vec<_> = leaving.collect();
@@ -100,99 +100,21 @@ impl Session {
     }
 }
 
-/// What became of a number that is one of several.
-enum Tried {
-    Joined(Session),
-    /// Another process of this user has it.
-    Taken,
-    /// The server refuses it until it has a new lock file.
-    Refused(Failure),
-    /// The server reports that another user or machine has it.
-    InUse,
-}
-
-/// Joins as the client of this number. If there is a choice, it leaves a number that another
-/// process has.
-fn try_number(
-    options: &Options,
-    place: &Place,
-    number: u8,
-    files: &LockFiles,
-) -> Result<Tried, Failure> {
-    if options.number.only().is_some() {
-        return join_as(options, place, number, files, options.timeout).map(Tried::Joined);
-    }
-    match join_table(options, place, number, files, IN_USE) {
-        Ok(session) => Ok(Tried::Joined(session)),
-        Err(ShardJoinError {
-            error: JoinError::LockFile { error: LockFileError::Taken, .. },
-            ..
-        }) => Ok(Tried::Taken),
-        Err(ShardJoinError {
-            error: JoinError::Unserved(Refusal::LeaseRuns { .. } | Refusal::Incarnation { .. }),
-            ..
-        }) => Ok(Tried::InUse),
-        Err(error) if is_far_ahead(&error) => {
-            Ok(Tried::Refused(not_joined(options, place, number, files, error)))
-        }
-        Err(error) => Err(not_joined(options, place, number, files, error)),
-    }
-}
-
-fn is_far_ahead(error: &ShardJoinError) -> bool {
-    matches!(error.error, JoinError::Unserved(Refusal::FarAhead { .. }))
-}
-
-/// Joins as the client of this number, and waits for this time for another process that has it.
-fn join_as(
-    options: &Options,
-    place: &Place,
-    number: u8,
-    files: &LockFiles,
-    if_in_use: Duration,
-) -> Result<Session, Failure> {
-    join_table(options, place, number, files, if_in_use)
-        .map_err(|error| not_joined(options, place, number, files, error))
-}
-
-fn not_joined(
-    options: &Options,
-    place: &Place,
-    number: u8,
-    files: &LockFiles,
-    error: ShardJoinError,
-) -> Failure {
-    let needs_new_file = is_far_ahead(&error);
-    let ShardJoinError { shard, error, .. } = error;
+fn not_joined(options: &Options, place: &Place, files: &LockFiles, error: JoinError) -> Failure {
+    let JoinError { kind, number, shard, .. } = error;
+    let is_taken = matches!(kind, JoinErrorKind::LockFile { error: LockFileError::Taken, .. });
+    let number = match number {
+        Some(number) if !is_taken || options.number.only().is_some() => number,
+        _ => return none_is_free(options),
+    };
+    let needs_new_file = matches!(kind, JoinErrorKind::Unserved(Refusal::FarAhead { .. }));
     let server = place.servers_of(shard).unwrap_or(&options.server);
-    let failure = Failure::of_join(error, number, server).at_shard(shard);
+    let failure = Failure::of_join(kind, number, server).at_shard(shard);
     if !needs_new_file {
         return failure;
     }
-    let file = files.of_number(number);
+    let file = files.of_number(number, place, shard);
     failure.reworded(|why| format!("{why}. Its lock file is {}", file.display()))
-}
-
-fn join_table(
-    options: &Options,
-    place: &Place,
-    number: u8,
-    files: &LockFiles,
-    if_in_use: Duration,
-) -> Result<Session, ShardJoinError> {
-    let (begun, timeout) = (Instant::now(), options.timeout);
-    let table = match place {
-        Place::One(servers) => {
-            let builder = Client::builder(servers, number, files.of_number(number));
-            builder.timeout(timeout).wait_if_in_use(if_in_use).join()?.into()
-        }
-        Place::Sharded(map, keys) => {
-            let builder = ShardedClient::builder(map.clone(), number, files.folder());
-            let builder = builder.timeout(timeout).wait_if_in_use(if_in_use);
-            builder.keys(keys.clone()).join()?.into()
-        }
-    };
-    Ok(Session { table, place: place.clone(), number, joined_in: begun.elapsed() })
 }
 
 fn none_is_free(options: &Options) -> Failure {
@@ -207,7 +129,8 @@ fn none_is_free(options: &Options) -> Failure {
 
 /// Where the lock files are.
 enum LockFiles {
-    One(PathBuf),
+    /// This is the file of the only number.
+    One(u8, PathBuf),
     In(PathBuf),
 }
 
@@ -218,7 +141,7 @@ impl LockFiles {
                 let why = "a lock file is of one server: --lock-file does not go with --map";
                 Err(Failure::Usage(why.into()))
             }
-            (Some(file), Some(_)) => Ok(LockFiles::One(file.clone())),
+            (Some(file), Some(number)) => Ok(LockFiles::One(number, file.clone())),
             (Some(_), None) => {
                 let why = "a lock file is of one number: --lock-file needs --number and one number";
                 Err(Failure::Usage(why.into()))
@@ -227,18 +150,21 @@ impl LockFiles {
         }
     }
 
-    /// The folder of all lock files.
-    fn folder(&self) -> &Path {
+    /// A builder of a client of the first of these numbers that is free.
+    fn builder(&self, at: &krl::Place, numbers: &VecDeque<u8>) -> ClientBuilder {
         match self {
-            LockFiles::One(file) => file.parent().unwrap_or(Path::new("")),
-            LockFiles::In(folder) => folder,
+            LockFiles::One(number, file) => Client::builder(at.clone(), *number, file),
+            LockFiles::In(folder) => {
+                Client::builder_with_numbers(at.clone(), numbers.iter().copied(), folder)
+            }
         }
     }
 
-    fn of_number(&self, number: u8) -> PathBuf {
+    /// The lock file of a number at this server.
+    fn of_number(&self, number: u8, place: &Place, shard: Option<u8>) -> PathBuf {
         match self {
-            LockFiles::One(file) => file.clone(),
-            LockFiles::In(folder) => folder.join(format!("client-{number}.lock")),
+            LockFiles::One(_, file) => file.clone(),
+            LockFiles::In(folder) => folder.join(place.lock_file_name(number, shard)),
         }
     }
 }

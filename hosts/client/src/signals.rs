@@ -1,6 +1,6 @@
 //! What signals do: they end the process, or a watch, or go to the command that `hold` runs.
 use crate::failure::SIGNALLED;
-use crate::table::{Table, WeakTable};
+use krl::Client;
 use nix::sys::signal::{Signal, kill};
 use nix::unistd::Pid;
 use signal_hook::consts::{SIGHUP, SIGINT, SIGQUIT, SIGTERM, SIGUSR1, SIGUSR2};
@@ -8,7 +8,7 @@ use signal_hook::iterator::Signals as Incoming;
 use std::io::{self, IsTerminal};
 use std::process::{self, Child};
 use std::sync::atomic::{AtomicBool, Ordering};
-use std::sync::{Arc, Mutex, MutexGuard, PoisonError};
+use std::sync::{Arc, Mutex, MutexGuard, PoisonError, Weak};
 use std::thread;
 use std::time::{Duration, Instant};
 
@@ -32,7 +32,7 @@ pub struct Signals(Arc<Shared>);
 
 struct Shared {
     taker: Mutex<Taker>,
-    tables: Mutex<Vec<WeakTable>>,
+    clients: Mutex<Vec<Weak<Client>>>,
     is_loop_ended: AtomicBool,
 }
 
@@ -45,7 +45,7 @@ impl Signals {
         let mut incoming = Incoming::new([SIGINT, SIGTERM, SIGHUP, SIGQUIT, SIGUSR1, SIGUSR2])?;
         let shared = Shared {
             taker: Mutex::new(Taker::Process),
-            tables: Mutex::default(),
+            clients: Mutex::default(),
             is_loop_ended: AtomicBool::new(false),
         };
         let signals = Signals(Arc::new(shared));
@@ -56,8 +56,8 @@ impl Signals {
     }
 
     /// The client leaves, as others do, when a signal ends the process.
-    pub fn ends(&self, table: &Table) {
-        lock(&self.0.tables).push(table.downgrade());
+    pub fn ends(&self, client: &Arc<Client>) {
+        lock(&self.0.clients).push(Arc::downgrade(client));
     }
 
     /// The next signal ends a loop, and one after it the process.
@@ -100,13 +100,13 @@ impl Signals {
 
     fn end_process(&self, signal: i32) -> ! {
         let end = Instant::now() + FAREWELL;
-        let tables: Vec<_> = lock(&self.0.tables).iter().filter_map(WeakTable::upgrade).collect();
+        let clients: Vec<_> = lock(&self.0.clients).iter().filter_map(Weak::upgrade).collect();
         // All send Bye before one is waited for; and the process ends in any case.
-        for table in &tables {
-            let _ = table.leave(Duration::ZERO);
+        for client in &clients {
+            let _ = client.within(Duration::ZERO).leave();
         }
-        for table in &tables {
-            let _ = table.leave(end.saturating_duration_since(Instant::now()));
+        for client in &clients {
+            let _ = client.within(end.saturating_duration_since(Instant::now())).leave();
         }
         process::exit(i32::from(SIGNALLED) + signal)
     }

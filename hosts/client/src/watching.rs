@@ -2,8 +2,7 @@
 use crate::commands::Context;
 use crate::failure::Failure;
 use crate::signals::Taken;
-use crate::table::Table;
-use krl::{Error, Row, ShardError, Waited};
+use krl::{Client, Error, ErrorKind, Row, Waited};
 use std::ops::Range;
 use std::time::Duration;
 
@@ -14,16 +13,15 @@ const LOOK: Duration = Duration::from_millis(200);
 ///
 /// Between two changes the client holds the range, and the server is asked nothing.
 pub fn watch(context: &Context<'_>, keys: &Range<u64>, count: Option<u64>) -> Result<(), Failure> {
-    let table = &context.session.table;
-    let mut rows = table.read(keys.clone())?;
+    let client = &context.session.client;
+    let mut rows = client.read(keys.clone())?;
     let signals = context.signals.to_loop();
     context.printer.change(0, &rows)?;
-    let timeout = table.timeout();
     // A signal is seen soon, also while the server is away.
-    table.set_timeout(LOOK);
+    let client = client.within(LOOK);
     let mut ended = Ok(());
     for number in 1..=count.unwrap_or(u64::MAX) {
-        match next_change(table, keys, &rows, &signals) {
+        match next_change(&client, keys, &rows, &signals) {
             Ok(Some(changed)) => rows = changed,
             Ok(None) => break,
             Err(refused) => {
@@ -36,26 +34,25 @@ pub fn watch(context: &Context<'_>, keys: &Range<u64>, count: Option<u64>) -> Re
             break;
         }
     }
-    table.set_timeout(timeout);
     ended
 }
 
 /// The rows of the range once they have changed, or `None` if a signal came before.
 fn next_change(
-    table: &Table,
+    client: &Client,
     keys: &Range<u64>,
     rows: &[Row],
     signals: &Taken<'_>,
-) -> Result<Option<Vec<Row>>, ShardError> {
+) -> Result<Option<Vec<Row>>, Error> {
     while !signals.is_ended() {
-        if table.wait_for_change(keys.clone(), rows, LOOK)? == Waited::Unchanged {
+        if client.wait_for_change(keys.clone(), rows, LOOK)? == Waited::Unchanged {
             continue;
         }
-        match table.read(keys.clone()) {
+        match client.read(keys.clone()) {
             Ok(read) if read != rows => return Ok(Some(read)),
             // It is as it was, or another client still has it.
             Ok(_) => {}
-            Err(refused) if is_waiting(refused.error) => {}
+            Err(refused) if is_waiting(refused.kind) => {}
             Err(refused) => return Err(refused),
         }
     }
@@ -63,6 +60,6 @@ fn next_change(
 }
 
 /// Whether an answer may still come.
-fn is_waiting(refused: Error) -> bool {
-    matches!(refused, Error::TimedOut | Error::Unserved(_))
+fn is_waiting(refused: ErrorKind) -> bool {
+    matches!(refused, ErrorKind::TimedOut | ErrorKind::Unserved(_))
 }

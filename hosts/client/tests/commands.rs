@@ -225,6 +225,8 @@ fn the_greatest_free_number_is_taken() {
         let said: serde_json::Value = serde_json::from_str(&ended.out).unwrap_or_default();
         (ended.status, said["client"].to_string())
     };
+    // What is held ends here.
+    world.prints(&["insert", "3=a"]);
     let mut first = world.spawn(&["hold", "1", "2", "--", "sleep", "60"]);
     world.wait_until_held(63);
     assert_eq!(number("56-63"), (0, "62".into()));
@@ -232,6 +234,10 @@ fn the_greatest_free_number_is_taken() {
     assert_eq!(number("7"), (0, "7".into()));
     let told = world.run(&["--number", "63-63", "ping"]);
     assert_eq!(told.status, 4, "{told:?}");
+    let rows = world.folder.join("rows.csv");
+    std::fs::write(&rows, "key,value\n5,a\n6,b\n").unwrap();
+    let words = ["--number", "61-63", "import", rows.to_str().unwrap(), "--clients", "2"];
+    assert_eq!(world.prints(&words), "imported 2 rows\n");
     let told = world.run(&["--number", "62-63", "bench", "--clients", "2"]);
     assert_eq!(told.status, 4, "{told:?}");
     assert!(told.errors.contains("too few of the client numbers 62 to 63 are free"), "{told:?}");

@@ -164,6 +164,23 @@ fn failures_name_the_shard_and_what_is_expected() {
     assert_eq!(shards.world.run(&timed("5")).status, 1);
 }
 
+/// The lock file of a number keeps what a wrong clock has left in it.
+#[test]
+fn a_lock_file_of_a_wrong_clock_is_named() {
+    let shards = Shards::new("ahead");
+    let folder = shards.world.folder.join("krl");
+    std::fs::create_dir(&folder).unwrap();
+    let file = folder.join("shard-100-client-63.lock");
+    // Of the year 2046.
+    std::fs::write(&file, "krl client 63 incarnation 02426388266503144698\n").unwrap();
+    let told = shards.run(&["--number", "63", "get", "105"]);
+    assert_eq!(told.status, 3, "{told:?}");
+    let file = format!("Its lock file is {}", file.display());
+    for why in ["shard 1: ", "more than a day ahead of the server's clock", &file] {
+        assert!(told.errors.contains(why), "{why}: {told:?}");
+    }
+}
+
 #[test]
 fn another_map_is_refused_and_says_what_to_do() {
     let shards = Shards::new("other");

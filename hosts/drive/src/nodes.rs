@@ -80,10 +80,11 @@ fn join(number: u8, servers: &str, folder: &Path) -> Result<Client, Box<dyn Erro
 
 /// Joins. While no server runs, it tries again, for so long as an answer may take.
 pub fn join_when_served(builder: &ClientBuilder, timeout: Duration) -> Result<Client, JoinError> {
+    use krl::JoinErrorKind::NothingListens;
     let end = Instant::now() + timeout;
     loop {
         match builder.clone().timeout(timeout).join() {
-            Err(JoinError::NothingListens { .. }) if Instant::now() < end => {}
+            Err(JoinError { kind: NothingListens { .. }, .. }) if Instant::now() < end => {}
             joined => return joined,
         }
     }
@@ -134,11 +135,13 @@ fn read_again(
 
 /// What was answered, if anything was.
 fn answered<T>(result: Result<T, krl::Error>) -> Result<Option<T>, krl::Error> {
-    use krl::Error::{LeaseEnded, NotSent, TimedOut, Unserved};
+    use krl::ErrorKind::{LeaseEnded, NotSent, TimedOut, Unserved};
     match result {
         Ok(found) => Ok(Some(found)),
-        Err(TimedOut | Unserved(_) | NotSent(_) | LeaseEnded) => Ok(None),
-        Err(refused) => Err(refused),
+        Err(refused) => match refused.kind {
+            TimedOut | Unserved(_) | NotSent(_) | LeaseEnded => Ok(None),
+            _ => Err(refused),
+        },
     }
 }
 

@@ -7,7 +7,7 @@ use crate::Found;
 use crate::applied::applied;
 use crate::clients::Process;
 use crate::kill::start_server;
-use krl::{Outcome, Row, Shard, ShardError, ShardMap, ShardedClient, Value};
+use krl::{Client, Outcome, Row, Shard, ShardMap, Value};
 use krl_testing::ports::free_address;
 use std::error::Error;
 use std::net::SocketAddr;
@@ -73,8 +73,7 @@ pub fn run(folder: &Path, seconds: u64, kills: u64) -> Found {
     let mut servers = [start(&folder.join("left"))?, start(&folder.join("right"))?];
     let shard = |(first, server): (u64, &ShardServer)| Shard { first, servers: server.at.into() };
     let map = ShardMap::new([0, BOUND].into_iter().zip(&servers).map(shard).collect())?;
-    let join =
-        |number| ShardedClient::builder(map.clone(), number, folder).timeout(5 * TIMEOUT).join();
+    let join = |number| Client::builder(map.clone(), number, folder).timeout(5 * TIMEOUT).join();
     let writer = join(WRITER)?;
     let readers = [join(READERS[0])?, join(READERS[1])?];
     for key in [LEFT, RIGHT] {
@@ -100,8 +99,8 @@ pub fn run(folder: &Path, seconds: u64, kills: u64) -> Found {
 }
 
 /// What a thread that panicked comes to.
-fn refused() -> ShardError {
-    krl::Error::Stopped.into()
+fn refused() -> krl::Error {
+    krl::ErrorKind::Stopped.into()
 }
 
 fn start(folder: &Path) -> Result<ShardServer, Box<dyn Error>> {
@@ -135,7 +134,7 @@ impl Run {
 
     /// Gives both rows the next number, again and again. A write that is not answered is made once
     /// more.
-    fn write_again(&self, client: &ShardedClient) -> Result<(), ShardError> {
+    fn write_again(&self, client: &Client) -> Result<(), krl::Error> {
         client.set_timeout(TIMEOUT);
         let mut number = 0;
         while self.goes_on() {
@@ -155,7 +154,7 @@ impl Run {
     }
 
     /// Scans only the caches, until the run is over.
-    fn scan_again(&self, client: &ShardedClient) -> Count {
+    fn scan_again(&self, client: &Client) -> Count {
         let (mut count, mut last) = (Count::default(), [0, 0]);
         while self.goes_on() {
             let answered = self.answered.load(Ordering::SeqCst);
@@ -169,7 +168,7 @@ impl Run {
         count
     }
 
-    fn read_again(&self, client: &ShardedClient) -> Result<Count, ShardError> {
+    fn read_again(&self, client: &Client) -> Result<Count, krl::Error> {
         let (mut count, mut last) = (Count::default(), [0, 0]);
         while self.goes_on() {
             let before = self.answered.load(Ordering::SeqCst);
@@ -221,13 +220,13 @@ impl Run {
 }
 
 /// What was answered, if anything was.
-fn answered<T>(result: Result<T, ShardError>) -> Result<Option<T>, ShardError> {
-    let is_unanswered = |error| {
-        matches!(error, krl::Error::TimedOut | krl::Error::Unserved(_) | krl::Error::NotSent(_))
-    };
+fn answered<T>(result: Result<T, krl::Error>) -> Result<Option<T>, krl::Error> {
+    use krl::ErrorKind::{NotSent, TimedOut, Unserved};
     match result {
         Ok(found) => Ok(Some(found)),
-        Err(ShardError { error, .. }) if is_unanswered(error) => Ok(None),
-        Err(refused) => Err(refused),
+        Err(refused) => match refused.kind {
+            TimedOut | Unserved(_) | NotSent(_) => Ok(None),
+            _ => Err(refused),
+        },
     }
 }

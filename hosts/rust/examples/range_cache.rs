@@ -21,6 +21,7 @@
 //! and no answer is stale: the writer can't write then. While a node is dead, the writer waits for
 //! it only if it held what the writer changes. With leases (`leased`, or `leased for 10`) a node
 //! that is stopped, and not killed, keeps the writer waiting no longer than its lease.
+use krl::ErrorKind::{LeaseEnded, NotSent, TimedOut, Unserved};
 use krl::{Address, Client, Leases, Listener, Outcome, Row, Server, SqliteStore, Value};
 use std::error::Error;
 use std::ops::Range;
@@ -110,7 +111,7 @@ fn node(number: u8, folder: &Path) -> Done {
             match client.read(keys.clone()) {
                 Ok(rows) => rows,
                 // The server is down, and what the node lacks can't be known just now.
-                Err(krl::Error::TimedOut | krl::Error::Unserved(_)) => continue,
+                Err(krl::Error { kind: TimedOut | Unserved(_), .. }) => continue,
                 Err(refused) => return Err(refused.into()),
             }
         };
@@ -133,7 +134,6 @@ fn shown(rows: &[Row]) -> String {
 
 /// Makes the table's rows, and then counts up the values of some of them.
 fn write(folder: &Path) -> Done {
-    use krl::Error::{LeaseEnded, NotSent, TimedOut, Unserved};
     let client = join(WRITER, folder)?;
     for key in (10..=100).step_by(10) {
         // A table of an earlier run has the rows already.
@@ -144,9 +144,12 @@ fn write(folder: &Path) -> Done {
     println!("writer ({}): the table is there", std::process::id());
     for key in KEYS.into_iter().cycle() {
         match add_one(&client, key) {
-            Ok(Outcome::Applied) | Err(TimedOut | Unserved(_) | NotSent(_) | LeaseEnded) => {}
+            Ok(Outcome::Applied) => {}
             Ok(outcome) => println!("writer: {key} was not written: {outcome}"),
-            Err(refused) => return Err(refused.into()),
+            Err(refused) => match refused.kind {
+                TimedOut | Unserved(_) | NotSent(_) | LeaseEnded => {}
+                _ => return Err(refused.into()),
+            },
         }
         thread::sleep(WRITE_PAUSE);
     }

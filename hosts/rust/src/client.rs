@@ -1,53 +1,76 @@
-//! A client over a network.
+//! A client over a network, of one server or of several.
 pub(crate) mod answer;
 pub(crate) mod asynchronous;
 mod backoff;
+mod blocking;
 pub(crate) mod builder;
+pub(crate) mod calls;
 pub(crate) mod changes;
 mod deadlines;
 pub(crate) mod evict;
 pub(crate) mod jobs;
+mod joined;
 pub(crate) mod joining;
 pub(crate) mod link;
 pub(crate) mod lock_file;
 pub(crate) mod numbers;
 pub(crate) mod pin;
+mod pinned;
 mod pins;
+pub(crate) mod place;
 mod refused_connects;
 pub(crate) mod scratch;
 pub(crate) mod session;
-pub(crate) mod set;
-pub(crate) mod shared;
+pub(crate) mod shard_client;
 pub(crate) mod silence;
+pub(crate) mod status;
+pub(crate) mod timeout;
 pub(crate) mod wakes;
 mod writer;
 
-use crate::client::changes::{Changes, Waited, WatchedRange};
-use crate::client::jobs::{Asked, Held, Jobs, Purpose};
-use crate::client::link::Link;
+use crate::client::calls::{Calls, Waited};
+use crate::client::changes::{Changes, WatchedRange};
+use crate::client::jobs::{Jobs, Purpose};
+use crate::client::joined::Joined;
 use crate::client::pin::Pin;
+use crate::client::pinned::Pinned;
 use crate::client::scratch::with_room;
-use crate::client::shared::{MAX_WAIT, Shared};
+use crate::client::shard_client::ShardClient;
+use crate::client::timeout::MAX_WAIT;
 use crate::log::span;
 use crate::model::batch::{BatchError, Mutation};
 use crate::model::change::{Outcome, Write};
-use crate::model::code::Code;
-use crate::model::error::Error;
+use crate::model::error::{Error, ErrorKind};
 use crate::model::range::keys_of;
 use crate::model::row::{END, Row, Value};
+use crate::shards::map::ShardMap;
 use std::fmt;
 use std::ops::{Range, RangeBounds};
 use std::sync::Arc;
-use std::time::{Duration, Instant};
+use std::time::Duration;
 
-/// A client of a number from 0 to 63. Its calls may come from several threads; its own thread keeps
+/// A client of a number from 0 to 63, of one server or of several, each with a part of the keys.
+/// Its calls may come from several threads; for each server it has a thread of its own that keeps
 /// the connection, makes it again when it breaks, and sends again what is not answered.
 ///
 /// A clone is the same client: it has the same cache, the same pins and the same timeout.
 ///
+/// # Several servers
+///
+/// The client of a [`ShardMap`] has joined the server of each shard. It asks all shards at once,
+/// and waits for the slowest one. **A scan over several shards is answered only if all its parts
+/// are known at one moment**: the rows are that range of all tables together at one moment of the
+/// call. A write is at one shard. Two writes at two shards are two writes: another client may see
+/// only the first one, also after a crash between the two.
+///
+/// What follows holds at each server: each has its own store, epoch, lease and lock file, its own
+/// eight pins and its own room for rows. An [`Error`] has the shard that refused.
+///
+/// # Restarts and leases
+///
 /// If the server's store went back, since an older copy of it was brought back, the client drops
 /// its cache as if it had crashed, and joins again: calls that wait just then end with
-/// [`Error::StoreWentBack`]. Until it has joined, `cached` answers `None`, and other calls wait. A
+/// [`ErrorKind::StoreWentBack`]. Until it has joined, `cached` answers `None`, and other calls wait. A
 /// store without a history reports nothing about it.
 ///
 /// If the server serves another store than the one that the client has seen, the client drops its
@@ -56,7 +79,8 @@ use std::time::{Duration, Instant};
 ///
 /// A server with leases lets the client answer from its cache only for a limited time after the
 /// client's last sign. When its lease ends the client drops its cache and joins again, as above:
-/// only a write that is on its way ends with [`Error::LeaseEnded`], and all other calls continue.
+/// only a write that is on its way ends with [`ErrorKind::LeaseEnded`], and all other calls
+/// continue.
 ///
 /// When its last clone and its last pin are dropped, the client sends Bye, and waits a second at
 /// most until the server has kept that. A process that ends without a Bye leaves what it held:
@@ -86,41 +110,43 @@ use std::time::{Duration, Instant};
 /// [`Refusal::OtherStore`]: crate::Refusal::OtherStore
 #[derive(Clone)]
 pub struct Client {
-    shared: Arc<Shared>,
+    joined: Arc<Joined>,
     /// How long the calls by this value wait, if it has a time of its own.
     timeout: Option<Duration>,
 }
 
 impl Client {
-    pub(crate) fn of(shared: Shared) -> Client {
-        Client { shared: Arc::new(shared), timeout: None }
+    pub(crate) fn of(joined: Joined) -> Client {
+        Client { joined: Arc::new(joined), timeout: None }
     }
 
-    /// What its clones and its pins share.
-    pub(crate) fn shared(&self) -> &Arc<Shared> {
-        &self.shared
+    /// Calls that begin now.
+    pub(crate) fn calls(&self) -> Calls<'_> {
+        Calls::new(&self.joined, self.timeout())
     }
 
-    fn link(&self) -> &Link {
-        self.shared.link()
+    /// The map of the shards, if the client is of several servers.
+    #[must_use]
+    pub fn map(&self) -> Option<&ShardMap> {
+        self.joined.map()
     }
 
     /// From now on, each call waits at most this long for an answer, and a year at most. A call
     /// that waits already continues as it began, and what [`Client::within`] has returned keeps its
     /// own time.
     pub fn set_timeout(&self, timeout: Duration) {
-        self.shared.set_timeout(timeout);
+        self.joined.timeout.set(timeout);
     }
 
     /// How long each call waits for an answer.
     #[must_use]
     pub fn timeout(&self) -> Duration {
-        self.timeout.unwrap_or_else(|| self.shared.timeout())
+        self.timeout.unwrap_or_else(|| self.joined.timeout.get())
     }
 
-    /// The same client, whose calls by the value that is returned, and by clones of it, wait at most
-    /// this long for an answer, and a year at most. Calls by other values wait as before, and so do
-    /// the writes of a [`Pin`].
+    /// The same client, whose calls by the value that is returned, and by clones of it, wait at
+    /// most this long for an answer, and a year at most. Calls by other values wait as before, and
+    /// so do the writes of a [`Pin`].
     ///
     /// ```no_run
     /// # use std::time::Duration;
@@ -131,41 +157,48 @@ impl Client {
     /// ```
     #[must_use = "it does nothing before one of its calls"]
     pub fn within(&self, timeout: Duration) -> Client {
-        Client { shared: Arc::clone(&self.shared), timeout: Some(timeout.min(MAX_WAIT)) }
+        Client { joined: Arc::clone(&self.joined), timeout: Some(timeout.min(MAX_WAIT)) }
     }
 
     /// The client's number, from 0 to 63.
     #[must_use]
     pub fn number(&self) -> u8 {
-        self.shared.number()
+        self.joined.number()
     }
 
     /// The rows of the range: from the cache, with no message and no waiting, if the client holds
-    /// it; otherwise it locks what it lacks and waits. They are that range of the server's table at
-    /// one moment of the call. An empty range has no rows.
+    /// it; otherwise it locks what it lacks and waits. They are that range of the table at one
+    /// moment of the call. An empty range has no rows.
+    ///
+    /// Over several shards it asks all of them at once for what it lacks, and waits until all have
+    /// answered. If others have taken away a part by then, it takes the parts in ascending order,
+    /// and pins each until it has all.
     ///
     /// # Errors
     ///
-    /// `BadRange` if the range begins above its end, or ends above 2^63; `TimedOut` or `Unserved`;
-    /// `TurnedAway` or `OtherShard`; `StoreWentBack`; `OutOfMemory`; `Stopped`.
+    /// `BadRange` if the range begins above its end, ends above 2^63, or has keys of a shard that
+    /// is not joined; `TimedOut` or `Unserved`; `TurnedAway` or `OtherShard`; `StoreWentBack`;
+    /// `OutOfMemory`; `Stopped`.
     pub fn read(&self, keys: impl RangeBounds<u64>) -> Result<Vec<Row>, Error> {
         let keys = keys_of(&keys)?;
-        if let Some(rows) = with_room(|room| self.shared.scan(&keys, room).then(|| room.clone())) {
+        let is_cached = |room: &mut Vec<Row>| self.joined.scan(&keys, room);
+        if let Some(rows) = with_room(|room| is_cached(room).map(|is| is.then(|| room.clone())))? {
             return Ok(rows);
         }
         let _span = span::of("read", self.number(), &keys);
-        self.ask(|jobs| jobs.read(keys))
+        let calls = self.calls();
+        calls.block(calls.read(keys))
     }
 
-    /// The value of the row of this key, read as [`Client::read`] reads a range, or `None` if there is
-    /// no such row.
+    /// The value of the row of this key, read as [`Client::read`] reads a range, or `None` if there
+    /// is no such row.
     ///
     /// # Errors
     ///
     /// `BadKey` if the key is 2^63 - 1 or more; those of [`Client::read`].
     pub fn get(&self, key: u64) -> Result<Option<Value>, Error> {
         if key >= END {
-            return Err(Error::BadKey);
+            return Err(ErrorKind::BadKey.into());
         }
         Ok(self.read(key..=key)?.first().map(|row| row.value))
     }
@@ -175,11 +208,13 @@ impl Client {
     /// server's table at one moment of the call, also while the server is down. An empty range has
     /// no rows.
     ///
-    /// Threads that make this call, or one of the next two, do not wait for each other.
+    /// Threads that make this call, or one of the next two, do not wait for each other. While a
+    /// range of several shards is scanned, no client of these shards takes a message or a call.
     ///
     /// # Errors
     ///
-    /// `BadRange` if the range begins above its end, or ends above 2^63.
+    /// `BadRange` if the range begins above its end, ends above 2^63, or has keys of a shard that
+    /// is not joined.
     pub fn cached(&self, keys: impl RangeBounds<u64>) -> Result<Option<Vec<Row>>, Error> {
         with_room(|room| Ok(self.cached_into(keys, room)?.then(|| room.clone())))
     }
@@ -196,10 +231,10 @@ impl Client {
         rows: &mut Vec<Row>,
     ) -> Result<bool, Error> {
         rows.clear();
-        Ok(self.shared.scan(&keys_of(&keys)?, rows))
+        Ok(self.joined.scan(&keys_of(&keys)?, rows)?)
     }
 
-    /// The same, and `visit` gets each row, in key order. It answers whether the cache covers the
+    /// The same, and `visit` gets each row, in key order. It returns whether the cache covers the
     /// range; if it does not, no row is visited.
     ///
     /// The rows are copied first, at one moment of the call, and visited after it. So `visit` may
@@ -222,16 +257,17 @@ impl Client {
         })
     }
 
-    /// Inserts a row. The outcome is `Applied`, `Exists` or `Full`.
+    /// Inserts a row. The outcome is `Applied`, `Exists`, or `Full` if the server of the key has no
+    /// room for it.
     ///
     /// # Errors
     ///
-    /// `BadKey` for a key of 2^63 - 1 or more; `TimedOut`, `Unserved`, `StoreWentBack` or `Stopped`:
-    /// then the table may have changed or may still change; `LeaseEnded`: then it may have changed;
-    /// `NotSent`, `TurnedAway` or `OtherShard`: the write was not sent and changes nothing;
-    /// `OutOfMemory`.
+    /// `BadKey` for a key of 2^63 - 1 or more, or of a shard that is not joined; `TimedOut`,
+    /// `Unserved`, `StoreWentBack` or `Stopped`: then the table may have changed or may still
+    /// change; `LeaseEnded`: then it may have changed; `NotSent`, `TurnedAway` or `OtherShard`: the
+    /// write was not sent and changes nothing; `OutOfMemory`.
     pub fn insert(&self, key: u64, value: Value) -> Result<Outcome, Error> {
-        self.write(Write::Insert(Row { key, value }))
+        self.calls().block_on_write(Write::Insert(Row { key, value }))
     }
 
     /// Gives a row another value. The outcome is `Applied` or `Absent`.
@@ -240,7 +276,7 @@ impl Client {
     ///
     /// Those of `insert`.
     pub fn put(&self, key: u64, value: Value) -> Result<Outcome, Error> {
-        self.write(Write::Put(Row { key, value }))
+        self.calls().block_on_write(Write::Put(Row { key, value }))
     }
 
     /// Gives a key this value, whether or not it has a row. The outcome is `Applied`, or `Full` if
@@ -254,8 +290,7 @@ impl Client {
     ///
     /// Those of `insert`.
     pub fn set(&self, key: u64, value: Value) -> Result<Outcome, Error> {
-        let (first, end) = (self.shared.first_of_set(Row { key, value }), self.end());
-        set::set(first, end, |write| self.shared.write(end, write, Jobs::write))
+        self.calls().block_on_set(Row { key, value })
     }
 
     /// Deletes a row. The outcome is `Applied` or `Absent`.
@@ -264,20 +299,21 @@ impl Client {
     ///
     /// Those of `insert`.
     pub fn delete(&self, key: u64) -> Result<Outcome, Error> {
-        self.write(Write::Delete(key))
+        self.calls().block_on_write(Write::Delete(key))
     }
 
-    /// Makes several writes in one wait, one after the other in this order, and answers how each
-    /// was judged. A write that changes nothing, since its outcome is `Exists`, `Absent` or `Full`,
-    /// ends no other one.
+    /// Makes several writes in one wait, one after the other in this order, and returns how each
+    /// was judged. Over several shards, those of each shard are in this order, and writes at two
+    /// shards have no order. A write that changes nothing, since its outcome is `Exists`, `Absent`
+    /// or `Full`, ends no other one.
     ///
     /// **It is not a transaction**: each is a write of its own. Other clients may see the first
     /// ones without the others, also after a crash between them, and may write in between. Writes
     /// of other threads of this client come in between too. All of them together take the timeout
     /// at most.
     ///
-    /// The client has one write on its way at a time, and sends the next one as soon as the server
-    /// has kept the one before: nobody else has to be woken for it. To take the locks of many
+    /// The client has one write on its way at a time at each server, and sends the next one as soon
+    /// as the server has kept the one before: nobody else has to be woken for it. To take the locks of many
     /// writes in a range by one request, call [`Client::pin_for_write`] first, and
     /// [`Pin::write_all`] then.
     ///
@@ -294,14 +330,15 @@ impl Client {
     ///
     /// # Errors
     ///
-    /// Those of `insert`, for the first write that was not judged. [`BatchError::fates`] reports
-    /// which writes were judged, and how; at most one is unknown, and those after it were not made
-    /// and will not be. With `BadKey` none was made.
+    /// Those of `insert`, for the first write that was not judged; of several shards, for the first
+    /// shard at which not all were judged. [`BatchError::fates`] reports which writes were judged,
+    /// and how; at most one at each server is unknown, and those after it there were not made and
+    /// will not be. With `BadKey` none was made.
     pub fn write_all(
         &self,
         writes: impl IntoIterator<Item = Mutation>,
     ) -> Result<Vec<Outcome>, BatchError> {
-        self.shared.write_all(self.end(), writes.into_iter().collect(), Jobs::write_all)
+        self.calls().block_on_all(writes.into_iter().collect())
     }
 
     /// Pins the range: what the client holds of it, or is granted while the pin lives, no callback
@@ -312,14 +349,24 @@ impl Client {
     /// [`Client::pin_for_update`]: two clients that pin the same rows to read them, and then write
     /// them, keep each other waiting until one of them drops its pin.
     ///
+    /// It sends nothing and waits for nothing. **If the client has a map, it waits** until it holds
+    /// all of the range, as [`Client::pin_for_read`] does: otherwise a part would be pinned while
+    /// an earlier one is still to come, and two clients could wait for each other.
+    ///
     /// # Errors
     ///
     /// `BadRange` if the range is empty, begins above its end, or ends above 2^63; `TooManyPins`;
-    /// `StoreWentBack`, `LeaseEnded` or `Unserved` while the client joins again.
+    /// `StoreWentBack`, `LeaseEnded` or `Unserved` while the client joins again; those of
+    /// [`Client::pin_for_read`] if the client has a map.
     pub fn pin(&self, keys: impl RangeBounds<u64>) -> Result<Pin, Error> {
+        let Some(only) = self.joined.only() else {
+            return self.pin_for_read(keys).map(|(_, pin)| pin);
+        };
         let keys = keys_of(&keys)?;
-        let id = self.link().with_jobs(|jobs| jobs.pin(keys))?;
-        Ok(Pin::new(Arc::clone(&self.shared), id))
+        let id = only.link().with_jobs(|jobs| jobs.pin(keys))?;
+        let mut pinned = Pinned::new(&self.joined);
+        pinned.add(0, id);
+        Ok(Pin::of(pinned))
     }
 
     /// Reads the range and pins it: the rows stay what they are while the pin lives. Other clients
@@ -329,13 +376,14 @@ impl Client {
     ///
     /// It takes the range in ascending order and pins what it has got, so clients that pin one
     /// range each do not wait for each other forever. A client that pins several should take them
-    /// in ascending order.
+    /// in ascending order. Of several shards it asks all at once, and then takes them in ascending
+    /// order.
     ///
     /// # Errors
     ///
-    /// `BadRange` if the range is empty, begins above its end, or ends above 2^63; `TooManyPins`:
-    /// it takes two of the eight until it has all; `TimedOut` or `Unserved`, `OutOfMemory`,
-    /// `Stopped`. Then nothing more is pinned than before.
+    /// `BadRange` if the range is empty, begins above its end, ends above 2^63, or has keys of a
+    /// shard that is not joined; `TooManyPins`: it takes two of the eight until it has all;
+    /// `TimedOut` or `Unserved`, `OutOfMemory`, `Stopped`. Then nothing more is pinned than before.
     pub fn pin_for_read(&self, keys: impl RangeBounds<u64>) -> Result<(Vec<Row>, Pin), Error> {
         self.hold(&keys, Purpose::Read)
     }
@@ -351,6 +399,9 @@ impl Client {
     /// pinned a part of the range by [`Client::pin_for_read`] or [`Client::pin`] keeps what it
     /// reads there: if two such clients then pin it for an update, or write there, each may wait
     /// for the other one until it times out.
+    ///
+    /// It takes one shard after another: if a server is down, what is pinned before it keeps others
+    /// waiting until the call times out.
     ///
     /// A caller that decides by these rows what to write uses [`Pin::put`], [`Pin::insert`] and
     /// [`Pin::delete`]. A client has one request for a lock at a time: if several threads pin and
@@ -396,27 +447,25 @@ impl Client {
 
     /// Waits until the client no longer knows that the range has these rows: another client's write
     /// has taken a part of it from the cache, or a call of this client has changed it. If the
-    /// client does not hold the range, that is so at once.
+    /// client does not hold the range, that is so at once. The rows have to be in key order, as
+    /// [`Client::read`] returns them.
     ///
     /// It sends nothing. After [`Waited::Changed`], [`Client::read`] may have something new, or the
     /// rows may be what they were. [`Client::changes`] makes an iterator of the two.
     ///
     /// # Errors
     ///
-    /// `BadRange` if the range begins above its end, or ends above 2^63; `Stopped`.
+    /// `BadRange` if the range begins above its end, ends above 2^63, or has keys of a shard that
+    /// is not joined; `Stopped`.
     pub fn wait_for_change(
         &self,
         keys: impl RangeBounds<u64>,
         rows: &[Row],
         timeout: Duration,
     ) -> Result<Waited, Error> {
-        let keys = keys_of(&keys)?;
-        let end = Instant::now() + timeout.min(MAX_WAIT);
-        match self.link().ask(end, |jobs| jobs.watch(keys, rows.to_vec())) {
-            Ok(()) => Ok(Waited::Changed),
-            Err(Error::TimedOut | Error::Unserved(_)) => Ok(Waited::Unchanged),
-            Err(refused) => Err(refused),
-        }
+        let (keys, client) = (keys_of(&keys)?, self.within(timeout));
+        let calls = client.calls();
+        calls.block(calls.wait_for_change(keys, rows))
     }
 
     /// The states of the range, one after the other: the rows now, and then after each change.
@@ -434,43 +483,11 @@ impl Client {
     ///
     /// # Errors
     ///
-    /// `BadRange` if the range is empty, begins above its end, or ends above 2^63. Items are the
-    /// errors of [`Client::read`].
+    /// `BadRange` if the range is empty, begins above its end, ends above 2^63, or has keys of a
+    /// shard that is not joined. Items are the errors of [`Client::read`].
     pub fn changes(&self, keys: impl RangeBounds<u64>) -> Result<Changes, Error> {
-        let keys = keys_of(&keys)?;
-        if keys.is_empty() {
-            return Err(Error::BadRange);
-        }
+        let keys = self.keys_to_watch(&keys)?;
         Ok(Changes::of(RangeOfClient { client: self.clone(), keys }))
-    }
-
-    /// The epoch that the client has joined: how many times the server had started by then.
-    ///
-    /// # Errors
-    ///
-    /// `Left`; `StoreWentBack` while it joins again.
-    pub fn epoch(&self) -> Result<u64, Error> {
-        self.link().with_jobs(Jobs::epoch).map_err(Code::into)
-    }
-
-    /// Whether the client has a connection to its server at this moment.
-    #[must_use]
-    pub fn is_connected(&self) -> bool {
-        self.link().is_connected()
-    }
-
-    /// The client's incarnation, of which the next one is greater: each end of a lease begins
-    /// another one. A program that acts on something outside may use it as a fence there.
-    #[must_use]
-    pub fn incarnation(&self) -> u64 {
-        self.link().with_jobs(|jobs| jobs.incarnation())
-    }
-
-    /// How long the client may still answer from its cache if it hears nothing more from the
-    /// server; or `None` if forever, as with a server without leases.
-    #[must_use]
-    pub fn lease_left(&self) -> Option<Duration> {
-        self.link().with_jobs(|jobs| jobs.lease_left())
     }
 
     /// Gives back what the client holds of the range. While a write is on its way it waits for the
@@ -478,29 +495,29 @@ impl Client {
     ///
     /// # Errors
     ///
-    /// `BadRange` if the range begins above its end, or ends above 2^63; `Pinned` if it meets a
-    /// pin; `TimedOut` or `Unserved`; `TurnedAway` or `OtherShard`; `StoreWentBack`; `OutOfMemory`;
-    /// `Stopped`.
+    /// `BadRange` if the range begins above its end, ends above 2^63, or has keys of a shard that
+    /// is not joined; `Pinned` if it meets a pin; `TimedOut` or `Unserved`; `TurnedAway` or
+    /// `OtherShard`; `StoreWentBack`; `OutOfMemory`; `Stopped`. It is that of the first shard that
+    /// refused; the others have given back what they have.
     pub fn forget(&self, keys: impl RangeBounds<u64>) -> Result<(), Error> {
         let keys = keys_of(&keys)?;
-        if keys.is_empty() {
-            return Ok(());
-        }
         let _span = span::of("forget", self.number(), &keys);
-        self.ask(|jobs| jobs.forget(keys))
+        let calls = self.calls();
+        calls.block(calls.forget(keys))
     }
 
     /// The spans of keys that the server has called back from the client since the last call of
     /// this, the oldest first and each once: other clients wanted to change something there, or to
     /// read what this one has written. It is a hint for callers that read ahead. The last 256 spans
-    /// are kept.
+    /// of each server are kept, and those of the first shard come first.
     #[must_use]
     pub fn take_called_back(&self) -> Vec<Range<u64>> {
-        self.link().with_jobs(Jobs::take_called_back)
+        let taken = |client: &ShardClient| client.link().with_jobs(Jobs::take_called_back);
+        self.joined.clients().flat_map(|(_, client)| taken(client)).collect()
     }
 
-    /// Gives back all that the client holds, and waits until the server has kept that it left. From
-    /// then on the calls of all clones are refused, and another process may take the number.
+    /// Gives back all that the client holds, and waits until each server has kept that it left.
+    /// From then on the calls of all clones are refused, and another process may take the number.
     ///
     /// A client that has left already is left: the answer is `Ok`. After an error it may be called
     /// again.
@@ -508,10 +525,19 @@ impl Client {
     /// # Errors
     ///
     /// `TimedOut` or `Unserved`, `TurnedAway` or `OtherShard`, `Stopped`: other clients may wait
-    /// for what this one held then, until it is evicted.
+    /// for what this one held then, until it is evicted. It is that of the first shard that did not
+    /// answer; the others are left.
     pub fn leave(&self) -> Result<(), Error> {
         let _span = span::of("leave", self.number(), &(0..END + 1));
-        self.shared.finish_leaving(self.shared.begin_to_leave(), self.end())
+        let calls = self.calls();
+        calls.block(calls.leave())
+    }
+
+    /// A range whose changes may be watched: one that is not empty, and of joined shards.
+    pub(crate) fn keys_to_watch(&self, keys: &impl RangeBounds<u64>) -> Result<Range<u64>, Error> {
+        let keys = keys_of(keys)?;
+        self.joined.parts(&keys)?;
+        if keys.is_empty() { Err(ErrorKind::BadRange.into()) } else { Ok(keys) }
     }
 
     fn hold(
@@ -520,25 +546,10 @@ impl Client {
         purpose: Purpose,
     ) -> Result<(Vec<Row>, Pin), Error> {
         let keys = keys_of(keys)?;
-        if keys.is_empty() {
-            return Err(Error::BadRange);
-        }
         let _span = span::of("pin", self.number(), &keys);
-        let Held { rows, pin } = self.ask(|jobs| jobs.hold(keys, purpose))?;
-        Ok((rows, Pin::new(Arc::clone(&self.shared), pin)))
-    }
-
-    fn write(&self, write: Write) -> Result<Outcome, Error> {
-        self.shared.write(self.end(), write, Jobs::write)
-    }
-
-    fn ask<T>(&self, ask: impl FnOnce(&mut Jobs) -> Asked<T>) -> Result<T, Error> {
-        self.link().ask(self.end(), ask)
-    }
-
-    /// Until when a call waits that begins now.
-    fn end(&self) -> Instant {
-        Instant::now() + self.timeout()
+        let calls = self.calls();
+        let (rows, pinned) = calls.block(calls.hold(keys, purpose))?;
+        Ok((rows, Pin::of(pinned)))
     }
 }
 
@@ -548,7 +559,7 @@ struct RangeOfClient {
     keys: Range<u64>,
 }
 
-impl WatchedRange<Error> for RangeOfClient {
+impl WatchedRange for RangeOfClient {
     fn read(&self) -> Result<Vec<Row>, Error> {
         self.client.read(self.keys.clone())
     }
@@ -556,16 +567,13 @@ impl WatchedRange<Error> for RangeOfClient {
     fn wait_for_change(&self, rows: &[Row], timeout: Duration) -> Result<Waited, Error> {
         self.client.wait_for_change(self.keys.clone(), rows, timeout)
     }
-
-    fn has_left(&self, error: &Error) -> bool {
-        *error == Error::Left
-    }
 }
 
 impl fmt::Debug for Client {
     fn fmt(&self, f: &mut fmt::Formatter<'_>) -> fmt::Result {
+        let servers = self.joined.clients().map(|(_, client)| client.link().servers());
         let mut shown = f.debug_struct("Client");
-        shown.field("number", &self.number()).field("servers", self.link().servers());
+        shown.field("number", &self.number()).field("servers", &servers.collect::<Vec<_>>());
         shown.field("timeout", &self.timeout()).finish_non_exhaustive()
     }
 }

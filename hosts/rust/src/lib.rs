@@ -59,16 +59,19 @@ pub use access::identity::{BadIdentity, BadTableName, Identity, TableName};
 pub use client::Client;
 pub use client::asynchronous::{AsyncChanges, AsyncClient, AsyncPin};
 pub use client::builder::ClientBuilder;
-pub use client::changes::{Changes, Waited};
+pub use client::calls::Waited;
+pub use client::changes::Changes;
 pub use client::evict::evict;
 pub use client::lock_file::LockFileError;
-pub use client::pin::{Pin, PinWithin};
+pub use client::pin::Pin;
+pub use client::place::Place;
+pub use client::status::ShardStatus;
 pub use lease::terms::{BadLeases, LeaseLeft, Leases};
 pub use model::batch::{BatchError, Fate, Mutation};
 pub use model::change::{Change, Outcome, Record, Write};
 pub use model::client_set::ClientSet;
 pub use model::code::Code;
-pub use model::error::{Error, JoinError, Unsent};
+pub use model::error::{Error, ErrorKind, JoinError, JoinErrorKind, Unsent};
 pub use model::history::{History, Mark};
 pub use model::lease_record::LeaseRecord;
 pub use model::lock::{HeldSlot, Mode};
@@ -98,14 +101,9 @@ pub use server::shown::monitor::{Monitor, SnapshotError};
 pub use server::shown::status::Status;
 pub use server::shown::timings::{Counts, Measured};
 pub use server::shown::watch::{HeldSlots, Wait};
-pub use shards::builder::ShardedBuilder;
-pub use shards::client::{ShardStatus, ShardedClient};
-pub use shards::error::{ShardError, ShardJoinError};
 pub use shards::map::{BadShardMap, Shard, ShardMap};
 #[cfg(feature = "map-file")]
 pub use shards::map_file::BadMapFile;
-pub use shards::pin::{ShardedPin, ShardedPinWithin};
-pub use shards::within::ShardedWithin;
 #[cfg(feature = "fence")]
 pub use store::fence;
 #[cfg(feature = "sqlite")]

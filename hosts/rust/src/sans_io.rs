@@ -10,7 +10,7 @@ use crate::lease::boot_clock::Moment;
 use crate::lease::clocks::Now;
 use crate::model::change::{Outcome, Write};
 use crate::model::client_number::ClientNumber;
-use crate::model::error::{Error, JoinError};
+use crate::model::error::{Error, ErrorKind, JoinError, JoinErrorKind};
 use crate::model::row::Row;
 use crate::model::shard_bounds::ShardBounds;
 use crate::net::servers::Servers;
@@ -63,9 +63,9 @@ impl<T> Call<T> {
     #[must_use]
     pub fn answer(&self) -> Option<Result<T, Error>> {
         match self.0.answer.try_recv() {
-            Ok(answer) => Some(answer),
+            Ok(answer) => Some(answer.map_err(Error::from)),
             Err(TryRecvError::Empty) => None,
-            Err(TryRecvError::Disconnected) => Some(Err(Error::Stopped)),
+            Err(TryRecvError::Disconnected) => Some(Err(ErrorKind::Stopped.into())),
         }
     }
 }
@@ -94,12 +94,13 @@ impl Client {
     pub fn open(begin: Begin<'_>, now: Duration) -> Result<Client, JoinError> {
         let Begin { number, lock_file, servers, shard, seed } = begin;
         if ClientNumber::of(number).is_none() {
-            return Err(JoinError::BadNumber);
+            return Err(JoinErrorKind::BadNumber.into());
         }
         let taken = LockFile::take(lock_file, number);
-        let (lock_file, incarnation) = taken.map_err(JoinError::of_lock_file(lock_file))?;
+        let (lock_file, incarnation) = taken.map_err(JoinErrorKind::of_lock_file(lock_file))?;
         let handle = ClientHandle::open_behind(number, incarnation, lock_file.older());
-        let jobs = Jobs::new(handle.map_err(Error::from)?, Now::of_host(now));
+        let handle = handle.map_err(|code| JoinErrorKind::Refused(code.into()))?;
+        let jobs = Jobs::new(handle, Now::of_host(now));
         let session = Session::new(unnamed(servers, shard), jobs, seed);
         let (frames, output) = (Frames::to_client(), Vec::new());
         Ok(Client { session, lock_file, frames, output, now })
@@ -255,7 +256,7 @@ impl Client {
     /// Why there is no answer; or those of the call.
     pub fn give_up<T>(&mut self, now: Duration, call: &Call<T>) -> Result<T, Error> {
         let why = self.at(now).give_up(call.0.id);
-        call.0.answer.try_recv().unwrap_or(Err(why))
+        Ok(call.0.answer.try_recv().unwrap_or(Err(why))?)
     }
 }
 

@@ -1,6 +1,10 @@
 //! Calls of a client that are futures, by an executor of 20 lines.
-use krl::Waited;
-use krl::{AsyncClient, Client, Error, Fate, MemoryStore, Mutation, Outcome, Row, Server, Value};
+mod two_servers;
+
+use krl::{
+    AsyncClient, Client, ErrorKind, Fate, MemoryStore, Mutation, Outcome, Server, Value, Waited,
+};
+use krl_testing::wake_count::WakeCount;
 use std::future::Future;
 use std::pin::{Pin, pin};
 use std::sync::atomic::{AtomicUsize, Ordering};
@@ -8,6 +12,7 @@ use std::sync::{Arc, Mutex, mpsc};
 use std::task::{Context, Poll, Wake, Waker};
 use std::thread::{self, Thread};
 use std::time::{Duration, Instant};
+use two_servers::{World, row};
 
 const LONG: Duration = Duration::from_secs(60);
 
@@ -113,10 +118,6 @@ fn client(server: &Server, number: u8, test: &str) -> AsyncClient {
     AsyncClient::from(client)
 }
 
-fn row(key: u64, number: u64) -> Row {
-    Row { key, value: Value::from(number) }
-}
-
 #[test]
 fn each_call_has_its_outcome_and_a_read_from_the_cache_does_not_yield() {
     let server = server();
@@ -134,7 +135,7 @@ fn each_call_has_its_outcome_and_a_read_from_the_cache_does_not_yield() {
         assert_eq!(client.client().cached(10..20), Ok(None));
         assert_eq!(client.delete(16).await, Ok(Outcome::Applied));
         assert_eq!(client.read(10..20).await, Ok(vec![row(15, 2)]));
-        assert_eq!(client.put(krl::END, Value::from(1)).await, Err(Error::BadKey));
+        assert_eq!(client.put(krl::END, Value::from(1)).await, Err(ErrorKind::BadKey.into()));
         let (rows, pin) = client.pin_for_update(10..20).await.unwrap();
         assert_eq!(rows, [row(15, 2)]);
         assert_eq!(pin.set(17, Value::from(1)).await, Ok(Outcome::Applied));
@@ -156,7 +157,7 @@ fn a_client_with_a_time_of_its_own_keeps_it() {
     let (begun, short) = (Instant::now(), other.client().within(Duration::from_millis(50)));
     block_on(async {
         let short = AsyncClient::from(short);
-        assert_eq!(short.read(10..20).await, Err(Error::TimedOut));
+        assert_eq!(short.read(10..20).await, Err(ErrorKind::TimedOut.into()));
         assert!(short.put(15, Value::from(1)).await.is_err());
         assert!(short.set(15, Value::from(1)).await.is_err());
         assert!(short.write_all([Mutation::Delete(15)]).await.is_err());
@@ -241,6 +242,73 @@ fn several_writes_are_one_future() {
 }
 
 #[test]
+fn the_calls_of_a_client_of_several_servers_are_futures_too() {
+    let world = World::new("futures");
+    let (client, other) = (AsyncClient::from(world.join_both(0)), world.join_both(1));
+    let rows = block_on(async {
+        let writes = [row(99, 1), row(100, 1)].map(Mutation::Insert);
+        assert_eq!(client.write_all(writes).await, Ok(vec![Outcome::Applied; 2]));
+        assert_eq!(client.forget(..).await, Ok(()));
+        assert_eq!(client.read(..).await, Ok(vec![row(99, 1), row(100, 1)]));
+        let (rows, pin) = client.pin_for_update(90..110).await.unwrap();
+        assert_eq!(rows, [row(99, 1), row(100, 1)]);
+        assert_eq!(pin.set(100, Value::from(2)).await, Ok(Outcome::Applied));
+        assert_eq!(pin.delete(99).await, Ok(Outcome::Applied));
+        let (_, narrow) = client.pin_for_read(90..95).await.unwrap();
+        let refused = narrow.put(100, Value::from(3)).await.unwrap_err();
+        assert_eq!((refused.kind, refused.shard), (ErrorKind::PinIsVoid, Some(1)));
+        client.read(..).await.unwrap()
+    });
+    assert_eq!(rows, [row(100, 2)]);
+    thread::scope(|scope| {
+        let waiting = scope.spawn(|| block_on(client.wait_for_change(.., &rows, LONG)));
+        assert_eq!(other.put(100, Value::from(3)), Ok(Outcome::Applied));
+        assert_eq!(waiting.join().unwrap(), Ok(Waited::Changed));
+    });
+    assert_eq!(block_on(client.leave()), Ok(()));
+    assert_eq!(block_on(client.read(0..9)).unwrap_err().kind, ErrorKind::Left);
+}
+
+#[test]
+fn a_task_is_woken_when_a_range_changes_at_any_server() {
+    let world = World::new("woken");
+    let (client, writer) = (AsyncClient::from(world.join_both(0)), world.join_both(1));
+    for key in [99, 100] {
+        let rows = block_on(client.read(..)).unwrap();
+        let short = client.wait_for_change(.., &rows, Duration::from_millis(20));
+        assert_eq!(block_on(short), Ok(Waited::Unchanged));
+        let (count, mut waiting) =
+            (WakeCount::new(), pin!(client.wait_for_change(.., &rows, LONG)));
+        let waker = count.waker();
+        let polled = waiting.as_mut().poll(&mut Context::from_waker(&waker));
+        assert!(polled.is_pending());
+        assert_eq!(writer.insert(key, Value::from(1)), Ok(Outcome::Applied));
+        let end = Instant::now() + LONG / 2;
+        while count.get() == 0 {
+            assert!(Instant::now() < end, "nobody woke the task: {key}");
+            thread::sleep(Duration::from_millis(1));
+        }
+        assert_eq!(block_on(waiting), Ok(Waited::Changed));
+    }
+}
+
+#[test]
+fn a_call_over_several_servers_that_ends_in_vain_pins_nothing() {
+    let world = World::new("in_vain");
+    let (holder, client) = (world.join_both(0), world.join_both(1));
+    for key in [99, 100] {
+        assert_eq!(holder.insert(key, Value::from(1)), Ok(Outcome::Applied));
+    }
+    let (_, held) = holder.pin_for_write(100..101).unwrap();
+    let impatient = AsyncClient::from(client.within(Duration::from_millis(100)));
+    let refused = block_on(impatient.pin_for_update(99..101)).unwrap_err();
+    assert_eq!((refused.kind, refused.shard), (ErrorKind::TimedOut, Some(1)));
+    assert_eq!(world.join(2).put(99, Value::from(2)), Ok(Outcome::Applied));
+    drop(held);
+    assert_eq!(client.read(99..101), Ok(vec![row(99, 2), row(100, 1)]));
+}
+
+#[test]
 fn the_states_of_a_range_end_with_the_client() {
     let server = server();
     let (watcher, writer) = (client(&server, 0, "states"), client(&server, 1, "states"));
@@ -281,9 +349,9 @@ fn a_call_ends_by_its_timeout_while_there_is_no_server() {
     server.stop().unwrap();
     client.client().set_timeout(Duration::from_millis(100));
     let begun = Instant::now();
-    assert_eq!(block_on(client.read(0..9)), Err(Error::TimedOut));
+    assert_eq!(block_on(client.read(0..9)), Err(ErrorKind::TimedOut.into()));
     assert!(begun.elapsed() >= Duration::from_millis(100));
-    assert_eq!(block_on(client.leave()), Err(Error::TimedOut));
+    assert_eq!(block_on(client.leave()), Err(ErrorKind::TimedOut.into()));
 }
 
 #[test]

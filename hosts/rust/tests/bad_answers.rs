@@ -3,8 +3,8 @@
 mod secure;
 
 use krl::{
-    Address, Client, ClientBuilder, Error, JoinError, Listener, MemoryStore, Outcome, Server,
-    TlsConfig, Value,
+    Address, Client, ClientBuilder, ErrorKind, JoinErrorKind, Listener, MemoryStore, Outcome,
+    Server, TlsConfig, Value,
 };
 use krl_testing::relay::{Plan, Relay};
 use secure::{Setup, at, serve};
@@ -75,7 +75,7 @@ fn bad_answers_alone_reject_nobody() {
     relay.plan(vec![UNAVAILABLE; 1000]);
     let builder = builder(&relay, setup.config(&["krl:client:5"]), &setup);
     let error = builder.timeout(Duration::from_secs(1)).join().unwrap_err();
-    assert!(matches!(error, JoinError::NoAnswer { fault: Some(_), .. }), "{error:?}");
+    assert!(matches!(error.kind, JoinErrorKind::NoAnswer { fault: Some(_), .. }), "{error:?}");
 }
 
 #[test]
@@ -92,7 +92,10 @@ fn who_joins_another_program_is_told_so_at_once() {
     let begun = Instant::now();
     let error = builder(&at).join().unwrap_err();
     assert!(begun.elapsed() < SOON, "{:?}", begun.elapsed());
-    assert!(matches!(&error, JoinError::NoServer { address } if *address == at), "{error:?}");
+    assert!(
+        matches!(&error.kind, JoinErrorKind::NoServer { address } if *address == at),
+        "{error:?}"
+    );
     let sentence = format!("what answers at {at} is not a krl server");
     assert!(error.to_string().starts_with(&sentence), "{error}");
     wait_for("two connections are counted", || relay.count() >= 2);
@@ -147,11 +150,15 @@ fn who_is_rejected_hears_it_soon_but_for_a_write_that_was_sent() {
         config.reload().unwrap();
         relay.end();
         let rejected = Instant::now();
-        assert_eq!(client.read(20..30), Err(Error::TurnedAway));
-        assert_eq!(client.insert(8, Value::from(1)), Err(Error::TurnedAway), "it was not sent");
+        assert_eq!(client.read(20..30), Err(ErrorKind::TurnedAway.into()));
+        assert_eq!(
+            client.insert(8, Value::from(1)),
+            Err(ErrorKind::TurnedAway.into()),
+            "it was not sent"
+        );
         assert!(rejected.elapsed() < SOON, "{:?}", rejected.elapsed());
         let (outcome, took) = sent.join().unwrap();
-        assert_eq!(outcome, Err(Error::TimedOut), "it may be applied, and it is");
+        assert_eq!(outcome, Err(ErrorKind::TimedOut.into()), "it may be applied, and it is");
         assert!(took >= short, "{took:?}");
     });
     assert_eq!(server.status().rows, 1);

@@ -1,7 +1,7 @@
 //! Several writes in one wait, at one server and at several.
 mod two_servers;
 
-use krl::{BatchError, Error, Fate, Mutation, ShardError, Unsent};
+use krl::{BatchError, ErrorKind, Fate, Mutation, Unsent};
 use std::time::Duration;
 use two_servers::{World, row};
 
@@ -34,7 +34,7 @@ fn a_bad_key_is_refused_before_any_write() {
     let world = World::new("bad");
     let client = world.join(0);
     let refused = client.write_all([Insert(row(10, 1)), Delete(krl::END)]).unwrap_err();
-    assert_eq!(refused, BatchError::new(vec![Fate::NotMade; 2], Error::BadKey));
+    assert_eq!(refused, BatchError::new(vec![Fate::NotMade; 2], ErrorKind::BadKey.into()));
     assert_eq!(client.read(0..50), Ok(vec![]));
     client.leave().unwrap();
     let late = client.write_all([Insert(row(10, 1))]).unwrap_err();
@@ -55,7 +55,7 @@ fn an_error_tells_what_became_of_each_write() {
         first.within(SHORT).write_all([Delete(55), Put(row(10, 2)), Delete(56)]).unwrap_err();
     // The second one waited for its lock.
     assert_eq!(failed.fates, [Fate::Judged(Absent), Fate::NotMade, Fate::NotMade]);
-    assert_eq!(failed.error, Error::NotSent(Unsent::TimedOut));
+    assert_eq!(failed.error.kind, ErrorKind::NotSent(Unsent::TimedOut));
     assert!(!failed.error.is_unknown_outcome());
     drop(pin);
 }
@@ -95,10 +95,9 @@ fn the_writes_of_all_shards_are_made_at_once() {
     let (_, of_first) = client.pin_for_write(0..10).unwrap();
     let refused = of_first.write_all([Delete(2), Delete(101)]).unwrap_err();
     assert_eq!(refused.fates, [Fate::NotMade; 2]);
-    let ShardError { shard, error, .. } = refused.error;
-    assert_eq!((shard, error), (Some(1), Error::PinIsVoid));
+    assert_eq!((refused.error.shard, refused.error.kind), (Some(1), ErrorKind::PinIsVoid));
     drop(of_first);
     let bad = client.write_all([Delete(2), Delete(krl::END)]).unwrap_err();
-    assert_eq!((bad.fates, bad.error.error), (vec![Fate::NotMade; 2], Error::BadKey));
+    assert_eq!((bad.fates, bad.error.kind), (vec![Fate::NotMade; 2], ErrorKind::BadKey));
     assert_eq!(client.read(..), Ok([2, 101].map(|key| row(key, key)).to_vec()));
 }

@@ -1,6 +1,8 @@
 //! Each call of a client, over TCP and over a Unix socket.
-use krl::{Address, Client, JoinError, Leases, Listener, LockFileError, MemoryStore, Outcome};
-use krl::{Error, Row, Server, Servers, Unsent, Value, evict};
+use krl::{
+    Address, Client, ErrorKind, JoinErrorKind, Leases, Listener, LockFileError, MemoryStore,
+    Outcome, Row, Server, Servers, Unsent, Value, evict,
+};
 use std::os::unix::net::UnixListener;
 use std::path::{Path, PathBuf};
 use std::thread;
@@ -60,7 +62,7 @@ fn each_call(server: &Server, folder: &Folder) {
     assert_eq!(second.put(21, value("c")), Ok(Outcome::Absent));
     assert_eq!(first.read(20..21), Ok(vec![row(20, "c")]));
     assert_eq!([first.get(20), first.get(21)], [Ok(Some(value("c"))), Ok(None)]);
-    assert_eq!(first.get(krl::END), Err(Error::BadKey));
+    assert_eq!(first.get(krl::END), Err(ErrorKind::BadKey.into()));
     assert_eq!(first.read(..=20).unwrap().last(), Some(&row(20, "c")));
     assert_eq!(first.delete(10), Ok(Outcome::Applied));
     assert_eq!(first.delete(10), Ok(Outcome::Absent));
@@ -114,7 +116,7 @@ fn a_key_is_set_whether_or_not_it_has_a_row() {
     assert_eq!(other.delete(10), Ok(Outcome::Applied));
     assert_eq!(client.read(..), Ok(vec![]), "it knows that there is no row");
     assert_eq!(client.set(10, value("c")), Ok(Outcome::Applied));
-    assert_eq!(client.set(krl::END, value("c")), Err(Error::BadKey));
+    assert_eq!(client.set(krl::END, value("c")), Err(ErrorKind::BadKey.into()));
     let (_, pin) = client.pin_for_update(10..21).unwrap();
     assert_eq!(pin.set(10, value("d")), Ok(Outcome::Applied));
     assert_eq!(pin.set(20, value("e")), Ok(Outcome::Applied));
@@ -142,12 +144,21 @@ fn a_call_waits_for_a_time_of_its_own() {
     let (_, pin) = client.pin_for_write(10..11).unwrap();
     let (begun, short) = (Instant::now(), Duration::from_millis(50));
     assert_eq!(other.within(short).timeout(), short);
-    assert_eq!(other.within(short).read(10..11), Err(Error::TimedOut));
-    assert_eq!(other.within(short).set(10, value("b")), Err(Error::NotSent(Unsent::TimedOut)));
+    assert_eq!(other.within(short).read(10..11), Err(ErrorKind::TimedOut.into()));
+    assert_eq!(
+        other.within(short).set(10, value("b")),
+        Err(ErrorKind::NotSent(Unsent::TimedOut).into())
+    );
     assert!(other.within(short).pin_for_read(10..11).is_err());
     let own = other.pin(50..60).unwrap();
-    assert_eq!(own.within(short).put(10, value("b")), Err(Error::NotSent(Unsent::TimedOut)));
-    assert_eq!(own.within(short).set(10, value("b")), Err(Error::NotSent(Unsent::TimedOut)));
+    assert_eq!(
+        own.within(short).put(10, value("b")),
+        Err(ErrorKind::NotSent(Unsent::TimedOut).into())
+    );
+    assert_eq!(
+        own.within(short).set(10, value("b")),
+        Err(ErrorKind::NotSent(Unsent::TimedOut).into())
+    );
     drop(own);
     assert!(begun.elapsed() < other.timeout(), "it waited as its other calls do");
     drop(pin);
@@ -172,7 +183,7 @@ fn the_first_free_number_of_several_is_taken() {
         folder.lock(4).display()
     );
     assert_eq!(refused.to_string(), shown);
-    assert!(matches!(refused, JoinError::LockFile { error: LockFileError::Taken, .. }));
+    assert!(matches!(refused.kind, JoinErrorKind::LockFile { error: LockFileError::Taken, .. }));
     first.leave().unwrap();
     assert_eq!(join().unwrap().number(), 3);
     // Another machine has other lock files: the server reports that the number is in use.
@@ -180,7 +191,7 @@ fn the_first_free_number_of_several_is_taken() {
     let other = Client::builder_with_numbers(server.address(), [4, 9], &there.0).join().unwrap();
     assert_eq!(other.number(), 9);
     let none = Client::builder_with_numbers(server.address(), [], &folder.0).join().unwrap_err();
-    assert!(matches!(none, JoinError::Incomplete("a number")), "{none}");
+    assert!(matches!(none.kind, JoinErrorKind::Incomplete("a number")), "{none}");
 }
 
 #[test]
@@ -218,33 +229,40 @@ fn what_is_refused() {
     let folder = Folder::new("refused");
     let server = server("127.0.0.1:0");
     let client = folder.join(&server, 1);
-    assert_eq!(client.read(0..u64::MAX), Err(Error::BadRange));
-    assert_eq!(client.read(0..=1 << 63), Err(Error::BadRange));
-    assert_eq!(client.forget(0..=1 << 63), Err(Error::BadRange));
-    assert_eq!(client.cached(0..=1 << 63), Err(Error::BadRange));
-    assert_eq!(client.cached_into(0..=1 << 63, &mut Vec::new()), Err(Error::BadRange));
-    assert_eq!(client.for_each_cached(0..=1 << 63, |_| panic!("it is none")), Err(Error::BadRange));
-    assert_eq!(client.pin(5..5).err(), Some(Error::BadRange));
-    assert_eq!(client.insert(krl::END, Value::default()), Err(Error::BadKey));
+    assert_eq!(client.read(0..u64::MAX), Err(ErrorKind::BadRange.into()));
+    assert_eq!(client.read(0..=1 << 63), Err(ErrorKind::BadRange.into()));
+    assert_eq!(client.forget(0..=1 << 63), Err(ErrorKind::BadRange.into()));
+    assert_eq!(client.cached(0..=1 << 63), Err(ErrorKind::BadRange.into()));
+    assert_eq!(client.cached_into(0..=1 << 63, &mut Vec::new()), Err(ErrorKind::BadRange.into()));
+    assert_eq!(
+        client.for_each_cached(0..=1 << 63, |_| panic!("it is none")),
+        Err(ErrorKind::BadRange.into())
+    );
+    assert_eq!(client.pin(5..5).err(), Some(ErrorKind::BadRange.into()));
+    assert_eq!(client.insert(krl::END, Value::default()), Err(ErrorKind::BadKey.into()));
     assert_eq!(client.read(0..1 << 63), Ok(vec![]));
     let join = |number, lock: &Path| {
         let wait = Duration::from_millis(300);
-        Client::builder(server.address(), number, lock).timeout(wait).join().err()
+        Client::builder(server.address(), number, lock)
+            .timeout(wait)
+            .join()
+            .err()
+            .map(|error| error.kind)
     };
     let taken = join(1, &folder.lock(1));
-    assert!(matches!(taken, Some(JoinError::LockFile { error: LockFileError::Taken, .. })));
+    assert!(matches!(taken, Some(JoinErrorKind::LockFile { error: LockFileError::Taken, .. })));
     let strange = join(2, &folder.0.join("none").join("lock"));
-    assert!(matches!(strange, Some(JoinError::LockFile { error: LockFileError::File(_), .. })));
-    assert!(matches!(join(64, &folder.lock(2)), Some(JoinError::BadNumber)));
+    assert!(matches!(strange, Some(JoinErrorKind::LockFile { error: LockFileError::File(_), .. })));
+    assert!(matches!(join(64, &folder.lock(2)), Some(JoinErrorKind::BadNumber)));
     let pins: Vec<_> = (0..8).map(|lo| client.pin(lo..=lo).unwrap()).collect();
-    assert_eq!(client.pin(0..1).err(), Some(Error::TooManyPins));
-    assert_eq!(client.forget(0..4), Err(Error::Pinned));
+    assert_eq!(client.pin(0..1).err(), Some(ErrorKind::TooManyPins.into()));
+    assert_eq!(client.forget(0..4), Err(ErrorKind::Pinned.into()));
     drop(pins);
     assert_eq!(client.forget(0..4), Ok(()));
     server.stop().unwrap();
     client.set_timeout(Duration::from_millis(200));
-    assert_eq!(client.read(0..9), Err(Error::TimedOut));
-    assert_eq!(client.leave(), Err(Error::TimedOut));
+    assert_eq!(client.read(0..9), Err(ErrorKind::TimedOut.into()));
+    assert_eq!(client.leave(), Err(ErrorKind::TimedOut.into()));
 }
 
 #[test]
@@ -255,7 +273,7 @@ fn a_server_that_does_not_run_answers_nobody() {
     let client = Client::builder(address, 1, folder.lock(1));
     let joined = client.timeout(wait).join();
     let error = joined.unwrap_err();
-    assert!(matches!(error, JoinError::NoAnswer { fault: Some(_), .. }), "{error:?}");
+    assert!(matches!(error.kind, JoinErrorKind::NoAnswer { fault: Some(_), .. }), "{error:?}");
     let shown = error.to_string();
     assert!(shown.starts_with("the server at 127.0.0.1:1 did not answer in time: "), "{shown}");
 }
@@ -275,7 +293,7 @@ fn who_joins_where_nothing_listens_learns_it_before_the_timeout() {
         let at: Servers = servers.parse().unwrap();
         let joined = Client::builder(at, 1, folder.lock(1)).timeout(Duration::from_secs(60)).join();
         let error = joined.unwrap_err();
-        assert!(matches!(error, JoinError::NothingListens { .. }), "{error:?}");
+        assert!(matches!(error.kind, JoinErrorKind::NothingListens { .. }), "{error:?}");
         let shown = error.to_string();
         assert!(shown.starts_with(&format!("nothing listens at {servers}: ")), "{shown}");
     }

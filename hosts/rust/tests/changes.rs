@@ -1,7 +1,7 @@
 //! The states of a range, one after the other, at one server and at several.
 mod two_servers;
 
-use krl::{Error, Outcome, Value};
+use krl::{Error, ErrorKind, Outcome, Value};
 use std::thread;
 use std::time::Duration;
 use two_servers::{World, row};
@@ -40,7 +40,7 @@ fn it_ends_when_the_client_has_left() {
     watcher.leave().unwrap();
     assert_eq!(waits.join().unwrap(), None);
     assert_eq!(watcher.changes(..).unwrap().count(), 0);
-    assert!(matches!(watcher.changes(5..5), Err(Error::BadRange)));
+    assert!(matches!(watcher.changes(5..5), Err(Error { kind: ErrorKind::BadRange, .. })));
 }
 
 #[test]

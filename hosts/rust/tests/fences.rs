@@ -1,8 +1,10 @@
 //! The fence between maps: a server of a shard serves clients of that shard only by the same map.
 mod peer;
 
-use krl::{Change, Client, Error, JoinError, MemoryStore, Outcome, ServeError, Server};
-use krl::{OtherShard, Refusal, Row, Shard, ShardBounds, ShardMap, ShardedClient, Value, evict};
+use krl::{
+    Change, Client, Error, ErrorKind, JoinError, JoinErrorKind, MemoryStore, Outcome, Refusal, Row,
+    ServeError, Server, Shard, ShardBounds, ShardMap, Value, evict,
+};
 use peer::{HELLO, HOST_ANSWER, HOST_HELLO, Peer, frame};
 use std::io::{Read, Write};
 use std::net::{SocketAddr, TcpListener, TcpStream};
@@ -82,11 +84,9 @@ fn a_client_of_the_same_shard_is_served_and_every_other_one_is_refused() {
                 client.leave().unwrap();
                 continue;
             }
-            let Err(JoinError::OtherShard(OtherShard { expected: ours, served: theirs, .. })) =
-                joined
-            else {
-                panic!("{expected:?} at {served:?}: {joined:?}");
-            };
+            let refused = joined.unwrap_err();
+            let JoinErrorKind::OtherShard(other) = &refused.kind else { panic!("{refused:?}") };
+            let (ours, theirs) = (other.expected, other.served);
             assert_eq!((ours, theirs), (expected.map(bounds), served.map(bounds)));
         }
         let records = server.monitor().snapshot().unwrap().records;
@@ -168,7 +168,7 @@ fn a_client_says_nothing_of_the_library_to_a_server_that_confirms_no_shard() {
     let servers = krl::Servers::from(address).of_shard(bounds("0..9@3"));
     let builder = Client::builder(servers, 3, folder.0.join("client.lock"));
     let refused = builder.timeout(LONG).join().unwrap_err();
-    let JoinError::OtherShard(other) = &refused else { panic!("{refused:?}") };
+    let JoinErrorKind::OtherShard(other) = &refused.kind else { panic!("{refused:?}") };
     assert_eq!((other.expected, other.served), (Some(bounds("0..9@3")), None));
     let heard: Vec<Vec<u8>> = said.try_iter().collect();
     assert!(heard.iter().all(|frame| frame.starts_with(&[0])), "{heard:?}");
@@ -181,7 +181,7 @@ fn who_has_an_old_map_behind_a_split_writes_to_no_side_of_it() {
     let one = server(Some("0..@1"));
     let old_map = map(1, &[(0, &one)]);
     let join = |map: &ShardMap, number| {
-        ShardedClient::builder(map.clone(), number, &folder.0).timeout(LONG).join()
+        Client::builder(map.clone(), number, &folder.0).timeout(LONG).join()
     };
     let old = join(&old_map, 1).unwrap();
     assert_eq!(old.insert(50, Value::from(1)), Ok(Outcome::Applied));
@@ -200,9 +200,9 @@ fn who_has_an_old_map_behind_a_split_writes_to_no_side_of_it() {
     // The client holds what it needs for this one, and so it may have reached the server before.
     let unknown = old.insert(10, Value::from(2)).unwrap_err();
     let reason = Refusal::OtherShard(Some(bounds("0..40@2")));
-    assert_eq!((unknown.shard, unknown.error), (Some(0), Error::Unserved(reason)));
+    assert_eq!((unknown.shard, unknown.kind), (Some(0), ErrorKind::Unserved(reason)));
     let refused = old.insert(60, Value::from(2)).unwrap_err();
-    let Error::OtherShard(other) = refused.error else { panic!("{refused:?}") };
+    let ErrorKind::OtherShard(other) = refused.kind else { panic!("{refused:?}") };
     assert_eq!((refused.shard, other.served), (Some(0), Some(bounds("0..40@2"))));
     assert!(refused.to_string().contains("has to be loaded again"), "{refused}");
     let new = join(&new_map, 2).unwrap();
@@ -231,7 +231,9 @@ fn a_client_goes_on_when_its_server_is_started_as_its_shard_again() {
         let found = loop {
             match client.read(0..9) {
                 Ok(rows) => break Some(rows),
-                Err(Error::OtherShard(_)) if shard == "0..9@2" => break None,
+                Err(Error { kind: ErrorKind::OtherShard(_), .. }) if shard == "0..9@2" => {
+                    break None;
+                }
                 Err(refused) => assert!(Instant::now() < end, "{refused:?}"),
             }
         };
@@ -257,7 +259,10 @@ fn an_operator_who_names_the_shard_evicts_its_client() {
     std::mem::forget(folder.join(&server, Some("0..9@3")).unwrap());
     let at = |shard: &str| krl::Servers::from(server.address()).of_shard(bounds(shard));
     let lock = folder.0.join("operator.lock");
-    assert!(matches!(evict(at("0..9@2"), 3, &lock), Err(JoinError::OtherShard(_))));
+    assert!(matches!(
+        evict(at("0..9@2"), 3, &lock).unwrap_err().kind,
+        JoinErrorKind::OtherShard(_)
+    ));
     evict(at("0..9@3"), 3, &lock).unwrap();
     let records = server.monitor().snapshot().unwrap().records;
     assert!(records.iter().all(|record| record.left), "{records:?}");

@@ -1,5 +1,5 @@
 //! Ranges that are read and pinned at once, and waiting for a change.
-use krl::{Client, Error, Listener, MemoryStore, Outcome, Row, Server, Unsent, Value, Waited};
+use krl::{Client, ErrorKind, Listener, MemoryStore, Outcome, Row, Server, Unsent, Value, Waited};
 use std::path::PathBuf;
 use std::sync::atomic::{AtomicUsize, Ordering};
 use std::thread;
@@ -67,7 +67,7 @@ fn a_range_that_is_pinned_for_read_is_shared_and_does_not_change() {
     assert_eq!(rows.len(), 20);
     let (others, other_pin) = second.pin_for_read(0..200).unwrap();
     assert_eq!(others.len(), 20);
-    assert_eq!(writer.put(290, Value::from(1)), Err(Error::NotSent(Unsent::TimedOut)));
+    assert_eq!(writer.put(290, Value::from(1)), Err(ErrorKind::NotSent(Unsent::TimedOut).into()));
     assert_eq!(first.cached(95..305), Ok(Some(rows)));
     drop((pin, other_pin));
     writer.set_timeout(LONG);
@@ -86,7 +86,7 @@ fn one_client_at_a_time_pins_a_range_for_update() {
     for (number, keys) in (4..).zip([45..51, 150..151, 290..300, 295..300]) {
         let other = world.join_impatient(number);
         let refused = other.pin_for_update(keys.clone()).err();
-        assert_eq!(refused, Some(Error::TimedOut), "{keys:?}");
+        assert_eq!(refused, Some(ErrorKind::TimedOut.into()), "{keys:?}");
         other.leave().unwrap();
     }
     assert!(second.pin_for_update(0..41).is_ok(), "it lies below");
@@ -101,8 +101,8 @@ fn a_range_of_no_rows_is_pinned_for_update_by_one() {
     let (first, second) = (world.join(1), world.join_impatient(2));
     let (rows, pin) = first.pin_for_update(10..20).unwrap();
     assert_eq!(rows, []);
-    assert_eq!(second.pin_for_update(10..20).err(), Some(Error::TimedOut));
-    assert_eq!(second.insert(15, Value::from(1)), Err(Error::NotSent(Unsent::TimedOut)));
+    assert_eq!(second.pin_for_update(10..20).err(), Some(ErrorKind::TimedOut.into()));
+    assert_eq!(second.insert(15, Value::from(1)), Err(ErrorKind::NotSent(Unsent::TimedOut).into()));
     drop(pin);
     second.set_timeout(LONG);
     assert!(second.pin_for_update(10..20).is_ok());
@@ -175,7 +175,10 @@ fn those_who_pin_for_read_and_write_block_one_another_and_lose_nothing() {
     let (_, other_pin) = second.pin_for_read(10..20).unwrap();
     thread::scope(|scope| {
         let put = scope.spawn(|| first.put(15, Value::from(1)));
-        assert_eq!(second.put(15, Value::from(2)), Err(Error::NotSent(Unsent::TimedOut)));
+        assert_eq!(
+            second.put(15, Value::from(2)),
+            Err(ErrorKind::NotSent(Unsent::TimedOut).into())
+        );
         assert!(!put.is_finished(), "it waits for a pin");
         assert_eq!(second.cached(10..20), Ok(Some(rows)), "nothing has changed");
         drop((pin, other_pin));
@@ -195,16 +198,31 @@ fn a_pin_that_was_not_had_leaves_nothing_pinned() {
     // It takes 10, and waits for 20: more often than a client has pins.
     for _ in 0..9 {
         let refused = second.pin_for_update(0..40).err();
-        assert_eq!(refused, Some(Error::TimedOut));
+        assert_eq!(refused, Some(ErrorKind::TimedOut.into()));
     }
     assert_eq!(second.forget(0..40), Ok(()), "no pin is left");
-    assert_eq!(second.pin_for_read(9..9).err(), Some(Error::BadRange));
+    assert_eq!(second.pin_for_read(9..9).err(), Some(ErrorKind::BadRange.into()));
     drop(pin);
     second.set_timeout(LONG);
     let pins: Vec<_> = (0..8).map(|place| second.pin(place..=place).unwrap()).collect();
-    assert_eq!(second.pin_for_update(0..40).err(), Some(Error::TooManyPins));
+    assert_eq!(second.pin_for_update(0..40).err(), Some(ErrorKind::TooManyPins.into()));
     drop(pins);
     assert_eq!(second.pin_for_update(0..40).unwrap().0.len(), 3);
+}
+
+#[test]
+fn a_range_is_free_when_the_last_clone_of_its_pin_is_dropped() {
+    let world = World::new("clones");
+    world.insert_rows([10]);
+    let (holder, writer) = (world.join(1), world.join_impatient(2));
+    let (_, pin) = holder.pin_for_read(10..11).unwrap();
+    let clone = pin.within(SHORT);
+    assert_eq!((clone.timeout(), pin.timeout()), (SHORT, holder.timeout()));
+    drop(pin);
+    assert!(clone.holds());
+    assert_eq!(writer.put(10, Value::from(1)), Err(ErrorKind::NotSent(Unsent::TimedOut).into()));
+    drop(clone);
+    assert_eq!(writer.within(LONG).put(10, Value::from(1)), Ok(Outcome::Applied));
 }
 
 #[test]
@@ -220,7 +238,7 @@ fn whoever_waits_for_a_row_has_pinned_those_below_it_alone() {
         thread::sleep(SHORT);
         assert_eq!(
             below.put(10, Value::from(1)),
-            Err(Error::NotSent(Unsent::TimedOut)),
+            Err(ErrorKind::NotSent(Unsent::TimedOut).into()),
             "it is pinned"
         );
         assert_eq!(above.put(30, Value::from(1)), Ok(Outcome::Applied), "it is not pinned yet");
@@ -260,7 +278,7 @@ fn a_wait_ends_by_what_the_client_does_itself() {
     let client = world.join(1);
     let not_held = client.wait_for_change(10..20, &[], LONG);
     assert_eq!(not_held, Ok(Waited::Changed));
-    assert_eq!(client.wait_for_change(10..1 << 63 | 1, &[], LONG), Err(Error::BadRange));
+    assert_eq!(client.wait_for_change(10..1 << 63 | 1, &[], LONG), Err(ErrorKind::BadRange.into()));
     let rows = client.read(10..20).unwrap();
     let ends_by = |what: &(dyn Fn() + Sync)| {
         let rows = client.read(10..20).unwrap();
@@ -301,5 +319,5 @@ fn a_client_departs_while_another_thread_waits() {
     assert_eq!(ended.load(Ordering::Relaxed), 1);
     drop(pin);
     assert_eq!(other.put(15, Value::from(2)), Ok(Outcome::Applied));
-    assert_eq!(other.epoch(), Ok(1));
+    assert_eq!(other.status()[0].epoch, Ok(1));
 }

@@ -3,8 +3,10 @@ mod network;
 mod peer;
 mod shared_store;
 
-use krl::{Address, Client, Error, JoinError, Leases, Listener, Outcome, Refusal, Row, Server};
-use krl::{Value, evict};
+use krl::{
+    Address, Client, ErrorKind, JoinError, JoinErrorKind, Leases, Listener, Outcome, Refusal, Row,
+    Server, Value, evict,
+};
 use network::Network;
 use peer::{HELLO, HOST_HELLO, Peer, frame};
 use shared_store::SharedStore;
@@ -100,7 +102,7 @@ fn a_client_that_is_cut_off_stops_before_another_goes_on() {
         cut.cached(0..100).unwrap().is_some()
     };
     assert!((0..20).any(|_| stays()), "its lease ends while it is idle");
-    let (before, evicted) = (cut.incarnation(), server.status().evicted);
+    let (before, evicted) = (cut.status()[0].incarnation, server.status().evicted);
     network.cut(true);
     let (last, done) = last_answer_and_write(&cut, || other.put(10, Value::from(2)).unwrap());
     assert!(last < done && last <= T, "the last answer after {last:?}, the write after {done:?}");
@@ -108,7 +110,7 @@ fn a_client_that_is_cut_off_stops_before_another_goes_on() {
     assert_eq!(cut.cached(0..100), Ok(None));
     network.cut(false);
     assert_eq!(cut.read(0..100), Ok(vec![row(10, 2)]), "it is back by itself");
-    assert!(cut.incarnation() > before);
+    assert!(cut.status()[0].incarnation > before);
     assert_eq!(server.status().evicted, evicted + 1);
 }
 
@@ -120,7 +122,7 @@ fn a_write_that_was_on_its_way_is_told_as_such() {
     assert_eq!(client.insert(10, Value::from(1)), Ok(Outcome::Applied));
     network.cut(true);
     // It holds the entry, so this is a write and no request.
-    assert_eq!(client.put(10, Value::from(2)), Err(Error::LeaseEnded));
+    assert_eq!(client.put(10, Value::from(2)), Err(ErrorKind::LeaseEnded.into()));
     network.cut(false);
     let rows = client.read(0..100).unwrap();
     assert!(rows == [row(10, 1)] || rows == [row(10, 2)], "{rows:?}");
@@ -137,7 +139,7 @@ fn a_read_that_waits_goes_on_behind_the_end() {
     thread::scope(|scope| {
         let read = scope.spawn(|| client.read(0..100));
         thread::sleep(3 * T);
-        assert_eq!(client.lease_left(), Some(Duration::ZERO));
+        assert_eq!(client.status()[0].lease_left, Some(Duration::ZERO));
         network.cut(false);
         assert_eq!(read.join().unwrap(), Ok(vec![]));
     });
@@ -150,17 +152,19 @@ fn a_pin_ends_with_the_lease() {
     let (cut, other) = (folder.join(&network.address(), 0), folder.join(server.address(), 1));
     cut.read(0..100).unwrap();
     let pin = cut.pin(0..100).unwrap();
-    assert!(pin.holds() && cut.lease_left().unwrap() <= T);
+    assert!(pin.holds() && cut.status()[0].lease_left.unwrap() <= T);
     network.cut(true);
+    assert_eq!(pin.write_all([]), Ok(vec![]));
     assert_eq!(other.insert(10, Value::from(1)), Ok(Outcome::Applied));
     assert!(!pin.holds());
+    assert_eq!(pin.write_all([]).unwrap_err().error.kind, ErrorKind::PinIsVoid);
     network.cut(false);
     assert_eq!(cut.read(0..100), Ok(vec![row(10, 1)]));
     let next = cut.pin(0..100).unwrap();
     assert!(!pin.holds() && next.holds());
     // It is a pin of the older incarnation, whatever its number is.
     drop(pin);
-    assert!(cut.forget(0..100) == Err(Error::Pinned) && next.holds());
+    assert!(cut.forget(0..100) == Err(ErrorKind::Pinned.into()) && next.holds());
 }
 
 #[test]
@@ -208,7 +212,7 @@ fn who_joined_without_a_lease_is_left_to_an_operator() {
     let network = Network::to(server.address());
     let (gone, other) = (folder.join(&network.address(), 0), folder.join(server.address(), 1));
     gone.read(0..100).unwrap();
-    assert_eq!(gone.lease_left(), None);
+    assert_eq!(gone.status()[0].lease_left, None);
     network.cut(true);
     let address = server.address().clone();
     server.stop().unwrap();
@@ -222,7 +226,7 @@ fn who_joined_without_a_lease_is_left_to_an_operator() {
     assert_eq!(other.insert(10, Value::from(1)), Ok(Outcome::Applied));
     assert!(gone.read(0..100).is_ok());
     assert!(wait_until(|| again.status().unleased.is_empty()), "{}", again.status());
-    assert!(wait_until(|| gone.lease_left().is_some_and(|left| left <= T)));
+    assert!(wait_until(|| gone.status()[0].lease_left.is_some_and(|left| left <= T)));
 }
 
 #[test]
@@ -253,7 +257,7 @@ fn a_second_process_of_a_number_waits_for_the_first_ones_lease() {
     };
     let refused = join(3 * T).unwrap_err();
     let runs = |error: &JoinError| {
-        matches!(error, JoinError::Unserved(Refusal::LeaseRuns { client: 0, .. }))
+        matches!(error.kind, JoinErrorKind::Unserved(Refusal::LeaseRuns { client: 0, .. }))
     };
     assert!(runs(&refused), "the first one lives: {refused}");
     assert!(first.cached(0..100).unwrap().is_some());

@@ -1,6 +1,8 @@
 //! Clones of a client, pins that outlive it, and the one way to leave.
-use krl::{Client, Error, JoinError, LockFileError, MemoryStore, Outcome, Pin, Row, Server};
-use krl::{Value, Waited};
+use krl::{
+    Client, ErrorKind, JoinError, JoinErrorKind, LockFileError, MemoryStore, Outcome, Pin, Row,
+    Server, Value, Waited,
+};
 use std::net::TcpListener;
 use std::path::PathBuf;
 use std::thread;
@@ -82,7 +84,10 @@ fn a_pin_outlives_the_handle_that_made_it() {
     });
     let task = task.join().unwrap();
     let joined = world.try_join(1);
-    assert!(matches!(joined, Err(JoinError::LockFile { error: LockFileError::Taken, .. })));
+    assert!(matches!(
+        joined.unwrap_err().kind,
+        JoinErrorKind::LockFile { error: LockFileError::Taken, .. }
+    ));
     drop(task);
     assert_eq!(writer.join().unwrap(), Ok(Outcome::Applied));
     world.join(1).leave().unwrap();
@@ -99,8 +104,8 @@ fn one_that_has_left_stays_so_for_all_its_clones() {
     for again in [&client, &clone] {
         assert_eq!(again.leave(), Ok(()));
         assert_eq!(again.within(LONG).leave(), Ok(()));
-        assert_eq!(again.read(0..9), Err(Error::Left));
-        assert_eq!(again.insert(2, Value::from(5)), Err(Error::Left));
+        assert_eq!(again.read(0..9), Err(ErrorKind::Left.into()));
+        assert_eq!(again.insert(2, Value::from(5)), Err(ErrorKind::Left.into()));
         assert_eq!(again.cached(0..9), Ok(None));
         assert_eq!(again.wait_for_change(0..9, &[], LONG), Ok(Waited::Changed));
     }
@@ -134,7 +139,7 @@ fn one_whose_server_is_away_may_leave_again() {
     let address = world.server.address().clone();
     let snapshot = world.server.monitor().snapshot().unwrap();
     world.server.stop().unwrap();
-    assert_eq!(client.within(Duration::from_millis(50)).leave(), Err(Error::TimedOut));
+    assert_eq!(client.within(Duration::from_millis(50)).leave(), Err(ErrorKind::TimedOut.into()));
     let listener = TcpListener::bind(address.to_string()).unwrap();
     let _server = Server::start(listener, MemoryStore::from(snapshot)).unwrap();
     assert_eq!(client.within(LONG).leave(), Ok(()));

@@ -1,8 +1,10 @@
 //! A client that has seen one store meets the server of another one.
 mod secure;
 
-use krl::{Access, Address, Client, Error, Listener, Outcome, Refusal, Row, Server};
-use krl::{SqliteStore, TlsConfig, Value};
+use krl::{
+    Access, Address, Client, Error, ErrorKind, Listener, Outcome, Refusal, Row, Server,
+    SqliteStore, TlsConfig, Value,
+};
 use secure::Setup;
 use std::thread;
 use std::time::{Duration, Instant};
@@ -59,7 +61,7 @@ fn read(client: &Client) -> Result<Vec<Row>, Error> {
     let end = Instant::now() + Duration::from_secs(30);
     loop {
         match client.read(0..100) {
-            Err(Error::TimedOut) if Instant::now() < end => {}
+            Err(Error { kind: ErrorKind::TimedOut, .. }) if Instant::now() < end => {}
             read => return read,
         }
     }
@@ -75,7 +77,7 @@ fn a_server_goes_on_and_a_client_of_another_store_waits_for_its_own() {
     server.stop().unwrap();
 
     let server = place.serve("other.db");
-    let is_refused = Err(Error::Unserved(Refusal::OtherStore));
+    let is_refused = Err(ErrorKind::Unserved(Refusal::OtherStore).into());
     client.set_timeout(Duration::from_millis(500));
     assert!(drops_its_cache(&client));
     assert_eq!(read(&client), is_refused);

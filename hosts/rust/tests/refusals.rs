@@ -1,8 +1,10 @@
 //! A server reports why it does not serve a client, to hosts that take host frames.
 mod peer;
 
-use krl::{Change, Client, Error, JoinError, MemoryStore, Refusal, Server, Snapshot, Value};
-use krl::{Unsent, evict};
+use krl::{
+    Change, Client, ErrorKind, JoinError, JoinErrorKind, MemoryStore, Refusal, Server, Snapshot,
+    Unsent, Value, evict,
+};
 use peer::{HELLO, HOST_ANSWER, HOST_HELLO, Peer, frame, incarnation};
 use std::io::{Read, Write};
 use std::net::{SocketAddr, TcpListener};
@@ -129,7 +131,7 @@ fn a_server_of_another_version() {
         let error = client.join().unwrap_err();
         assert!(begun.elapsed() < LONG, "{:?}", begun.elapsed());
         let expected = Refusal::Version { read: version };
-        assert!(matches!(error, JoinError::Unserved(why) if why == expected), "{error:?}");
+        assert!(matches!(error.kind, JoinErrorKind::Unserved(why) if why == expected), "{error:?}");
         assert!(error.to_string().contains(&format!("speaks version {version} of")), "{error}");
         std::fs::remove_file(lock).unwrap();
     }
@@ -171,7 +173,7 @@ fn a_client_of_an_older_incarnation() {
     snapshot.apply(&Change::Registered { client: 3, incarnation: registered });
     let error = not_joined(&server(snapshot.into()), 3, "older");
     let expected = Refusal::Incarnation { client: 3, registered };
-    assert!(matches!(error, JoinError::Unserved(why) if why == expected), "{error:?}");
+    assert!(matches!(error.kind, JoinErrorKind::Unserved(why) if why == expected), "{error:?}");
 }
 
 #[test]
@@ -181,7 +183,7 @@ fn a_client_whose_clock_is_far_ahead() {
     std::fs::write(&lock, "krl client 03 incarnation 02426388266503144698\n").unwrap();
     let client = Client::builder(server.address().clone(), 3, &lock);
     let error = client.timeout(SHORT).join().unwrap_err();
-    let JoinError::Unserved(refusal) = error else { panic!("{error:?}") };
+    let JoinErrorKind::Unserved(refusal) = error.kind else { panic!("{error:?}") };
     assert!(matches!(refusal, Refusal::FarAhead { client: 3, .. }), "{refusal:?}");
     assert!(refusal.to_string().contains("more than a day ahead of the server's clock"));
     // Another number has a file of its own.
@@ -220,8 +222,8 @@ fn a_client_that_was_replaced() {
     evict(server.address().clone(), 3, &evicting).unwrap();
     let registered = incarnation(&evicting);
     client.set_timeout(Duration::from_millis(1500));
-    let expected = Error::NotSent(Unsent::Unserved(Refusal::Incarnation { client: 3, registered }));
-    assert_eq!(client.insert(1, Value::from(1)), Err(expected));
+    let why = Unsent::Unserved(Refusal::Incarnation { client: 3, registered });
+    assert_eq!(client.insert(1, Value::from(1)), Err(ErrorKind::NotSent(why).into()));
     std::fs::remove_file(evicting).unwrap();
     std::fs::remove_file(lock).unwrap();
 }

@@ -2,7 +2,8 @@
 mod peer;
 
 use krl::{
-    Address, Client, Error, Listener, MemoryStore, Outcome, Row, Server, SqliteStore, Unsent, Value,
+    Address, Client, ErrorKind, Listener, MemoryStore, Outcome, Row, Server, SqliteStore, Unsent,
+    Value,
 };
 use peer::{HELLO, Peer, frame};
 use std::path::PathBuf;
@@ -118,9 +119,9 @@ fn notices(place: &Place, client: &Client) {
         let server = place.serve();
         let written = writes.join().unwrap().unwrap_err();
         // It may have left before the client noticed that the server had ended.
-        let expected = [Error::StoreWentBack, Error::NotSent(Unsent::StoreWentBack)];
-        assert!(expected.contains(&written), "{written:?}");
-        assert_eq!(reads.join().unwrap(), Err(Error::StoreWentBack));
+        let expected = [ErrorKind::StoreWentBack, ErrorKind::NotSent(Unsent::StoreWentBack)];
+        assert!(expected.contains(&written.kind), "{written:?}");
+        assert_eq!(reads.join().unwrap(), Err(ErrorKind::StoreWentBack.into()));
         assert_eq!(client.read(1..2), Ok(vec![row(1, 1)]), "it has joined again");
         drop(over);
         let looked = looks.join().unwrap();
@@ -166,11 +167,11 @@ fn a_copy_whose_next_epoch_is_the_one_that_the_client_has_joined() {
     let server = place.serve();
     assert_eq!(client.put(1, Value::from(2)), Ok(Outcome::Applied));
     client.read(1..2).unwrap();
-    assert_eq!(client.epoch(), Ok(2));
+    assert_eq!(client.status()[0].epoch, Ok(2));
     server.stop().unwrap();
     place.bring_back();
     notices(&place, &client);
-    assert_eq!(client.epoch(), Ok(2));
+    assert_eq!(client.status()[0].epoch, Ok(2));
 }
 
 #[test]

@@ -1,6 +1,8 @@
 //! Servers that are full, and servers that fail.
-use krl::{Address, Change, Client, History, JoinError, Listener, Mark, MemoryStore, Refusal};
-use krl::{Error, ServeError, Server, Snapshot, Store, StoreError, Value};
+use krl::{
+    Address, Change, Client, ErrorKind, History, JoinErrorKind, Listener, Mark, MemoryStore,
+    Refusal, ServeError, Server, Snapshot, Store, StoreError, Value,
+};
 use std::io::{Read, Write};
 use std::net::{TcpListener, TcpStream};
 use std::path::PathBuf;
@@ -33,7 +35,7 @@ fn a_full_server_takes_a_client_when_another_one_has_left() {
     let second = || Client::builder(server.address(), 2, &locks[1]);
     let refused = second().timeout(Duration::from_secs(3)).join().unwrap_err();
     let full = Refusal::Full { connections: 1 };
-    assert!(matches!(refused, JoinError::Unserved(why) if why == full), "{refused:?}");
+    assert!(matches!(refused.kind, JoinErrorKind::Unserved(why) if why == full), "{refused:?}");
     assert_eq!(refused.to_string(), "the server has all its connections, which are 1");
     first.leave().unwrap();
     assert!(wait_until(|| server.status().connections == 0));
@@ -79,7 +81,7 @@ fn fails(name: &str, fail: fn() -> StoreError) -> (String, ServeError) {
     let client = Client::join(server.address(), 1, &lock).unwrap();
     assert!(server.is_running() && server.status().failure.is_none());
     client.set_timeout(Duration::from_millis(300));
-    assert_eq!(client.insert(1, Value::from(1)), Err(Error::TimedOut));
+    assert_eq!(client.insert(1, Value::from(1)), Err(ErrorKind::TimedOut.into()));
     assert!(wait_until(|| !server.is_running()));
     let status = server.status();
     assert!(!status.is_serving);

@@ -1,6 +1,8 @@
 //! A client of two servers, each with a part of the keys.
-use krl::{Client, Error, JoinError, Listener, LockFileError, MemoryStore, Outcome, Row, Server};
-use krl::{Shard, ShardError, ShardMap, ShardedClient, Unsent, Value};
+use krl::{
+    Client, Error, ErrorKind, JoinErrorKind, Listener, LockFileError, MemoryStore, Outcome, Row,
+    Server, Shard, ShardMap, Unsent, Value, Waited,
+};
 use std::path::PathBuf;
 use std::thread;
 use std::time::{Duration, Instant};
@@ -35,8 +37,8 @@ impl World {
         World { map: map.unwrap(), servers, folder }
     }
 
-    fn join(&self, number: u8) -> ShardedClient {
-        let builder = ShardedClient::builder(self.map.clone(), number, &self.folder);
+    fn join(&self, number: u8) -> Client {
+        let builder = Client::builder(self.map.clone(), number, &self.folder);
         builder.timeout(LONG).join().unwrap()
     }
 
@@ -109,16 +111,15 @@ fn errors_tell_the_shard() {
     let mut world = World::new("errors");
     world.insert_rows([10, 300]);
     let client = world.join(1);
-    let of = |refused: Error| Err(ShardError::from(refused));
-    assert_eq!(client.read(..=u64::MAX), Err(Error::BadRange.into()));
-    assert_eq!(client.put(u64::MAX, Value::from(1)), of(Error::BadKey));
-    assert_eq!(client.pin(5..5).map(drop), Err(Error::BadRange.into()));
+    assert_eq!(client.read(..=u64::MAX), Err(ErrorKind::BadRange.into()));
+    assert_eq!(client.put(u64::MAX, Value::from(1)), Err(ErrorKind::BadKey.into()));
+    assert_eq!(client.pin(5..5).map(drop), Err(ErrorKind::BadRange.into()));
     assert_eq!(client.read(0..50).unwrap().len(), 1);
     assert!(client.status().iter().all(|shard| shard.epoch == Ok(1) && shard.is_connected));
     world.servers.pop().unwrap().stop().unwrap();
     client.set_timeout(SHORT);
     let refused = client.read(0..400).unwrap_err();
-    assert_eq!((refused.shard, refused.error), (Some(1), Error::TimedOut));
+    assert_eq!((refused.shard, refused.kind), (Some(1), ErrorKind::TimedOut));
     assert!(refused.to_string().starts_with("shard 1: no answer came in time: "), "{refused}");
     // The other shard continues, and so do the caches.
     assert_eq!(client.cached(0..50), Ok(Some(vec![row(10, 10)])));
@@ -135,37 +136,84 @@ fn a_client_of_some_keys_joins_their_shards_alone() {
     let mut world = World::new("keys");
     world.insert_rows([10, 300]);
     world.servers.remove(0).stop().unwrap();
-    let builder = ShardedClient::builder(world.map.clone(), 1, &world.folder).timeout(LONG);
+    let builder = Client::builder(world.map.clone(), 1, &world.folder).timeout(LONG);
     let client = builder.keys(200..301).join().unwrap();
     assert_eq!(client.read(BOUND..), Ok(vec![row(300, 300)]));
     assert_eq!(client.cached(200..), Ok(Some(vec![row(300, 300)])));
     assert_eq!(client.put(300, Value::from(1)), Ok(Outcome::Applied));
     assert_eq!(client.status().len(), 1);
-    assert_eq!(client.read(99..), Err(Error::BadRange.into()));
-    assert_eq!(client.forget(..), Err(Error::BadRange.into()));
-    assert_eq!(client.pin(0..5).map(drop), Err(Error::BadRange.into()));
-    assert_eq!(client.cached(0..5), Err(Error::BadRange.into()));
-    assert_eq!(client.put(99, Value::from(1)), Err(Error::BadKey.into()));
+    assert_eq!(client.read(99..), Err(ErrorKind::BadRange.into()));
+    assert_eq!(client.forget(..), Err(ErrorKind::BadRange.into()));
+    assert_eq!(client.pin(0..5).map(drop), Err(ErrorKind::BadRange.into()));
+    assert_eq!(client.cached(0..5), Err(ErrorKind::BadRange.into()));
+    assert_eq!(client.put(99, Value::from(1)), Err(ErrorKind::BadKey.into()));
     client.leave().unwrap();
-    let builder = ShardedClient::builder(world.map.clone(), 1, &world.folder);
+    let builder = Client::builder(world.map.clone(), 1, &world.folder);
     let error = builder.keys(5..5).join().unwrap_err();
-    assert!(matches!(error.error, JoinError::Incomplete(_)), "{error}");
+    assert!(matches!(error.kind, JoinErrorKind::Incomplete(_)), "{error}");
 }
 
 #[test]
 fn a_number_that_is_taken_at_one_shard_is_not_joined() {
     let world = World::new("number");
     let first = world.join(1);
-    let error = ShardedClient::join(world.map.clone(), 1, &world.folder).unwrap_err();
-    assert_eq!(error.shard, Some(0));
-    let is_taken = matches!(error.error, JoinError::LockFile { error: LockFileError::Taken, .. });
+    let error = Client::join(world.map.clone(), 1, &world.folder).unwrap_err();
+    assert_eq!((error.number, error.shard), (Some(1), Some(0)));
+    let is_taken =
+        matches!(error.kind, JoinErrorKind::LockFile { error: LockFileError::Taken, .. });
     assert!(is_taken, "{error:?}");
     first.leave().unwrap();
     world.join(1).leave().unwrap();
-    let none = ShardedClient::builder_with_numbers(world.map.clone(), [], &world.folder);
+    let none = Client::builder_with_numbers(world.map.clone(), [], &world.folder);
     let incomplete = none.join().unwrap_err();
-    assert!(matches!(incomplete.error, JoinError::Incomplete("a number")), "{incomplete}");
-    assert_eq!(incomplete.shard, None);
+    assert!(matches!(incomplete.kind, JoinErrorKind::Incomplete("a number")), "{incomplete}");
+    assert_eq!((incomplete.number, incomplete.shard), (None, None));
+}
+
+#[test]
+fn a_thread_that_waits_is_woken_by_a_change_at_any_shard() {
+    let world = World::new("woken");
+    world.insert_rows([10, 300]);
+    let (watcher, writer) = (world.join(1), world.join(2));
+    for (key, value) in [(10, 1), (300, 1), (300, 2), (10, 2)] {
+        let (rows, begun) = (watcher.read(..).unwrap(), Instant::now());
+        let short = Duration::from_millis(20);
+        assert_eq!(watcher.wait_for_change(.., &rows, short), Ok(Waited::Unchanged));
+        thread::scope(|scope| {
+            let waiting = scope.spawn(|| watcher.wait_for_change(.., &rows, 3 * LONG));
+            assert_eq!(writer.put(key, Value::from(value)), Ok(Outcome::Applied));
+            assert_eq!(waiting.join().unwrap(), Ok(Waited::Changed));
+        });
+        assert!(begun.elapsed() < 3 * LONG, "nobody woke the thread: {key}");
+    }
+}
+
+/// One that did not send Bye would keep others waiting for what it has written.
+#[test]
+fn a_client_that_is_dropped_leaves_each_shard() {
+    let mut world = World::new("dropped");
+    world.insert_rows([10, 300]);
+    let other = world.join(2);
+    let join_and_write = || {
+        let client = world.join(1);
+        for key in [10, 300] {
+            assert_eq!(client.put(key, Value::from(1)), Ok(Outcome::Applied));
+        }
+        client
+    };
+    let client = join_and_write();
+    let (_, pin) = client.pin_for_read(0..400).unwrap();
+    drop(client);
+    assert!(pin.holds(), "a pin keeps its client");
+    drop(pin);
+    for key in [10, 300] {
+        assert_eq!(other.put(key, Value::from(2)), Ok(Outcome::Applied));
+    }
+    // A server that is down does not keep it from leaving another one.
+    let client = join_and_write();
+    world.servers.remove(0).stop().unwrap();
+    drop(client);
+    assert_eq!(other.put(300, Value::from(3)), Ok(Outcome::Applied));
 }
 
 #[test]
@@ -178,8 +226,8 @@ fn a_range_that_is_pinned_does_not_change_at_any_shard() {
     writer.set_timeout(SHORT);
     for key in [10, 300] {
         assert_eq!(
-            writer.put(key, Value::from(1)).unwrap_err().error,
-            Error::NotSent(Unsent::TimedOut)
+            writer.put(key, Value::from(1)).unwrap_err().kind,
+            ErrorKind::NotSent(Unsent::TimedOut)
         );
     }
     drop(pin);
@@ -189,7 +237,7 @@ fn a_range_that_is_pinned_does_not_change_at_any_shard() {
     }
     let pin = client.pin(0..400).unwrap();
     assert_eq!(client.cached(..), Ok(Some(vec![row(10, 1), row(300, 1)])));
-    assert_eq!(client.forget(..).unwrap_err().error, Error::Pinned);
+    assert_eq!(client.forget(..).unwrap_err().kind, ErrorKind::Pinned);
     drop(pin);
 }
 
@@ -205,12 +253,10 @@ fn a_write_is_bound_to_the_pin_at_the_shard_of_its_key() {
     drop(pin);
     let (rows, pin) = client.pin_for_update(0..50).unwrap();
     assert_eq!(rows, [row(10, 1)]);
-    assert_eq!(pin.put(200, Value::from(3)).unwrap_err().error, Error::PinIsVoid);
+    assert_eq!(pin.put(200, Value::from(3)).unwrap_err().kind, ErrorKind::PinIsVoid);
     assert_eq!(client.read(0..400), Ok(vec![row(10, 1), row(200, 2)]));
 }
 
-/// A client that waits for a point has pinned nothing from there on: so no client that has that
-/// point waits for this one.
 #[test]
 fn a_call_waits_for_a_time_of_its_own() {
     let world = World::new("within");
@@ -221,36 +267,42 @@ fn a_call_waits_for_a_time_of_its_own() {
     let (_, pin) = client.pin_for_write(90..110).unwrap();
     let (_, pinned) = other.pin_for_read(200..210).unwrap();
     let (begun, short) = (Instant::now(), Duration::from_millis(50));
-    let why = |refused: ShardError| (refused.error, refused.shard);
+    let why = |refused: Error| (refused.kind, refused.shard);
     let within = other.within(short);
-    assert_eq!(within.read(100..101).map_err(why), Err((Error::TimedOut, Some(1))));
+    assert_eq!(within.read(100..101).map_err(why), Err((ErrorKind::TimedOut, Some(1))));
     assert_eq!(
         within.set(99, Value::from(1)).map_err(why),
-        Err((Error::NotSent(Unsent::TimedOut), Some(0)))
+        Err((ErrorKind::NotSent(Unsent::TimedOut), Some(0)))
     );
-    assert_eq!(within.pin_for_update(99..101).map_err(why).err(), Some((Error::TimedOut, Some(0))));
+    assert_eq!(
+        within.pin_for_update(99..101).map_err(why).err(),
+        Some((ErrorKind::TimedOut, Some(0)))
+    );
     let (own, value) = (pinned.within(short), Value::from(1));
     assert_eq!(
         own.insert(100, value).map_err(why),
-        Err((Error::NotSent(Unsent::TimedOut), Some(1)))
+        Err((ErrorKind::NotSent(Unsent::TimedOut), Some(1)))
     );
-    assert_eq!(own.put(99, value).map_err(why), Err((Error::PinIsVoid, Some(0))));
+    assert_eq!(own.put(99, value).map_err(why), Err((ErrorKind::PinIsVoid, Some(0))));
     assert!(begun.elapsed() < other.timeout(), "it waited as its other calls do");
     drop(pin);
     assert_eq!(other.within(Duration::MAX).set(100, Value::from(2)), Ok(Outcome::Applied));
-    drop(pinned);
+    // What `within` has returned is a clone of the pin.
+    drop((pinned, own));
     assert_eq!(other.within(LONG).forget(..), Ok(()));
 }
 
+/// A client that waits for a point has pinned nothing from there on: so no client that has that
+/// point waits for this one.
 #[test]
 fn a_client_that_waits_keeps_nothing_that_comes_behind() {
     let world = World::new("waits");
     world.insert_rows([10, 300]);
     for calls in [
-        |client: &ShardedClient| client.read(0..400),
-        |client: &ShardedClient| client.pin_for_read(0..400).map(|(rows, _)| rows),
-        |client: &ShardedClient| client.pin_for_update(0..400).map(|(rows, _)| rows),
-        |client: &ShardedClient| client.pin(0..400).and_then(|_| client.read(0..400)),
+        |client: &Client| client.read(0..400),
+        |client: &Client| client.pin_for_read(0..400).map(|(rows, _)| rows),
+        |client: &Client| client.pin_for_update(0..400).map(|(rows, _)| rows),
+        |client: &Client| client.pin(0..400).and_then(|_| client.read(0..400)),
     ] {
         let client = world.join(1);
         // It has the second part, and another client has pinned the first one to write it.

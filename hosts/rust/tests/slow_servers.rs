@@ -1,5 +1,5 @@
 //! Clients of servers that do not answer, take nothing, or end each connection.
-use krl::{Client, Error, JoinError, MemoryStore, Outcome, Server, Value};
+use krl::{Client, ErrorKind, JoinError, JoinErrorKind, MemoryStore, Outcome, Server, Value};
 use std::io::{Read, Write};
 use std::net::{Shutdown, SocketAddr, TcpListener, TcpStream};
 use std::path::PathBuf;
@@ -55,7 +55,7 @@ fn shows_why_it_ended(name: &str, bytes: &'static [u8]) -> bool {
     let (address, times) = ends_all(bytes);
     let (error, took) = fails_to_join(address, name, Duration::from_secs(6));
     assert!(took < Duration::from_secs(6) + LATE, "{took:?}");
-    let JoinError::NoAnswer { fault: cause, .. } = error else { panic!("{error:?}") };
+    let JoinErrorKind::NoAnswer { fault: cause, .. } = error.kind else { panic!("{error:?}") };
     let times: Vec<Instant> = times.try_iter().collect();
     assert!((6..=14).contains(&times.len()), "{} connections in six seconds", times.len());
     let pauses: Vec<Duration> = times.windows(2).map(|pair| pair[1] - pair[0]).collect();
@@ -79,7 +79,9 @@ fn a_refused_connection_is_the_cause_of_a_failed_join() {
     use std::error::Error;
     let address = TcpListener::bind("127.0.0.1:0").unwrap().local_addr().unwrap();
     let (error, _) = fails_to_join(address, "refused", Duration::from_millis(200));
-    let JoinError::NoAnswer { fault: Some(cause), .. } = &error else { panic!("{error:?}") };
+    let JoinErrorKind::NoAnswer { fault: Some(cause), .. } = &error.kind else {
+        panic!("{error:?}")
+    };
     assert_eq!(cause.kind(), std::io::ErrorKind::ConnectionRefused);
     assert_eq!(error.source().unwrap().to_string(), cause.to_string());
 }
@@ -89,7 +91,7 @@ fn a_server_that_takes_nothing_holds_no_call_beyond_its_timeout() {
     let listener = TcpListener::bind("127.0.0.1:0").unwrap();
     let timeout = Duration::from_millis(300);
     let (error, took) = fails_to_join(listener.local_addr().unwrap(), "mute", timeout);
-    assert!(matches!(error, JoinError::NoAnswer { fault: None, .. }), "{error:?}");
+    assert!(matches!(error.kind, JoinErrorKind::NoAnswer { fault: None, .. }), "{error:?}");
     assert!(timeout <= took && took < timeout + LATE, "{took:?}");
     // Its host has sent Hello and a sign, and both again. It waits for terms before it sends more.
     let (mut stream, _) = listener.accept().unwrap();
@@ -173,8 +175,8 @@ fn reads_of_the_cache_go_on_while_a_write_hangs() {
         }
         assert!(begun.elapsed() < LATE, "{:?}", begun.elapsed());
         client.set_timeout(Duration::from_millis(300));
-        assert_eq!(client.read(40..50), Err(Error::TimedOut), "the cache lacks that");
-        assert_eq!(written.join().unwrap(), Err(Error::TimedOut));
+        assert_eq!(client.read(40..50), Err(ErrorKind::TimedOut.into()), "the cache lacks that");
+        assert_eq!(written.join().unwrap(), Err(ErrorKind::TimedOut.into()));
     });
     frozen.store(false, Ordering::Release);
     client.set_timeout(Duration::from_secs(20));

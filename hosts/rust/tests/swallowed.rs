@@ -50,13 +50,13 @@ impl Drop for World {
 fn is_answered_on_another_connection(name: &str, leases: Option<Duration>) {
     let world = World::new(name, leases);
     let client = world.join();
-    let incarnation = client.incarnation();
+    let incarnation = client.status()[0].incarnation;
     world.relay.swallow();
     let begun = Instant::now();
     assert_eq!(client.read(0..10), Ok(vec![]));
     assert_eq!(client.insert(15, Value::from(1)), Ok(Outcome::Applied));
     assert!(begun.elapsed() < SOON, "{:?}", begun.elapsed());
-    assert_eq!((world.relay.count(), client.incarnation()), (2, incarnation));
+    assert_eq!((world.relay.count(), client.status()[0].incarnation), (2, incarnation));
 }
 
 #[test]
@@ -85,7 +85,7 @@ fn connections_that_end_before_anything_comes_cost_no_lease() {
     let world = World::new("ends", Some(2 * LONG));
     world.relay.plan([Plan::End; 2]);
     let client = world.join();
-    assert!(client.lease_left().is_some_and(|left| left > Duration::ZERO));
+    assert!(client.status()[0].lease_left.is_some_and(|left| left > Duration::ZERO));
     assert_eq!(world.relay.count(), 3);
     assert_eq!(world.server.status().connections, 1);
 }

@@ -1,8 +1,10 @@
 //! Certificates, users and strangers.
 mod secure;
 
-use krl::{Access, Address, Client, Error, Identity, JoinError, Listener, MemoryStore, Outcome};
-use krl::{Refusal, Server, TlsConfig, Value, evict};
+use krl::{
+    Access, Address, Client, ErrorKind, Identity, JoinErrorKind, Listener, MemoryStore, Outcome,
+    Refusal, Server, Shard, ShardMap, TlsConfig, Value, evict,
+};
 use openssl::ssl::SslVersion;
 use openssl::ssl::{SslConnector, SslConnectorBuilder, SslFiletype, SslMethod, SslVerifyMode};
 use secure::{Setup, at, serve, serve_with, servers, settled};
@@ -27,13 +29,27 @@ fn a_client_says_its_own_numbers_and_no_other() {
 
     let (begun, taken) = (Instant::now(), server.status().taken);
     let error = setup.join(&server, &three, 4).unwrap_err();
-    assert!(matches!(&error, JoinError::TurnedAway(_)), "{error}");
+    assert!(matches!(&error.kind, JoinErrorKind::TurnedAway(_)), "{error}");
     assert!(begun.elapsed() < AT_ONCE, "{:?}", begun.elapsed());
     assert!(error.to_string().contains("no right to the client's number"), "{error}");
     let status = settled(&server);
     assert!(status.denied > 0 && !status.connected.contains(&4));
     assert!(status.taken < taken + 20, "only the ticks of client 3 were taken");
     assert_eq!(client.read(0..100).unwrap().len(), 1);
+}
+
+#[test]
+fn a_client_of_a_map_shows_its_certificate_to_each_server() {
+    let setup = Setup::new("map");
+    let servers = [serve(&setup), serve(&setup)];
+    let shard = |(first, server): (u64, &Server)| Shard { first, servers: server.address().into() };
+    let map = ShardMap::new([0, 100].into_iter().zip(&servers).map(shard).collect()).unwrap();
+    let builder = Client::builder(&map, 3, &setup.folder);
+    let client = builder.tls(setup.config(&["krl:client:3"])).join().unwrap();
+    for key in [99, 100] {
+        assert_eq!(client.insert(key, Value::from(key)), Ok(Outcome::Applied));
+    }
+    assert_eq!(client.read(..).unwrap().len(), 2);
 }
 
 #[test]
@@ -51,14 +67,14 @@ fn who_is_not_certified_is_turned_away_at_once_and_says_nothing() {
     for (what, config) in strangers {
         let begun = Instant::now();
         let error = setup.join(&server, &config, 6).unwrap_err();
-        assert!(matches!(error, JoinError::TurnedAway(_)), "{what}: {error}");
+        assert!(matches!(error.kind, JoinErrorKind::TurnedAway(_)), "{what}: {error}");
         assert!(begun.elapsed() < AT_ONCE, "{what}: {:?}", begun.elapsed());
         let is_of_names = error.to_string().contains("it has no name that counts there");
         let has_authority = !what.ends_with("authority") && !what.ends_with("expired certificate");
         assert_eq!(is_of_names, has_authority, "{what}: {error}");
     }
     let none = Client::builder(server.address(), 6, setup.lock(6)).join();
-    assert!(matches!(none, Err(JoinError::TurnedAway(_))), "no certificate");
+    assert!(matches!(none.unwrap_err().kind, JoinErrorKind::TurnedAway(_)), "no certificate");
     let status = settled(&server);
     assert_eq!((status.taken, status.changes), (0, 0));
 }
@@ -76,7 +92,7 @@ fn a_client_speaks_to_no_server_but_its_own() {
     for (what, shown) in impostors {
         let server = serve_with(&shown);
         let error = setup.join(&server, &six, 6).unwrap_err();
-        assert!(matches!(error, JoinError::TurnedAway(_)), "{what}: {error}");
+        assert!(matches!(error.kind, JoinErrorKind::TurnedAway(_)), "{what}: {error}");
         assert_eq!(settled(&server).taken, 0, "{what}");
     }
 }
@@ -89,7 +105,7 @@ fn an_operator_ends_clients_and_does_no_more() {
     // A client that is gone without a Bye.
     std::mem::forget(setup.join(&server, &setup.config(&["krl:client:3"]), 3).unwrap());
     let working = setup.join(&server, &operator, 9).unwrap();
-    assert_eq!(working.read(0..10), Err(Error::TurnedAway));
+    assert_eq!(working.read(0..10), Err(ErrorKind::TurnedAway.into()));
     drop(working);
     evict(servers(&server, &operator), 3, setup.folder.join("3-elsewhere.lock")).unwrap();
     let five = servers(&server, &setup.config(&["krl:client:5"]));
@@ -108,7 +124,7 @@ fn a_full_server_reports_so_and_waits_for_no_stranger() {
     let second = Client::builder(four, 4, setup.lock(4)).timeout(Duration::from_secs(5));
     let full = Refusal::Full { connections: 1 };
     let refused = second.join().unwrap_err();
-    assert!(matches!(refused, JoinError::Unserved(why) if why == full), "{refused:?}");
+    assert!(matches!(refused.kind, JoinErrorKind::Unserved(why) if why == full), "{refused:?}");
     // One that has shown its certificate and sends nothing is closed as a stranger is.
     let connector = credulous(&setup, Some(&["krl:client:5"])).build();
     let begun = Instant::now();
@@ -342,7 +358,7 @@ fn a_server_shows_a_new_certificate_to_who_comes_then() {
     std::fs::copy(&other.key, &files.key).unwrap();
     shown.reload().unwrap();
     let error = setup.join(&server, &setup.config(&["krl:client:2"]), 2).unwrap_err();
-    assert!(matches!(error, JoinError::TurnedAway(_)), "{error}");
+    assert!(matches!(error.kind, JoinErrorKind::TurnedAway(_)), "{error}");
     assert_eq!(client.insert(1, Value::from(1)), Ok(Outcome::Applied), "open connections continue");
 }
 

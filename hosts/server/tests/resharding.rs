@@ -2,7 +2,7 @@
 mod common;
 
 use common::{Serving, errors, run, text};
-use krl::{Client, Outcome, Record, Room, Row, Shard, ShardMap, ShardedClient, Snapshot};
+use krl::{Client, Outcome, Record, Room, Row, Shard, ShardMap, Snapshot};
 use krl::{SqliteStore, Value};
 use std::path::Path;
 use std::time::Duration;
@@ -32,7 +32,7 @@ fn shard(first: u64, serving: &Serving) -> Shard {
 }
 
 /// The keys that a client of all shards finds, and whether each has the value that it had.
-fn keys(client: &ShardedClient) -> Vec<u64> {
+fn keys(client: &Client) -> Vec<u64> {
     let rows = client.read(..).unwrap();
     assert!(rows.iter().all(|Row { key, value }| *value == Value::from(key / 2)));
     rows.iter().map(|row| row.key).collect()
@@ -74,7 +74,7 @@ fn a_full_server_is_split_and_its_clients_go_on() {
     let servers = [&store, &upper].map(|store| Serving::start(store));
     let map = ShardMap::new(vec![shard(0, &servers[0]), shard(80_000, &servers[1])]).unwrap();
     let clients = [1, 2, 9].map(|number| {
-        let builder = ShardedClient::builder(map.clone(), number, folder.path());
+        let builder = Client::builder(map.clone(), number, folder.path());
         builder.timeout(LONG).join().unwrap()
     });
     let expected: Vec<u64> = (0..FULL).map(|key| 2 * key).collect();

@@ -2,7 +2,7 @@
 mod common;
 
 use common::{Serving, errors, run, text, until};
-use krl::{Address, Client, Error, Outcome, Row, Unsent, Value};
+use krl::{Address, Client, ErrorKind, Outcome, Row, Unsent, Value};
 use std::path::Path;
 use std::sync::Barrier;
 use std::sync::atomic::{AtomicBool, Ordering};
@@ -80,8 +80,8 @@ fn a_client_that_lives_through_a_restore_drops_its_cache_and_joins_anew() {
         let serving = Serving::start_at(Path::new(&new), &address);
         let written = writes.join().unwrap().unwrap_err();
         // It may have left before the client noticed that the server had ended.
-        let expected = [Error::StoreWentBack, Error::NotSent(Unsent::StoreWentBack)];
-        assert!(expected.contains(&written), "{written:?}");
+        let expected = [ErrorKind::StoreWentBack, ErrorKind::NotSent(Unsent::StoreWentBack)];
+        assert!(expected.contains(&written.kind), "{written:?}");
         assert_eq!(client.read(1..2), Ok(vec![row(1, 1)]), "it has joined again");
         drop(over);
         let looked = looks.join().unwrap();
@@ -89,7 +89,7 @@ fn a_client_that_lives_through_a_restore_drops_its_cache_and_joins_anew() {
         assert_eq!(old.count(), 1, "{looked:?}");
         serving
     });
-    assert_eq!(client.epoch(), Ok(4_294_967_298));
+    assert_eq!(client.status()[0].epoch, Ok(4_294_967_298));
     assert_eq!(client.insert(2, Value::from(3)), Ok(Outcome::Applied));
     is_told(&serving);
     client.leave().unwrap();

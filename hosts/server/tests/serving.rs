@@ -338,7 +338,7 @@ fn a_restored_backup_is_served_at_once() {
     let serving = Serving::start(Path::new(&new));
     until("the server serves", || serving.get("/readyz") == (200, "serving\n".to_string()));
     let client = serving.join(folder.path(), 3);
-    assert_eq!(client.epoch(), Ok(4_294_967_298));
+    assert_eq!(client.status()[0].epoch, Ok(4_294_967_298));
     let rows = [(1, 1), (9, 9)].map(|(key, value)| Row { key, value: Value::from(value) });
     assert_eq!(client.read(..), Ok(rows.to_vec()));
     assert_eq!(client.insert(2, Value::from(3)), Ok(Outcome::Applied));

@@ -2,7 +2,9 @@
 mod common;
 
 use common::{Serving, errors, program, run};
-use krl::{Change, Client, JoinError, Outcome, Servers, Snapshot, SqliteStore, Value};
+use krl::{
+    Change, Client, JoinError, JoinErrorKind, Outcome, Servers, Snapshot, SqliteStore, Value,
+};
 use std::path::Path;
 use std::time::Duration;
 
@@ -24,7 +26,7 @@ fn a_server_of_a_shard_serves_its_clients_alone() {
     let (store, lock) = (folder.path().join("krl.db"), folder.path().join("3.lock"));
     let serving = serve(&store, "0..500@3");
     let refused = join(&serving, "0..500@2", &lock).unwrap_err();
-    assert!(matches!(refused, JoinError::OtherShard(_)), "{refused:?}");
+    assert!(matches!(refused.kind, JoinErrorKind::OtherShard(_)), "{refused:?}");
     let client = join(&serving, "0..500@3", &lock).unwrap();
     assert_eq!(client.insert(499, Value::from(1)), Ok(Outcome::Applied));
     client.leave().unwrap();

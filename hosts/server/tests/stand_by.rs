@@ -2,7 +2,7 @@
 mod common;
 
 use common::{ServiceManager, Serving, errors, lock_file, output_within_a_minute, program, until};
-use krl::{Client, Error, Outcome, Servers, Value};
+use krl::{Client, ErrorKind, Outcome, Servers, Value};
 use krl_testing::cluster::Cluster;
 use krl_testing::ports::free_address;
 use std::io::{BufRead, BufReader};
@@ -133,7 +133,7 @@ fn a_server_that_wakes_up_behind_another_one_serves_no_more() {
     first.signal(&["CONT"]);
     let refused = client.insert(2, Value::from(2));
     // It is sent before the first one has found that, or not.
-    assert!(matches!(refused, Err(Error::TimedOut | Error::NotSent(_))), "{refused:?}");
+    assert!(matches!(refused.unwrap_err().kind, ErrorKind::TimedOut | ErrorKind::NotSent(_)));
     until("the first one stands by", || first.get("/status").1.contains("stands by"));
     assert_eq!(second.get("/readyz").0, 503, "the client that it misses has not found it");
 }

@@ -2,7 +2,7 @@
 mod common;
 
 use common::{Serving, errors, lock_file, output_within_a_minute, program, run, text, until};
-use krl::{Client, JoinError, Outcome, Servers, TlsConfig, Value};
+use krl::{Client, JoinError, JoinErrorKind, Outcome, Servers, TlsConfig, Value};
 use std::fs::File;
 use std::io::{Read, Write};
 use std::net::TcpStream;
@@ -219,7 +219,9 @@ fn a_hangup_has_the_certificates_read_again() {
     }
     serving.signal(&["HUP"]);
     until("the new one is shown", || {
-        matches!(setup.join(&serving, 2), Err(JoinError::TurnedAway(_)))
+        setup
+            .join(&serving, 2)
+            .is_err_and(|error| matches!(error.kind, JoinErrorKind::TurnedAway(_)))
     });
     assert_eq!(client.insert(1, Value::from(1)), Ok(Outcome::Applied), "open connections continue");
     client.leave().unwrap();

@@ -1,14 +1,15 @@
 //! The calls that make pins, and those that take them.
 use super::room::emptied;
-use super::{CLIENTS, Client, Rows, put_out};
+use super::{Client, Rows, own, put_out};
 use crate::code::Code;
 use crate::fault::{ErrorRoom, Fault, answer, quiet};
 use crate::handle::{Handle, Kind};
 use crate::input::{self, range};
 use crate::pin::OwnPin;
-use crate::table::{Purpose, Write};
 use crate::writes::{GivenWrite, write_all, writes};
+use krl::{Error, Outcome, Row};
 use std::ffi::c_void;
+use std::ops::Range;
 use std::ptr;
 
 type Pin = Handle<OwnPin>;
@@ -28,7 +29,8 @@ pub unsafe extern "C" fn krlc_pin_held(
         // SAFETY: the caller vouches for the room.
         unsafe { put_out("a pin", pin, ptr::null_mut()) }?;
         // SAFETY: the caller frees the client after this call.
-        let taken = unsafe { CLIENTS.own_value(client) }?.pin_held(range(lo, hi)?, timeout_ms)?;
+        let joined = unsafe { own(client) }?;
+        let taken = joined.own(joined.within(timeout_ms).pin(range(lo, hi)?)?);
         // SAFETY: the caller vouches for the room.
         unsafe { put_out("a pin", pin, PINS.open(taken)?) }?;
         Ok(Code::Ok)
@@ -37,13 +39,16 @@ pub unsafe extern "C" fn krlc_pin_held(
     unsafe { answer(error, take) }
 }
 
+/// A call of a client that reads a range and pins it.
+type PinFor = fn(&krl::Client, Range<u64>) -> Result<(Vec<Row>, krl::Pin), Error>;
+
 /// Reads a range and pins it.
 ///
 /// # Safety
 ///
 /// As the header requires of the calls below.
 unsafe fn pin_for(
-    purpose: Purpose,
+    pin_for: PinFor,
     (client, lo, hi): (*mut Client, u64, u64),
     rows: *mut Rows,
     pin: *mut *mut Pin,
@@ -53,12 +58,12 @@ unsafe fn pin_for(
         // SAFETY: the caller vouches for the room.
         unsafe { put_out("a pin", pin, ptr::null_mut()) }?;
         // SAFETY: the caller frees the client after this call.
-        let client = unsafe { CLIENTS.own_value(client) }?;
+        let joined = unsafe { own(client) }?;
         // SAFETY: the caller frees the rows after this call, and uses them in no other one.
         let room = if rows.is_null() { None } else { Some(unsafe { emptied(rows) }?) };
-        let (found, taken) = client.pin_for(range(lo, hi)?, purpose, timeout_ms)?;
+        let (found, taken) = pin_for(&joined.within(timeout_ms), range(lo, hi)?)?;
         // SAFETY: the caller vouches for the room.
-        unsafe { put_out("a pin", pin, PINS.open(taken)?) }?;
+        unsafe { put_out("a pin", pin, PINS.open(joined.own(taken))?) }?;
         if let Some(room) = room {
             *room = found;
         }
@@ -79,7 +84,7 @@ pub unsafe extern "C" fn krlc_pin_for_read(
     error: *mut ErrorRoom,
 ) -> u32 {
     // SAFETY: the caller vouches for all of them.
-    unsafe { pin_for(Purpose::Read, (client, lo, hi), rows, pin, (timeout_ms, error)) }
+    unsafe { pin_for(krl::Client::pin_for_read, (client, lo, hi), rows, pin, (timeout_ms, error)) }
 }
 
 #[unsafe(no_mangle)]
@@ -93,7 +98,9 @@ pub unsafe extern "C" fn krlc_pin_for_update(
     error: *mut ErrorRoom,
 ) -> u32 {
     // SAFETY: the caller vouches for all of them.
-    unsafe { pin_for(Purpose::Update, (client, lo, hi), rows, pin, (timeout_ms, error)) }
+    unsafe {
+        pin_for(krl::Client::pin_for_update, (client, lo, hi), rows, pin, (timeout_ms, error))
+    }
 }
 
 #[unsafe(no_mangle)]
@@ -107,7 +114,7 @@ pub unsafe extern "C" fn krlc_pin_for_write(
     error: *mut ErrorRoom,
 ) -> u32 {
     // SAFETY: the caller vouches for all of them.
-    unsafe { pin_for(Purpose::Write, (client, lo, hi), rows, pin, (timeout_ms, error)) }
+    unsafe { pin_for(krl::Client::pin_for_write, (client, lo, hi), rows, pin, (timeout_ms, error)) }
 }
 
 #[unsafe(no_mangle)]
@@ -130,12 +137,12 @@ unsafe fn write(
     pin: *mut Pin,
     timeout_ms: u64,
     error: *mut ErrorRoom,
-    write: impl FnOnce() -> Result<Write, Fault>,
+    write: impl FnOnce(&krl::Pin) -> Result<Outcome, Fault>,
 ) -> u32 {
     let write = || {
         // SAFETY: the caller frees the pin after this call.
-        let pin = unsafe { PINS.own_value(pin) }?;
-        Ok(pin.write(write()?, timeout_ms)?.into())
+        let pin = unsafe { PINS.own_value(pin) }?.within(timeout_ms);
+        Ok(write(&pin)?.into())
     };
     // SAFETY: the caller vouches for the room of the error.
     unsafe { answer(error, write) }
@@ -153,7 +160,7 @@ pub unsafe extern "C" fn krlc_pin_insert(
     // SAFETY: the caller vouches for this many bytes.
     let value = || unsafe { input::value(bytes.cast(), length) };
     // SAFETY: the caller vouches for the pin and the room.
-    unsafe { write(pin, timeout_ms, error, || Ok(Write::Insert(key, value()?))) }
+    unsafe { write(pin, timeout_ms, error, |pin| Ok(pin.insert(key, value()?)?)) }
 }
 
 #[unsafe(no_mangle)]
@@ -168,7 +175,7 @@ pub unsafe extern "C" fn krlc_pin_put(
     // SAFETY: the caller vouches for this many bytes.
     let value = || unsafe { input::value(bytes.cast(), length) };
     // SAFETY: the caller vouches for the pin and the room.
-    unsafe { write(pin, timeout_ms, error, || Ok(Write::Put(key, value()?))) }
+    unsafe { write(pin, timeout_ms, error, |pin| Ok(pin.put(key, value()?)?)) }
 }
 
 #[unsafe(no_mangle)]
@@ -183,7 +190,7 @@ pub unsafe extern "C" fn krlc_pin_set(
     // SAFETY: the caller vouches for this many bytes.
     let value = || unsafe { input::value(bytes.cast(), length) };
     // SAFETY: the caller vouches for the pin and the room.
-    unsafe { write(pin, timeout_ms, error, || Ok(Write::Set(key, value()?))) }
+    unsafe { write(pin, timeout_ms, error, |pin| Ok(pin.set(key, value()?)?)) }
 }
 
 #[unsafe(no_mangle)]
@@ -194,7 +201,7 @@ pub unsafe extern "C" fn krlc_pin_delete(
     error: *mut ErrorRoom,
 ) -> u32 {
     // SAFETY: the caller vouches for the pin and the room.
-    unsafe { write(pin, timeout_ms, error, || Ok(Write::Delete(key))) }
+    unsafe { write(pin, timeout_ms, error, |pin| Ok(pin.delete(key)?)) }
 }
 
 #[unsafe(no_mangle)]
@@ -208,7 +215,7 @@ pub unsafe extern "C" fn krlc_pin_write_all(
     let write = || {
         // SAFETY: the caller vouches for this many writes, and frees the pin after this call.
         let (given, pin) = unsafe { (writes(at, count)?, PINS.own_value(pin)?) };
-        write_all(given, |wanted| pin.write_all(wanted, timeout_ms))
+        write_all(given, |wanted| pin.within(timeout_ms).write_all(wanted))
     };
     // SAFETY: the caller vouches for the room of the error.
     unsafe { answer(error, write) }

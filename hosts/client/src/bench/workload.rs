@@ -3,13 +3,13 @@ use crate::arguments::{BenchWords, Mix, Skew};
 use crate::bench::histogram::Histogram;
 use crate::failure::Failure;
 use crate::signals::Taken;
-use crate::table::Table;
-use krl::{MAX_VALUE_BYTES, Outcome, Row, Value};
+use krl::{Client, MAX_VALUE_BYTES, Outcome, Row, Value};
 use rand::Rng;
 use rand::SeedableRng;
 use rand::distributions::{Distribution, WeightedIndex};
 use rand::rngs::StdRng;
 use std::ops::Range;
+use std::sync::Arc;
 use std::thread;
 use std::time::{Duration, Instant};
 
@@ -119,7 +119,7 @@ impl Pace {
 
 /// A thread of a client.
 pub struct Worker {
-    table: Table,
+    client: Arc<Client>,
     pace: Option<Pace>,
     keys: Range<u64>,
     places: Places,
@@ -134,11 +134,15 @@ pub struct Worker {
 }
 
 impl Worker {
-    pub fn new(table: Table, keys: &Range<u64>, words: &BenchWords) -> Result<Worker, Failure> {
+    pub fn new(
+        client: Arc<Client>,
+        keys: &Range<u64>,
+        words: &BenchWords,
+    ) -> Result<Worker, Failure> {
         let mut random = StdRng::from_entropy();
         let threads = u32::from(words.clients) * u32::from(words.threads);
         Ok(Worker {
-            table,
+            client,
             pace: words.rate.map(|rate| Pace::of(rate, threads, &mut random)),
             keys: keys.clone(),
             places: Places::of(words.skew, words.keys)?,
@@ -177,11 +181,11 @@ impl Worker {
         let lo = (self.keys.start + place).min(self.keys.end - self.rows);
         let keys = lo..lo + self.rows;
         let begun = Instant::now();
-        if self.table.cached_into(keys.clone(), &mut self.room).is_ok_and(|is_cached| is_cached) {
+        if self.client.cached_into(keys.clone(), &mut self.room).is_ok_and(|is_cached| is_cached) {
             self.measured.cached.record_if(counted, begun.elapsed());
             return;
         }
-        match self.table.read(keys) {
+        match self.client.read(keys) {
             Ok(_) => self.measured.asked.record_if(counted, begun.elapsed()),
             Err(_) => self.measured.failed += 1,
         }
@@ -190,7 +194,7 @@ impl Worker {
     fn write(&mut self, place: u64, counted: bool) {
         let value = random_value(&mut self.random, self.value_size);
         let begun = Instant::now();
-        match self.table.put(self.keys.start + place, value) {
+        match self.client.put(self.keys.start + place, value) {
             Ok(Outcome::Applied) => self.measured.writes.record_if(counted, begun.elapsed()),
             _ => self.measured.failed += 1,
         }

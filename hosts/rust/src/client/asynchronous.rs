@@ -1,30 +1,27 @@
 //! A client whose calls are futures.
 use crate::client::Client;
-use crate::client::changes::Waited;
-use crate::client::jobs::{Asked, Held, Jobs, Purpose};
-use crate::client::link::{Awaited, Link};
+use crate::client::calls::{Calls, Waited};
+use crate::client::jobs::Purpose;
 use crate::client::pin::Pin;
-use crate::client::set;
-use crate::client::shared::{MAX_WAIT, Shared};
-use crate::model::batch::{self, BatchError, Judged, Mutation};
+use crate::client::timeout::MAX_WAIT;
+use crate::model::batch::{BatchError, Mutation};
 use crate::model::change::{Outcome, Write};
-use crate::model::error::{Error, Unsent};
+use crate::model::error::{Error, ErrorKind};
 use crate::model::range::keys_of;
-use crate::model::row::{END, Row, Value};
+use crate::model::row::{Row, Value};
 use std::fmt;
 use std::ops::{Range, RangeBounds};
-use std::sync::Arc;
-use std::time::{Duration, Instant};
+use std::time::Duration;
 
 /// A client whose calls are futures, for tasks of any executor. It has no executor and no timer of
-/// its own: the client's thread wakes the tasks. It has locked nothing then, so an executor may poll
-/// a task within the call that wakes it.
+/// its own: the client's thread wakes the tasks. It has locked nothing then, so an executor may
+/// poll a task within the call that wakes it.
 ///
-/// Each call is that of [`Client`] of the same name, with its outcomes and errors, and ends by the
-/// [`Client::timeout`] of the client that this one was made of, or a little later while the client
-/// connects. A call begins when its future is first polled. A read that the cache answers does not
-/// yield. A future that is dropped before it ends gives its call up: of a write that was sent nobody
-/// knows then whether it was made.
+/// Each call is that of [`Client`] of the same name, with its outcomes and errors, over one server
+/// or several, and ends by the [`Client::timeout`] of the client that this one was made of, or a
+/// little later while the client connects. A call begins when its future is first polled. A read
+/// that the cache answers does not yield. A future that is dropped before it ends gives its call
+/// up: of a write that was sent nobody knows then whether it was made.
 ///
 /// Two things wait without a future: to join, and the drop of the last clone, which waits a second
 /// at most until the server has kept that the client left. So join before the executor runs or on a
@@ -70,8 +67,8 @@ pub struct AsyncClient {
 type Pinned = Result<(Vec<Row>, AsyncPin), Error>;
 
 impl AsyncClient {
-    /// The client whose calls wait. Those that wait for nothing are called there: `cached`, `pin`,
-    /// `number`, `set_timeout`.
+    /// The client whose calls wait. Those that wait for nothing are called there: `cached`,
+    /// `number`, `set_timeout`, and `pin` of a client without a map.
     #[must_use]
     pub fn client(&self) -> &Client {
         &self.client
@@ -86,7 +83,7 @@ impl AsyncClient {
         let keys = keys_of(&keys)?;
         match self.client.cached(keys.clone())? {
             Some(rows) => Ok(rows),
-            None => self.ask(|jobs| jobs.read(keys)).await,
+            None => self.calls().read(keys).await,
         }
     }
 
@@ -96,7 +93,7 @@ impl AsyncClient {
     ///
     /// Those of [`Client::insert`].
     pub async fn insert(&self, key: u64, value: Value) -> Result<Outcome, Error> {
-        self.write(Write::Insert(Row { key, value })).await
+        self.calls().write(Write::Insert(Row { key, value })).await
     }
 
     /// Gives a row another value, as [`Client::put`] does.
@@ -105,7 +102,7 @@ impl AsyncClient {
     ///
     /// Those of [`Client::insert`].
     pub async fn put(&self, key: u64, value: Value) -> Result<Outcome, Error> {
-        self.write(Write::Put(Row { key, value })).await
+        self.calls().write(Write::Put(Row { key, value })).await
     }
 
     /// Gives a key this value, as [`Client::set`] does. The timeout is that of all its writes
@@ -115,7 +112,7 @@ impl AsyncClient {
     ///
     /// Those of [`Client::set`].
     pub async fn set(&self, key: u64, value: Value) -> Result<Outcome, Error> {
-        set_by(self.shared(), self.client.end(), Row { key, value }, Jobs::write).await
+        self.calls().set(Row { key, value }).await
     }
 
     /// Deletes a row, as [`Client::delete`] does.
@@ -124,7 +121,7 @@ impl AsyncClient {
     ///
     /// Those of [`Client::insert`].
     pub async fn delete(&self, key: u64) -> Result<Outcome, Error> {
-        self.write(Write::Delete(key)).await
+        self.calls().write(Write::Delete(key)).await
     }
 
     /// Makes several writes, as [`Client::write_all`] does. If its future is dropped, those that
@@ -137,8 +134,7 @@ impl AsyncClient {
         &self,
         writes: impl IntoIterator<Item = Mutation>,
     ) -> Result<Vec<Outcome>, BatchError> {
-        let writes = writes.into_iter().collect();
-        write_all(self.shared(), self.client.end(), writes, Jobs::write_all).await
+        self.calls().write_all(writes.into_iter().collect()).await
     }
 
     /// Gives back what the client holds of the range, as [`Client::forget`] does.
@@ -147,8 +143,7 @@ impl AsyncClient {
     ///
     /// Those of [`Client::forget`].
     pub async fn forget(&self, keys: impl RangeBounds<u64>) -> Result<(), Error> {
-        let keys = keys_of(&keys)?;
-        if keys.is_empty() { Ok(()) } else { self.ask(|jobs| jobs.forget(keys)).await }
+        self.calls().forget(keys_of(&keys)?).await
     }
 
     /// Reads the range and pins it, as [`Client::pin_for_read`] does.
@@ -157,7 +152,7 @@ impl AsyncClient {
     ///
     /// Those of [`Client::pin_for_read`].
     pub async fn pin_for_read(&self, keys: impl RangeBounds<u64>) -> Pinned {
-        self.hold(keys_of(&keys)?, Purpose::Read).await
+        hold(self.calls(), keys_of(&keys)?, Purpose::Read).await
     }
 
     /// Reads the range and pins it, as [`Client::pin_for_update`] does.
@@ -166,7 +161,7 @@ impl AsyncClient {
     ///
     /// Those of [`Client::pin_for_read`].
     pub async fn pin_for_update(&self, keys: impl RangeBounds<u64>) -> Pinned {
-        self.hold(keys_of(&keys)?, Purpose::Update).await
+        hold(self.calls(), keys_of(&keys)?, Purpose::Update).await
     }
 
     /// Reads the range and pins it, as [`Client::pin_for_write`] does.
@@ -175,11 +170,11 @@ impl AsyncClient {
     ///
     /// Those of [`Client::pin_for_read`].
     pub async fn pin_for_write(&self, keys: impl RangeBounds<u64>) -> Pinned {
-        self.hold(keys_of(&keys)?, Purpose::Write).await
+        hold(self.calls(), keys_of(&keys)?, Purpose::Write).await
     }
 
-    /// Waits so long, a year at most, until the client no longer knows that the range has these
-    /// rows, as [`Client::wait_for_change`] does.
+    /// Waits at most this long, and a year at most, until the client no longer knows that the range
+    /// has these rows, as [`Client::wait_for_change`] does.
     ///
     /// # Errors
     ///
@@ -190,14 +185,8 @@ impl AsyncClient {
         rows: &[Row],
         timeout: Duration,
     ) -> Result<Waited, Error> {
-        let keys = keys_of(&keys)?;
-        let end = Instant::now() + timeout.min(MAX_WAIT);
-        let watch = |jobs: &mut Jobs| jobs.watch(keys, rows.to_vec());
-        match Awaited::begin(self.shared().link(), end, watch).await {
-            Ok(()) => Ok(Waited::Changed),
-            Err(Error::TimedOut | Error::Unserved(_)) => Ok(Waited::Unchanged),
-            Err(refused) => Err(refused),
-        }
+        let (keys, client) = (keys_of(&keys)?, self.client.within(timeout));
+        client.calls().in_task().wait_for_change(keys, rows).await
     }
 
     /// The states of the range, one after the other, as [`Client::changes`] gives them.
@@ -206,10 +195,7 @@ impl AsyncClient {
     ///
     /// Those of [`Client::changes`].
     pub fn changes(&self, keys: impl RangeBounds<u64>) -> Result<AsyncChanges, Error> {
-        let keys = keys_of(&keys)?;
-        if keys.is_empty() {
-            return Err(Error::BadRange);
-        }
+        let keys = self.client.keys_to_watch(&keys)?;
         Ok(AsyncChanges { client: self.clone(), keys, last: None })
     }
 
@@ -219,32 +205,18 @@ impl AsyncClient {
     ///
     /// Those of [`Client::leave`].
     pub async fn leave(&self) -> Result<(), Error> {
-        self.ask(Jobs::leave).await?;
-        self.shared().has_left();
-        Ok(())
+        self.calls().leave().await
     }
 
-    async fn hold(&self, keys: Range<u64>, purpose: Purpose) -> Pinned {
-        if keys.is_empty() {
-            return Err(Error::BadRange);
-        }
-        let (link, end) = (self.shared().link(), self.client.end());
-        let held = Awaited::begin(link, end, |jobs| jobs.hold(keys, purpose)).or_undo(unpin).await;
-        let Held { rows, pin } = held?;
-        Ok((rows, AsyncPin { pin: Pin::new(Arc::clone(self.shared()), pin) }))
+    /// Calls that begin now.
+    fn calls(&self) -> Calls<'_> {
+        self.client.calls().in_task()
     }
+}
 
-    async fn write(&self, write: Write) -> Result<Outcome, Error> {
-        write_by(self.shared(), self.client.end(), write, &Jobs::write).await
-    }
-
-    async fn ask<T>(&self, ask: impl FnOnce(&mut Jobs) -> Asked<T>) -> Result<T, Error> {
-        Awaited::begin(self.shared().link(), self.client.end(), ask).await
-    }
-
-    fn shared(&self) -> &Arc<Shared> {
-        self.client.shared()
-    }
+async fn hold(calls: Calls<'_>, keys: Range<u64>, purpose: Purpose) -> Pinned {
+    let (rows, pinned) = calls.hold(keys, purpose).await?;
+    Ok((rows, AsyncPin { pin: Pin::of(pinned) }))
 }
 
 impl From<Client> for AsyncClient {
@@ -279,7 +251,7 @@ impl AsyncPin {
     ///
     /// Those of [`Pin::insert`].
     pub async fn insert(&self, key: u64, value: Value) -> Result<Outcome, Error> {
-        self.write(Write::Insert(Row { key, value })).await
+        self.calls().write(Write::Insert(Row { key, value })).await
     }
 
     /// Gives a row another value while the pin holds, or never, as [`Pin::put`] does.
@@ -288,7 +260,7 @@ impl AsyncPin {
     ///
     /// Those of [`Pin::insert`].
     pub async fn put(&self, key: u64, value: Value) -> Result<Outcome, Error> {
-        self.write(Write::Put(Row { key, value })).await
+        self.calls().write(Write::Put(Row { key, value })).await
     }
 
     /// Gives a key this value while the pin holds, or never, as [`Pin::set`] does.
@@ -297,7 +269,7 @@ impl AsyncPin {
     ///
     /// Those of [`Pin::insert`].
     pub async fn set(&self, key: u64, value: Value) -> Result<Outcome, Error> {
-        set_by(self.pin.shared(), self.pin.end(), Row { key, value }, self.bound()).await
+        self.calls().set(Row { key, value }).await
     }
 
     /// Deletes a row while the pin holds, or never, as [`Pin::delete`] does.
@@ -306,7 +278,7 @@ impl AsyncPin {
     ///
     /// Those of [`Pin::insert`].
     pub async fn delete(&self, key: u64) -> Result<Outcome, Error> {
-        self.write(Write::Delete(key)).await
+        self.calls().write(Write::Delete(key)).await
     }
 
     /// Makes several writes, as [`Pin::write_all`] does.
@@ -318,18 +290,12 @@ impl AsyncPin {
         &self,
         writes: impl IntoIterator<Item = Mutation>,
     ) -> Result<Vec<Outcome>, BatchError> {
-        let pin = self.pin.id();
-        let ask = |jobs: &mut Jobs, writes| jobs.write_all_under(pin, writes);
-        write_all(self.pin.shared(), self.pin.end(), writes.into_iter().collect(), ask).await
+        self.calls().write_all(writes.into_iter().collect()).await
     }
 
-    async fn write(&self, write: Write) -> Result<Outcome, Error> {
-        write_by(self.pin.shared(), self.pin.end(), write, &self.bound()).await
-    }
-
-    fn bound(&self) -> impl Fn(&mut Jobs, Write) -> Asked<Outcome> + use<> {
-        let pin = self.pin.id();
-        move |jobs, write| jobs.write_under(pin, write)
+    /// Calls that begin now.
+    fn calls(&self) -> Calls<'_> {
+        self.pin.calls().in_task()
     }
 }
 
@@ -357,60 +323,9 @@ impl AsyncChanges {
                     self.last = Some(rows.clone());
                     return Some(Ok(rows));
                 }
-                Err(Error::Left) => return None,
+                Err(error) if error.kind == ErrorKind::Left => return None,
                 Err(error) => return Some(Err(error)),
             }
-        }
-    }
-}
-
-/// Nobody takes what was held: it is free again.
-fn unpin(link: &Link, held: &Held) {
-    link.with_jobs(|jobs| jobs.unpin(held.pin));
-    link.flush();
-}
-
-async fn write_all(
-    shared: &Arc<Shared>,
-    end: Instant,
-    writes: Vec<Mutation>,
-    ask: impl FnOnce(&mut Jobs, Vec<Mutation>) -> Asked<Judged>,
-) -> Result<Vec<Outcome>, BatchError> {
-    let count = writes.len();
-    let judged = if let Some(refused) = batch::refused(&writes) {
-        refused
-    } else {
-        let judged = Awaited::begin(shared.link(), end, |jobs| ask(jobs, writes)).await;
-        judged.unwrap_or_else(Judged::nothing)
-    };
-    judged.all(count)
-}
-
-async fn write_by(
-    shared: &Arc<Shared>,
-    end: Instant,
-    write: Write,
-    ask: &impl Fn(&mut Jobs, Write) -> Asked<Outcome>,
-) -> Result<Outcome, Error> {
-    if write.key() >= END {
-        return Err(Error::BadKey);
-    }
-    Awaited::begin(shared.link(), end, |jobs| ask(jobs, write)).await
-}
-
-async fn set_by(
-    shared: &Arc<Shared>,
-    end: Instant,
-    row: Row,
-    ask: impl Fn(&mut Jobs, Write) -> Asked<Outcome>,
-) -> Result<Outcome, Error> {
-    let mut next = shared.first_of_set(row);
-    loop {
-        let outcome = write_by(shared, end, next, &ask).await?;
-        let Some(following) = set::after(next, outcome) else { return Ok(outcome) };
-        next = following;
-        if Instant::now() >= end {
-            return Err(Error::NotSent(Unsent::TimedOut));
         }
     }
 }

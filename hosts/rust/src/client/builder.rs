@@ -1,46 +1,67 @@
 //! What a client is given before it joins.
 use crate::client::Client;
+use crate::client::joined::Joined;
 use crate::client::joining::{self, Errand, Waits};
 use crate::client::numbers;
-use crate::model::error::JoinError;
+use crate::client::place::Place;
+use crate::client::shard_client::ShardClient;
+use crate::model::error::{JoinError, JoinErrorKind};
+use crate::model::row::END;
 use crate::net::servers::Servers;
 #[cfg(feature = "tls")]
 use crate::net::tls::TlsConfig;
+use crate::shards::map::ShardMap;
+use std::ops::Range;
+use std::panic::resume_unwind;
 use std::path::{Path, PathBuf};
+use std::thread::{self, ScopedJoinHandle};
 use std::time::Duration;
 
-/// What a client is given before it joins: its servers, its number and its lock file, and how long
-/// its calls wait. [`Client::builder`] and [`Client::builder_with_numbers`] make one.
+/// What a client is given before it joins: where its table is, its number and its lock file, and
+/// how long its calls wait. [`Client::builder`] and [`Client::builder_with_numbers`] make one.
 #[derive(Clone, Debug)]
 #[must_use = "a builder does nothing before `join`"]
 pub struct ClientBuilder {
-    servers: Servers,
-    numbers: Numbers,
+    place: Place,
+    numbers: Vec<u8>,
+    lock: Lock,
+    keys: Range<u64>,
     waits: Waits,
 }
 
-/// Which numbers a client may have, and where their lock files are.
+/// Where the lock files of a client are.
 #[derive(Clone, Debug)]
-enum Numbers {
-    /// This one, by this file.
-    One(u8, PathBuf),
-    /// The first free one of these, by its file in this folder.
-    FirstFree(Vec<u8>, PathBuf),
+enum Lock {
+    /// This is the file of its only number; of a map it is the folder.
+    Given(PathBuf),
+    /// In this folder, by their numbers.
+    In(PathBuf),
 }
 
+type JoinedShard = Result<ShardClient, JoinErrorKind>;
+
 impl ClientBuilder {
-    fn new(servers: Servers, numbers: Numbers) -> ClientBuilder {
-        ClientBuilder { servers, numbers, waits: Waits::by_default() }
+    fn new(place: Place, numbers: Vec<u8>, lock: Lock) -> ClientBuilder {
+        ClientBuilder { place, numbers, lock, keys: 0..END + 1, waits: Waits::by_default() }
     }
 
     /// What the client shows to its servers if they listen by TLS, and whom it believes. It is
-    /// read again at each connect: [`TlsConfig::reload`] has the next one show what its files say
-    /// then.
+    /// read again at each connect: after [`TlsConfig::reload`], the next connection shows what the
+    /// files have then.
     ///
     /// [`TlsConfig::reload`]: crate::TlsConfig::reload
     #[cfg(feature = "tls")]
     pub fn tls(mut self, config: TlsConfig) -> ClientBuilder {
-        self.servers = self.servers.with_tls(config);
+        self.place = self.place.with_tls(config);
+        self
+    }
+
+    /// The keys for which a client of a map is: all of them by default. It joins only the shards
+    /// that have some of these keys, so that a server of another shard may be down. A call with
+    /// keys of a shard that it has not joined is refused by `BadRange` or `BadKey`. A client of one
+    /// server has all keys.
+    pub fn keys(mut self, keys: Range<u64>) -> ClientBuilder {
+        self.keys = keys;
         self
     }
 
@@ -51,66 +72,152 @@ impl ClientBuilder {
         self
     }
 
-    /// How long `join` waits for its number if the server reports that another process has it:
-    /// until the timeout by default. Then it ends with `Unserved`. Who has several numbers tries
-    /// the next one after a moment.
+    /// How long `join` waits for its number if a server reports that another process has it:
+    /// until the timeout by default. Then it ends with `Unserved`. A builder for several numbers
+    /// tries the next one after a second.
     pub fn wait_if_in_use(mut self, wait: Duration) -> ClientBuilder {
         self.waits.if_in_use = wait;
         self
     }
 
-    /// Joins the server.
+    /// Joins the server, or all shards of the client's keys at once. If one of them does not
+    /// answer, the others are left again.
     ///
     /// # Errors
     ///
-    /// Those of [`Client::join`]. Of a builder for several numbers, `LockFile` if other processes have
-    /// the files of all of them, and `Incomplete` if there are none.
+    /// Those of [`Client::join`], with the first shard that was not joined. Of a builder for
+    /// several numbers, `LockFile` if other processes have the files of all of them. `Incomplete`
+    /// if there are no numbers, or no shard has any of the keys.
     pub fn join(self) -> Result<Client, JoinError> {
-        let (servers, waits) = (self.servers, self.waits);
-        let join = |number, waits, lock_file: &Path| {
-            joining::join(servers.clone(), number, lock_file, waits, Errand::Work)
+        let join = |number, waits| match &self.place {
+            Place::Server(servers) => self.join_server(servers.clone(), number, waits),
+            Place::Map(map) => self.join_shards(map, number, waits),
         };
-        let (numbers, folder) = match self.numbers {
-            Numbers::One(number, lock_file) => return join(number, waits, &lock_file),
-            Numbers::FirstFree(numbers, folder) => (numbers, folder),
-        };
-        let join =
-            |number, waits| join(number, waits, &folder.join(format!("client-{number}.lock")));
-        match numbers[..] {
-            [number] => join(number, waits),
+        match self.numbers[..] {
+            [number] => join(number, self.waits),
             ref numbers => {
-                let joined = numbers::join_first(numbers, waits, join, |error| error);
-                joined.unwrap_or(Err(JoinError::Incomplete("a number")))
+                let joined = numbers::join_first(numbers, self.waits, join);
+                joined.unwrap_or(Err(JoinErrorKind::Incomplete("a number").into()))
             }
+        }
+    }
+
+    /// Joins the server as the client of this number.
+    fn join_server(&self, servers: Servers, number: u8, waits: Waits) -> Result<Client, JoinError> {
+        let lock_file = self.lock.of_number(number);
+        let joined = joining::join(servers, number, &lock_file, waits, Errand::Work);
+        let client = joined.map_err(JoinError::of(number, None))?;
+        Ok(Client::of(Joined::one(client, waits.timeout)))
+    }
+
+    /// Joins the shards of the client's keys as the client of this number.
+    fn join_shards(&self, map: &ShardMap, number: u8, waits: Waits) -> Result<Client, JoinError> {
+        let of_no_shard =
+            || JoinError::of(number, None)(JoinErrorKind::Incomplete("keys of a shard"));
+        let shards = shards_of(map, &self.keys).ok_or_else(of_no_shard)?;
+        let joined: Vec<JoinedShard> = thread::scope(|scope| {
+            let joining = shards.clone().map(|shard| {
+                let lock_file = self.lock.of_shard(map.shards()[shard].first, number);
+                let servers = map.servers_of(shard);
+                let join = move || joining::join(servers, number, &lock_file, waits, Errand::Work);
+                thread::Builder::new().spawn_scoped(scope, join)
+            });
+            let joining: Vec<_> = joining.collect();
+            joining.into_iter().map(wait).collect()
+        });
+        let (mut clients, mut failed) = (Vec::new(), None);
+        for (shard, joined) in shards.clone().zip(joined) {
+            match joined {
+                Ok(client) => clients.push(client),
+                Err(kind) => {
+                    failed.get_or_insert(JoinError::of(number, Some(shard))(kind));
+                }
+            }
+        }
+        let joined = Joined::shards(map.clone(), shards.start, clients, waits.timeout);
+        match failed {
+            Some(failed) => Err(failed),
+            None => Ok(Client::of(joined.ok_or_else(of_no_shard)?)),
         }
     }
 }
 
+impl Lock {
+    /// The lock file of a number at one server.
+    fn of_number(&self, number: u8) -> PathBuf {
+        match self {
+            Lock::Given(file) => file.clone(),
+            Lock::In(folder) => folder.join(format!("client-{number}.lock")),
+        }
+    }
+
+    /// The lock file of a number at the shard that begins with this key, by which the shard is the
+    /// same one in each map that has it.
+    fn of_shard(&self, first: u64, number: u8) -> PathBuf {
+        let (Lock::Given(folder) | Lock::In(folder)) = self;
+        folder.join(format!("shard-{first}-client-{number}.lock"))
+    }
+}
+
+/// The shards that have some of the keys. They lie next to each other.
+fn shards_of(map: &ShardMap, keys: &Range<u64>) -> Option<Range<usize>> {
+    let parts = map.parts(keys.clone()).ok()?;
+    Some(parts.first()?.shard..parts.last()?.shard + 1)
+}
+
+/// Waits until a shard's client has joined, or has not.
+fn wait(joining: std::io::Result<ScopedJoinHandle<'_, JoinedShard>>) -> JoinedShard {
+    let joining = joining.map_err(JoinErrorKind::NoThread)?;
+    joining.join().unwrap_or_else(|panic| resume_unwind(panic))
+}
+
 impl Client {
-    /// Joins the server as the client of this number. `lock_file` is the file of this number on
-    /// this machine: it keeps a second process off the number. Two machines have to have different
-    /// numbers. It waits fifteen seconds for an answer, and one second if nothing listens at the
-    /// only address.
+    /// Joins as the client of this number: one server, or all shards of a map. `lock_file` is the
+    /// file of this number on this machine: it keeps a second process off the number. Of a map it
+    /// is the folder of the lock files, which has to be there; it has one for each shard and
+    /// number. Two machines have to have different numbers. It waits fifteen seconds for an answer,
+    /// and one second if nothing listens at the only address.
+    ///
+    /// ```
+    /// # let folder = std::env::temp_dir().join(format!("krl-doc-map-{}", std::process::id()));
+    /// # std::fs::create_dir_all(&folder)?;
+    /// use krl::{Client, MemoryStore, Outcome, Server, Shard, ShardMap, Value};
+    /// use std::net::TcpListener;
+    ///
+    /// let first = Server::start(TcpListener::bind("127.0.0.1:0")?, MemoryStore::default())?;
+    /// let second = Server::start(TcpListener::bind("127.0.0.1:0")?, MemoryStore::default())?;
+    /// let map = ShardMap::new(vec![
+    ///     Shard { first: 0, servers: first.address().into() },
+    ///     Shard { first: 1000, servers: second.address().into() },
+    /// ])?;
+    /// let client = Client::join(map, 0, &folder)?;
+    /// assert_eq!(client.insert(999, Value::from(1))?, Outcome::Applied);
+    /// assert_eq!(client.insert(1000, Value::from(2))?, Outcome::Applied);
+    /// assert_eq!(client.read(990..1010)?.len(), 2); // both tables at one moment
+    /// client.leave()?;
+    /// # std::fs::remove_dir_all(&folder)?;
+    /// # Ok::<(), Box<dyn std::error::Error>>(())
+    /// ```
     ///
     /// # Errors
     ///
     /// `BadNumber` above 63; `LockFile` if another process has the file, or it can't be used;
     /// `NoThread`; `NoAnswer`, with the reason if the connection failed; `NothingListens`, if the
     /// only address has refused connections for a second; `NoServer`, if what answers is not a krl
-    /// server; `Unserved`, if the server tells why it does not serve the client; `TurnedAway`, if
+    /// server; `Unserved`, if the server reports why it does not serve the client; `TurnedAway`, if
     /// this side has no right to the client; `OtherShard`, if the server serves another shard than
-    /// the client takes it for; `Refused` if memory is refused.
+    /// the client takes it for; `Refused` if memory is refused. Of a map it is that of the first
+    /// shard that was not joined. Then none is joined.
     pub fn join(
-        servers: impl Into<Servers>,
+        place: impl Into<Place>,
         number: u8,
         lock_file: impl AsRef<Path>,
     ) -> Result<Client, JoinError> {
-        let (waits, lock_file) = (Waits::by_default(), lock_file.as_ref());
-        joining::join(servers.into(), number, lock_file, waits, Errand::Work)
+        Client::builder(place, number, lock_file.as_ref()).join()
     }
 
-    /// A builder for a client of this number with this lock file, as [`Client::join`] takes them: it
-    /// says more before the client joins, such as how long its calls wait.
+    /// A builder for a client of this number with this lock file, as [`Client::join`] takes them:
+    /// it configures the client before it joins, such as how long its calls wait.
     ///
     /// ```no_run
     /// # use krl::{Address, Client};
@@ -121,17 +228,18 @@ impl Client {
     /// # Ok::<(), Box<dyn std::error::Error>>(())
     /// ```
     pub fn builder(
-        servers: impl Into<Servers>,
+        place: impl Into<Place>,
         number: u8,
         lock_file: impl Into<PathBuf>,
     ) -> ClientBuilder {
-        ClientBuilder::new(servers.into(), Numbers::One(number, lock_file.into()))
+        ClientBuilder::new(place.into(), vec![number], Lock::Given(lock_file.into()))
     }
 
-    /// A builder for a client that takes the first of these numbers that is free: [`Client::number`]
-    /// tells which. The lock files are in the folder, which has to be there: that of number 3 is
-    /// `client-3.lock`. A number whose lock file another process has is left for the next one at once,
-    /// and one of which the server tells that another process has it after a second.
+    /// A builder for a client that takes the first of these numbers that is free at each of its
+    /// servers: [`Client::number`] returns which. The lock files are in the folder, which has to be
+    /// there: that of number 3 is `client-3.lock`, and of a map `shard-FIRST-client-3.lock` by the
+    /// first key of the shard. A number whose lock file another process has is left for the next
+    /// one at once, and one of which a server reports that another process has it after a second.
     ///
     /// ```no_run
     /// # use krl::{Address, Client};
@@ -140,11 +248,11 @@ impl Client {
     /// # Ok::<(), Box<dyn std::error::Error>>(())
     /// ```
     pub fn builder_with_numbers(
-        servers: impl Into<Servers>,
+        place: impl Into<Place>,
         numbers: impl IntoIterator<Item = u8>,
         lock_folder: impl Into<PathBuf>,
     ) -> ClientBuilder {
-        let numbers = Numbers::FirstFree(numbers.into_iter().collect(), lock_folder.into());
-        ClientBuilder::new(servers.into(), numbers)
+        let numbers = numbers.into_iter().collect();
+        ClientBuilder::new(place.into(), numbers, Lock::In(lock_folder.into()))
     }
 }

@@ -1,22 +1,13 @@
 //! The states of a range, one after the other.
-use crate::client::shared::MAX_WAIT;
-use crate::model::error::Error;
+use crate::client::calls::Waited;
+use crate::client::timeout::MAX_WAIT;
+use crate::model::error::{Error, ErrorKind};
 use crate::model::row::Row;
 use std::fmt;
 use std::time::{Duration, Instant};
 
-/// How a wait for a change ended.
-#[derive(Clone, Copy, Debug, PartialEq, Eq)]
-#[must_use]
-pub enum Waited {
-    /// The client no longer knows that the range has these rows: they are to be read again.
-    Changed,
-    /// The time is over, and the rows are as they were.
-    Unchanged,
-}
-
-/// The states of a range, one after the other, from [`Client::changes`] or
-/// [`ShardedClient::changes`].
+/// The states of a range, one after the other, from [`Client::changes`]. Over several shards each
+/// is that of all of them together at one moment.
 ///
 /// **The first item** is the rows of the range as they are at some moment of the first call. **Each
 /// later item** is the rows at a later moment, and they differ from those of the item before. What
@@ -33,26 +24,22 @@ pub enum Waited {
 /// called back, as for any reader.
 ///
 /// [`Client::changes`]: crate::Client::changes
-/// [`ShardedClient::changes`]: crate::ShardedClient::changes
 #[must_use = "it reads nothing before it is asked"]
-pub struct Changes<E = Error> {
-    range: Box<dyn WatchedRange<E> + Send + Sync>,
+pub struct Changes {
+    range: Box<dyn WatchedRange + Send + Sync>,
     last: Option<Vec<Row>>,
 }
 
 /// A range that is read again and again.
-pub(crate) trait WatchedRange<E> {
-    fn read(&self) -> Result<Vec<Row>, E>;
+pub(crate) trait WatchedRange {
+    fn read(&self) -> Result<Vec<Row>, Error>;
 
     /// Waits until the client no longer knows that the range has these rows.
-    fn wait_for_change(&self, rows: &[Row], timeout: Duration) -> Result<Waited, E>;
-
-    /// Whether this error is that of a client that has left.
-    fn has_left(&self, error: &E) -> bool;
+    fn wait_for_change(&self, rows: &[Row], timeout: Duration) -> Result<Waited, Error>;
 }
 
-impl<E> Changes<E> {
-    pub(crate) fn of(range: impl WatchedRange<E> + Send + Sync + 'static) -> Changes<E> {
+impl Changes {
+    pub(crate) fn of(range: impl WatchedRange + Send + Sync + 'static) -> Changes {
         Changes { range: Box::new(range), last: None }
     }
 
@@ -63,7 +50,7 @@ impl<E> Changes<E> {
     /// # Errors
     ///
     /// Those of [`Client::read`](crate::Client::read).
-    pub fn next_within(&mut self, timeout: Duration) -> Result<Option<Vec<Row>>, E> {
+    pub fn next_within(&mut self, timeout: Duration) -> Result<Option<Vec<Row>>, Error> {
         let end = Instant::now() + timeout.min(MAX_WAIT);
         loop {
             let left = end.saturating_duration_since(Instant::now());
@@ -90,23 +77,23 @@ impl<E> Changes<E> {
     }
 }
 
-impl<E> Iterator for Changes<E> {
-    type Item = Result<Vec<Row>, E>;
+impl Iterator for Changes {
+    type Item = Result<Vec<Row>, Error>;
 
     /// Waits for the next state, for ever if the range does not change.
-    fn next(&mut self) -> Option<Result<Vec<Row>, E>> {
+    fn next(&mut self) -> Option<Result<Vec<Row>, Error>> {
         loop {
             match self.next_within(MAX_WAIT) {
                 Ok(Some(rows)) => return Some(Ok(rows)),
                 Ok(None) => {}
-                Err(error) if self.range.has_left(&error) => return None,
+                Err(error) if error.kind == ErrorKind::Left => return None,
                 Err(error) => return Some(Err(error)),
             }
         }
     }
 }
 
-impl<E> fmt::Debug for Changes<E> {
+impl fmt::Debug for Changes {
     fn fmt(&self, f: &mut fmt::Formatter<'_>) -> fmt::Result {
         f.debug_struct("Changes").field("last", &self.last).finish_non_exhaustive()
     }
@@ -126,17 +113,13 @@ mod tests {
         waits: Mutex<VecDeque<Result<Waited, Error>>>,
     }
 
-    impl WatchedRange<Error> for Scripted {
+    impl WatchedRange for Scripted {
         fn read(&self) -> Result<Vec<Row>, Error> {
             self.reads.lock().unwrap().pop_front().expect("one read too many")
         }
 
         fn wait_for_change(&self, _: &[Row], _: Duration) -> Result<Waited, Error> {
             self.waits.lock().unwrap().pop_front().expect("one wait too many")
-        }
-
-        fn has_left(&self, error: &Error) -> bool {
-            *error == Error::Left
         }
     }
 
@@ -166,12 +149,12 @@ mod tests {
 
     #[test]
     fn an_error_loses_no_state_and_a_client_that_has_left_ends_it() {
-        let gone = Err(Error::Left);
-        let reads = [Ok(rows(1)), Err(Error::TimedOut), Ok(rows(2)), gone];
-        let stopped = Err(Error::Stopped);
+        let gone = Err(ErrorKind::Left.into());
+        let reads = [Ok(rows(1)), Err(ErrorKind::TimedOut.into()), Ok(rows(2)), gone];
+        let stopped = Err(ErrorKind::Stopped.into());
         let mut states = changes(reads, [CHANGED, CHANGED, stopped]);
         assert_eq!(states.next(), Some(Ok(rows(1))));
-        assert_eq!(states.next(), Some(Err(Error::TimedOut)));
+        assert_eq!(states.next(), Some(Err(ErrorKind::TimedOut.into())));
         assert_eq!(states.next(), Some(Ok(rows(2))));
         assert_eq!(states.next(), None);
     }

@@ -1,6 +1,6 @@
 //! The operator's eviction of a client.
 use crate::client::joining::{self, Errand, Waits};
-use crate::model::error::JoinError;
+use crate::model::error::{JoinError, JoinErrorKind};
 use crate::model::refusal::Refusal;
 use crate::net::servers::Servers;
 use std::path::Path;
@@ -31,21 +31,25 @@ pub fn evict(
 ) -> Result<(), JoinError> {
     let (servers, end) = (servers.into(), Instant::now() + LEASE_ENDS);
     let (waits, lock_file, mut above) = (Waits::by_default(), lock_file.as_ref(), 0);
+    let of_number = JoinError::of(number, None);
     loop {
         match joining::join(servers.clone(), number, lock_file, waits, Errand::Evict { above }) {
-            Ok(client) => return client.leave().map_err(JoinError::Refused),
-            Err(JoinError::Unserved(Refusal::Incarnation { registered, .. }))
+            Ok(client) => {
+                let left = client.leave_by(Instant::now() + waits.timeout);
+                return left.map_err(|refused| of_number(JoinErrorKind::Refused(refused)));
+            }
+            Err(JoinErrorKind::Unserved(Refusal::Incarnation { registered, .. }))
                 if registered > above =>
             {
                 above = registered;
             }
-            Err(error) if end <= Instant::now() || !is_early(&error) => return Err(error),
+            Err(kind) if end <= Instant::now() || !is_early(&kind) => return Err(of_number(kind)),
             Err(_) => {}
         }
     }
 }
 
 /// Whether the lease of the older incarnation had not ended yet.
-fn is_early(error: &JoinError) -> bool {
-    matches!(error, JoinError::Unserved(Refusal::LeaseRuns { .. }))
+fn is_early(error: &JoinErrorKind) -> bool {
+    matches!(error, JoinErrorKind::Unserved(Refusal::LeaseRuns { .. }))
 }

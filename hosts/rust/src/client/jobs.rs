@@ -22,13 +22,12 @@ use crate::client::wakes::Wakes;
 use crate::lease::clocks::Now;
 use crate::model::change::{Outcome, Write};
 use crate::model::code::Code;
-use crate::model::error::Error;
+use crate::model::error::ErrorKind;
 use crate::model::lock::Mode;
 use crate::model::row::Row;
 use crate::proved::client_handle::{Cache, ClientHandle, Scan};
 use crate::wire::message::Message;
 use std::ops::Range;
-use std::sync::mpsc::SyncSender;
 use std::time::{Duration, Instant};
 
 use acknowledging::Acknowledging;
@@ -60,35 +59,22 @@ pub(crate) type JobId = u64;
 /// A job that was asked for: its name, and where its answer comes.
 pub(crate) struct Asked<T> {
     pub id: JobId,
-    /// The client sends it again until it is answered.
-    pub is_urgent: bool,
-    pub answer: Answer<Result<T, Error>>,
+    pub answer: Answer<Result<T, ErrorKind>>,
 }
 
 /// Where the answer to a job goes, once.
-enum Reply<T> {
-    /// To whoever waits for this job.
-    Own(Answering<Result<T, Error>>),
-    /// To one who waits for several jobs.
-    Shared(SyncSender<Result<T, Error>>),
-}
+struct Reply<T>(Answering<Result<T, ErrorKind>>);
 
 impl<T> Reply<T> {
-    fn end(self, answer: Result<T, Error>) {
-        match self {
-            Reply::Own(place) => place.give(answer),
-            Reply::Shared(sender) => {
-                // One who waits no longer hears nothing.
-                let _ = sender.send(answer);
-            }
-        }
+    fn end(self, answer: Result<T, ErrorKind>) {
+        self.0.give(answer);
     }
 
     /// Gives the answer, if there is one. Otherwise the job continues.
     fn give(self, found: Result<Option<T>, Code>) -> Option<Reply<T>> {
         match found.transpose() {
             Some(answer) => {
-                self.end(answer.map_err(Error::from));
+                self.end(answer.map_err(ErrorKind::from));
                 None
             }
             None => Some(self),
@@ -277,28 +263,28 @@ impl Jobs {
         self.next += 1;
         self.end_lease_if_over();
         let (reply, answer) = place(&self.wakes);
-        let job = job(Reply::Own(reply));
+        let job = job(Reply(reply));
         match self.stage {
-            Stage::Ended => job.refuse(Error::Stopped),
+            Stage::Ended => job.refuse(ErrorKind::Stopped),
             Stage::Gone => job.end_after_bye(),
             Stage::Here | Stage::Returning | Stage::Leaving => {
                 self.open.push((self.next, job));
                 self.advance(Asking::Allowed);
             }
         }
-        Asked { id: self.next, is_urgent: true, answer }
+        Asked { id: self.next, answer }
     }
 
     /// The answer to something that needs no job.
-    fn answer_at_once<T>(&mut self, answer: Result<T, Error>) -> Asked<T> {
+    fn answer_at_once<T>(&mut self, answer: Result<T, ErrorKind>) -> Asked<T> {
         self.next += 1;
         let (reply, asked) = place(&self.wakes);
         reply.give(answer);
-        Asked { id: self.next, is_urgent: true, answer: asked }
+        Asked { id: self.next, answer: asked }
     }
 
     /// Nobody waits for the job any more: it ends for this reason.
-    pub fn abandon(&mut self, job: JobId, why: Error) {
+    pub fn abandon(&mut self, job: JobId, why: ErrorKind) {
         if let Some(written) = self.written.take_if(|written| written.id == job) {
             written.refuse(why);
         }
@@ -318,7 +304,7 @@ impl Jobs {
     }
 
     /// Ends this job for this reason, if it is open.
-    pub fn refuse(&mut self, job: JobId, why: Error) {
+    pub fn refuse(&mut self, job: JobId, why: ErrorKind) {
         if let Some(place) = self.open.iter().position(|(id, _)| *id == job) {
             let (id, job) = self.open.remove(place);
             self.refuse_one(id, job, why);
@@ -327,7 +313,7 @@ impl Jobs {
 
     /// Ends each job for this reason; but a write that was sent for the other one, if there is one,
     /// and otherwise it continues.
-    pub fn refuse_all(&mut self, why: Error, of_sent: Option<Error>) {
+    pub fn refuse_all(&mut self, why: ErrorKind, of_sent: Option<ErrorKind>) {
         for (id, job) in std::mem::take(&mut self.open) {
             self.refuse_one(id, job, why);
         }
@@ -341,7 +327,7 @@ impl Jobs {
         }
     }
 
-    fn refuse_one(&mut self, id: JobId, mut job: Job, why: Error) {
+    fn refuse_one(&mut self, id: JobId, mut job: Job, why: ErrorKind) {
         self.free_pins_of(id, &mut job);
         job.refuse(why);
     }
@@ -362,10 +348,10 @@ impl Jobs {
             self.stage = Stage::Ended;
         }
         for (_, job) in self.open.drain(..) {
-            job.refuse(Error::Stopped);
+            job.refuse(ErrorKind::Stopped);
         }
         if let Some(written) = self.written.take() {
-            written.refuse(Error::Stopped);
+            written.refuse(ErrorKind::Stopped);
         }
         self.watched.clear();
     }

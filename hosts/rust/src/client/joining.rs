@@ -1,13 +1,13 @@
 //! How a client joins.
-use crate::client::Client;
 use crate::client::jobs::Jobs;
 use crate::client::link::Link;
 use crate::client::lock_file::LockFile;
-use crate::client::shared::Shared;
+use crate::client::shard_client::ShardClient;
+use crate::client::timeout::MAX_WAIT;
 use crate::lease::clocks::Now;
 use crate::lease::terms::Older;
 use crate::model::client_number::ClientNumber;
-use crate::model::error::{Error, JoinError};
+use crate::model::error::{ErrorKind, JoinErrorKind};
 use crate::model::refusal::Refusal;
 use crate::net::connect_fault::{NoServer, NotTaken, Rejection};
 use crate::net::servers::Servers;
@@ -46,15 +46,15 @@ pub(crate) enum Errand {
     },
 }
 
-/// Joins the servers as the client of this number.
+/// Joins one server as the client of this number.
 pub(crate) fn join(
     servers: Servers,
     number: u8,
     lock_file: &Path,
     waits: Waits,
     errand: Errand,
-) -> Result<Client, JoinError> {
-    let shared = start(servers, number, lock_file, waits, errand)?;
+) -> Result<ShardClient, JoinErrorKind> {
+    let client = start(servers, number, lock_file, errand)?;
     let begun = Instant::now();
     let gives_up = move |refusal, now: Instant| match errand {
         Errand::Work => {
@@ -66,9 +66,9 @@ pub(crate) fn join(
         // A greater incarnation is taken then.
         Errand::Evict { .. } => matches!(refusal, Refusal::Incarnation { .. }),
     };
-    match shared.link().join(shared.timeout(), gives_up) {
-        Ok(()) => Ok(Client::of(shared)),
-        Err(refused) => Err(not_joined(&shared, refused)),
+    match client.link().join(waits.timeout.min(MAX_WAIT), gives_up) {
+        Ok(()) => Ok(client),
+        Err(refused) => Err(not_joined(&client, refused)),
     }
 }
 
@@ -77,53 +77,53 @@ fn start(
     servers: Servers,
     number: u8,
     lock_file: &Path,
-    waits: Waits,
     errand: Errand,
-) -> Result<Shared, JoinError> {
+) -> Result<ShardClient, JoinErrorKind> {
     if ClientNumber::of(number).is_none() {
-        return Err(JoinError::BadNumber);
+        return Err(JoinErrorKind::BadNumber);
     }
     let taken = LockFile::take(lock_file, number);
-    let (mut lock_file, incarnation) = taken.map_err(JoinError::of_lock_file(lock_file))?;
+    let (mut lock_file, incarnation) = taken.map_err(JoinErrorKind::of_lock_file(lock_file))?;
     let (incarnation, older) = match errand {
         Errand::Work => (incarnation, lock_file.older()),
         Errand::Evict { above } => (lock_file.rise_above(above), Older::Vouched),
     };
     let handle = ClientHandle::open_behind(number, incarnation, older);
-    let handle = handle.map_err(Error::from)?;
+    let handle = handle.map_err(|code| JoinErrorKind::Refused(code.into()))?;
     let jobs = Jobs::new(handle, Now::read());
-    let (link, poller) = Link::new(servers, jobs, Some(lock_file)).map_err(JoinError::NoThread)?;
-    Shared::start(number, link, poller, waits.timeout).map_err(JoinError::NoThread)
+    let (link, poller) =
+        Link::new(servers, jobs, Some(lock_file)).map_err(JoinErrorKind::NoThread)?;
+    ShardClient::start(number, link, poller).map_err(JoinErrorKind::NoThread)
 }
 
 /// Ends a client that has not joined: it sends Bye, and waits for nothing.
-fn not_joined(shared: &Shared, refused: Error) -> JoinError {
-    let link = shared.link();
+fn not_joined(client: &ShardClient, refused: ErrorKind) -> JoinErrorKind {
+    let link = client.link();
     let (fault, nothing_listens) = (link.take_fault(), link.take_nothing_listens());
     let rejection = link.rejection();
-    shared.end_by(Instant::now());
+    client.end_by(Instant::now());
     if let Some(fault) = nothing_listens {
-        return JoinError::NothingListens { servers: Box::new(link.servers().clone()), fault };
+        return JoinErrorKind::NothingListens { servers: Box::new(link.servers().clone()), fault };
     }
     match refused {
-        Error::TimedOut => not_answered(link.servers(), fault),
-        Error::Unserved(refusal) => JoinError::Unserved(refusal),
-        Error::OtherShard(other) => JoinError::OtherShard(other),
-        Error::TurnedAway => JoinError::TurnedAway(match rejection {
+        ErrorKind::TimedOut => not_answered(link.servers(), fault),
+        ErrorKind::Unserved(refusal) => JoinErrorKind::Unserved(refusal),
+        ErrorKind::OtherShard(other) => JoinErrorKind::OtherShard(other),
+        ErrorKind::TurnedAway => JoinErrorKind::TurnedAway(match rejection {
             Some(Rejection::NotTaken(NotTaken(why))) => why,
             _ => String::new(),
         }),
-        refused => JoinError::Refused(refused),
+        refused => JoinErrorKind::Refused(refused),
     }
 }
 
 /// Why a client did not join whose last connection ended by this fault.
-fn not_answered(servers: &Servers, fault: Option<io::Error>) -> JoinError {
+fn not_answered(servers: &Servers, fault: Option<io::Error>) -> JoinErrorKind {
     match fault.as_ref().and_then(NoServer::carried_by) {
         Some(NoServer(address)) if !servers.are_several() => {
-            JoinError::NoServer { address: address.clone() }
+            JoinErrorKind::NoServer { address: address.clone() }
         }
-        _ => JoinError::NoAnswer { servers: Box::new(servers.clone()), fault },
+        _ => JoinErrorKind::NoAnswer { servers: Box::new(servers.clone()), fault },
     }
 }
 

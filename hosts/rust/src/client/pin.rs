@@ -1,74 +1,68 @@
 //! A pinned range, and the writes that are bound to it.
-use crate::client::jobs::Jobs;
-use crate::client::set;
-use crate::client::shared::{MAX_WAIT, Shared};
+use crate::client::calls::Calls;
+use crate::client::pinned::Pinned;
+use crate::client::timeout::MAX_WAIT;
 use crate::model::batch::{BatchError, Mutation};
 use crate::model::change::{Outcome, Write};
 use crate::model::error::Error;
 use crate::model::row::{Row, Value};
 use std::fmt;
 use std::sync::Arc;
-use std::time::{Duration, Instant};
+use std::time::Duration;
 
-/// A pinned range: no other client takes away what the client holds of it, as long as this lives.
-/// If the server's store goes back, or the client's lease ends, the pin is void: [`Client`] says
-/// more.
+/// A pinned range: no other client takes away what the client holds of it, as long as this or a
+/// clone of it lives. If a server's store goes back, or the client's lease there ends, the pin is
+/// void at that server: [`Client`] describes more.
 ///
-/// **Whoever decides what to write by what is pinned writes by the pin's own calls.** They make the
-/// write while the pin holds, or never: no other client has changed what was pinned before that
-/// write. The calls of [`Client`] are not bound to the pin: after the end of a lease they continue,
-/// and another client may have written in between.
+/// **A caller that decides what to write by what is pinned uses the pin's own calls.** They make the
+/// write while the pin holds at the server of its key, or never: no other client has changed what
+/// was pinned there before that write. The calls of [`Client`] are not bound to the pin: after the
+/// end of a lease they continue, and another client may have written in between.
 ///
-/// If such a write was sent and is not answered when the pin is dropped, other clients wait for the
-/// range until it is judged.
+/// If such a write was sent and is not answered when the last clone is dropped, other clients wait
+/// for the range until it is judged.
 ///
 /// A pin borrows nothing: it may be kept in a struct, and be sent to another thread. It keeps its
 /// client, which does not end before it.
 ///
 /// [`Client`]: crate::Client
-#[must_use = "the range is free again as soon as this is dropped"]
+#[derive(Clone)]
+#[must_use = "the range is free again as soon as the last clone is dropped"]
 pub struct Pin {
-    shared: Arc<Shared>,
-    id: u64,
+    pinned: Arc<Pinned>,
+    /// How long the writes by this value wait, if it has a time of its own.
+    timeout: Option<Duration>,
 }
 
 impl Pin {
-    pub(crate) fn new(shared: Arc<Shared>, id: u64) -> Pin {
-        Pin { shared, id }
+    pub(crate) fn of(pinned: Pinned) -> Pin {
+        Pin { pinned: Arc::new(pinned), timeout: None }
     }
 
-    pub(crate) fn shared(&self) -> &Arc<Shared> {
-        &self.shared
-    }
-
-    pub(crate) fn id(&self) -> u64 {
-        self.id
-    }
-
-    /// Whether no other client has taken what was held of the range. Who has to know asks **after**
-    /// the work: the answer is that of one moment of this call.
+    /// Returns whether no other client has taken what was held of the range, at any server, at one
+    /// moment of this call. Call it **after** the work that the pin is for.
     #[must_use]
     pub fn holds(&self) -> bool {
-        self.shared.link().with_jobs(|jobs| jobs.holds_pin(self.id))
+        self.pinned.holds()
     }
 
-    /// The same writes, each of which waits so long for an answer, a year at most.
-    pub fn within(&self, timeout: Duration) -> PinWithin<'_> {
-        PinWithin { pin: self, timeout: timeout.min(MAX_WAIT) }
+    /// The same pin, whose writes by the value that is returned, and by clones of it, wait at most
+    /// this long for an answer, and a year at most. Writes by other values wait as before.
+    #[must_use = "it does nothing before one of its calls"]
+    pub fn within(&self, timeout: Duration) -> Pin {
+        Pin { pinned: Arc::clone(&self.pinned), timeout: Some(timeout.min(MAX_WAIT)) }
     }
 
-    fn by_default(&self) -> PinWithin<'_> {
-        self.within(self.timeout())
+    /// How long each of its writes waits for an answer: as long as the calls of its client, unless
+    /// [`Pin::within`] gave it a time of its own.
+    #[must_use]
+    pub fn timeout(&self) -> Duration {
+        self.timeout.unwrap_or_else(|| self.pinned.joined().timeout.get())
     }
 
-    /// How long each of its writes waits: as long as its client's calls.
-    pub(crate) fn timeout(&self) -> Duration {
-        self.shared.timeout()
-    }
-
-    /// Until when a write waits that begins now.
-    pub(crate) fn end(&self) -> Instant {
-        Instant::now() + self.timeout()
+    /// Calls that begin now.
+    pub(crate) fn calls(&self) -> Calls<'_> {
+        Calls::of_pin(&self.pinned, self.timeout())
     }
 
     /// Inserts a row while the pin holds, or never. The outcome is that of [`Client::insert`]. The
@@ -76,14 +70,14 @@ impl Pin {
     ///
     /// # Errors
     ///
-    /// `PinIsVoid` if the pin no longer held when the write could be sent: the write changes
-    /// nothing. Otherwise those of [`Client::insert`]. After an error for which
-    /// [`Error::is_unknown_outcome`] is true, the table may have changed; if it has, then before
-    /// any other client changed what was pinned.
+    /// `PinIsVoid` if the pin no longer held when the write could be sent, or no part of the range
+    /// is at the shard of the key: the write changes nothing. Otherwise those of
+    /// [`Client::insert`]. After an error for which [`Error::is_unknown_outcome`] is true, the
+    /// table may have changed; if it has, then before any other client changed what was pinned.
     ///
     /// [`Client::insert`]: crate::Client::insert
     pub fn insert(&self, key: u64, value: Value) -> Result<Outcome, Error> {
-        self.by_default().insert(key, value)
+        self.calls().block_on_write(Write::Insert(Row { key, value }))
     }
 
     /// Gives a row another value while the pin holds, or never. The outcome is that of
@@ -95,7 +89,7 @@ impl Pin {
     ///
     /// [`Client::put`]: crate::Client::put
     pub fn put(&self, key: u64, value: Value) -> Result<Outcome, Error> {
-        self.by_default().put(key, value)
+        self.calls().block_on_write(Write::Put(Row { key, value }))
     }
 
     /// Gives a key this value, whether or not it has a row, while the pin holds, or never. The
@@ -107,7 +101,7 @@ impl Pin {
     ///
     /// [`Client::set`]: crate::Client::set
     pub fn set(&self, key: u64, value: Value) -> Result<Outcome, Error> {
-        self.by_default().set(key, value)
+        self.calls().block_on_set(Row { key, value })
     }
 
     /// Deletes a row while the pin holds, or never. The outcome is that of [`Client::delete`]. The
@@ -119,7 +113,7 @@ impl Pin {
     ///
     /// [`Client::delete`]: crate::Client::delete
     pub fn delete(&self, key: u64) -> Result<Outcome, Error> {
-        self.by_default().delete(key)
+        self.calls().block_on_write(Write::Delete(key))
     }
 
     /// Makes several writes, as [`Client::write_all`] does, each while the pin holds, or never.
@@ -137,92 +131,12 @@ impl Pin {
         &self,
         writes: impl IntoIterator<Item = Mutation>,
     ) -> Result<Vec<Outcome>, BatchError> {
-        self.by_default().write_all(writes)
-    }
-}
-
-/// A pin whose writes wait for another time than [`Client::timeout`]: see [`Pin::within`].
-///
-/// Each call is that of [`Pin`] of the same name, with its outcomes and errors.
-///
-/// [`Client::timeout`]: crate::Client::timeout
-#[derive(Clone, Copy, Debug)]
-#[must_use = "it does nothing before one of its calls"]
-pub struct PinWithin<'p> {
-    pin: &'p Pin,
-    timeout: Duration,
-}
-
-impl PinWithin<'_> {
-    /// Inserts a row, as [`Pin::insert`] does.
-    ///
-    /// # Errors
-    ///
-    /// Those of [`Pin::insert`].
-    pub fn insert(self, key: u64, value: Value) -> Result<Outcome, Error> {
-        self.write(self.end(), Write::Insert(Row { key, value }))
-    }
-
-    /// Gives a row another value, as [`Pin::put`] does.
-    ///
-    /// # Errors
-    ///
-    /// Those of [`Pin::insert`].
-    pub fn put(self, key: u64, value: Value) -> Result<Outcome, Error> {
-        self.write(self.end(), Write::Put(Row { key, value }))
-    }
-
-    /// Gives a key this value, as [`Pin::set`] does. The time is that of all its writes together.
-    ///
-    /// # Errors
-    ///
-    /// Those of [`Pin::insert`].
-    pub fn set(self, key: u64, value: Value) -> Result<Outcome, Error> {
-        let (first, end) = (self.pin.shared.first_of_set(Row { key, value }), self.end());
-        set::set(first, end, |write| self.write(end, write))
-    }
-
-    /// Deletes a row, as [`Pin::delete`] does.
-    ///
-    /// # Errors
-    ///
-    /// Those of [`Pin::insert`].
-    pub fn delete(self, key: u64) -> Result<Outcome, Error> {
-        self.write(self.end(), Write::Delete(key))
-    }
-
-    /// Makes several writes, as [`Pin::write_all`] does. The time is that of all of them together.
-    ///
-    /// # Errors
-    ///
-    /// Those of [`Pin::write_all`].
-    pub fn write_all(
-        self,
-        writes: impl IntoIterator<Item = Mutation>,
-    ) -> Result<Vec<Outcome>, BatchError> {
-        let ask = |jobs: &mut Jobs, writes| jobs.write_all_under(self.pin.id, writes);
-        self.pin.shared.write_all(self.end(), writes.into_iter().collect(), ask)
-    }
-
-    fn write(self, end: Instant, write: Write) -> Result<Outcome, Error> {
-        let ask = |jobs: &mut Jobs, write| jobs.write_under(self.pin.id, write);
-        self.pin.shared.write(end, write, ask)
-    }
-
-    fn end(self) -> Instant {
-        Instant::now() + self.timeout
+        self.calls().block_on_all(writes.into_iter().collect())
     }
 }
 
 impl fmt::Debug for Pin {
     fn fmt(&self, f: &mut fmt::Formatter<'_>) -> fmt::Result {
-        f.debug_struct("Pin").field("id", &self.id).finish_non_exhaustive()
-    }
-}
-
-impl Drop for Pin {
-    fn drop(&mut self) {
-        self.shared.link().with_jobs(|jobs| jobs.unpin(self.id));
-        self.shared.link().flush();
+        f.debug_tuple("Pin").field(&self.pinned).finish()
     }
 }

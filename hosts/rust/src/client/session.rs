@@ -7,7 +7,7 @@ use crate::client::silence::{Silence, Silent};
 use crate::lease::clocks::Now;
 use crate::log::event_log;
 use crate::model::code::Code;
-use crate::model::error::Error;
+use crate::model::error::{Error, ErrorKind};
 use crate::model::history::Seen;
 use crate::model::refusal::Refusal;
 use crate::model::shard_fence::Fence;
@@ -19,7 +19,7 @@ use crate::wire::frames::Frames;
 use crate::wire::host_frame;
 use crate::wire::message::Message;
 use std::fmt;
-use std::io::{self, ErrorKind};
+use std::io;
 use std::time::{Duration, Instant};
 
 /// A server that does not serve a client tells why once a second, and when the client connects
@@ -263,7 +263,7 @@ impl Session {
         self.look_at_silence()?;
         self.jobs.end_lease_if_over();
         if self.jobs.is_void() {
-            return Err(io::Error::other(Error::LeaseEnded));
+            return Err(io::Error::other(Error::from(ErrorKind::LeaseEnded)));
         }
         self.jobs.advance(Asking::Allowed);
         self.jobs.tick_if_due();
@@ -283,7 +283,7 @@ impl Session {
             }
             Silent::Leave => {
                 let why = "the server was asked, and is silent";
-                return Err(io::Error::new(ErrorKind::TimedOut, why));
+                return Err(io::Error::new(io::ErrorKind::TimedOut, why));
             }
         }
         Ok(())
@@ -319,7 +319,7 @@ impl Session {
     }
 
     /// Nobody waits for the job any more. It answers why it has no answer.
-    pub fn give_up(&mut self, job: JobId) -> Error {
+    pub fn give_up(&mut self, job: JobId) -> ErrorKind {
         let why = self.unanswered(self.jobs.was_sent(job));
         self.jobs.abandon(job, why);
         why
@@ -357,7 +357,7 @@ impl Session {
         }
         self.nothing_listens = self.fault.take();
         if let Some(Joining { job, .. }) = self.joining.take() {
-            self.jobs.refuse(job, Error::TimedOut);
+            self.jobs.refuse(job, ErrorKind::TimedOut);
         }
     }
 
@@ -378,21 +378,21 @@ impl Session {
 
     /// Why a job has no answer by now, as far as the server has told. Of a write that was sent
     /// nothing more is known.
-    fn unanswered(&self, was_sent: WasSent) -> Error {
+    fn unanswered(&self, was_sent: WasSent) -> ErrorKind {
         match (self.rejections.last(), was_sent) {
-            (Some(Rejection::NotTaken(_)), WasSent::No) => return Error::TurnedAway,
+            (Some(Rejection::NotTaken(_)), WasSent::No) => return ErrorKind::TurnedAway,
             (Some(Rejection::OtherShard(other)), WasSent::No) => {
-                return Error::OtherShard(*other);
+                return ErrorKind::OtherShard(*other);
             }
             (Some(Rejection::OtherVersion(other)), _) => {
-                return Error::Unserved(other.refusal());
+                return ErrorKind::Unserved(other.refusal());
             }
             (Some(Rejection::OtherShard(other)), WasSent::Yes) => {
-                return Error::Unserved(Refusal::OtherShard(other.served));
+                return ErrorKind::Unserved(Refusal::OtherShard(other.served));
             }
             _ => {}
         }
-        self.hint().map_or(Error::TimedOut, Error::Unserved)
+        self.hint().map_or(ErrorKind::TimedOut, ErrorKind::Unserved)
     }
 
     /// Why the server does not serve the client, if it has told so just before.
@@ -423,7 +423,7 @@ impl Session {
     }
 
     fn connection(&mut self) -> io::Result<&mut Connection> {
-        self.connection.as_mut().ok_or_else(|| ErrorKind::NotConnected.into())
+        self.connection.as_mut().ok_or_else(|| io::ErrorKind::NotConnected.into())
     }
 
     fn now(&self) -> Instant {
@@ -438,7 +438,10 @@ impl fmt::Debug for Session {
 }
 
 fn bad_message(code: Code) -> io::Error {
-    io::Error::new(ErrorKind::InvalidData, format!("the server says what no server says: {code}"))
+    io::Error::new(
+        io::ErrorKind::InvalidData,
+        format!("the server says what no server says: {code}"),
+    )
 }
 
 mod host;

@@ -1,7 +1,7 @@
 //! Several writes of one call, and how far they came.
 use crate::model::change::{Outcome, Write};
-use crate::model::error::Error;
-use crate::model::row::{END, Row};
+use crate::model::error::{Error, ErrorKind};
+use crate::model::row::Row;
 use std::fmt;
 
 /// One of the writes of a [`Client::write_all`](crate::Client::write_all).
@@ -33,18 +33,18 @@ pub enum Fate {
 /// Why several writes were not all judged, and what became of each.
 #[derive(Clone, Debug, PartialEq, Eq)]
 #[non_exhaustive]
-pub struct BatchError<E = Error> {
+pub struct BatchError {
     /// What became of each write, in the order in which they were given.
     pub fates: Vec<Fate>,
     /// Why the first write that was not judged was not.
-    pub error: E,
+    pub error: Error,
 }
 
 /// How the first writes of a batch were judged, and why the next one was not, if there is one.
 #[derive(Clone, Debug, PartialEq, Eq)]
 pub(crate) struct Judged {
     pub outcomes: Vec<Outcome>,
-    pub ended: Option<Error>,
+    pub ended: Option<ErrorKind>,
 }
 
 impl Mutation {
@@ -68,15 +68,9 @@ impl From<Write> for Mutation {
     }
 }
 
-/// Why none of these writes is made, if one has a key that is not valid.
-pub(crate) fn refused(writes: &[Mutation]) -> Option<Judged> {
-    let has_bad_key = writes.iter().any(|write| write.key() >= END);
-    has_bad_key.then(|| Judged::nothing(Error::BadKey))
-}
-
 impl Judged {
     /// One of which nothing was judged.
-    pub fn nothing(why: Error) -> Judged {
+    pub fn nothing(why: ErrorKind) -> Judged {
         Judged { outcomes: Vec::new(), ended: Some(why) }
     }
 
@@ -91,19 +85,17 @@ impl Judged {
         fates
     }
 
-    /// The outcomes of `count` writes if all were judged.
-    pub fn all(self, count: usize) -> Result<Vec<Outcome>, BatchError> {
-        match self.ended {
-            None => Ok(self.outcomes),
-            Some(error) => Err(BatchError { fates: self.fates(count), error }),
-        }
+    /// The outcome of the only write.
+    pub fn only(self) -> Result<Outcome, ErrorKind> {
+        let outcome = self.outcomes.first().copied();
+        outcome.ok_or(self.ended.unwrap_or(ErrorKind::Stopped))
     }
 }
 
-impl<E> BatchError<E> {
+impl BatchError {
     /// An error with what became of each write, and why the first one that was not judged was not.
     #[must_use]
-    pub fn new(fates: Vec<Fate>, error: E) -> BatchError<E> {
+    pub fn new(fates: Vec<Fate>, error: Error) -> BatchError {
         BatchError { fates, error }
     }
 
@@ -128,7 +120,7 @@ impl<E> BatchError<E> {
     }
 }
 
-impl<E: fmt::Display> fmt::Display for BatchError<E> {
+impl fmt::Display for BatchError {
     fn fmt(&self, f: &mut fmt::Formatter<'_>) -> fmt::Result {
         let is_judged = |fate: &&Fate| matches!(fate, Fate::Judged(_));
         let judged = self.fates.iter().filter(is_judged).count();
@@ -136,7 +128,7 @@ impl<E: fmt::Display> fmt::Display for BatchError<E> {
     }
 }
 
-impl<E: std::error::Error + 'static> std::error::Error for BatchError<E> {
+impl std::error::Error for BatchError {
     fn source(&self) -> Option<&(dyn std::error::Error + 'static)> {
         Some(&self.error)
     }
@@ -153,30 +145,40 @@ mod tests {
     fn the_write_after_those_that_were_judged_is_unknown_if_it_may_have_been_applied() {
         let ended = |why| Judged { outcomes: vec![Applied, Exists], ended: Some(why) };
         let judged = [Fate::Judged(Applied), Fate::Judged(Exists)];
-        for why in [Error::TimedOut, Error::LeaseEnded, Error::StoreWentBack, Error::Stopped] {
+        for why in [
+            ErrorKind::TimedOut,
+            ErrorKind::LeaseEnded,
+            ErrorKind::StoreWentBack,
+            ErrorKind::Stopped,
+        ] {
             assert_eq!(ended(why).fates(4), [&judged[..], &[Unknown, NotMade]].concat());
         }
         for why in [
-            Error::NotSent(Unsent::TimedOut),
-            Error::PinIsVoid,
-            Error::TurnedAway,
-            Error::OutOfMemory,
+            ErrorKind::NotSent(Unsent::TimedOut),
+            ErrorKind::PinIsVoid,
+            ErrorKind::TurnedAway,
+            ErrorKind::OutOfMemory,
         ] {
             assert_eq!(ended(why).fates(4), [&judged[..], &[NotMade, NotMade]].concat());
         }
         let whole = Judged { outcomes: vec![Applied, Exists], ended: None };
-        assert_eq!(whole.clone().all(2), Ok(vec![Applied, Exists]));
         assert_eq!(whole.fates(2), judged);
     }
 
     #[test]
+    fn a_batch_of_one_write_has_its_outcome_or_why_there_is_none() {
+        assert_eq!(Judged { outcomes: vec![Exists], ended: None }.only(), Ok(Exists));
+        assert_eq!(Judged::nothing(ErrorKind::TimedOut).only(), Err(ErrorKind::TimedOut));
+    }
+
+    #[test]
     fn an_error_names_the_places_of_its_writes() {
-        let judged = Judged { outcomes: vec![Applied, Exists], ended: Some(Error::TimedOut) };
-        let error = judged.all(4).unwrap_err();
+        let judged = Judged { outcomes: vec![Applied, Exists], ended: Some(ErrorKind::TimedOut) };
+        let error = BatchError::new(judged.fates(4), ErrorKind::TimedOut.into());
         assert_eq!(error.applied().collect::<Vec<_>>(), [0]);
         assert_eq!(error.unknown().collect::<Vec<_>>(), [2]);
         assert_eq!(error.not_made().collect::<Vec<_>>(), [3]);
-        let told = format!("2 of 4 writes were judged: {}", Error::TimedOut);
+        let told = format!("2 of 4 writes were judged: {}", ErrorKind::TimedOut);
         assert_eq!(error.to_string(), told);
     }
 }

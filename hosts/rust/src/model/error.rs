@@ -10,10 +10,22 @@ use std::fmt;
 use std::io;
 use std::path::{Path, PathBuf};
 
+/// Why a call of a client did not do what it should, and at which shard.
+#[derive(Clone, Copy, Debug, PartialEq, Eq)]
+#[non_exhaustive]
+pub struct Error {
+    /// Why.
+    pub kind: ErrorKind,
+    /// The shard whose client refused, from 0. `None` of a client without a map; and of one with a
+    /// map if no shard refused: the range or the key is not valid, or no moment came at which all
+    /// shards were known together.
+    pub shard: Option<u8>,
+}
+
 /// Why a call of a client did not do what it should.
 #[derive(Clone, Copy, Debug, PartialEq, Eq)]
 #[non_exhaustive]
-pub enum Error {
+pub enum ErrorKind {
     /// No answer came within the client's timeout. A read or a forget has changed nothing that is
     /// seen. A write was sent, and may have changed the table or may still change it: the client
     /// continues to ask for it, until it is answered or the client is gone. A write that was not
@@ -52,9 +64,10 @@ pub enum Error {
     /// The client's own thread has ended by a panic: it answers nothing more but from its cache. A
     /// write was sent, and may have changed the table: one that was not sent ends with `NotSent`.
     Stopped,
-    /// The range begins above its end, ends above 2^63, or is empty and may not be.
+    /// The range begins above its end, ends above 2^63, has keys of a shard that is not joined, or
+    /// is empty and may not be.
     BadRange,
-    /// A key of 2^63 - 1 or more.
+    /// A key of 2^63 - 1 or more, or of a shard that is not joined.
     BadKey,
     /// The range meets a pin.
     Pinned,
@@ -75,16 +88,30 @@ pub enum Unsent {
     TimedOut,
     /// The same, and the server has just reported why it does not serve the client.
     Unserved(Refusal),
-    /// The server's store went back before the write left: see [`Error::StoreWentBack`].
+    /// The server's store went back before the write left: see [`ErrorKind::StoreWentBack`].
     StoreWentBack,
-    /// The client's own thread has ended by a panic: see [`Error::Stopped`].
+    /// The client's own thread has ended by a panic: see [`ErrorKind::Stopped`].
     Stopped,
+}
+
+/// Why a client did not join, by which number, and at which shard.
+#[derive(Debug)]
+#[non_exhaustive]
+pub struct JoinError {
+    /// Why.
+    pub kind: JoinErrorKind,
+    /// The number by which the client did not join, of several the one that the kind is about.
+    /// `None` if there is no number.
+    pub number: Option<u8>,
+    /// The first shard whose client did not join, from 0. `None` of a client without a map, and if
+    /// no shard was asked.
+    pub shard: Option<u8>,
 }
 
 /// Why a client did not join.
 #[derive(Debug)]
 #[non_exhaustive]
-pub enum JoinError {
+pub enum JoinErrorKind {
     /// The lock file was not taken.
     LockFile {
         /// The file.
@@ -135,7 +162,7 @@ pub enum JoinError {
     /// The system has no thread for the client's connection, or no file for it to wait by.
     NoThread(io::Error),
     /// The client refused to start.
-    Refused(Error),
+    Refused(ErrorKind),
 }
 
 impl Error {
@@ -146,21 +173,7 @@ impl Error {
     /// which [`Error::is_unknown_outcome`] is true, a read of the key comes first.
     #[must_use]
     pub fn is_retryable(&self) -> bool {
-        match self {
-            Error::TimedOut | Error::StoreWentBack | Error::LeaseEnded | Error::OutOfMemory => true,
-            Error::Unserved(refusal) => refusal.may_pass(),
-            Error::NotSent(why) => why.may_pass(),
-            Error::TurnedAway
-            | Error::OtherShard(_)
-            | Error::PinIsVoid
-            | Error::Left
-            | Error::Stopped
-            | Error::BadRange
-            | Error::BadKey
-            | Error::Pinned
-            | Error::TooManyPins
-            | Error::Other(_) => false,
-        }
+        self.kind.is_retryable()
     }
 
     /// Whether a write that ended so may have been applied, or may still be. A read of the key by
@@ -168,43 +181,78 @@ impl Error {
     /// before. After any other error the write changes nothing.
     #[must_use]
     pub fn is_unknown_outcome(&self) -> bool {
+        self.kind.is_unknown_outcome()
+    }
+}
+
+impl ErrorKind {
+    pub(crate) fn is_retryable(&self) -> bool {
         match self {
-            Error::TimedOut
-            | Error::Unserved(_)
-            | Error::StoreWentBack
-            | Error::LeaseEnded
-            | Error::Stopped => true,
-            Error::NotSent(_)
-            | Error::TurnedAway
-            | Error::OtherShard(_)
-            | Error::Left
-            | Error::BadRange
-            | Error::BadKey
-            | Error::Pinned
-            | Error::PinIsVoid
-            | Error::TooManyPins
-            | Error::OutOfMemory
-            | Error::Other(_) => false,
+            ErrorKind::TimedOut
+            | ErrorKind::StoreWentBack
+            | ErrorKind::LeaseEnded
+            | ErrorKind::OutOfMemory => true,
+            ErrorKind::Unserved(refusal) => refusal.may_pass(),
+            ErrorKind::NotSent(why) => why.may_pass(),
+            ErrorKind::TurnedAway
+            | ErrorKind::OtherShard(_)
+            | ErrorKind::PinIsVoid
+            | ErrorKind::Left
+            | ErrorKind::Stopped
+            | ErrorKind::BadRange
+            | ErrorKind::BadKey
+            | ErrorKind::Pinned
+            | ErrorKind::TooManyPins
+            | ErrorKind::Other(_) => false,
+        }
+    }
+
+    pub(crate) fn is_unknown_outcome(&self) -> bool {
+        match self {
+            ErrorKind::TimedOut
+            | ErrorKind::Unserved(_)
+            | ErrorKind::StoreWentBack
+            | ErrorKind::LeaseEnded
+            | ErrorKind::Stopped => true,
+            ErrorKind::NotSent(_)
+            | ErrorKind::TurnedAway
+            | ErrorKind::OtherShard(_)
+            | ErrorKind::Left
+            | ErrorKind::BadRange
+            | ErrorKind::BadKey
+            | ErrorKind::Pinned
+            | ErrorKind::PinIsVoid
+            | ErrorKind::TooManyPins
+            | ErrorKind::OutOfMemory
+            | ErrorKind::Other(_) => false,
         }
     }
 
     /// The same reason for a write that was not sent: it is known then that it was not made.
-    pub(crate) fn of_unsent_write(self) -> Error {
+    pub(crate) fn of_unsent_write(self) -> ErrorKind {
         match self {
-            Error::TimedOut => Error::NotSent(Unsent::TimedOut),
-            Error::Unserved(refusal) => Error::NotSent(Unsent::Unserved(refusal)),
-            Error::StoreWentBack => Error::NotSent(Unsent::StoreWentBack),
-            Error::Stopped => Error::NotSent(Unsent::Stopped),
+            ErrorKind::TimedOut => ErrorKind::NotSent(Unsent::TimedOut),
+            ErrorKind::Unserved(refusal) => ErrorKind::NotSent(Unsent::Unserved(refusal)),
+            ErrorKind::StoreWentBack => ErrorKind::NotSent(Unsent::StoreWentBack),
+            ErrorKind::Stopped => ErrorKind::NotSent(Unsent::Stopped),
             other => other,
         }
     }
 }
 
 impl JoinError {
+    /// Makes errors of the client of this number, at this shard if there is a map.
+    pub(crate) fn of(number: u8, shard: Option<usize>) -> impl Fn(JoinErrorKind) -> JoinError {
+        let shard = shard.and_then(|shard| u8::try_from(shard).ok());
+        move |kind| JoinError { kind, number: Some(number), shard }
+    }
+}
+
+impl JoinErrorKind {
     /// Makes an error of this lock file.
-    pub(crate) fn of_lock_file(path: &Path) -> impl FnOnce(LockFileError) -> JoinError {
+    pub(crate) fn of_lock_file(path: &Path) -> impl FnOnce(LockFileError) -> JoinErrorKind {
         let path = path.to_path_buf();
-        move |error| JoinError::LockFile { path, error }
+        move |error| JoinErrorKind::LockFile { path, error }
     }
 }
 
@@ -219,58 +267,88 @@ impl Unsent {
     }
 }
 
+impl From<Code> for ErrorKind {
+    fn from(code: Code) -> ErrorKind {
+        match code {
+            Code::BadSpan => ErrorKind::BadRange,
+            Code::BadPoint => ErrorKind::BadKey,
+            Code::Pinned => ErrorKind::Pinned,
+            Code::TooManyPins => ErrorKind::TooManyPins,
+            Code::OutOfMemory => ErrorKind::OutOfMemory,
+            Code::Gone => ErrorKind::Left,
+            // The client is about to join again.
+            Code::Closed => ErrorKind::StoreWentBack,
+            code => ErrorKind::Other(code),
+        }
+    }
+}
+
+impl From<ErrorKind> for Error {
+    fn from(kind: ErrorKind) -> Error {
+        Error { kind, shard: None }
+    }
+}
+
 impl From<Code> for Error {
     fn from(code: Code) -> Error {
-        match code {
-            Code::BadSpan => Error::BadRange,
-            Code::BadPoint => Error::BadKey,
-            Code::Pinned => Error::Pinned,
-            Code::TooManyPins => Error::TooManyPins,
-            Code::OutOfMemory => Error::OutOfMemory,
-            Code::Gone => Error::Left,
-            // The client is about to join again.
-            Code::Closed => Error::StoreWentBack,
-            code => Error::Other(code),
-        }
+        ErrorKind::from(code).into()
     }
 }
 
 impl fmt::Display for Error {
     fn fmt(&self, f: &mut fmt::Formatter<'_>) -> fmt::Result {
+        write_shard(self.shard, f)?;
+        self.kind.fmt(f)
+    }
+}
+
+impl fmt::Display for JoinError {
+    fn fmt(&self, f: &mut fmt::Formatter<'_>) -> fmt::Result {
+        write_shard(self.shard, f)?;
+        self.kind.fmt(f)
+    }
+}
+
+fn write_shard(shard: Option<u8>, f: &mut fmt::Formatter<'_>) -> fmt::Result {
+    shard.map_or(Ok(()), |shard| write!(f, "shard {shard}: "))
+}
+
+impl fmt::Display for ErrorKind {
+    fn fmt(&self, f: &mut fmt::Formatter<'_>) -> fmt::Result {
         match self {
-            Error::TimedOut => f.write_str(
+            ErrorKind::TimedOut => f.write_str(
                 "no answer came in time: the server is away, or another client holds what the call \
                  needs",
             ),
-            Error::Unserved(refusal) => write!(f, "no answer came in time: {refusal}"),
-            Error::NotSent(why) => write!(f, "the write was not made: {why}"),
-            Error::TurnedAway => f.write_str(
+            ErrorKind::Unserved(refusal) => write!(f, "no answer came in time: {refusal}"),
+            ErrorKind::NotSent(why) => write!(f, "the write was not made: {why}"),
+            ErrorKind::TurnedAway => f.write_str(
                 "the connection was turned away: the certificate or the user gives no right to the \
                  client",
             ),
-            Error::OtherShard(other) => other.fmt(f),
-            Error::StoreWentBack => f.write_str(
+            ErrorKind::OtherShard(other) => other.fmt(f),
+            ErrorKind::StoreWentBack => f.write_str(
                 "the server's store went back, and lacks what this client has seen of it: the \
                  client has dropped its cache and its pins, and joins again",
             ),
-            Error::LeaseEnded => f.write_str(
+            ErrorKind::LeaseEnded => f.write_str(
                 "the client's lease has ended, since no terms of the server came in time: the client \
                  has dropped its cache and its pins, and joins again",
             ),
-            Error::PinIsVoid => f.write_str(
+            ErrorKind::PinIsVoid => f.write_str(
                 "the pin that the write is bound to is void: the write was not made",
             ),
-            Error::Left => f.write_str("the client has left"),
-            Error::Stopped => f.write_str("the client's thread has panicked"),
-            Error::BadRange => f.write_str(
+            ErrorKind::Left => f.write_str("the client has left"),
+            ErrorKind::Stopped => f.write_str("the client's thread has panicked"),
+            ErrorKind::BadRange => f.write_str(
                 "a range of keys begins at its end or below, and ends at 2^63 or below; \
                  a pin's is not empty",
             ),
-            Error::BadKey => f.write_str("the key is 2^63 - 1 or more"),
-            Error::Pinned => f.write_str("the range meets a pin"),
-            Error::TooManyPins => f.write_str("the client has eight pins"),
-            Error::OutOfMemory => f.write_str("memory was refused"),
-            Error::Other(code) => code.fmt(f),
+            ErrorKind::BadKey => f.write_str("the key is 2^63 - 1 or more"),
+            ErrorKind::Pinned => f.write_str("the range meets a pin"),
+            ErrorKind::TooManyPins => f.write_str("the client has eight pins"),
+            ErrorKind::OutOfMemory => f.write_str("memory was refused"),
+            ErrorKind::Other(code) => code.fmt(f),
         }
     }
 }
@@ -282,42 +360,42 @@ impl fmt::Display for Unsent {
                 "it was not sent in time, since the client was not connected or waited for a lock",
             ),
             Unsent::Unserved(refusal) => write!(f, "it was not sent in time: {refusal}"),
-            Unsent::StoreWentBack => Error::StoreWentBack.fmt(f),
-            Unsent::Stopped => Error::Stopped.fmt(f),
+            Unsent::StoreWentBack => ErrorKind::StoreWentBack.fmt(f),
+            Unsent::Stopped => ErrorKind::Stopped.fmt(f),
         }
     }
 }
 
-impl fmt::Display for JoinError {
+impl fmt::Display for JoinErrorKind {
     fn fmt(&self, f: &mut fmt::Formatter<'_>) -> fmt::Result {
         match self {
-            JoinError::LockFile { path, error } => {
+            JoinErrorKind::LockFile { path, error } => {
                 write!(f, "the lock file {}: {error}", path.display())
             }
-            JoinError::BadNumber => f.write_str("a client's number is 0 to 63"),
-            JoinError::Incomplete(what) => write!(f, "a client can't join without {what}"),
-            JoinError::NoAnswer { servers, fault } => {
+            JoinErrorKind::BadNumber => f.write_str("a client's number is 0 to 63"),
+            JoinErrorKind::Incomplete(what) => write!(f, "a client can't join without {what}"),
+            JoinErrorKind::NoAnswer { servers, fault } => {
                 write!(f, "the server at {servers} did not answer in time")?;
                 fault.iter().try_for_each(|fault| write!(f, ": {fault}"))
             }
-            JoinError::NothingListens { servers, fault } => {
+            JoinErrorKind::NothingListens { servers, fault } => {
                 write!(f, "nothing listens at {servers}: {fault}")
             }
-            JoinError::NoServer { address } => NoServer(address.clone()).fmt(f),
-            JoinError::Unserved(refusal) => refusal.fmt(f),
-            JoinError::TurnedAway(why) => write!(f, "the connection was turned away: {why}"),
-            JoinError::OtherShard(other) => other.fmt(f),
-            JoinError::NoThread(error) => write!(f, "the client gets no thread: {error}"),
-            JoinError::Refused(refused) => refused.fmt(f),
+            JoinErrorKind::NoServer { address } => NoServer(address.clone()).fmt(f),
+            JoinErrorKind::Unserved(refusal) => refusal.fmt(f),
+            JoinErrorKind::TurnedAway(why) => write!(f, "the connection was turned away: {why}"),
+            JoinErrorKind::OtherShard(other) => other.fmt(f),
+            JoinErrorKind::NoThread(error) => write!(f, "the client gets no thread: {error}"),
+            JoinErrorKind::Refused(refused) => refused.fmt(f),
         }
     }
 }
 
 impl std::error::Error for Error {
     fn source(&self) -> Option<&(dyn std::error::Error + 'static)> {
-        match self {
-            Error::Other(code) => Some(code),
-            Error::OtherShard(other) => Some(other),
+        match &self.kind {
+            ErrorKind::Other(code) => Some(code),
+            ErrorKind::OtherShard(other) => Some(other),
             _ => None,
         }
     }
@@ -325,26 +403,26 @@ impl std::error::Error for Error {
 
 impl std::error::Error for JoinError {
     fn source(&self) -> Option<&(dyn std::error::Error + 'static)> {
-        match self {
-            JoinError::LockFile { error, .. } => Some(error),
-            JoinError::NoAnswer { fault, .. } => fault.as_ref().map(|fault| fault as _),
-            JoinError::NothingListens { fault: error, .. } | JoinError::NoThread(error) => {
+        match &self.kind {
+            JoinErrorKind::LockFile { error, .. } => Some(error),
+            JoinErrorKind::NoAnswer { fault, .. } => fault.as_ref().map(|fault| fault as _),
+            JoinErrorKind::NothingListens { fault: error, .. } | JoinErrorKind::NoThread(error) => {
                 Some(error)
             }
-            JoinError::Refused(refused) => Some(refused),
-            JoinError::OtherShard(other) => Some(other),
-            JoinError::BadNumber
-            | JoinError::Incomplete(_)
-            | JoinError::NoServer { .. }
-            | JoinError::Unserved(_)
-            | JoinError::TurnedAway(_) => None,
+            JoinErrorKind::OtherShard(other) => Some(other),
+            JoinErrorKind::BadNumber
+            | JoinErrorKind::Incomplete(_)
+            | JoinErrorKind::Refused(_)
+            | JoinErrorKind::NoServer { .. }
+            | JoinErrorKind::Unserved(_)
+            | JoinErrorKind::TurnedAway(_) => None,
         }
     }
 }
 
-impl From<Error> for JoinError {
-    fn from(refused: Error) -> JoinError {
-        JoinError::Refused(refused)
+impl From<JoinErrorKind> for JoinError {
+    fn from(kind: JoinErrorKind) -> JoinError {
+        JoinError { kind, number: None, shard: None }
     }
 }
 
@@ -355,17 +433,17 @@ mod tests {
 
     #[test]
     fn a_write_that_was_not_sent_is_known_to_be_not_made() {
-        let of_sent = [Error::TimedOut, Error::Unserved(Refusal::Denied)];
-        for error in of_sent.into_iter().chain([Error::StoreWentBack, Error::Stopped]) {
+        let of_sent = [ErrorKind::TimedOut, ErrorKind::Unserved(Refusal::Denied)];
+        for error in of_sent.into_iter().chain([ErrorKind::StoreWentBack, ErrorKind::Stopped]) {
             let unsent = error.of_unsent_write();
             assert!(error.is_unknown_outcome() && !unsent.is_unknown_outcome(), "{error}");
             assert_eq!(unsent.is_retryable(), error.is_retryable(), "{error}");
         }
         assert_eq!(
-            Error::Unserved(Refusal::Denied).of_unsent_write(),
-            Error::NotSent(Unsent::Unserved(Refusal::Denied))
+            ErrorKind::Unserved(Refusal::Denied).of_unsent_write(),
+            ErrorKind::NotSent(Unsent::Unserved(Refusal::Denied))
         );
-        assert_eq!(Error::TurnedAway.of_unsent_write(), Error::TurnedAway);
+        assert_eq!(ErrorKind::TurnedAway.of_unsent_write(), ErrorKind::TurnedAway);
     }
 
     #[test]
@@ -373,28 +451,35 @@ mod tests {
         let missing = Refusal::Missing(ClientSet::default());
         let running = Refusal::LeaseRuns { client: 3, registered: 7 };
         for refusal in [missing, running, Refusal::Full { connections: 256 }] {
-            assert!(Error::Unserved(refusal).is_retryable(), "{refusal}");
-            assert!(Error::NotSent(Unsent::Unserved(refusal)).is_retryable(), "{refusal}");
+            assert!(ErrorKind::Unserved(refusal).is_retryable(), "{refusal}");
+            assert!(ErrorKind::NotSent(Unsent::Unserved(refusal)).is_retryable(), "{refusal}");
         }
-        assert!(Error::NotSent(Unsent::TimedOut).is_retryable());
-        assert!(!Error::NotSent(Unsent::Unserved(Refusal::Denied)).is_retryable());
-        for error in [Error::TimedOut, Error::StoreWentBack, Error::LeaseEnded, Error::OutOfMemory]
-        {
+        assert!(ErrorKind::NotSent(Unsent::TimedOut).is_retryable());
+        assert!(!ErrorKind::NotSent(Unsent::Unserved(Refusal::Denied)).is_retryable());
+        for error in [
+            ErrorKind::TimedOut,
+            ErrorKind::StoreWentBack,
+            ErrorKind::LeaseEnded,
+            ErrorKind::OutOfMemory,
+        ] {
             assert!(error.is_retryable(), "{error}");
         }
         let greater = Refusal::Incarnation { client: 3, registered: 7 };
         for refusal in [Refusal::Denied, Refusal::OtherStore, Refusal::Version { read: 1 }, greater]
         {
-            assert!(!Error::Unserved(refusal).is_retryable(), "{refusal}");
+            assert!(!ErrorKind::Unserved(refusal).is_retryable(), "{refusal}");
         }
         let other = OtherShard { expected: None, served: None };
-        let ended = [Error::Left, Error::Stopped];
-        for error in
-            [Error::TurnedAway, Error::OtherShard(other), Error::PinIsVoid].into_iter().chain(ended)
+        let ended = [ErrorKind::Left, ErrorKind::Stopped];
+        for error in [ErrorKind::TurnedAway, ErrorKind::OtherShard(other), ErrorKind::PinIsVoid]
+            .into_iter()
+            .chain(ended)
         {
             assert!(!error.is_retryable(), "{error}");
         }
-        for error in [Error::BadRange, Error::BadKey, Error::Pinned, Error::TooManyPins] {
+        for error in
+            [ErrorKind::BadRange, ErrorKind::BadKey, ErrorKind::Pinned, ErrorKind::TooManyPins]
+        {
             assert!(!error.is_retryable() && !error.is_unknown_outcome(), "{error}");
         }
     }

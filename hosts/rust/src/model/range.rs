@@ -1,5 +1,5 @@
 //! Ranges of keys, as callers name them.
-use crate::model::error::Error;
+use crate::model::error::ErrorKind;
 use std::ops::{Bound, Range, RangeBounds};
 
 /// One past the last point: a range ends here at most.
@@ -7,7 +7,7 @@ const TOP: u64 = 1 << 63;
 
 /// The keys of a range, from the first one on below the end. A range without a start begins at 0,
 /// and one without an end has all keys.
-pub(crate) fn keys_of(range: &impl RangeBounds<u64>) -> Result<Range<u64>, Error> {
+pub(crate) fn keys_of(range: &impl RangeBounds<u64>) -> Result<Range<u64>, ErrorKind> {
     let start = match range.start_bound() {
         Bound::Included(first) => Some(*first),
         Bound::Excluded(before) => before.checked_add(1),
@@ -20,7 +20,7 @@ pub(crate) fn keys_of(range: &impl RangeBounds<u64>) -> Result<Range<u64>, Error
     };
     match (start, end) {
         (Some(start), Some(end)) if start <= end && end <= TOP => Ok(start..end),
-        _ => Err(Error::BadRange),
+        _ => Err(ErrorKind::BadRange),
     }
 }
 
@@ -43,15 +43,18 @@ mod tests {
         assert_eq!(keys_of(&(5..5)), Ok(5..5));
         assert_eq!(keys_of(&(TOP..)), Ok(TOP..TOP));
         let (greater, smaller) = (5, 4);
-        assert_eq!(keys_of(&(greater..smaller)), Err(Error::BadRange));
+        assert_eq!(keys_of(&(greater..smaller)), Err(ErrorKind::BadRange));
     }
 
     #[test]
     fn ends_beyond_the_keys_are_refused() {
         assert_eq!(keys_of(&(0..TOP)), Ok(0..TOP));
-        assert_eq!(keys_of(&(0..=TOP)), Err(Error::BadRange));
-        assert_eq!(keys_of(&(0..=u64::MAX)), Err(Error::BadRange));
-        assert_eq!(keys_of(&(u64::MAX..)), Err(Error::BadRange));
-        assert_eq!(keys_of(&(Bound::Excluded(u64::MAX), Bound::Unbounded)), Err(Error::BadRange));
+        assert_eq!(keys_of(&(0..=TOP)), Err(ErrorKind::BadRange));
+        assert_eq!(keys_of(&(0..=u64::MAX)), Err(ErrorKind::BadRange));
+        assert_eq!(keys_of(&(u64::MAX..)), Err(ErrorKind::BadRange));
+        assert_eq!(
+            keys_of(&(Bound::Excluded(u64::MAX), Bound::Unbounded)),
+            Err(ErrorKind::BadRange)
+        );
     }
 }

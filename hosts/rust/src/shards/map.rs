@@ -1,10 +1,12 @@
 //! Which servers have which keys.
 use crate::model::code::Code;
-use crate::model::error::Error;
+use crate::model::error::{Error, ErrorKind};
 use crate::model::range::keys_of;
 use crate::model::row::END;
 use crate::model::shard_bounds::ShardBounds;
 use crate::net::servers::Servers;
+#[cfg(feature = "tls")]
+use crate::net::tls::TlsConfig;
 use crate::proved::partition::{Part, Partition};
 use std::fmt;
 use std::num::NonZeroU64;
@@ -21,10 +23,10 @@ pub struct Shard {
 
 /// All keys, cut into shards, each with a server and a store of its own.
 ///
-/// **All clients have to have the same map**: a client with another one would write keys at the wrong
-/// server, where the others don't see them. A map with a version is fenced: each server is started
-/// as that of its shard ([`ServerBuilder::shard`]), and serves only clients of the same map. A map
-/// without a version is not: nothing notices two of them.
+/// **All clients have to have the same map**: a client with another one would write keys at the
+/// wrong server, where the others don't see them. A map with a version is fenced: each server is
+/// started as that of its shard ([`ServerBuilder::shard`]), and serves only clients of the same
+/// map. A map without a version is not: nothing notices two of them.
 ///
 /// [`ServerBuilder::shard`]: crate::ServerBuilder::shard
 #[derive(Clone, Debug, PartialEq, Eq)]
@@ -77,6 +79,14 @@ impl ShardMap {
         ShardMap { version: Some(version), ..self }
     }
 
+    /// The same map, whose servers are shown this if they listen by TLS.
+    #[cfg(feature = "tls")]
+    pub(crate) fn with_tls(self, config: &TlsConfig) -> ShardMap {
+        let shown =
+            |shard: Shard| Shard { servers: shard.servers.with_tls(config.clone()), ..shard };
+        ShardMap { shards: self.shards.into_iter().map(shown).collect(), ..self }
+    }
+
     /// The version, if the map has one.
     #[must_use]
     pub fn version(&self) -> Option<NonZeroU64> {
@@ -93,9 +103,9 @@ impl ShardMap {
     }
 
     /// The servers of a shard, which a client takes for its own.
-    pub(crate) fn servers_of(&self, place: usize, shard: &Shard) -> Servers {
-        let servers = shard.servers.clone();
-        match self.bounds_of(place) {
+    pub(crate) fn servers_of(&self, shard: usize) -> Servers {
+        let servers = self.shards[shard].servers.clone();
+        match self.bounds_of(shard) {
             Some(bounds) => servers.of_shard(bounds),
             None => servers,
         }
@@ -108,7 +118,7 @@ impl ShardMap {
     /// `BadKey` for a key of 2^63 - 1 or more.
     pub fn shard_of(&self, key: u64) -> Result<usize, Error> {
         if key >= END {
-            return Err(Error::BadKey);
+            return Err(ErrorKind::BadKey.into());
         }
         Ok(self.partition.shard_of(key)?)
     }
@@ -162,11 +172,11 @@ mod tests {
     fn keys_and_ranges_have_their_shards() {
         let map = map(&[0, 10]).unwrap();
         assert_eq!([9, 10, END - 1].map(|key| map.shard_of(key)), [Ok(0), Ok(1), Ok(1)]);
-        assert_eq!(map.shard_of(END), Err(Error::BadKey));
+        assert_eq!(map.shard_of(END), Err(ErrorKind::BadKey.into()));
         let whole = [Part { shard: 0, keys: 0..10 }, Part { shard: 1, keys: 10..END + 1 }];
         assert_eq!(map.parts(..).unwrap(), whole);
         assert_eq!(map.parts(5..5), Ok(Vec::new()));
-        assert_eq!(map.parts(..=u64::MAX), Err(Error::BadRange));
+        assert_eq!(map.parts(..=u64::MAX), Err(ErrorKind::BadRange.into()));
     }
 
     #[test]

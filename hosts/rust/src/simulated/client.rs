@@ -72,7 +72,7 @@ impl<T> Call<T> {
     /// The answer, if it has come.
     #[must_use]
     pub fn answer(&self) -> Option<Result<T, Error>> {
-        self.0.answer.try_recv().ok()
+        Some(self.0.answer.try_recv().ok()?.map_err(Error::from))
     }
 }
 
@@ -223,7 +223,7 @@ impl Client {
     /// Why there is no answer; or those of the call.
     pub fn give_up<T>(&mut self, call: &Call<T>, time: Duration) -> Result<T, Error> {
         let why = self.at(time).give_up(call.0.id);
-        call.0.answer.try_recv().unwrap_or(Err(why))
+        Ok(call.0.answer.try_recv().unwrap_or(Err(why))?)
     }
 
     /// What the client knows of a range.

@@ -1,5 +1,5 @@
 //! Two servers, and clients of the first one or of both.
-use krl::{Client, Listener, MemoryStore, Row, Server, Shard, ShardMap, ShardedClient, Value};
+use krl::{Client, Listener, MemoryStore, Row, Server, Shard, ShardMap, Value};
 use std::path::PathBuf;
 use std::time::Duration;
 
@@ -36,12 +36,12 @@ impl World {
     }
 
     /// A client of both servers. The second one has the keys from 100 on.
-    pub fn join_both(&self, number: u8) -> ShardedClient {
+    pub fn join_both(&self, number: u8) -> Client {
         let shard =
             |(first, server): (u64, &Server)| Shard { first, servers: server.address().into() };
         let shards = [0, BOUND].into_iter().zip(&self.servers).map(shard).collect();
         let map = ShardMap::new(shards).unwrap();
-        ShardedClient::builder(map, number, &self.folder).timeout(LONG).join().unwrap()
+        Client::builder(map, number, &self.folder).timeout(LONG).join().unwrap()
     }
 }
 

@@ -5,7 +5,7 @@ use crate::judge::{Version, Window};
 use crate::record::Node;
 use crate::weather::Ask;
 use krl::simulated::{Cached, Held, Purpose};
-use krl::{ClientSet, END, Error, Outcome, Refusal, Row, Unsent, Value, Write};
+use krl::{ClientSet, END, Error, ErrorKind, Outcome, Refusal, Row, Unsent, Value, Write};
 use std::ops::Range;
 use std::time::Duration;
 
@@ -416,21 +416,21 @@ impl World {
     /// Whether a call may be refused with this error.
     fn judge_refusal(&mut self, client: usize, why: Error) {
         let machine = &self.machines[client];
-        let is_so = match why {
-            Error::TimedOut
-            | Error::NotSent(Unsent::TimedOut)
-            | Error::PinIsVoid
-            | Error::Pinned
-            | Error::LeaseEnded => true,
-            Error::Unserved(refusal) | Error::NotSent(Unsent::Unserved(refusal)) => {
+        let is_so = match why.kind {
+            ErrorKind::TimedOut
+            | ErrorKind::NotSent(Unsent::TimedOut)
+            | ErrorKind::PinIsVoid
+            | ErrorKind::Pinned
+            | ErrorKind::LeaseEnded => true,
+            ErrorKind::Unserved(refusal) | ErrorKind::NotSent(Unsent::Unserved(refusal)) => {
                 may_be_refused(refusal)
             }
-            Error::TurnedAway => machine.rejections > 0,
-            Error::StoreWentBack | Error::NotSent(Unsent::StoreWentBack) => {
+            ErrorKind::TurnedAway => machine.rejections > 0,
+            ErrorKind::StoreWentBack | ErrorKind::NotSent(Unsent::StoreWentBack) => {
                 self.judge.went_back() || machine.calls.leaving.is_some()
             }
             // One that has left answers nothing.
-            Error::Left | Error::Other(_) => machine.calls.leaving.is_some(),
+            ErrorKind::Left | ErrorKind::Other(_) => machine.calls.leaving.is_some(),
             _ => false,
         };
         if !is_so {

@@ -5,7 +5,7 @@ use super::takings::Takings;
 use super::yielding::Narrowed;
 use super::{Asking, Job, Jobs, Stage};
 use crate::client::pins::Pins;
-use crate::model::error::Error;
+use crate::model::error::ErrorKind;
 use crate::model::refusal::Refusal;
 use crate::proved::client_handle::ClientHandle;
 
@@ -19,11 +19,11 @@ pub(crate) enum Dropped {
 
 impl Dropped {
     /// The error of those who wait and can't continue.
-    pub fn refused(self) -> Error {
+    pub fn refused(self) -> ErrorKind {
         match self {
-            Dropped::StoreWentBack => Error::StoreWentBack,
-            Dropped::OtherStore => Error::Unserved(Refusal::OtherStore),
-            Dropped::LeaseEnded => Error::LeaseEnded,
+            Dropped::StoreWentBack => ErrorKind::StoreWentBack,
+            Dropped::OtherStore => ErrorKind::Unserved(Refusal::OtherStore),
+            Dropped::LeaseEnded => ErrorKind::LeaseEnded,
         }
     }
 }
@@ -52,11 +52,11 @@ impl Job {
     pub(super) fn end_after_bye(self) {
         match self {
             Job::Leave(reply) => reply.end(Ok(())),
-            job => job.refuse(Error::Left),
+            job => job.refuse(ErrorKind::Left),
         }
     }
 
-    pub(super) fn refuse(self, why: Error) {
+    pub(super) fn refuse(self, why: ErrorKind) {
         match self {
             Job::Join(reply) | Job::Forget(_, reply) | Job::Leave(reply) => reply.end(Err(why)),
             Job::Read(_, reply) => reply.end(Err(why)),

@@ -3,10 +3,9 @@
 //! caller.
 use super::bound::{Bond, Wanted};
 use super::{Asked, Job, JobId, Jobs, Reply};
-use crate::client::set;
 use crate::model::batch::{Judged, Mutation};
 use crate::model::change::{Outcome, Write};
-use crate::model::error::Error;
+use crate::model::error::ErrorKind;
 use std::collections::VecDeque;
 
 /// Where it goes how a write was judged.
@@ -27,7 +26,7 @@ pub(super) struct Batch {
 
 impl Report {
     /// The write was not judged, for this reason, and none after it is made.
-    pub fn refuse(self, why: Error) {
+    pub fn refuse(self, why: ErrorKind) {
         match self {
             Report::Once(reply) => reply.end(Err(why)),
             Report::Together(batch) => batch.end(Some(why)),
@@ -36,20 +35,30 @@ impl Report {
 }
 
 impl Batch {
-    fn end(self, ended: Option<Error>) {
+    fn end(self, ended: Option<ErrorKind>) {
         self.reply.end(Ok(Judged { outcomes: self.outcomes, ended }));
     }
 
     /// The write was judged so. It answers what is to be written next.
     fn next_after(&mut self, write: &Write, outcome: Outcome) -> Option<Next> {
         if let Some(Mutation::Set(_)) = self.left.front()
-            && let Some(other) = set::after(*write, outcome)
+            && let Some(other) = after(*write, outcome)
         {
             return Some(Next::Same(other));
         }
         self.left.pop_front();
         self.outcomes.push(outcome);
         self.left.front().copied().map(Next::Other)
+    }
+}
+
+/// The write that follows one of a set with this outcome, or none if the key has its value, or the
+/// index is full. Other clients may make and delete the row in between: then it continues by turns.
+fn after(write: Write, outcome: Outcome) -> Option<Write> {
+    match (write, outcome) {
+        (Write::Put(row), Outcome::Absent) => Some(Write::Insert(row)),
+        (Write::Insert(row), Outcome::Exists) => Some(Write::Put(row)),
+        _ => None,
     }
 }
 
@@ -73,7 +82,7 @@ impl Jobs {
         if self.may_ask_to_write(bond) {
             self.write_all_bound(bond, writes)
         } else {
-            self.answer_at_once(Ok(Judged::nothing(Error::PinIsVoid)))
+            self.answer_at_once(Ok(Judged::nothing(ErrorKind::PinIsVoid)))
         }
     }
 

@@ -3,7 +3,7 @@ use super::batch::Report;
 use super::writing::Kept;
 use super::{Asked, Job, Jobs, Stage};
 use crate::model::change::{Outcome, Write};
-use crate::model::error::Error;
+use crate::model::error::ErrorKind;
 
 /// What has to hold for a write to be made.
 #[derive(Clone, Copy, Debug, PartialEq, Eq)]
@@ -55,7 +55,7 @@ impl Jobs {
         self.end_lease_if_over();
         let bond = Bond::Pin(pin);
         if !self.may_ask_to_write(bond) {
-            return self.answer_at_once(Err(Error::PinIsVoid));
+            return self.answer_at_once(Err(ErrorKind::PinIsVoid));
         }
         let wanted = Wanted::new(write, bond);
         self.add(|reply| Job::Write(wanted, Report::Once(reply)))
@@ -94,7 +94,7 @@ impl Jobs {
         for (id, job) in std::mem::take(&mut self.open) {
             match job {
                 Job::Write(Wanted { bond, .. }, report) if !self.may_write(bond) => {
-                    report.refuse(Error::PinIsVoid);
+                    report.refuse(ErrorKind::PinIsVoid);
                 }
                 job => self.open.push((id, job)),
             }

@@ -1,12 +1,12 @@
 //! Pins of a client, and what is given back after them.
 use super::Jobs;
 use crate::model::code::Code;
-use crate::model::error::Error;
+use crate::model::error::ErrorKind;
 use std::ops::Range;
 
 impl Jobs {
     /// Pins a range that is not empty, and says the pin's name.
-    pub fn pin(&mut self, keys: Range<u64>) -> Result<u64, Error> {
+    pub fn pin(&mut self, keys: Range<u64>) -> Result<u64, ErrorKind> {
         self.end_lease_if_over();
         match self.void {
             Some(why) => Err(why.refused()),

@@ -56,12 +56,12 @@ fn a_write_whose_lock_is_called_back_is_asked_again() {
 fn an_abandoned_job_keeps_no_other_one_waiting() {
     let mut world = World::new();
     let (first, second) = (world.clients[0].read(0..5), world.clients[0].read(0..9));
-    world.clients[0].abandon(first.id, Error::TimedOut);
+    world.clients[0].abandon(first.id, ErrorKind::TimedOut);
     world.settle();
     assert_eq!(second.answer.try_recv(), Ok(Ok(vec![])));
-    assert_eq!(first.answer.try_recv(), Ok(Err(Error::TimedOut)));
+    assert_eq!(first.answer.try_recv(), Ok(Err(ErrorKind::TimedOut)));
     let write = world.clients[0].write(Write::Insert(row(3, 1)));
-    world.clients[0].abandon(write.id, Error::TimedOut);
+    world.clients[0].abandon(write.id, ErrorKind::TimedOut);
     assert_eq!(world.write(0, Write::Insert(row(4, 1))), Outcome::Applied);
 }
 
@@ -102,9 +102,9 @@ fn whoever_waits_hears_that_the_thread_has_ended() {
     let before = world.clients[0].read(0..9);
     assert_eq!(before.answer.try_recv(), Err(TryRecvError::Empty));
     world.clients[0].end();
-    assert_eq!(before.answer.try_recv(), Ok(Err(Error::Stopped)));
+    assert_eq!(before.answer.try_recv(), Ok(Err(ErrorKind::Stopped)));
     let after = world.clients[0].read(0..9);
-    assert_eq!(after.answer.try_recv(), Ok(Err(Error::Stopped)));
+    assert_eq!(after.answer.try_recv(), Ok(Err(ErrorKind::Stopped)));
 }
 
 #[test]
@@ -116,8 +116,8 @@ fn a_write_that_waits_for_its_lock_is_not_made_if_the_store_went_back_or_the_cli
     assert_eq!(world.clients[0].was_sent(sent.id), WasSent::Yes);
     assert!(!world.said(0).is_empty());
     world.clients[0].drop_all(Dropped::StoreWentBack);
-    assert_eq!(sent.answer.try_recv(), Ok(Err(Error::StoreWentBack)));
-    let not_sent = |why| Ok(Err(Error::NotSent(why)));
+    assert_eq!(sent.answer.try_recv(), Ok(Err(ErrorKind::StoreWentBack)));
+    let not_sent = |why| Ok(Err(ErrorKind::NotSent(why)));
     assert_eq!(waits.answer.try_recv(), not_sent(Unsent::StoreWentBack));
     let while_void = world.clients[0].write(Write::Put(row(10, 3)));
     world.clients[0].end();
@@ -133,7 +133,7 @@ fn a_write_that_has_not_left_is_not_made_if_the_store_went_back() {
     let lost = world.clients[0].write(Write::Put(row(10, 2)));
     world.clients[0].lose();
     world.clients[0].drop_all(Dropped::StoreWentBack);
-    let not_sent = Error::NotSent(Unsent::StoreWentBack);
+    let not_sent = ErrorKind::NotSent(Unsent::StoreWentBack);
     assert_eq!(lost.answer.try_recv(), Ok(Err(not_sent)), "there was no connection");
 }
 
@@ -224,7 +224,7 @@ fn a_delete_that_nobody_waits_for_keeps_nothing() {
     let delete = world.clients[0].write(Write::Delete(5));
     world.settle();
     assert_eq!(world.clients[0].takings.count(), 1);
-    world.clients[0].abandon(delete.id, Error::TimedOut);
+    world.clients[0].abandon(delete.id, ErrorKind::TimedOut);
     assert_eq!(world.clients[0].takings.count(), 0);
     world.settle();
     assert_eq!(world.read(1, 0..6), [row(5, 1)]);
@@ -267,8 +267,8 @@ fn a_client_that_drops_all_answers_says_and_hears_nothing_until_it_begins_anew()
     let late = world.said_by_server();
     assert!(!late.is_empty());
     world.clients[0].drop_all(Dropped::StoreWentBack);
-    assert_eq!(read.answer.try_recv(), Ok(Err(Error::StoreWentBack)));
-    let not_sent = Error::NotSent(Unsent::StoreWentBack);
+    assert_eq!(read.answer.try_recv(), Ok(Err(ErrorKind::StoreWentBack)));
+    let not_sent = ErrorKind::NotSent(Unsent::StoreWentBack);
     assert_eq!(write.answer.try_recv(), Ok(Err(not_sent)));
     let later = world.clients[0].read(0..11);
     for message in &late {

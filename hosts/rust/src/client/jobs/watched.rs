@@ -3,11 +3,10 @@ use super::{Asked, JobId, Jobs, Reply, Stage};
 use crate::client::answer::place;
 use crate::client::scratch::kept;
 use crate::model::code::Code;
-use crate::model::error::Error;
+use crate::model::error::ErrorKind;
 use crate::model::row::Row;
 use crate::proved::client_handle::Scan;
 use std::ops::Range;
-use std::sync::mpsc::SyncSender;
 
 /// A caller waits until the client no longer knows that the range has these rows.
 pub(super) struct Watched {
@@ -18,7 +17,7 @@ pub(super) struct Watched {
 }
 
 impl Watched {
-    pub fn refuse(self, why: Error) {
+    pub fn refuse(self, why: ErrorKind) {
         self.reply.end(Err(why));
     }
 }
@@ -26,34 +25,21 @@ impl Watched {
 impl Jobs {
     /// Ends when the client no longer knows that the range has these rows. It asks for nothing.
     pub fn watch(&mut self, keys: Range<u64>, rows: Vec<Row>) -> Asked<()> {
-        let (reply, answer) = place(&self.wakes);
-        Asked { id: self.watch_for(keys, rows, Reply::Own(reply)), is_urgent: false, answer }
-    }
-
-    /// The same, and the end is told to one who may wait for several. There has to be room for it.
-    pub fn watch_and_tell(
-        &mut self,
-        keys: Range<u64>,
-        rows: Vec<Row>,
-        told: SyncSender<Result<(), Error>>,
-    ) -> JobId {
-        self.watch_for(keys, rows, Reply::Shared(told))
-    }
-
-    fn watch_for(&mut self, keys: Range<u64>, rows: Vec<Row>, reply: Reply<()>) -> JobId {
         self.next += 1;
+        let (reply, answer) = place(&self.wakes);
+        let (id, reply) = (self.next, Reply(reply));
         if self.stage == Stage::Ended {
-            reply.end(Err(Error::Stopped));
+            reply.end(Err(ErrorKind::Stopped));
         } else {
-            self.watched.push(Watched { id: self.next, keys, rows, reply });
+            self.watched.push(Watched { id, keys, rows, reply });
             self.is_changed = true;
             self.tell_changes();
         }
-        self.next
+        Asked { id, answer }
     }
 
     /// Nobody waits any more for a change that this job watches for.
-    pub fn unwatch(&mut self, job: JobId) {
+    pub(super) fn unwatch(&mut self, job: JobId) {
         self.watched.retain(|watched| watched.id != job);
     }
 

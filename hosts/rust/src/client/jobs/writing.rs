@@ -4,7 +4,7 @@ use super::bound::Wanted;
 use super::{Job, JobId, Jobs};
 use crate::model::change::{Outcome, Write};
 use crate::model::code::Code;
-use crate::model::error::Error;
+use crate::model::error::ErrorKind;
 use crate::model::lock::Mode;
 use crate::proved::client_handle::{Scan, Shown};
 use std::time::{Duration, Instant};
@@ -24,12 +24,12 @@ pub(super) struct Written {
 }
 
 impl Written {
-    pub fn refuse(self, why: Error) {
+    pub fn refuse(self, why: ErrorKind) {
         self.report.refuse(why);
     }
 
     /// The library's client that had the write is gone: one that has not left never will.
-    pub fn end_with_its_client(self, why: Error) {
+    pub fn end_with_its_client(self, why: ErrorKind) {
         let why = if self.may_have_left { why } else { why.of_unsent_write() };
         self.report.refuse(why);
     }
@@ -55,7 +55,7 @@ enum Step {
     Sent(u64),
     Waits,
     Known(Outcome),
-    Refused(Error),
+    Refused(ErrorKind),
 }
 
 impl Jobs {
@@ -111,7 +111,7 @@ impl Jobs {
     fn advance_one_write(&mut self, id: JobId, wanted: &mut Wanted) -> Step {
         if !self.may_write(wanted.bond) {
             self.let_go(id, wanted);
-            return Step::Refused(Error::PinIsVoid);
+            return Step::Refused(ErrorKind::PinIsVoid);
         }
         let step = self.try_write(id, wanted).unwrap_or_else(|code| Step::Refused(code.into()));
         match step {

@@ -4,7 +4,7 @@ use crate::client::answer::Answer;
 use crate::client::jobs::{Asked, BUSY_TICK, Jobs};
 use crate::client::session::Session;
 use crate::client::writer::Written;
-use crate::model::error::Error;
+use crate::model::error::ErrorKind;
 use crate::model::refusal::Refusal;
 use crate::net::poller::Ready;
 use std::sync::MutexGuard;
@@ -17,7 +17,7 @@ impl Link {
         &self,
         end: Instant,
         ask: impl FnOnce(&mut Jobs) -> Asked<T>,
-    ) -> Result<T, Error> {
+    ) -> Result<T, ErrorKind> {
         let asked = self.begin(ask);
         self.finish(asked, end)
     }
@@ -28,7 +28,7 @@ impl Link {
         &self,
         timeout: Duration,
         gives_up: impl Fn(Refusal, Instant) -> bool + Send + 'static,
-    ) -> Result<(), Error> {
+    ) -> Result<(), ErrorKind> {
         let end = Instant::now() + timeout;
         let asked = self.call(|session| session.join(Box::new(gives_up)));
         self.finish(asked, end)
@@ -44,22 +44,20 @@ impl Link {
     /// The caller reads the connection itself until the first tick. The thread of the connection
     /// sends again what is not answered. It may sleep until a tick of a client that was asked
     /// nothing: so one who waits for longer than until the first tick wakes it once.
-    pub fn finish<T>(&self, asked: Asked<T>, end: Instant) -> Result<T, Error> {
-        let Asked { id, is_urgent, answer } = asked;
-        if is_urgent
-            && let Some(answered) = self.read_until(&answer, end.min(Instant::now() + BUSY_TICK))
-        {
+    pub fn finish<T>(&self, asked: Asked<T>, end: Instant) -> Result<T, ErrorKind> {
+        let Asked { id, answer } = asked;
+        if let Some(answered) = self.read_until(&answer, end.min(Instant::now() + BUSY_TICK)) {
             return answered;
         }
         let left = until(end);
-        let first = if is_urgent { left.min(BUSY_TICK) } else { left };
+        let first = left.min(BUSY_TICK);
         let mut answered = answer.recv_timeout(first);
         if matches!(answered, Err(RecvTimeoutError::Timeout)) && first < left {
             self.hurry();
             answered = answer.recv_timeout(until(end));
         }
         answered.unwrap_or_else(|why| match why {
-            RecvTimeoutError::Disconnected => Err(Error::Stopped),
+            RecvTimeoutError::Disconnected => Err(ErrorKind::Stopped),
             RecvTimeoutError::Timeout => {
                 let why = self.with_session(|session| session.give_up(id));
                 // It may have come meanwhile.
@@ -72,9 +70,9 @@ impl Link {
     /// has to wake another one. It answers nothing if there is no answer by the end.
     pub(super) fn read_until<T>(
         &self,
-        answer: &Answer<Result<T, Error>>,
+        answer: &Answer<Result<T, ErrorKind>>,
         end: Instant,
-    ) -> Option<Result<T, Error>> {
+    ) -> Option<Result<T, ErrorKind>> {
         let _turn = self.turn.try_lock().ok()?;
         let mut goes_on = true;
         loop {
@@ -85,7 +83,7 @@ impl Link {
                     return match answered {
                         Ok(answered) => Some(answered),
                         Err(TryRecvError::Empty) => None,
-                        Err(TryRecvError::Disconnected) => Some(Err(Error::Stopped)),
+                        Err(TryRecvError::Disconnected) => Some(Err(ErrorKind::Stopped)),
                     };
                 }
             }

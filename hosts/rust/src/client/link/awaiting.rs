@@ -1,7 +1,7 @@
-//! How tasks wait for answers.
+//! How callers wait for answers: on their threads, or as tasks.
 use super::Link;
 use crate::client::jobs::{Asked, Jobs};
-use crate::model::error::Error;
+use crate::model::error::ErrorKind;
 use std::future::Future;
 use std::pin::Pin;
 use std::sync::Arc;
@@ -36,8 +36,14 @@ impl<T> Awaited<T> {
         self
     }
 
-    /// Nobody waits any more. It answers why there was no answer, unless there is one after all.
-    fn give_up(&mut self) -> Option<Result<T, Error>> {
+    /// Waits on this thread.
+    pub fn wait(mut self) -> Result<T, ErrorKind> {
+        let asked = self.asked.take();
+        asked.map_or(Err(ErrorKind::Stopped), |asked| self.link.finish(asked, self.end))
+    }
+
+    /// Nobody waits any more. Returns why there was no answer, unless there is one after all.
+    fn give_up(&mut self) -> Option<Result<T, ErrorKind>> {
         let asked = self.asked.take()?;
         self.link.deadlines.remove(self.end, asked.id);
         let why = self.link.with_session(|session| session.give_up(asked.id));
@@ -47,20 +53,20 @@ impl<T> Awaited<T> {
 }
 
 impl<T> Future for Awaited<T> {
-    type Output = Result<T, Error>;
+    type Output = Result<T, ErrorKind>;
 
-    fn poll(mut self: Pin<&mut Self>, context: &mut Context<'_>) -> Poll<Result<T, Error>> {
-        let Some(asked) = &self.asked else { return Poll::Ready(Err(Error::Stopped)) };
+    fn poll(mut self: Pin<&mut Self>, context: &mut Context<'_>) -> Poll<Result<T, ErrorKind>> {
+        let Some(asked) = &self.asked else { return Poll::Ready(Err(ErrorKind::Stopped)) };
         // It is put before the look at the answer, so that the thread finds it in any case.
         self.link.deadlines.put(self.end, asked.id, context.waker());
         match asked.answer.poll(context) {
             Poll::Ready(answered) => {
                 self.link.deadlines.remove(self.end, asked.id);
                 self.asked = None;
-                Poll::Ready(answered.unwrap_or(Err(Error::Stopped)))
+                Poll::Ready(answered.unwrap_or(Err(ErrorKind::Stopped)))
             }
             Poll::Pending if Instant::now() >= self.end => {
-                Poll::Ready(self.give_up().unwrap_or(Err(Error::Stopped)))
+                Poll::Ready(self.give_up().unwrap_or(Err(ErrorKind::Stopped)))
             }
             Poll::Pending => Poll::Pending,
         }

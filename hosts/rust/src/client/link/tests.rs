@@ -1,7 +1,7 @@
 //! What callers share with the thread of the connection.
 use super::*;
 use crate::lease::boot_clock::Moment;
-use crate::model::error::Error;
+use crate::model::error::ErrorKind;
 use crate::net::outbox::STALL;
 use crate::net::stream::{Listener, Stream};
 use crate::proved::client_handle::Scan;
@@ -50,7 +50,7 @@ fn a_peer_that_takes_nothing_holds_no_call_beyond_its_deadline() {
             scope.spawn(|| {
                 let begun = Instant::now();
                 let read = link.ask(begun + SHORT, |jobs| jobs.read(0..9));
-                assert_eq!(read, Err(Error::TimedOut));
+                assert_eq!(read, Err(ErrorKind::TimedOut));
                 assert!(begun.elapsed() < STALL / 2, "{:?}", begun.elapsed());
             });
         }
@@ -74,11 +74,11 @@ fn callers_hear_that_the_thread_has_panicked() {
             panic!("the test's");
         });
         assert!(panicked.join().is_err());
-        assert_eq!(read.join().unwrap(), Err(Error::Stopped));
+        assert_eq!(read.join().unwrap(), Err(ErrorKind::Stopped));
     });
     assert!(link.has_ended(Instant::now()));
     let later = link.ask(Instant::now() + LONG, |jobs| jobs.read(0..9));
-    assert_eq!(later, Err(Error::Stopped));
+    assert_eq!(later, Err(ErrorKind::Stopped));
 }
 
 #[test]
@@ -162,5 +162,5 @@ fn the_thread_ends_a_connection_of_which_a_caller_found_that_it_has_ended() {
     drop(theirs);
     while link.read_once(LONG) {}
     let end = link.go_on(std::iter::empty()).unwrap_err();
-    assert_eq!(end.kind(), ErrorKind::UnexpectedEof);
+    assert_eq!(end.kind(), io::ErrorKind::UnexpectedEof);
 }

@@ -3,7 +3,7 @@ use super::Session;
 use crate::client::jobs::Dropped;
 use crate::lease::terms::Answer;
 use crate::log::event_log;
-use crate::model::error::Error;
+use crate::model::error::{Error, ErrorKind};
 use crate::model::refusal::Refusal;
 use crate::net::connect_fault::{NotTaken, OtherVersion};
 use crate::wire::host_frame::{FromClient, FromServer};
@@ -77,7 +77,7 @@ impl Session {
         // The epochs of an older store may be older too.
         self.epoch = 0;
         event_log::store_went_back(self.address());
-        io::Error::other(Error::StoreWentBack)
+        io::Error::other(Error::from(ErrorKind::StoreWentBack))
     }
 
     /// The server serves another store than the one that the client has seen. From here on nothing

@@ -93,7 +93,7 @@ fn a_connection_begins_with_the_greeting_and_goes_on_by_its_terms() {
     session.proceed().unwrap();
     assert_eq!(said(&mut session).len(), 1, "the library's Hello");
     // A connection that has ended takes nothing with it.
-    session.disconnected(ErrorKind::UnexpectedEof.into());
+    session.disconnected(io::ErrorKind::UnexpectedEof.into());
     session.jobs().tick();
     assert_eq!(said(&mut session).len(), 0);
 }
@@ -112,7 +112,7 @@ fn a_client_that_is_asked_nothing_sleeps_until_a_sign_or_a_tick_is_due() {
     let read = session.jobs().read(0..9);
     session.proceed().unwrap();
     assert_eq!(session.due_in(), crate::client::jobs::BUSY_TICK);
-    assert_eq!(session.give_up(read.id), Error::TimedOut);
+    assert_eq!(session.give_up(read.id), ErrorKind::TimedOut);
     assert_eq!(session.due_in(), IDLE_TICK);
 }
 
@@ -129,7 +129,7 @@ fn a_silent_server_is_asked_and_left_for_the_next_one() {
     assert!(asks.iter().any(|frame| FromClient::read(frame) == Some(FromClient::Hello(None))));
     pass(&mut session, Duration::from_millis(750));
     let end = session.proceed().unwrap_err();
-    assert_eq!(end.kind(), ErrorKind::TimedOut);
+    assert_eq!(end.kind(), io::ErrorKind::TimedOut);
     assert_eq!(session.address().to_string(), "unix:one");
     session.disconnected(end);
     assert_eq!(session.address().to_string(), "unix:two");
@@ -145,7 +145,7 @@ fn the_connection_ends_with_the_lease() {
     hear(&mut session, &[]).unwrap();
     assert!(session.proceed().unwrap_err().to_string().contains("lease"));
     assert!(session.has_to_begin_anew());
-    session.disconnected(ErrorKind::Other.into());
+    session.disconnected(io::ErrorKind::Other.into());
     session.begin_anew(ClientHandle::open_behind(1, 2, Older::IsOver(1)).unwrap());
     assert!(!session.has_to_begin_anew());
 }
@@ -160,7 +160,7 @@ fn the_hello_of_another_version_ends_the_connection() {
     for _ in 0..2 {
         session.disconnected(OtherVersion(3).into());
     }
-    let expected = Error::Unserved(Refusal::Version { read: 3 });
+    let expected = ErrorKind::Unserved(Refusal::Version { read: 3 });
     assert_eq!(read.answer.try_recv(), Ok(Err(expected)));
 }
 
@@ -174,10 +174,10 @@ fn all_jobs_end_when_the_only_server_has_rejected_this_side_twice() {
     reject(&mut alone);
     assert!(read.answer.try_recv().is_err(), "one may be a proxy's mistake");
     reject(&mut alone);
-    assert_eq!(read.answer.try_recv(), Ok(Err(Error::TurnedAway)));
+    assert_eq!(read.answer.try_recv(), Ok(Err(ErrorKind::TurnedAway)));
     let later = alone.jobs().read(0..9);
     alone.end_hopeless();
-    assert_eq!(later.answer.try_recv(), Ok(Err(Error::TurnedAway)));
+    assert_eq!(later.answer.try_recv(), Ok(Err(ErrorKind::TurnedAway)));
     let mut among_two = session("unix:one,unix:two");
     let read = among_two.jobs().read(0..9);
     for _ in 0..5 {
@@ -206,11 +206,11 @@ fn who_joins_gives_up_when_another_program_has_answered_twice_at_the_only_addres
         let why = hear_and_end(&mut session, OF_HTTP);
         assert!(why.contains("what answers at unix:one is not a krl server"), "{why}");
         connect(&mut session);
-        session.disconnected(ErrorKind::ConnectionReset.into());
+        session.disconnected(io::ErrorKind::ConnectionReset.into());
         hear_and_end(&mut session, OF_HTTP);
         assert!(asked.answer.try_recv().is_err(), "one may be a proxy's mistake");
         hear_and_end(&mut session, OF_HTTP);
-        assert_eq!(asked.answer.try_recv() == Ok(Err(Error::TimedOut)), gives_up, "{servers}");
+        assert_eq!(asked.answer.try_recv() == Ok(Err(ErrorKind::TimedOut)), gives_up, "{servers}");
     }
 }
 
@@ -229,7 +229,7 @@ fn a_client_that_has_joined_waits_for_its_server_whatever_else_answers_there() {
 
 /// An attempt to connect that is refused, and the pause after it.
 fn refuse_connect(session: &mut Session) {
-    let refused = NothingListens(ErrorKind::ConnectionRefused.into());
+    let refused = NothingListens(io::ErrorKind::ConnectionRefused.into());
     let pause = session.disconnected(refused.into());
     pass(session, pause);
 }
@@ -245,9 +245,9 @@ fn who_joins_gives_up_when_the_only_address_has_refused_for_a_second() {
     }
     assert_eq!(session.now(), end, "an attempt finds a server that listens by now");
     refuse_connect(&mut session);
-    assert_eq!(asked.answer.try_recv(), Ok(Err(Error::TimedOut)));
+    assert_eq!(asked.answer.try_recv(), Ok(Err(ErrorKind::TimedOut)));
     let why = session.take_nothing_listens().map(|error| error.kind());
-    assert_eq!(why, Some(ErrorKind::ConnectionRefused));
+    assert_eq!(why, Some(io::ErrorKind::ConnectionRefused));
     assert!(session.now() > end, "the pauses are those of the backoff again");
 }
 
@@ -257,7 +257,7 @@ fn who_joins_waits_if_its_address_does_anything_but_refuse() {
     let asked = session.join(Box::new(|_, _| false));
     for _ in 0..9 {
         refuse_connect(&mut session);
-        session.disconnected(ErrorKind::TimedOut.into());
+        session.disconnected(io::ErrorKind::TimedOut.into());
         pass(&mut session, Duration::from_secs(1));
     }
     connect(&mut session);
@@ -283,7 +283,7 @@ fn who_joins_waits_for_one_of_several_servers() {
 fn a_client_that_has_joined_waits_for_a_server_that_refuses() {
     let mut session = session("unix:one");
     let asked = session.join(Box::new(|_, _| false));
-    session.jobs().refuse(asked.id, Error::Left);
+    session.jobs().refuse(asked.id, ErrorKind::Left);
     let read = session.jobs().read(0..9);
     let end = session.now() + Duration::from_secs(60);
     let mut attempts = 0;
@@ -296,7 +296,7 @@ fn a_client_that_has_joined_waits_for_a_server_that_refuses() {
 }
 
 /// Why a job ends that was sent or not, if the last connection ended with this.
-fn ended(fault: io::Error, was_sent: WasSent) -> Error {
+fn ended(fault: io::Error, was_sent: WasSent) -> ErrorKind {
     let mut session = session("unix:nowhere");
     session.disconnected(fault);
     session.unanswered(was_sent)
@@ -306,9 +306,9 @@ fn ended(fault: io::Error, was_sent: WasSent) -> Error {
 fn a_write_that_was_sent_may_be_applied_whatever_rejects_the_client() {
     let not_taken = || NotTaken("the certificate has expired".into()).into();
     let other = OtherShard { expected: None, served: None };
-    assert_eq!(ended(not_taken(), WasSent::No), Error::TurnedAway);
-    assert_eq!(ended(other.into(), WasSent::No), Error::OtherShard(other));
-    let version = Error::Unserved(Refusal::Version { read: 1 });
+    assert_eq!(ended(not_taken(), WasSent::No), ErrorKind::TurnedAway);
+    assert_eq!(ended(other.into(), WasSent::No), ErrorKind::OtherShard(other));
+    let version = ErrorKind::Unserved(Refusal::Version { read: 1 });
     assert_eq!(ended(OtherVersion(1).into(), WasSent::No), version);
     for fault in [not_taken(), other.into(), OtherVersion(1).into()] {
         let refused = ended(fault, WasSent::Yes);
@@ -321,13 +321,13 @@ fn how_a_connection_ended_is_known_until_the_server_answers_on_another_one() {
     let mut session = session("unix:nowhere");
     assert!(!session.is_connected());
     connect(&mut session);
-    session.disconnected(ErrorKind::ConnectionReset.into());
+    session.disconnected(io::ErrorKind::ConnectionReset.into());
     assert!(!session.is_connected());
     connect(&mut session);
     assert!(session.is_connected());
     let fault = session.take_fault().map(|fault| fault.kind());
-    assert_eq!(fault, Some(ErrorKind::ConnectionReset), "the server has not answered yet");
-    session.disconnected(ErrorKind::ConnectionReset.into());
+    assert_eq!(fault, Some(io::ErrorKind::ConnectionReset), "the server has not answered yet");
+    session.disconnected(io::ErrorKind::ConnectionReset.into());
     let greeting = connect(&mut session);
     hear(&mut session, &terms(&greeting)).unwrap();
     assert!(session.take_fault().is_none(), "the server takes the client");
@@ -346,7 +346,7 @@ fn who_joins_gives_up_for_a_reason_as_soon_as_it_may() {
     assert!(asked.answer.try_recv().is_err(), "too early");
     pass(&mut session, Duration::from_millis(999));
     session.proceed().unwrap();
-    assert_eq!(asked.answer.try_recv(), Ok(Err(Error::Unserved(runs))));
+    assert_eq!(asked.answer.try_recv(), Ok(Err(ErrorKind::Unserved(runs))));
 }
 
 #[test]
@@ -357,9 +357,9 @@ fn what_a_server_told_long_ago_is_no_reason() {
     let full = Refusal::Full { connections: 9 };
     hear(&mut session, &refused(full)).unwrap();
     let next = session.jobs().read(0..9);
-    assert_eq!(session.give_up(read.id), Error::Unserved(full));
+    assert_eq!(session.give_up(read.id), ErrorKind::Unserved(full));
     pass(&mut session, HINT);
-    assert_eq!(session.give_up(next.id), Error::TimedOut);
+    assert_eq!(session.give_up(next.id), ErrorKind::TimedOut);
 }
 
 #[test]

@@ -6,7 +6,7 @@ use crate::model::error::Unsent;
 use Mutation::{Delete, Insert, Put, Set};
 use Outcome::{Absent, Applied, Exists};
 
-fn judged(outcomes: &[Outcome], ended: Option<Error>) -> Judged {
+fn judged(outcomes: &[Outcome], ended: Option<ErrorKind>) -> Judged {
     Judged { outcomes: outcomes.to_vec(), ended }
 }
 
@@ -21,6 +21,16 @@ fn writes_said(world: &mut World) -> Vec<Vec<u8>> {
     let mut said = world.said(0);
     said.retain(|message| WRITES.contains(&message[1]));
     said
+}
+
+#[test]
+fn a_set_puts_and_inserts_by_turns_until_its_row_has_the_value() {
+    let (put, insert) = (Write::Put(row(10, 1)), Write::Insert(row(10, 1)));
+    assert_eq!(after(put, Absent), Some(insert));
+    assert_eq!(after(insert, Exists), Some(put));
+    for (write, outcome) in [(put, Applied), (insert, Applied), (insert, Outcome::Full)] {
+        assert_eq!(after(write, outcome), None);
+    }
 }
 
 #[test]
@@ -92,8 +102,8 @@ fn a_batch_that_is_given_up_writes_nothing_more() {
     world.tell_server(&said);
     world.tell_clients();
     assert_eq!(world.clients[0].was_sent(asked.id), WasSent::Yes);
-    world.clients[0].abandon(asked.id, Error::TimedOut);
-    assert_eq!(answer(&asked), judged(&[Applied], Some(Error::TimedOut)));
+    world.clients[0].abandon(asked.id, ErrorKind::TimedOut);
+    assert_eq!(answer(&asked), judged(&[Applied], Some(ErrorKind::TimedOut)));
     world.settle();
     // The second one was on its way, and the third one is not made.
     assert_eq!(world.read(1, 0..20), [row(10, 2), row(11, 2), row(12, 1)]);
@@ -110,9 +120,9 @@ fn a_batch_that_waits_for_a_lock_tells_what_it_has_done() {
     world.settle();
     assert!(asked.answer.try_recv().is_err(), "the second row is pinned");
     assert_eq!(world.clients[0].was_sent(asked.id), WasSent::No);
-    world.clients[0].abandon(asked.id, Error::TimedOut);
+    world.clients[0].abandon(asked.id, ErrorKind::TimedOut);
     let ended = answer(&asked);
-    assert_eq!(ended, judged(&[Applied], Some(Error::NotSent(Unsent::TimedOut))));
+    assert_eq!(ended, judged(&[Applied], Some(ErrorKind::NotSent(Unsent::TimedOut))));
     let fates = [Fate::Judged(Applied), Fate::NotMade, Fate::NotMade];
     assert_eq!(ended.fates(3), fates, "it is unknown of no write whether it was made");
     world.clients[1].unpin(pin);
@@ -128,7 +138,7 @@ fn a_lease_that_ends_ends_a_batch_whose_write_is_on_its_way_and_no_other_one() {
     assert_eq!(world.clients[0].was_sent(sent.id), WasSent::Yes);
     let waits = world.clients[0].write_all(vec![Insert(row(15, 1))]);
     world.clients[0].drop_all(Dropped::LeaseEnded);
-    assert_eq!(answer(&sent), judged(&[], Some(Error::LeaseEnded)));
+    assert_eq!(answer(&sent), judged(&[], Some(ErrorKind::LeaseEnded)));
     assert!(waits.answer.try_recv().is_err(), "it is made after the client has joined again");
 }
 
@@ -144,9 +154,9 @@ fn a_batch_that_is_bound_to_a_pin_writes_nothing_after_the_pin() {
     world.clients[0].advance(Asking::Allowed);
     assert_eq!(writes_said(&mut world).len(), 1, "the first write is sent");
     world.clients[0].drop_all(Dropped::StoreWentBack);
-    assert_eq!(answer(&asked), judged(&[], Some(Error::StoreWentBack)));
+    assert_eq!(answer(&asked), judged(&[], Some(ErrorKind::StoreWentBack)));
     let late = world.clients[0].write_all_under(pin, vec![Insert(row(12, 1))]);
-    assert_eq!(answer(&late), judged(&[], Some(Error::PinIsVoid)));
+    assert_eq!(answer(&late), judged(&[], Some(ErrorKind::PinIsVoid)));
 }
 
 #[test]
@@ -160,7 +170,7 @@ fn the_end_of_the_client_loses_no_outcome() {
     world.tell_server(&said);
     world.tell_clients();
     world.clients[0].end();
-    assert_eq!(answer(&asked), judged(&[Applied], Some(Error::Stopped)));
+    assert_eq!(answer(&asked), judged(&[Applied], Some(ErrorKind::Stopped)));
 }
 
 #[test]
@@ -169,11 +179,11 @@ fn a_batch_that_has_sent_nothing_is_not_made_if_the_store_went_back_or_the_clien
     assert_eq!(world.write(1, Write::Insert(row(10, 1))), Applied);
     let waits = world.clients[0].write_all(vec![Put(row(10, 2)), Put(row(10, 3))]);
     world.clients[0].drop_all(Dropped::StoreWentBack);
-    let why = Error::NotSent(Unsent::StoreWentBack);
+    let why = ErrorKind::NotSent(Unsent::StoreWentBack);
     assert_eq!(answer(&waits), judged(&[], Some(why)));
     let later = world.clients[0].write_all(vec![Put(row(10, 2))]);
     world.clients[0].end();
-    let why = Error::NotSent(Unsent::Stopped);
+    let why = ErrorKind::NotSent(Unsent::Stopped);
     assert_eq!(answer(&later), judged(&[], Some(why)));
     let after = world.clients[0].write_all(vec![Put(row(10, 2))]);
     assert_eq!(answer(&after), judged(&[], Some(why)));

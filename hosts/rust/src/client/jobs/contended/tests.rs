@@ -3,7 +3,7 @@ use crate::client::jobs::bound::Wanted;
 use crate::client::jobs::world::{World, pass, row};
 use crate::client::jobs::{Asking, Jobs, Purpose};
 use crate::model::change::{Outcome, Write};
-use crate::model::error::Error;
+use crate::model::error::ErrorKind;
 use crate::wire::message::kind::{ACK, LOCK, RELEASE};
 
 const WRITER: usize = 0;
@@ -160,8 +160,8 @@ fn give_up(world: &mut World, write: Write) {
     let asked = world.clients[WRITER].write(write);
     let lost = world.said(WRITER);
     assert!(matches!(lost.last().unwrap()[1], TAKING_INSERT | TAKING_PUT));
-    world.clients[WRITER].abandon(asked.id, Error::TimedOut);
-    assert_eq!(asked.answer.try_recv(), Ok(Err(Error::TimedOut)));
+    world.clients[WRITER].abandon(asked.id, ErrorKind::TimedOut);
+    assert_eq!(asked.answer.try_recv(), Ok(Err(ErrorKind::TimedOut)));
 }
 
 #[test]
@@ -195,7 +195,7 @@ fn a_write_by_a_pin_that_was_given_up_bars_others_until_it_is_decided() {
     let pin = held.answer.try_recv().unwrap().unwrap().pin;
     let asked = world.clients[WRITER].write_under(pin, Write::Insert(row(15, 1)));
     assert_eq!(world.said(WRITER).last().unwrap()[1], INSERT, "this one is lost");
-    world.clients[WRITER].abandon(asked.id, Error::TimedOut);
+    world.clients[WRITER].abandon(asked.id, ErrorKind::TimedOut);
     world.clients[WRITER].unpin(pin);
     let read = world.clients[OTHER].read(15..16);
     world.settle();

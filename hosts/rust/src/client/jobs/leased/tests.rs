@@ -4,7 +4,7 @@ use super::*;
 use crate::lease::clocks::Now;
 use crate::lease::terms::{FOR_EVER, Grant, Older};
 use crate::model::change::{Outcome, Write};
-use crate::model::error::Error;
+use crate::model::error::ErrorKind;
 use crate::proved::client_handle::{ClientHandle, Scan};
 
 const LONG: u64 = 60_000_000_000;
@@ -121,7 +121,7 @@ fn a_write_on_its_way_ends_and_other_jobs_go_on() {
     lease_for(&mut world.clients[0], nanoseconds(SHORT));
     pass(&mut world.clients[0], SHORT);
     world.clients[0].end_lease_if_over();
-    assert_eq!(write.answer.try_recv(), Ok(Err(Error::LeaseEnded)));
+    assert_eq!(write.answer.try_recv(), Ok(Err(ErrorKind::LeaseEnded)));
     assert!(read.answer.try_recv().is_err() && later.answer.try_recv().is_err());
     let mut next = ClientHandle::open_behind(0, 2, Older::IsOver(1)).unwrap();
     next.confirm().unwrap();
@@ -144,7 +144,7 @@ fn a_pin_holds_as_long_as_the_lease() {
     lease_for(&mut world.clients[0], nanoseconds(SHORT));
     pass(&mut world.clients[0], SHORT);
     assert!(!world.clients[0].holds_pin(pin));
-    assert_eq!(world.clients[0].pin(0..20), Err(Error::LeaseEnded));
+    assert_eq!(world.clients[0].pin(0..20), Err(ErrorKind::LeaseEnded));
     world.clients[0].begin_anew(ClientHandle::open(0, 2).unwrap());
     world.settle();
     world.read(0, 0..20);
@@ -206,9 +206,9 @@ fn a_write_that_is_bound_to_a_pin_is_made_while_the_pin_holds_or_never() {
     lease_for(&mut world.clients[0], nanoseconds(SHORT));
     pass(&mut world.clients[0], SHORT);
     let void = world.clients[0].write_under(pin, Write::Put(row(10, 4)));
-    assert_eq!(sent.answer.try_recv(), Ok(Err(Error::LeaseEnded)));
-    assert_eq!(waits.answer.try_recv(), Ok(Err(Error::PinIsVoid)));
-    assert_eq!(void.answer.try_recv(), Ok(Err(Error::PinIsVoid)));
+    assert_eq!(sent.answer.try_recv(), Ok(Err(ErrorKind::LeaseEnded)));
+    assert_eq!(waits.answer.try_recv(), Ok(Err(ErrorKind::PinIsVoid)));
+    assert_eq!(void.answer.try_recv(), Ok(Err(ErrorKind::PinIsVoid)));
     world.clients[0].begin_anew(ClientHandle::open_behind(0, 2, Older::IsOver(1)).unwrap());
     world.clients[0].confirm_incarnation().unwrap();
     lease_for(&mut world.clients[0], LONG);
@@ -217,7 +217,7 @@ fn a_write_that_is_bound_to_a_pin_is_made_while_the_pin_holds_or_never() {
     assert_eq!(free.answer.try_recv(), Ok(Ok(Outcome::Applied)), "it is bound to nothing");
     let late = world.clients[0].write_under(pin, Write::Put(row(10, 5)));
     world.settle();
-    assert_eq!(late.answer.try_recv(), Ok(Err(Error::PinIsVoid)));
+    assert_eq!(late.answer.try_recv(), Ok(Err(ErrorKind::PinIsVoid)));
     assert_eq!(world.read(1, 0..20), [row(10, 2), row(12, 3)]);
 }
 
@@ -233,7 +233,7 @@ fn an_insert_whose_lease_has_ended_is_not_repeated() {
     lease_for(&mut world.clients[0], nanoseconds(SHORT));
     pass(&mut world.clients[0], SHORT);
     world.clients[0].end_lease_if_over();
-    assert_eq!(sent.answer.try_recv(), Ok(Err(Error::LeaseEnded)));
+    assert_eq!(sent.answer.try_recv(), Ok(Err(ErrorKind::LeaseEnded)));
     world.clients[0].begin_anew(ClientHandle::open_behind(0, 2, Older::IsOver(1)).unwrap());
     world.clients[0].confirm_incarnation().unwrap();
     lease_for(&mut world.clients[0], LONG);
@@ -249,9 +249,9 @@ fn a_write_that_is_bound_to_a_pin_ends_with_it_if_the_store_goes_back() {
     let waits = world.clients[0].write_under(pin, Write::Insert(row(10, 1)));
     world.said(0);
     world.clients[0].drop_all(super::super::Dropped::StoreWentBack);
-    assert_eq!(waits.answer.try_recv(), Ok(Err(Error::PinIsVoid)));
+    assert_eq!(waits.answer.try_recv(), Ok(Err(ErrorKind::PinIsVoid)));
     let void = world.clients[0].write_under(pin, Write::Insert(row(10, 2)));
-    assert_eq!(void.answer.try_recv(), Ok(Err(Error::PinIsVoid)));
+    assert_eq!(void.answer.try_recv(), Ok(Err(ErrorKind::PinIsVoid)));
 }
 
 #[test]
@@ -264,7 +264,7 @@ fn a_pin_stays_until_a_write_that_is_bound_to_it_is_judged() {
     let put = world.clients[0].write_under(pin, Write::Put(row(10, 2)));
     let late = world.said(0);
     assert_eq!(world.clients[0].was_sent(put.id), super::super::WasSent::Yes);
-    world.clients[0].abandon(put.id, Error::TimedOut);
+    world.clients[0].abandon(put.id, ErrorKind::TimedOut);
     world.clients[0].unpin(pin);
     assert!(!world.clients[0].holds_pin(pin) && world.clients[0].are_open());
     let other = world.clients[1].write(Write::Put(row(15, 3)));
@@ -283,6 +283,6 @@ fn a_write_is_bound_to_no_pin_that_is_gone() {
     world.clients[0].unpin(pin);
     let late = world.clients[0].write_under(pin, Write::Insert(row(10, 1)));
     world.settle();
-    assert_eq!(late.answer.try_recv(), Ok(Err(Error::PinIsVoid)));
+    assert_eq!(late.answer.try_recv(), Ok(Err(ErrorKind::PinIsVoid)));
     assert_eq!(world.read(1, 0..20), []);
 }

@@ -1,0 +1,59 @@
+//! What is pinned at the servers of a client.
+use crate::client::joined::Joined;
+use std::fmt;
+use std::sync::Arc;
+
+/// What the clones of a pin share. The range is free again when the last of them is dropped.
+pub(crate) struct Pinned {
+    joined: Arc<Joined>,
+    /// The shards that have a part of the range, each with the pin there.
+    parts: Vec<(usize, u64)>,
+}
+
+impl Pinned {
+    /// A pin of nothing.
+    pub fn new(joined: &Arc<Joined>) -> Pinned {
+        Pinned { joined: Arc::clone(joined), parts: Vec::new() }
+    }
+
+    /// Adds what this pin has of a shard.
+    pub fn add(&mut self, shard: usize, pin: u64) {
+        self.parts.push((shard, pin));
+    }
+
+    pub fn joined(&self) -> &Arc<Joined> {
+        &self.joined
+    }
+
+    /// The shards that have a part of the range, each with the pin there.
+    pub fn parts(&self) -> impl Iterator<Item = (usize, u64)> {
+        self.parts.iter().copied()
+    }
+
+    /// Whether no other client has taken what was held of the range, at any shard.
+    pub fn holds(&self) -> bool {
+        let holds = |(shard, pin)| self.joined.link(shard).with_jobs(|jobs| jobs.holds_pin(pin));
+        self.parts().all(holds)
+    }
+
+    /// The pin at this shard, if it has a part of the range.
+    pub fn at(&self, shard: usize) -> Option<u64> {
+        self.parts().find(|part| part.0 == shard).map(|part| part.1)
+    }
+}
+
+impl Drop for Pinned {
+    fn drop(&mut self) {
+        for (shard, pin) in self.parts() {
+            let link = self.joined.link(shard);
+            link.with_jobs(|jobs| jobs.unpin(pin));
+            link.flush();
+        }
+    }
+}
+
+impl fmt::Debug for Pinned {
+    fn fmt(&self, f: &mut fmt::Formatter<'_>) -> fmt::Result {
+        f.debug_struct("Pinned").field("parts", &self.parts).finish_non_exhaustive()
+    }
+}

@@ -1,0 +1,86 @@
+//! A client of one server: of its only one, or of that of a shard.
+use crate::client::jobs::Jobs;
+use crate::client::link::Link;
+use crate::lease::boot_clock::Moment;
+use crate::model::error::ErrorKind;
+use crate::model::row::Row;
+use crate::net::poller::Poller;
+use crate::proved::client_handle::Scan;
+use std::io;
+use std::ops::Range;
+use std::sync::{Arc, Mutex, MutexGuard, PoisonError};
+use std::thread::{self, JoinHandle};
+use std::time::{Duration, Instant};
+
+/// How long a client that is dropped waits until its Bye is kept.
+pub(crate) const FAREWELL: Duration = Duration::from_secs(1);
+
+/// A client of one server, with the thread of its connection. It leaves when it is dropped.
+pub(crate) struct ShardClient {
+    number: u8,
+    link: Arc<Link>,
+    thread: Mutex<Option<JoinHandle<()>>>,
+}
+
+impl ShardClient {
+    /// Starts the thread of the connection.
+    pub fn start(number: u8, link: Link, poller: Poller) -> io::Result<ShardClient> {
+        let link = Arc::new(link);
+        let run = Arc::clone(&link);
+        let thread = thread::Builder::new().name(format!("krl-client-{number}"));
+        let thread = thread.spawn(move || run.run(poller))?;
+        Ok(ShardClient { number, link, thread: Mutex::new(Some(thread)) })
+    }
+
+    pub fn number(&self) -> u8 {
+        self.number
+    }
+
+    pub fn link(&self) -> &Arc<Link> {
+        &self.link
+    }
+
+    /// Puts the rows of the range into `rows` if the cache covers it, and returns whether it does.
+    pub fn scan(&self, keys: &Range<u64>, rows: &mut Vec<Row>) -> bool {
+        rows.clear();
+        keys.is_empty() || self.link.cache().scan(keys, rows, Moment::now) == Ok(Scan::Rows)
+    }
+
+    /// Leaves, and waits until the deadline for the server to keep that. Then its thread has ended,
+    /// and its number is free.
+    pub fn leave_by(&self, end: Instant) -> Result<(), ErrorKind> {
+        self.link.ask(end, Jobs::leave)?;
+        self.end(end);
+        Ok(())
+    }
+
+    /// Leaves until the deadline, and ends then whether or not the server has answered.
+    pub fn end_by(&self, end: Instant) {
+        if self.thread().is_some() {
+            let _ = self.leave_by(end);
+            self.end(end);
+        }
+    }
+
+    fn thread(&self) -> MutexGuard<'_, Option<JoinHandle<()>>> {
+        self.thread.lock().unwrap_or_else(PoisonError::into_inner)
+    }
+
+    /// Ends the thread, and gives the number free. A thread that hangs at the deadline ends by
+    /// itself later, and sends nothing more.
+    pub fn end(&self, end: Instant) {
+        self.link.end();
+        let thread = self.thread().take();
+        if let Some(thread) = thread.filter(|_| self.link.has_ended(end)) {
+            // A panic of that thread has been reported by itself.
+            let _ = thread.join();
+        }
+        self.link.free_number();
+    }
+}
+
+impl Drop for ShardClient {
+    fn drop(&mut self) {
+        self.end_by(Instant::now() + FAREWELL);
+    }
+}
