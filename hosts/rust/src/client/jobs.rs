@@ -16,7 +16,6 @@ mod writing;
 mod yielding;
 
 use crate::client::answer::{Answer, Answering, place};
-use crate::client::pins::Pins;
 use crate::client::scratch::{copied, kept};
 use crate::client::wakes::Wakes;
 use crate::lease::clocks::Now;
@@ -31,21 +30,17 @@ use std::ops::Range;
 use std::sync::mpsc::SyncSender;
 use std::time::{Duration, Instant};
 
-use acknowledging::Acknowledging;
 pub(crate) use anew::Dropped;
+use anew::PerIncarnation;
 use batch::Report;
-use bound::{Bound, Wanted};
+use bound::Wanted;
 use called_back::CalledBack;
 use contended::Contended;
-use crossed::Crossed;
 use hold::Taking;
 pub use hold::{Held, Purpose};
 use leased::Speech;
 use sharing::SharedRows;
-use takings::Takings;
 use watched::Watched;
-use writing::Written;
-use yielding::Narrowed;
 
 /// How often a client sends again what is not answered, and how often it says that it is there.
 pub(crate) const BUSY_TICK: Duration = Duration::from_millis(20);
@@ -146,34 +141,18 @@ pub(crate) struct Jobs {
     /// In the order in which they came.
     open: Vec<(JobId, Job)>,
     wakes: Wakes,
-    written: Option<Written>,
     watched: Vec<Watched>,
     /// What the client knows may have changed since the watched ranges were looked at.
     is_changed: bool,
     next: JobId,
-    /// The job for which the last lock was asked.
-    asker: Option<JobId>,
-    /// The points of that lock.
-    asked: Range<u64>,
-    /// What was given back just before that lock was asked for.
-    yielded: Option<Range<u64>>,
-    narrowed: Narrowed,
+    held: PerIncarnation,
     shared: SharedRows,
-    crossed: Crossed,
     contended: Contended,
     called_back: CalledBack,
-    acknowledging: Acknowledging,
     asking: Asking,
     room: Vec<Row>,
     /// None if a tick is due.
     ticked: Option<Instant>,
-    pins: Pins,
-    /// Pins that their callers gave up, and that stay until a write is judged.
-    unpinned: Vec<u64>,
-    bound: Option<Bound>,
-    takings: Takings,
-    /// What was called back while it was pinned, and is no more.
-    owed: Vec<Range<u64>>,
     stage: Stage,
     /// Why the client has dropped all, if it has not begun again.
     void: Option<Dropped>,
@@ -196,27 +175,16 @@ impl Jobs {
             client,
             open: Vec::new(),
             wakes: Wakes::default(),
-            written: None,
             watched: Vec::new(),
             is_changed: false,
             next: 0,
-            asker: None,
-            asked: 0..0,
-            yielded: None,
-            narrowed: Narrowed::default(),
+            held: PerIncarnation::default(),
             shared: SharedRows::default(),
-            crossed: Crossed::default(),
             contended: Contended::default(),
             called_back: CalledBack::default(),
-            acknowledging: Acknowledging::AtOnce,
             asking: Asking::Allowed,
             room: Vec::with_capacity(64),
             ticked: None,
-            pins: Pins::default(),
-            unpinned: Vec::new(),
-            bound: None,
-            takings: Takings::default(),
-            owed: Vec::new(),
             stage: Stage::Here,
             void: None,
             has_begun_anew: false,
@@ -299,7 +267,7 @@ impl Jobs {
 
     /// Nobody waits for the job any more: it ends for this reason.
     pub fn abandon(&mut self, job: JobId, why: Error) {
-        if let Some(written) = self.written.take_if(|written| written.id == job) {
+        if let Some(written) = self.held.written.take_if(|written| written.id == job) {
             written.refuse(why);
         }
         self.unwatch(job);
@@ -308,7 +276,7 @@ impl Jobs {
 
     /// Whether a write was sent for this job and is not judged.
     pub fn was_sent(&self, job: JobId) -> WasSent {
-        let is_its = self.written.as_ref().is_some_and(|written| written.id == job);
+        let is_its = self.held.written.as_ref().is_some_and(|written| written.id == job);
         if is_its { WasSent::Yes } else { WasSent::No }
     }
 
@@ -335,7 +303,7 @@ impl Jobs {
             watched.refuse(why);
         }
         if let Some(why) = of_sent
-            && let Some(written) = self.written.take()
+            && let Some(written) = self.held.written.take()
         {
             written.refuse(why);
         }
@@ -364,7 +332,7 @@ impl Jobs {
         for (_, job) in self.open.drain(..) {
             job.refuse(Error::Stopped);
         }
-        if let Some(written) = self.written.take() {
+        if let Some(written) = self.held.written.take() {
             written.refuse(Error::Stopped);
         }
         self.watched.clear();
@@ -373,9 +341,9 @@ impl Jobs {
     /// Whether something is asked that the server has not answered.
     pub fn are_open(&self) -> bool {
         let is_asked = !self.open.is_empty()
-            || self.written.is_some()
-            || !self.owed.is_empty()
-            || !self.unpinned.is_empty();
+            || self.held.written.is_some()
+            || !self.held.owed.is_empty()
+            || !self.held.unpinned.is_empty();
         is_asked || matches!(self.stage, Stage::Returning | Stage::Leaving)
     }
 
@@ -406,7 +374,7 @@ impl Jobs {
         } else {
             let message = Message::read(message);
             if let Some(span) = message.called_back() {
-                self.pins.note(&span);
+                self.held.pins.note(&span);
                 self.note_shared(&span);
                 self.called_back.note(&span);
                 self.note_contended(span);
@@ -550,13 +518,13 @@ impl Jobs {
 
     /// Asks for a lock, if the client may ask just now. It answers whether it has.
     fn ask(&mut self, id: JobId, points: Range<u64>, mode: Mode) -> Result<bool, Code> {
-        if self.asking == Asking::Later || !self.takings.may_ask(id, points.start) {
+        if self.asking == Asking::Later || !self.held.takings.may_ask(id, points.start) {
             return Ok(false);
         }
         match self.client.lock(points.clone(), mode) {
             Ok(()) => {
-                (self.asker, self.asked) = (Some(id), points);
-                self.yielded = None;
+                (self.held.asker, self.held.asked) = (Some(id), points);
+                self.held.yielded = None;
                 Ok(true)
             }
             Err(Code::Busy | Code::NotJoined) => Ok(false),

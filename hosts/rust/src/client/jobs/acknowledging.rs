@@ -14,9 +14,10 @@ use crate::wire::frames::split;
 use crate::wire::message::{Kind, Message};
 
 /// How the client acknowledges what it has heard since it spoke last.
-#[derive(Clone, Copy, Debug, PartialEq, Eq)]
+#[derive(Clone, Copy, Debug, Default, PartialEq, Eq)]
 pub(super) enum Acknowledging {
     /// By a message.
+    #[default]
     AtOnce,
     /// By its next message: it has heard the one push for which it has waited.
     Later,
@@ -26,13 +27,14 @@ impl Jobs {
     /// The client has heard a message of this kind. `awaited` is whether it waited for a push.
     pub(super) fn has_heard(&mut self, kind: Kind, awaited: bool) {
         let is_last = kind.is_push() && awaited && !self.shows(Shown::awaits_a_push);
-        self.acknowledging = if is_last { Acknowledging::Later } else { Acknowledging::AtOnce };
+        self.held.acknowledging =
+            if is_last { Acknowledging::Later } else { Acknowledging::AtOnce };
     }
 
     /// Leaves out what the client sends from this place on, if that is one acknowledgement that can
     /// wait.
     pub(super) fn leave_out_acknowledgement(&mut self, frames: &mut Vec<u8>, from: usize) {
-        let how = std::mem::replace(&mut self.acknowledging, Acknowledging::AtOnce);
+        let how = std::mem::take(&mut self.held.acknowledging);
         if how == Acknowledging::Later && is_one_acknowledgement(&frames[from..]) {
             frames.truncate(from);
         }

@@ -1,13 +1,40 @@
 //! A client whose server's store went back or is another one, or whose lease has ended: it drops
 //! what it knows, and begins again.
+use super::acknowledging::Acknowledging;
+use super::bound::Bound;
 use super::crossed::Crossed;
 use super::takings::Takings;
+use super::writing::Written;
 use super::yielding::Narrowed;
-use super::{Asking, Job, Jobs, Stage};
+use super::{Asking, Job, JobId, Jobs, Stage};
 use crate::client::pins::Pins;
 use crate::model::error::Error;
 use crate::model::refusal::Refusal;
 use crate::proved::client_handle::ClientHandle;
+use std::mem;
+use std::ops::Range;
+
+/// What ends with the incarnation of a client: the next one begins with none of it.
+#[derive(Default)]
+pub(super) struct PerIncarnation {
+    pub written: Option<Written>,
+    /// The job for which the last lock was asked.
+    pub asker: Option<JobId>,
+    /// The points of that lock.
+    pub asked: Range<u64>,
+    /// What was given back just before that lock was asked for.
+    pub yielded: Option<Range<u64>>,
+    pub narrowed: Narrowed,
+    pub crossed: Crossed,
+    pub acknowledging: Acknowledging,
+    pub pins: Pins,
+    /// Pins that their callers gave up, and that stay until a write is judged.
+    pub unpinned: Vec<u64>,
+    pub bound: Option<Bound>,
+    pub takings: Takings,
+    /// Spans that were called back while they were pinned, and whose pins are gone.
+    pub owed: Vec<Range<u64>>,
+}
 
 /// Why a client has dropped all.
 #[derive(Clone, Copy, Debug, PartialEq, Eq)]
@@ -81,21 +108,12 @@ impl Jobs {
         if self.stage == Stage::Leaving {
             self.stage = Stage::Returning;
         }
-        self.pins = Pins::default();
         self.first_pin = self.next_pin;
-        self.unpinned.clear();
-        self.bound = None;
-        self.takings = Takings::default();
-        self.owed.clear();
-        self.crossed = Crossed::default();
-        self.asker = None;
-        self.yielded = None;
-        self.narrowed = Narrowed::default();
-        if let Some(written) = self.written.take() {
+        if let Some(written) = mem::take(&mut self.held).written {
             written.end_with_its_client(why.refused());
         }
         self.end_unbound_writes();
-        for (id, job) in std::mem::take(&mut self.open) {
+        for (id, job) in mem::take(&mut self.open) {
             self.open.extend(job.behind(why).map(|job| (id, job)));
         }
         self.is_changed = true;

@@ -78,14 +78,14 @@ impl Jobs {
     /// A write was sent.
     pub(super) fn note_bond(&mut self, bond: Bond, number: u64) {
         if let Bond::Pin(pin) = bond {
-            self.bound = Some(Bound { pin, number });
+            self.held.bound = Some(Bound { pin, number });
         }
     }
 
     /// Whether a write that is bound to the pin was sent and is not judged, also if nobody waits
     /// for it any more. A client has one write on its way at most.
     pub(super) fn awaits_a_write_of(&self, pin: u64) -> bool {
-        let Some(bound) = self.bound.filter(|bound| bound.pin == pin) else { return false };
+        let Some(bound) = self.held.bound.filter(|bound| bound.pin == pin) else { return false };
         self.shows(|shown| shown.number == bound.number && shown.outcome.is_none())
     }
 

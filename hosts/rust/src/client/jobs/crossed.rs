@@ -55,7 +55,7 @@ impl Jobs {
     pub(super) fn step(&mut self, message: Message<'_>) -> Result<(), Code> {
         if let Some(span) = message.called_back() {
             if self.shows(Shown::awaits_a_push) {
-                self.crossed.note(span.clone(), message.bytes());
+                self.held.crossed.note(span.clone(), message.bytes());
             }
             return self.give_callback(&span, message.bytes());
         }
@@ -85,14 +85,14 @@ impl Jobs {
     fn call_back_again(&mut self, was_waiting: bool) -> Result<(), Code> {
         if was_waiting && !self.shows(|shown| shown.is_waiting) {
             let client = &self.client;
-            self.crossed.leave_out(&self.asked, |point| client.holds(point));
+            self.held.crossed.leave_out(&self.held.asked, |point| client.holds(point));
         }
-        let callbacks = std::mem::take(&mut self.crossed.callbacks);
+        let callbacks = std::mem::take(&mut self.held.crossed.callbacks);
         for Callback { span, message } in &callbacks {
             self.give_callback(span, message)?;
         }
         if self.shows(Shown::awaits_a_push) {
-            self.crossed.callbacks = callbacks;
+            self.held.crossed.callbacks = callbacks;
         }
         Ok(())
     }

@@ -68,12 +68,12 @@ impl Jobs {
         mut taking: Taking,
         reply: Reply<Held>,
     ) -> Option<Job> {
-        self.takings.begins(id, taking.keys.end);
+        self.held.takings.begins(id, taking.keys.end);
         let held = self.try_hold(id, &mut taking);
         match held {
             Ok(None) => {}
             // The pin is the caller's now.
-            Ok(Some(_)) => self.takings.ends(id),
+            Ok(Some(_)) => self.held.takings.ends(id),
             Err(_) => self.give_up(id, &taking),
         }
         reply.give(held).map(|reply| Job::Hold(taking, reply))
@@ -81,7 +81,7 @@ impl Jobs {
 
     /// Frees what is pinned of a range that nobody waits for.
     pub(super) fn give_up(&mut self, id: JobId, taking: &Taking) {
-        self.takings.ends(id);
+        self.held.takings.ends(id);
         if let Some(pin) = taking.pin {
             self.unpin(pin);
         }
@@ -89,7 +89,7 @@ impl Jobs {
 
     /// Pins what is held by now, and asks for what comes next.
     fn try_hold(&mut self, id: JobId, taking: &mut Taking) -> Result<Option<Held>, Code> {
-        let is_granted = self.asker == Some(id) && self.client.status()?.is_granted;
+        let is_granted = self.held.asker == Some(id) && self.client.status()?.is_granted;
         // A grant is looked at once: a callback may come after it.
         let granted = if is_granted { taking.asked.take() } else { None };
         let mut rows = Vec::new();
@@ -168,7 +168,7 @@ impl Jobs {
             return Ok(());
         }
         let points = taking.keys.start..end;
-        self.takings.keeps(id, &points);
+        self.held.takings.keeps(id, &points);
         let wider = self.add_pin(points)?;
         taking.next = end;
         if let Some(narrower) = taking.pin.replace(wider) {

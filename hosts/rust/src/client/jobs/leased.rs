@@ -101,7 +101,7 @@ impl Jobs {
         let before = frames.len();
         self.say(frames);
         if frames.len() > before
-            && let Some(written) = &mut self.written
+            && let Some(written) = &mut self.held.written
         {
             written.note_left();
         }
@@ -149,7 +149,7 @@ impl Jobs {
     /// Whether the pin is one of the client of now that its caller still has, and its lease holds.
     /// A client that leaves gives back what it has pinned.
     pub fn holds_pin(&self, id: u64) -> bool {
-        let is_there = self.pins.has(id) && !self.unpinned.contains(&id);
+        let is_there = self.held.pins.has(id) && !self.held.unpinned.contains(&id);
         is_there && self.stage == Stage::Here && !self.is_void() && self.holds_lease()
     }
 }

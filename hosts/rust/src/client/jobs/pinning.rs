@@ -17,7 +17,7 @@ impl Jobs {
     pub(super) fn add_pin(&mut self, keys: Range<u64>) -> Result<u64, Code> {
         let id = self.first_pin + self.client.pin(&keys)?;
         self.next_pin = self.next_pin.max(id + 1);
-        self.pins.add(id, keys);
+        self.held.pins.add(id, keys);
         Ok(id)
     }
 
@@ -31,7 +31,7 @@ impl Jobs {
 
     fn unpin_if_judged(&mut self, id: u64) {
         if self.awaits_a_write_of(id) {
-            self.unpinned.push(id);
+            self.held.unpinned.push(id);
         } else {
             self.free_pin(id);
         }
@@ -39,7 +39,7 @@ impl Jobs {
 
     /// Frees the pins that stayed for a write that is judged by now.
     pub(super) fn free_unpinned(&mut self) {
-        for id in std::mem::take(&mut self.unpinned) {
+        for id in std::mem::take(&mut self.held.unpinned) {
             self.unpin_if_judged(id);
         }
     }
@@ -49,20 +49,20 @@ impl Jobs {
         let Some(pin) = id.checked_sub(self.first_pin) else { return };
         // The pin is there, and a client that has left has none.
         let _ = self.client.unpin(pin);
-        self.owed.extend(self.pins.remove(id));
+        self.held.owed.extend(self.held.pins.remove(id));
         self.give_back();
     }
 
     /// Gives back what was called back while it was pinned, if it meets no other pin and nothing
     /// hinders it just now.
     pub(super) fn give_back(&mut self) {
-        for span in std::mem::take(&mut self.owed) {
+        for span in std::mem::take(&mut self.held.owed) {
             // If memory is refused, the next call comes back to it. A client that has left owes
             // nothing.
-            let is_owed = self.pins.are_off(&span)
+            let is_owed = self.held.pins.are_off(&span)
                 && matches!(self.try_forget(&span), Ok(false) | Err(Code::OutOfMemory));
             if is_owed {
-                self.owed.push(span);
+                self.held.owed.push(span);
             }
         }
     }

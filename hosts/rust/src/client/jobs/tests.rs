@@ -193,7 +193,7 @@ fn a_delete_has_both_of_its_slots_though_a_reader_wants_them_again_and_again() {
         }
     }
     assert_eq!(delete.answer.try_recv(), Ok(Ok(Outcome::Applied)));
-    assert_eq!(world.clients[0].takings.count(), 0);
+    assert_eq!(world.clients[0].held.takings.count(), 0);
 }
 
 #[test]
@@ -223,9 +223,9 @@ fn a_delete_that_nobody_waits_for_keeps_nothing() {
     let pin = world.clients[1].pin(8..11).unwrap();
     let delete = world.clients[0].write(Write::Delete(5));
     world.settle();
-    assert_eq!(world.clients[0].takings.count(), 1);
+    assert_eq!(world.clients[0].held.takings.count(), 1);
     world.clients[0].abandon(delete.id, Error::TimedOut);
-    assert_eq!(world.clients[0].takings.count(), 0);
+    assert_eq!(world.clients[0].held.takings.count(), 0);
     world.settle();
     assert_eq!(world.read(1, 0..6), [row(5, 1)]);
     world.clients[1].unpin(pin);

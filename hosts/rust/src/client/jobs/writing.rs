@@ -62,7 +62,7 @@ impl Jobs {
     /// Ends the job whose write was judged, before another write takes its place.
     pub(super) fn end_written(&mut self, shown: &Shown) {
         let Some(outcome) = shown.outcome else { return };
-        let judged = self.written.take_if(|written| written.number == shown.number);
+        let judged = self.held.written.take_if(|written| written.number == shown.number);
         let Some(Written { id, wanted, report, .. }) = judged else { return };
         if outcome == Outcome::NotHeld {
             // The table was the server's to judge by: the client asks for what it lacks, and writes
@@ -78,7 +78,7 @@ impl Jobs {
 
     /// Whether the write that was on its way is judged Applied by now. Its job has not ended yet.
     pub(super) fn has_just_written(&self) -> bool {
-        let number = self.written.as_ref().map(|written| written.number);
+        let number = self.held.written.as_ref().map(|written| written.number);
         self.shows(|shown| number == Some(shown.number) && shown.outcome == Some(Outcome::Applied))
     }
 
@@ -93,7 +93,7 @@ impl Jobs {
                 Step::Waits => return Some(Job::Write(wanted, report)),
                 Step::Sent(number) => {
                     let may_have_left = false;
-                    self.written = Some(Written { id, wanted, number, report, may_have_left });
+                    self.held.written = Some(Written { id, wanted, number, report, may_have_left });
                     return None;
                 }
                 Step::Refused(why) => {
@@ -127,8 +127,8 @@ impl Jobs {
 
     fn try_write(&mut self, id: JobId, wanted: &mut Wanted) -> Result<Step, Code> {
         let write = &wanted.write;
-        if self.asker == Some(id) && self.is_told_absent(write) {
-            self.asker = None;
+        if self.held.asker == Some(id) && self.is_told_absent(write) {
+            self.held.asker = None;
             return Ok(Step::Known(Outcome::Absent));
         }
         match self.client.write(write) {
@@ -174,7 +174,7 @@ impl Jobs {
             // A client that has all its pins asks for both slots until it has them.
             let Ok(pin) = self.add_pin(key..key + 1) else { return };
             wanted.kept = Some(Kept { pin, since: self.now.monotonic });
-            self.takings.keeps(id, &(key..key + 1));
+            self.held.takings.keeps(id, &(key..key + 1));
         }
     }
 
@@ -190,7 +190,7 @@ impl Jobs {
     /// A delete keeps its slot no more.
     pub(super) fn let_go(&mut self, id: JobId, wanted: &mut Wanted) {
         if let Some(Kept { pin, .. }) = wanted.kept.take() {
-            self.takings.ends(id);
+            self.held.takings.ends(id);
             self.unpin(pin);
         }
     }

@@ -81,7 +81,7 @@ impl Jobs {
     pub(super) fn may_ask(&self, id: JobId, point: u64) -> bool {
         self.asking == Asking::Allowed
             && !self.shows(|shown| shown.is_waiting)
-            && self.takings.may_ask(id, point)
+            && self.held.takings.may_ask(id, point)
     }
 
     fn give_back_and_ask(
@@ -98,7 +98,7 @@ impl Jobs {
         match self.try_forget(&read.span) {
             Ok(true) => {
                 let has_asked = self.ask(id, points, read.joined_with(mode))?;
-                self.yielded = has_asked.then(|| read.span.clone());
+                self.held.yielded = has_asked.then(|| read.span.clone());
                 Ok(has_asked)
             }
             Ok(false) => Ok(false),
@@ -110,7 +110,7 @@ impl Jobs {
     /// Gives back again what the client gave back before the request that waits. A connection that
     /// has ended may have lost the release, and the request is sent again on the next one.
     pub(super) fn yield_again(&mut self) {
-        if let Some(span) = self.yielded.clone()
+        if let Some(span) = self.held.yielded.clone()
             && self.shows(|shown| shown.is_waiting)
         {
             // Who has pinned there meanwhile waits where the request stands.
@@ -121,7 +121,7 @@ impl Jobs {
     /// The client was called back on this slot.
     pub(super) fn note_narrowed(&mut self, slot: &Range<u64>) {
         if self.reads_entry_without_gap(slot) {
-            self.narrowed.note(slot.clone());
+            self.held.narrowed.note(slot.clone());
         }
     }
 
@@ -142,7 +142,7 @@ impl Jobs {
     /// The slot of this point, if a callback left the client only its entry. Another client may
     /// still wait for the gap.
     fn left_by_a_callback(&self, point: u64) -> Option<OnlyRead> {
-        let slot = self.narrowed.slot_of(point)?;
+        let slot = self.held.narrowed.slot_of(point)?;
         if !self.reads_entry_without_gap(slot) {
             return None;
         }
