@@ -9,6 +9,7 @@ mod crossed;
 mod hold;
 mod leased;
 mod pinning;
+mod request;
 mod sharing;
 mod takings;
 mod watched;
@@ -22,7 +23,6 @@ use crate::lease::clocks::Now;
 use crate::model::change::{Outcome, Write};
 use crate::model::code::Code;
 use crate::model::error::Error;
-use crate::model::lock::Mode;
 use crate::model::row::Row;
 use crate::proved::client_handle::{Cache, ClientHandle, Scan};
 use crate::wire::message::Message;
@@ -39,6 +39,7 @@ use contended::Contended;
 use hold::Taking;
 pub use hold::{Held, Purpose};
 use leased::Speech;
+pub(crate) use request::Asking;
 use sharing::SharedRows;
 use watched::Watched;
 
@@ -106,17 +107,6 @@ enum Job {
 pub(crate) enum WasSent {
     Yes,
     No,
-}
-
-/// Whether a job may ask for a lock just now.
-///
-/// While messages that came are still unread it may not: a callback among them would be obeyed too
-/// late. The release would say that the client has not seen the grant that it has just asked for,
-/// and the server passes over such a release.
-#[derive(Clone, Copy, Debug, PartialEq, Eq)]
-pub(crate) enum Asking {
-    Allowed,
-    Later,
 }
 
 /// Whether the client is still there.
@@ -514,22 +504,6 @@ impl Jobs {
             }
         }
         known
-    }
-
-    /// Asks for a lock, if the client may ask just now. It answers whether it has.
-    fn ask(&mut self, id: JobId, points: Range<u64>, mode: Mode) -> Result<bool, Code> {
-        if self.asking == Asking::Later || !self.held.takings.may_ask(id, points.start) {
-            return Ok(false);
-        }
-        match self.client.lock(points.clone(), mode) {
-            Ok(()) => {
-                (self.held.asker, self.held.asked) = (Some(id), points);
-                self.held.yielded = None;
-                Ok(true)
-            }
-            Err(Code::Busy | Code::NotJoined) => Ok(false),
-            Err(code) => Err(code),
-        }
     }
 
     /// Gives back what the client holds of the keys, if nothing hinders it just now.

@@ -3,10 +3,11 @@
 use super::acknowledging::Acknowledging;
 use super::bound::Bound;
 use super::crossed::Crossed;
+use super::request::Request;
 use super::takings::Takings;
 use super::writing::Written;
 use super::yielding::Narrowed;
-use super::{Asking, Job, JobId, Jobs, Stage};
+use super::{Asking, Job, Jobs, Stage};
 use crate::client::pins::Pins;
 use crate::model::error::Error;
 use crate::model::refusal::Refusal;
@@ -18,12 +19,8 @@ use std::ops::Range;
 #[derive(Default)]
 pub(super) struct PerIncarnation {
     pub written: Option<Written>,
-    /// The job for which the last lock was asked.
-    pub asker: Option<JobId>,
-    /// The points of that lock.
-    pub asked: Range<u64>,
-    /// What was given back just before that lock was asked for.
-    pub yielded: Option<Range<u64>>,
+    /// The last request for a lock.
+    pub request: Option<Request>,
     pub narrowed: Narrowed,
     pub crossed: Crossed,
     pub acknowledging: Acknowledging,

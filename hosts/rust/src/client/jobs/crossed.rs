@@ -83,9 +83,12 @@ impl Jobs {
 
     /// Takes the callbacks again, and for the last time if no other push may be on its way.
     fn call_back_again(&mut self, was_waiting: bool) -> Result<(), Code> {
-        if was_waiting && !self.shows(|shown| shown.is_waiting) {
+        if was_waiting
+            && !self.shows(|shown| shown.is_waiting)
+            && let Some(request) = &self.held.request
+        {
             let client = &self.client;
-            self.held.crossed.leave_out(&self.held.asked, |point| client.holds(point));
+            self.held.crossed.leave_out(request.points(), |point| client.holds(point));
         }
         let callbacks = std::mem::take(&mut self.held.crossed.callbacks);
         for Callback { span, message } in &callbacks {

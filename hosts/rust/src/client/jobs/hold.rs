@@ -89,7 +89,7 @@ impl Jobs {
 
     /// Pins what is held by now, and asks for what comes next.
     fn try_hold(&mut self, id: JobId, taking: &mut Taking) -> Result<Option<Held>, Code> {
-        let is_granted = self.held.asker == Some(id) && self.client.status()?.is_granted;
+        let is_granted = self.has_asked(id) && self.client.status()?.is_granted;
         // A grant is looked at once: a callback may come after it.
         let granted = if is_granted { taking.asked.take() } else { None };
         let mut rows = Vec::new();

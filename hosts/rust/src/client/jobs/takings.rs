@@ -69,7 +69,8 @@ impl Jobs {
     /// Whether a job may keep points below this one while it waits for more: not if the request of
     /// another job waits for one of them, or below.
     pub(super) fn may_keep(&self, id: JobId, end: u64) -> bool {
-        let is_below = self.held.asker != Some(id) && self.held.asked.start < end;
+        let request = self.held.request.as_ref();
+        let is_below = request.is_some_and(|request| request.is_of_another_below(id, end));
         !is_below || !self.shows(|shown| shown.is_waiting)
     }
 }

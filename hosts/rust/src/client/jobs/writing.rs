@@ -127,8 +127,8 @@ impl Jobs {
 
     fn try_write(&mut self, id: JobId, wanted: &mut Wanted) -> Result<Step, Code> {
         let write = &wanted.write;
-        if self.held.asker == Some(id) && self.is_told_absent(write) {
-            self.held.asker = None;
+        if self.has_asked(id) && self.is_told_absent(write) {
+            self.held.request = None;
             return Ok(Step::Known(Outcome::Absent));
         }
         match self.client.write(write) {

@@ -15,7 +15,8 @@
 mod narrowed;
 mod reach;
 
-use super::{Asking, JobId, Jobs};
+use super::request::Request;
+use super::{JobId, Jobs};
 use crate::model::code::Code;
 use crate::model::lock::Mode;
 use crate::model::row::{END, Row};
@@ -49,7 +50,7 @@ impl OnlyRead {
 
 impl Jobs {
     /// Asks for a lock with which the client may change something, now or later, if it may ask just
-    /// now. It answers whether it has. What the client only reads of the first slot it gives back
+    /// now. Returns whether it has. What the client only reads of the first slot it gives back
     /// before, unless it is pinned: the release and the request leave together.
     pub(super) fn ask_to_change(
         &mut self,
@@ -61,34 +62,27 @@ impl Jobs {
             return Ok(false);
         }
         match self.slot_only_read(points.start, mode) {
-            Some(read) => self.give_back_and_ask(id, points, &read, mode),
-            None => self.ask(id, points, mode),
+            Some(read) => self.give_back_and_ask(Request::new(id, points), read, mode),
+            None => self.ask(Request::new(id, points), mode),
         }
     }
 
-    /// Asks for a lock with which the client reads, if it may ask just now. It answers whether it
-    /// has. What a callback left of the first slot it gives back before, as above.
+    /// Asks for a lock with which the client reads, if it may ask just now. Returns whether it has.
+    /// What a callback left of the first slot it gives back before, as above.
     pub(super) fn ask_to_read(&mut self, id: JobId, points: Range<u64>) -> Result<bool, Code> {
-        let Some(left) = self.left_by_a_callback(points.start) else {
-            return self.ask(id, points, Mode::RangeSS);
-        };
         if !self.may_ask(id, points.start) {
             return Ok(false);
         }
-        self.give_back_and_ask(id, points, &left, Mode::RangeSS)
-    }
-
-    pub(super) fn may_ask(&self, id: JobId, point: u64) -> bool {
-        self.asking == Asking::Allowed
-            && !self.shows(|shown| shown.is_waiting)
-            && self.held.takings.may_ask(id, point)
+        match self.left_by_a_callback(points.start) {
+            Some(left) => self.give_back_and_ask(Request::new(id, points), left, Mode::RangeSS),
+            None => self.ask(Request::new(id, points), Mode::RangeSS),
+        }
     }
 
     fn give_back_and_ask(
         &mut self,
-        id: JobId,
-        points: Range<u64>,
-        read: &OnlyRead,
+        request: Request,
+        read: OnlyRead,
         mode: Mode,
     ) -> Result<bool, Code> {
         // The server passes over a release that leaves while a push is on its way.
@@ -97,12 +91,11 @@ impl Jobs {
         }
         match self.try_forget(&read.span) {
             Ok(true) => {
-                let has_asked = self.ask(id, points, read.joined_with(mode))?;
-                self.held.yielded = has_asked.then(|| read.span.clone());
-                Ok(has_asked)
+                let mode = read.joined_with(mode);
+                self.ask(request.after(read.span), mode)
             }
             Ok(false) => Ok(false),
-            Err(Code::Pinned) => self.ask(id, points, mode),
+            Err(Code::Pinned) => self.ask(request, mode),
             Err(code) => Err(code),
         }
     }
@@ -110,11 +103,11 @@ impl Jobs {
     /// Gives back again what the client gave back before the request that waits. A connection that
     /// has ended may have lost the release, and the request is sent again on the next one.
     pub(super) fn yield_again(&mut self) {
-        if let Some(span) = self.held.yielded.clone()
+        if let Some(span) = self.held.request.as_ref().and_then(Request::yielded)
             && self.shows(|shown| shown.is_waiting)
         {
             // Who has pinned there meanwhile waits where the request stands.
-            let _ = self.client.forget(&span);
+            let _ = self.client.forget(span);
         }
     }
 
