@@ -12,7 +12,6 @@ pub(crate) mod link;
 pub(crate) mod lock_file;
 pub(crate) mod numbers;
 pub(crate) mod pin;
-mod pins;
 mod refused_connects;
 pub(crate) mod scratch;
 pub(crate) mod session;

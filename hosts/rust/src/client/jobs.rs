@@ -8,7 +8,7 @@ mod contended;
 mod crossed;
 mod hold;
 mod leased;
-mod pinning;
+mod pins;
 mod request;
 mod sharing;
 mod takings;
@@ -134,7 +134,8 @@ pub(crate) struct Jobs {
     watched: Vec<Watched>,
     /// What the client knows may have changed since the watched ranges were looked at.
     is_changed: bool,
-    next: JobId,
+    /// The last name that was given to a job or to a pin.
+    last_name: u64,
     held: PerIncarnation,
     shared: SharedRows,
     contended: Contended,
@@ -150,10 +151,6 @@ pub(crate) struct Jobs {
     /// The last incarnation that it has begun.
     incarnation: u64,
     speech: Speech,
-    /// The name of the first pin that the library's client of now may have, and of the next one.
-    /// Those before were another one's.
-    first_pin: u64,
-    next_pin: u64,
 }
 
 impl Jobs {
@@ -167,7 +164,7 @@ impl Jobs {
             wakes: Wakes::default(),
             watched: Vec::new(),
             is_changed: false,
-            next: 0,
+            last_name: 0,
             held: PerIncarnation::default(),
             shared: SharedRows::default(),
             contended: Contended::default(),
@@ -178,8 +175,6 @@ impl Jobs {
             stage: Stage::Here,
             void: None,
             has_begun_anew: false,
-            first_pin: 0,
-            next_pin: 0,
         }
     }
 
@@ -232,7 +227,7 @@ impl Jobs {
     }
 
     fn add<T>(&mut self, job: impl FnOnce(Reply<T>) -> Job) -> Asked<T> {
-        self.next += 1;
+        let id = self.next_name();
         self.end_lease_if_over();
         let (reply, answer) = place(&self.wakes);
         let job = job(Reply::Own(reply));
@@ -240,19 +235,24 @@ impl Jobs {
             Stage::Ended => job.refuse(Error::Stopped),
             Stage::Gone => job.end_after_bye(),
             Stage::Here | Stage::Returning | Stage::Leaving => {
-                self.open.push((self.next, job));
+                self.open.push((id, job));
                 self.advance(Asking::Allowed);
             }
         }
-        Asked { id: self.next, is_urgent: true, answer }
+        Asked { id, is_urgent: true, answer }
     }
 
     /// The answer to something that needs no job.
     fn answer_at_once<T>(&mut self, answer: Result<T, Error>) -> Asked<T> {
-        self.next += 1;
         let (reply, asked) = place(&self.wakes);
         reply.give(answer);
-        Asked { id: self.next, is_urgent: true, answer: asked }
+        Asked { id: self.next_name(), is_urgent: true, answer: asked }
+    }
+
+    /// A name that no job and no pin of this client has.
+    fn next_name(&mut self) -> u64 {
+        self.last_name += 1;
+        self.last_name
     }
 
     /// Nobody waits for the job any more: it ends for this reason.
@@ -330,10 +330,8 @@ impl Jobs {
 
     /// Whether something is asked that the server has not answered.
     pub fn are_open(&self) -> bool {
-        let is_asked = !self.open.is_empty()
-            || self.held.written.is_some()
-            || !self.held.owed.is_empty()
-            || !self.held.unpinned.is_empty();
+        let is_asked =
+            !self.open.is_empty() || self.held.written.is_some() || self.held.pins.are_open();
         is_asked || matches!(self.stage, Stage::Returning | Stage::Leaving)
     }
 
@@ -433,7 +431,7 @@ impl Jobs {
             }
             self.end_written(&shown);
         }
-        self.free_unpinned();
+        self.free_pins();
         for (id, job) in std::mem::take(&mut self.open) {
             if let Some(job) = self.advance_one(id, job) {
                 self.open.push((id, job));

@@ -1,19 +1,17 @@
 //! A client whose server's store went back or is another one, or whose lease has ended: it drops
 //! what it knows, and begins again.
 use super::acknowledging::Acknowledging;
-use super::bound::Bound;
 use super::crossed::Crossed;
+use super::pins::PinTable;
 use super::request::Request;
 use super::takings::Takings;
 use super::writing::Written;
 use super::yielding::Narrowed;
 use super::{Asking, Job, Jobs, Stage};
-use crate::client::pins::Pins;
 use crate::model::error::Error;
 use crate::model::refusal::Refusal;
 use crate::proved::client_handle::ClientHandle;
 use std::mem;
-use std::ops::Range;
 
 /// What ends with the incarnation of a client: the next one begins with none of it.
 #[derive(Default)]
@@ -24,13 +22,8 @@ pub(super) struct PerIncarnation {
     pub narrowed: Narrowed,
     pub crossed: Crossed,
     pub acknowledging: Acknowledging,
-    pub pins: Pins,
-    /// Pins that their callers gave up, and that stay until a write is judged.
-    pub unpinned: Vec<u64>,
-    pub bound: Option<Bound>,
+    pub pins: PinTable,
     pub takings: Takings,
-    /// Spans that were called back while they were pinned, and whose pins are gone.
-    pub owed: Vec<Range<u64>>,
 }
 
 /// Why a client has dropped all.
@@ -105,7 +98,6 @@ impl Jobs {
         if self.stage == Stage::Leaving {
             self.stage = Stage::Returning;
         }
-        self.first_pin = self.next_pin;
         if let Some(written) = mem::take(&mut self.held).written {
             written.end_with_its_client(why.refused());
         }

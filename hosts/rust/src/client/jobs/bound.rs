@@ -24,13 +24,6 @@ pub(super) struct Wanted {
     pub kept: Option<Kept>,
 }
 
-/// The last write that was sent and is bound to a pin.
-#[derive(Clone, Copy, Debug)]
-pub(super) struct Bound {
-    pin: u64,
-    number: u64,
-}
-
 impl Wanted {
     pub fn new(write: Write, bond: Bond) -> Wanted {
         Wanted { write, bond, kept: None }
@@ -78,15 +71,8 @@ impl Jobs {
     /// A write was sent.
     pub(super) fn note_bond(&mut self, bond: Bond, number: u64) {
         if let Bond::Pin(pin) = bond {
-            self.held.bound = Some(Bound { pin, number });
+            self.held.pins.bind(pin, number);
         }
-    }
-
-    /// Whether a write that is bound to the pin was sent and is not judged, also if nobody waits
-    /// for it any more. A client has one write on its way at most.
-    pub(super) fn awaits_a_write_of(&self, pin: u64) -> bool {
-        let Some(bound) = self.held.bound.filter(|bound| bound.pin == pin) else { return false };
-        self.shows(|shown| shown.number == bound.number && shown.outcome.is_none())
     }
 
     /// Ends the writes that wait, and are bound to a pin that no longer holds.

@@ -149,8 +149,7 @@ impl Jobs {
     /// Whether the pin is one of the client of now that its caller still has, and its lease holds.
     /// A client that leaves gives back what it has pinned.
     pub fn holds_pin(&self, id: u64) -> bool {
-        let is_there = self.held.pins.has(id) && !self.held.unpinned.contains(&id);
-        is_there && self.stage == Stage::Here && !self.is_void() && self.holds_lease()
+        self.held.pins.has(id) && self.stage == Stage::Here && !self.is_void() && self.holds_lease()
     }
 }
 

@@ -41,15 +41,15 @@ impl Jobs {
     }
 
     fn watch_for(&mut self, keys: Range<u64>, rows: Vec<Row>, reply: Reply<()>) -> JobId {
-        self.next += 1;
+        let id = self.next_name();
         if self.stage == Stage::Ended {
             reply.end(Err(Error::Stopped));
         } else {
-            self.watched.push(Watched { id: self.next, keys, rows, reply });
+            self.watched.push(Watched { id, keys, rows, reply });
             self.is_changed = true;
             self.tell_changes();
         }
-        self.next
+        id
     }
 
     /// Nobody waits any more for a change that this job watches for.
