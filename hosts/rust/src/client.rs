@@ -492,7 +492,7 @@ impl Client {
     /// The spans of keys that the server has called back from the client since the last call of
     /// this, the oldest first and each once: other clients wanted to change something there, or to
     /// read what this one has written. It is a hint for callers that read ahead. The last 256 spans
-    /// are kept.
+    /// are kept, until the client drops all that it holds, as at the end of its lease.
     #[must_use]
     pub fn take_called_back(&self) -> Vec<Range<u64>> {
         self.link().with_jobs(Jobs::take_called_back)

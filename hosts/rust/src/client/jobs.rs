@@ -3,9 +3,8 @@ mod acknowledging;
 mod anew;
 mod batch;
 mod bound;
-mod called_back;
+mod callbacks;
 mod contended;
-mod crossed;
 mod hold;
 mod leased;
 mod pins;
@@ -34,8 +33,7 @@ pub(crate) use anew::Dropped;
 use anew::PerIncarnation;
 use batch::Report;
 use bound::Wanted;
-use called_back::CalledBack;
-use contended::Contended;
+use contended::Attempts;
 use hold::Taking;
 pub use hold::{Held, Purpose};
 use leased::Speech;
@@ -138,8 +136,7 @@ pub(crate) struct Jobs {
     last_name: u64,
     held: PerIncarnation,
     shared: SharedRows,
-    contended: Contended,
-    called_back: CalledBack,
+    attempts: Attempts,
     asking: Asking,
     room: Vec<Row>,
     /// None if a tick is due.
@@ -167,8 +164,7 @@ impl Jobs {
             last_name: 0,
             held: PerIncarnation::default(),
             shared: SharedRows::default(),
-            contended: Contended::default(),
-            called_back: CalledBack::default(),
+            attempts: Attempts::default(),
             asking: Asking::Allowed,
             room: Vec::with_capacity(64),
             ticked: None,
@@ -360,17 +356,7 @@ impl Jobs {
                 self.stage = Stage::Gone;
             }
         } else {
-            let message = Message::read(message);
-            if let Some(span) = message.called_back() {
-                self.held.pins.note(&span);
-                self.note_shared(&span);
-                self.called_back.note(&span);
-                self.note_contended(span);
-            }
-            self.step(message)?;
-            if let Some(slot) = message.answered_slot() {
-                self.share_written(&slot);
-            }
+            self.step(Message::read(message))?;
         }
         self.is_changed = true;
         self.advance(Asking::Later);

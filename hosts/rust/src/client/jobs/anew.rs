@@ -1,12 +1,11 @@
 //! A client whose server's store went back or is another one, or whose lease has ended: it drops
 //! what it knows, and begins again.
 use super::acknowledging::Acknowledging;
-use super::crossed::Crossed;
+use super::callbacks::Callbacks;
 use super::pins::PinTable;
 use super::request::Request;
 use super::takings::Takings;
 use super::writing::Written;
-use super::yielding::Narrowed;
 use super::{Asking, Job, Jobs, Stage};
 use crate::model::error::Error;
 use crate::model::refusal::Refusal;
@@ -19,11 +18,10 @@ pub(super) struct PerIncarnation {
     pub written: Option<Written>,
     /// The last request for a lock.
     pub request: Option<Request>,
-    pub narrowed: Narrowed,
-    pub crossed: Crossed,
     pub acknowledging: Acknowledging,
     pub pins: PinTable,
     pub takings: Takings,
+    pub callbacks: Callbacks,
 }
 
 /// Why a client has dropped all.

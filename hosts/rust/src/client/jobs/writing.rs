@@ -67,7 +67,7 @@ impl Jobs {
         if outcome == Outcome::NotHeld {
             // The table was the server's to judge by: the client asks for what it lacks, and writes
             // again.
-            self.contended.note_not_free();
+            self.attempts.note_not_free();
             let younger = self.open.iter().position(|(other, _)| *other > id);
             let place = younger.unwrap_or(self.open.len());
             self.open.insert(place, (id, Job::Write(wanted, report)));

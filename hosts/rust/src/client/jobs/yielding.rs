@@ -12,7 +12,6 @@
 //! gap again would pass the one that waits to insert there, each while the other one still reads:
 //! one of them reads the gap at any time, and nobody ever inserts. With nothing held, each of them
 //! reads the gap again after the insert.
-mod narrowed;
 mod reach;
 
 use super::request::Request;
@@ -21,7 +20,6 @@ use crate::model::code::Code;
 use crate::model::lock::Mode;
 use crate::model::row::{END, Row};
 use crate::proved::client_handle::{Scan, Shown};
-pub(super) use narrowed::Narrowed;
 use reach::{TooFar, farthest};
 use std::ops::Range;
 
@@ -111,13 +109,6 @@ impl Jobs {
         }
     }
 
-    /// The client was called back on this slot.
-    pub(super) fn note_narrowed(&mut self, slot: &Range<u64>) {
-        if self.reads_entry_without_gap(slot) {
-            self.held.narrowed.note(slot.clone());
-        }
-    }
-
     /// The slot of this point, if the client reads there and has no greater mode.
     fn slot_only_read(&self, point: u64, mode: Mode) -> Option<OnlyRead> {
         let is_entry_read = self.client.reads_entry(point);
@@ -135,8 +126,8 @@ impl Jobs {
     /// The slot of this point, if a callback left the client only its entry. Another client may
     /// still wait for the gap.
     fn left_by_a_callback(&self, point: u64) -> Option<OnlyRead> {
-        let slot = self.held.narrowed.slot_of(point)?;
-        if !self.reads_entry_without_gap(slot) {
+        let slot = self.held.callbacks.narrowed_slot(point)?;
+        if !self.client.reads_only_entry(slot) {
             return None;
         }
         // The slot has become smaller since, if the client holds the point before.
@@ -174,12 +165,6 @@ impl Jobs {
             Ok(Scan::Rows) => Ok(rows),
             _ => Err(TooFar),
         }
-    }
-
-    fn reads_entry_without_gap(&self, slot: &Range<u64>) -> bool {
-        // No slot is empty, and a message may still say so.
-        let entry = slot.end.saturating_sub(1);
-        self.client.reads_entry(entry) && !self.client.reads_gap(entry)
     }
 }
 

@@ -1,7 +1,8 @@
-use super::{MAX_PLACES, OF_LATE, PAUSE};
+use super::PAUSE;
 use crate::client::jobs::bound::Wanted;
+use crate::client::jobs::callbacks::CONTENDED_FOR;
 use crate::client::jobs::world::{World, pass, row};
-use crate::client::jobs::{Asking, Jobs, Purpose};
+use crate::client::jobs::{Asking, Purpose};
 use crate::model::change::{Outcome, Write};
 use crate::model::error::Error;
 use crate::wire::message::kind::{ACK, LOCK, RELEASE};
@@ -127,6 +128,9 @@ fn a_place_is_contended_for_a_while_after_a_callback() {
     assert_eq!(sent_for(&mut world, Write::Put(row(10, 4))), [LOCK, PUT]);
     // Nothing was called back elsewhere.
     assert_eq!(sent_for(&mut world, Write::Put(row(20, 4))), [TAKING_PUT]);
+    assert_eq!(world.write(OTHER, Write::Put(row(10, 5))), Outcome::Applied);
+    pass(&mut world.clients[WRITER], CONTENDED_FOR);
+    assert_eq!(sent_for(&mut world, Write::Put(row(10, 6))), [TAKING_PUT, LOCK, PUT], "in vain");
 }
 
 #[test]
@@ -138,21 +142,6 @@ fn nothing_is_taken_while_messages_are_unread() {
     assert!(!writer.may_take(1, &wanted));
     writer.advance(Asking::Allowed);
     assert!(writer.may_take(1, &wanted));
-}
-
-#[test]
-fn the_last_callbacks_are_remembered_for_a_while() {
-    let mut world = world();
-    let writer = &mut world.clients[WRITER];
-    let key = |place: usize| u64::try_from(place).unwrap() + 100;
-    (0..=MAX_PLACES).for_each(|place| writer.note_contended(key(place)..key(place) + 1));
-    writer.advance(Asking::Allowed);
-    let wanted = |place| Wanted::free(Write::Put(row(key(place), 1)));
-    let may_take = |writer: &mut Jobs, place| writer.may_take(1, &wanted(place));
-    assert!(may_take(writer, 0), "forgotten");
-    assert!((1..=MAX_PLACES).all(|place| !may_take(writer, place)));
-    pass(writer, OF_LATE);
-    assert!((1..=MAX_PLACES).all(|place| may_take(writer, place)));
 }
 
 /// The writer sends this write, which takes its lock and is lost, and its caller gives it up.

@@ -1,5 +1,5 @@
 //! Clients that always have something on its way, next to a patient one. Messages are handed over
-//! in round trips, and each comes alone: so no clock has a part in it.
+//! in round trips, and each comes by itself: so no clock has a part in it.
 use super::*;
 use crate::client::jobs::world::{World, row};
 use crate::client::jobs::{Asked, Asking};
@@ -126,13 +126,57 @@ fn who_awaits_no_push_releases_once() {
 }
 
 #[test]
-fn so_many_callbacks_are_remembered_at_most() {
-    let mut crossed = Crossed::default();
-    let span = |place: usize| 2 * place as u64..2 * place as u64 + 1;
-    for place in (0..2 * MAX_CALLBACKS).chain(0..MAX_CALLBACKS) {
-        crossed.note(span(place), &[]);
-    }
-    assert_eq!(crossed.callbacks.len(), MAX_CALLBACKS);
-    crossed.leave_out(&(0..2), |_| true);
-    assert_eq!(crossed.callbacks.len(), MAX_CALLBACKS - 1);
+fn what_is_called_back_is_taken_once() {
+    let mut world = world();
+    assert_eq!(world.clients[HASTY].take_called_back(), []);
+    assert_eq!(world.write(PATIENT, Write::Put(row(KEY, 6))), Outcome::Applied);
+    assert_eq!(world.clients[HASTY].take_called_back(), std::slice::from_ref(&(0..KEY + 1)));
+    assert_eq!(world.clients[HASTY].take_called_back(), []);
+}
+
+fn noted(spans: impl IntoIterator<Item = Range<u64>>) -> Callbacks {
+    let (mut callbacks, now) = (Callbacks::default(), Instant::now());
+    spans.into_iter().for_each(|span| callbacks.note_at(span, now));
+    callbacks
+}
+
+#[test]
+fn the_last_callbacks_are_noted_once_for_each_span() {
+    let spans = || (0..=MAX_CALLBACKS as u64).map(|start| start..start + 1);
+    let mut callbacks = noted(spans().chain(spans().skip(1)));
+    let now = Instant::now();
+    assert!(
+        !callbacks.show_contention(0, now) && callbacks.narrowed_slot(0).is_none(),
+        "forgotten"
+    );
+    assert!(callbacks.show_contention(1, now) && callbacks.narrowed_slot(1).is_some());
+    assert!(callbacks.take_news().into_iter().eq(spans().skip(1)));
+}
+
+#[test]
+fn another_client_is_at_work_for_a_while_after_a_callback() {
+    let (callbacks, now) = (noted([2..3, 5..11]), Instant::now());
+    assert!(callbacks.show_contention(10, now) && !callbacks.show_contention(11, now));
+    assert!(!callbacks.show_contention(10, now + CONTENDED_FOR));
+}
+
+#[test]
+fn the_last_callback_of_a_slot_counts() {
+    let callbacks = noted([5..11, 8..11]);
+    assert_eq!(callbacks.narrowed_slot(10), Some(&(8..11)));
+    assert_eq!(callbacks.narrowed_slot(7), None);
+}
+
+#[test]
+fn what_a_lock_gave_is_not_called_back_again() {
+    let mut callbacks = noted([0..1, 2..3]);
+    let crossing = |callbacks: &Callbacks| {
+        callbacks.last.iter().filter(|callback| callback.crossing.is_some()).count()
+    };
+    callbacks.leave_out(&(0..4), |point| point == 5);
+    assert_eq!(crossing(&callbacks), 2, "it gave nothing there");
+    callbacks.leave_out(&(0..2), |_| true);
+    assert_eq!(crossing(&callbacks), 1);
+    callbacks.end_crossing();
+    assert_eq!(crossing(&callbacks), 0);
 }
