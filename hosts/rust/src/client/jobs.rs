@@ -1,12 +1,12 @@
 //! What a client has been asked to do, as far as it has come.
 mod acknowledging;
-mod anew;
 mod batch;
 mod bound;
 mod callbacks;
 mod contended;
 mod hold;
 mod leased;
+mod life;
 mod pins;
 mod request;
 mod sharing;
@@ -16,7 +16,7 @@ mod writing;
 mod yielding;
 
 use crate::client::answer::{Answer, Answering, place};
-use crate::client::scratch::{copied, kept};
+use crate::client::scratch::{copied, with_room};
 use crate::client::wakes::Wakes;
 use crate::lease::clocks::Now;
 use crate::model::change::{Outcome, Write};
@@ -29,19 +29,18 @@ use std::ops::Range;
 use std::sync::mpsc::SyncSender;
 use std::time::{Duration, Instant};
 
-pub(crate) use anew::Dropped;
-use anew::PerIncarnation;
 use batch::Report;
 use bound::Wanted;
 use contended::Attempts;
 use hold::Taking;
 pub use hold::{Held, Purpose};
-use leased::Speech;
+pub(crate) use life::Dropped;
+use life::{Life, PerIncarnation, Stage};
 pub(crate) use request::Asking;
 use sharing::SharedRows;
-use watched::Watched;
+use watched::Watches;
 
-/// How often a client sends again what is not answered, and how often it says that it is there.
+/// How often a client repeats unanswered requests, and how often an idle one shows that it is alive.
 pub(crate) const BUSY_TICK: Duration = Duration::from_millis(20);
 pub(crate) const IDLE_TICK: Duration = Duration::from_millis(250);
 
@@ -72,7 +71,7 @@ impl<T> Reply<T> {
         match self {
             Reply::Own(place) => place.give(answer),
             Reply::Shared(sender) => {
-                // One who waits no longer hears nothing.
+                // The caller may have given up: then nobody receives it.
                 let _ = sender.send(answer);
             }
         }
@@ -107,70 +106,41 @@ pub(crate) enum WasSent {
     No,
 }
 
-/// Whether the client is still there.
-#[derive(Clone, Copy, Debug, PartialEq, Eq)]
-enum Stage {
-    Here,
-    /// It joins again to say Bye: the server may know it by an older incarnation.
-    Returning,
-    /// It sends Bye.
-    Leaving,
-    /// The server has said that the Bye is kept. Nothing more is asked.
-    Gone,
-    /// Its thread has ended, and no job continues.
-    Ended,
-}
-
 /// The client and its jobs. Each call of it takes microseconds, and none waits or reads a clock:
 /// what is decided by a clock is decided by the moment that [`Jobs::at`] was given last.
 pub(crate) struct Jobs {
     client: ClientHandle,
     now: Now,
+    /// None if a tick is due.
+    ticked: Option<Instant>,
     /// In the order in which they came.
     open: Vec<(JobId, Job)>,
-    wakes: Wakes,
-    watched: Vec<Watched>,
-    /// What the client knows may have changed since the watched ranges were looked at.
-    is_changed: bool,
     /// The last name that was given to a job or to a pin.
     last_name: u64,
+    asking: Asking,
+    watches: Watches,
+    wakes: Wakes,
+    life: Life,
     held: PerIncarnation,
     shared: SharedRows,
     attempts: Attempts,
-    asking: Asking,
-    room: Vec<Row>,
-    /// None if a tick is due.
-    ticked: Option<Instant>,
-    stage: Stage,
-    /// Why the client has dropped all, if it has not begun again.
-    void: Option<Dropped>,
-    has_begun_anew: bool,
-    /// The last incarnation that it has begun.
-    incarnation: u64,
-    speech: Speech,
 }
 
 impl Jobs {
     pub fn new(client: ClientHandle, now: Now) -> Jobs {
         Jobs {
             now,
-            incarnation: client.lease().incarnation(),
-            speech: Speech::Free,
-            client,
+            ticked: None,
             open: Vec::new(),
-            wakes: Wakes::default(),
-            watched: Vec::new(),
-            is_changed: false,
             last_name: 0,
+            asking: Asking::Allowed,
+            watches: Watches::default(),
+            wakes: Wakes::default(),
+            life: Life::of(client.lease().incarnation()),
             held: PerIncarnation::default(),
             shared: SharedRows::default(),
             attempts: Attempts::default(),
-            asking: Asking::Allowed,
-            room: Vec::with_capacity(64),
-            ticked: None,
-            stage: Stage::Here,
-            void: None,
-            has_begun_anew: false,
+            client,
         }
     }
 
@@ -205,29 +175,12 @@ impl Jobs {
         self.add(|reply| Job::Forget(keys, reply))
     }
 
-    /// Sends Bye, and sends it again with each tick until the server has kept it.
-    pub fn leave(&mut self) -> Asked<()> {
-        match self.stage {
-            Stage::Here if self.has_to_return() => self.stage = Stage::Returning,
-            Stage::Here => self.say_bye(),
-            _ => {}
-        }
-        self.add(Job::Leave)
-    }
-
-    fn say_bye(&mut self) {
-        self.stage = Stage::Leaving;
-        // If there is no memory for it just now, the next tick says it.
-        let _ = self.client.leave();
-        self.is_changed = true;
-    }
-
     fn add<T>(&mut self, job: impl FnOnce(Reply<T>) -> Job) -> Asked<T> {
         let id = self.next_name();
         self.end_lease_if_over();
         let (reply, answer) = place(&self.wakes);
         let job = job(Reply::Own(reply));
-        match self.stage {
+        match self.life.stage {
             Stage::Ended => job.refuse(Error::Stopped),
             Stage::Gone => job.end_after_bye(),
             Stage::Here | Stage::Returning | Stage::Leaving => {
@@ -285,9 +238,7 @@ impl Jobs {
         for (id, job) in std::mem::take(&mut self.open) {
             self.refuse_one(id, job, why);
         }
-        for watched in std::mem::take(&mut self.watched) {
-            watched.refuse(why);
-        }
+        self.watches.refuse_all(why);
         if let Some(why) = of_sent
             && let Some(written) = self.held.written.take()
         {
@@ -309,26 +260,11 @@ impl Jobs {
         }
     }
 
-    /// The client's thread has ended: no job continues, and whoever waits for one hears that. A
-    /// client that has left stays so.
-    pub fn end(&mut self) {
-        if self.stage != Stage::Gone {
-            self.stage = Stage::Ended;
-        }
-        for (_, job) in self.open.drain(..) {
-            job.refuse(Error::Stopped);
-        }
-        if let Some(written) = self.held.written.take() {
-            written.refuse(Error::Stopped);
-        }
-        self.watched.clear();
-    }
-
     /// Whether something is asked that the server has not answered.
     pub fn are_open(&self) -> bool {
         let is_asked =
             !self.open.is_empty() || self.held.written.is_some() || self.held.pins.are_open();
-        is_asked || matches!(self.stage, Stage::Returning | Stage::Leaving)
+        is_asked || self.life.is_leaving()
     }
 
     /// What the client knows, for threads that read it next to these calls.
@@ -344,21 +280,19 @@ impl Jobs {
     /// Gives the client a message of the server, and continues with its jobs at once: a callback
     /// after it may take away what it gave.
     ///
-    /// A client that is void hears nothing: what is said now was meant for the one before. Nor does
-    /// one whose lease has ended.
+    /// A void client drops what comes: it was meant for the incarnation before. So does one whose
+    /// lease has ended.
     pub fn hear(&mut self, message: &[u8]) -> Result<(), Code> {
         self.end_lease_if_over();
         if self.is_void() {
             return Ok(());
         }
         if message.is_empty() {
-            if self.stage == Stage::Leaving {
-                self.stage = Stage::Gone;
-            }
+            self.life.note_bye_kept();
         } else {
             self.step(Message::read(message))?;
         }
-        self.is_changed = true;
+        self.watches.note_change();
         self.advance(Asking::Later);
         Ok(())
     }
@@ -389,13 +323,13 @@ impl Jobs {
         }
     }
 
-    /// sends again what is not answered. A tick for which there is no memory is a message that is
-    /// lost. Before the incarnation is kept nothing can leave, and nothing more has to wait.
+    /// Repeats what is not answered. A tick that gets no memory counts as a lost message. Before the
+    /// incarnation is kept nothing can leave, and nothing more has to wait.
     pub fn tick(&mut self) {
         if !self.client.is_kept() {
             return;
         }
-        let _ = match self.stage {
+        let _ = match self.life.stage {
             Stage::Here | Stage::Returning => {
                 self.yield_again();
                 self.client.tick()
@@ -411,12 +345,8 @@ impl Jobs {
             return;
         }
         self.asking = asking;
-        if let Ok(shown) = self.client.status() {
-            if self.stage == Stage::Returning && shown.epoch > 0 {
-                self.say_bye();
-            }
-            self.end_written(&shown);
-        }
+        self.send_bye_if_returned();
+        self.end_written();
         self.free_pins();
         for (id, job) in std::mem::take(&mut self.open) {
             if let Some(job) = self.advance_one(id, job) {
@@ -446,25 +376,21 @@ impl Jobs {
             }
             Job::Hold(taking, reply) => self.advance_hold(id, taking, reply),
             Job::Leave(reply) => {
-                let is_gone = self.stage == Stage::Gone;
+                let is_gone = self.life.stage == Stage::Gone;
                 reply.give(Ok(is_gone.then_some(()))).map(Job::Leave)
             }
         }
     }
 
     fn try_read(&mut self, id: JobId, keys: &Range<u64>) -> Result<Option<Vec<Row>>, Code> {
-        let mut room = std::mem::take(&mut self.room);
-        let rows = match self.client.scan(keys, &mut room, self.now) {
-            Ok(Scan::Rows) => copied(&mut room).map(Some),
-            Ok(Scan::Miss(point)) if self.may_ask(id, point) => {
-                let unknown = point..self.end_of_unknown(&(point..keys.end), &mut room);
+        with_room(|room| match self.client.scan(keys, room, self.now)? {
+            Scan::Rows => copied(room).map(Some),
+            Scan::Miss(point) if self.may_ask(id, point) => {
+                let unknown = point..self.end_of_unknown(&(point..keys.end), room);
                 self.ask_to_read(id, unknown).map(|_| None)
             }
-            Ok(Scan::Miss(_) | Scan::Pending | Scan::Ended) => Ok(None),
-            Err(code) => Err(code),
-        };
-        self.room = kept(room);
-        rows
+            Scan::Miss(_) | Scan::Pending | Scan::Ended => Ok(None),
+        })
     }
 
     /// Where the last of these points that the client does not know ends, if they are few: a grant
@@ -494,7 +420,7 @@ impl Jobs {
     fn try_forget(&mut self, keys: &Range<u64>) -> Result<bool, Code> {
         match self.client.forget(keys) {
             Ok(()) => {
-                self.is_changed = true;
+                self.watches.note_change();
                 Ok(true)
             }
             Err(Code::Writing | Code::NotJoined) => Ok(false),

@@ -1,7 +1,8 @@
 //! Writes that are bound to a pin.
 use super::batch::Report;
+use super::life::Stage;
 use super::writing::Kept;
-use super::{Asked, Job, Jobs, Stage};
+use super::{Asked, Job, Jobs};
 use crate::model::change::{Outcome, Write};
 use crate::model::error::Error;
 
@@ -57,7 +58,7 @@ impl Jobs {
     /// Whether a write of this bond is added to the jobs. A client that has left says so, of its pins
     /// too.
     pub(super) fn may_ask_to_write(&mut self, bond: Bond) -> bool {
-        self.may_write(bond) || self.stage == Stage::Gone
+        self.may_write(bond) || self.life.stage == Stage::Gone
     }
 
     /// Whether the client may send the write just now. It is asked each time before one is sent.

@@ -1,5 +1,6 @@
 //! The lease of a client: what it may say, its signs, and how it ends.
-use super::{Dropped, Jobs, Stage};
+use super::life::Stage;
+use super::{Dropped, Jobs};
 use crate::lease::boot_clock::Moment;
 use crate::lease::of_client::Company;
 use crate::lease::terms::Answer;
@@ -26,7 +27,7 @@ impl Jobs {
     pub fn greet(&mut self) -> io::Result<Sign> {
         let now = self.now.boot()?;
         let sign = self.client.lease_mut().greet(now).ok_or(ErrorKind::Interrupted)?;
-        self.speech = Speech::AwaitsTerms(now);
+        self.life.speech = Speech::AwaitsTerms(now);
         Ok(sign)
     }
 
@@ -37,10 +38,10 @@ impl Jobs {
 
     /// The greeting again, if it has not been answered for long.
     pub fn greet_again_if_due(&mut self) -> Option<Sign> {
-        let Speech::AwaitsTerms(greeted) = self.speech else { return None };
+        let Speech::AwaitsTerms(greeted) = self.life.speech else { return None };
         let now = self.now.boot().ok().filter(|now| now.since(greeted) >= GREETS_AGAIN)?;
         let sign = self.client.lease_mut().greet_again(now)?;
-        self.speech = Speech::AwaitsTerms(now);
+        self.life.speech = Speech::AwaitsTerms(now);
         Some(sign)
     }
 
@@ -69,8 +70,8 @@ impl Jobs {
                     self.speak();
                 }
             }
-            Answer::Ended { incarnation } if incarnation != self.incarnation => {}
-            Answer::Ended { .. } if self.stage == Stage::Leaving => self.stage = Stage::Gone,
+            Answer::Ended { incarnation } if incarnation != self.life.incarnation => {}
+            Answer::Ended { .. } if self.life.stage == Stage::Leaving => self.life.note_bye_kept(),
             Answer::Ended { .. } => self.drop_all(Dropped::LeaseEnded),
         }
         Ok(())
@@ -78,8 +79,8 @@ impl Jobs {
 
     /// From now on the library may say something, and begins with its Hello.
     fn speak(&mut self) {
-        if self.speech != Speech::Free {
-            self.speech = Speech::Free;
+        if self.life.speech != Speech::Free {
+            self.life.speech = Speech::Free;
             self.tick_soon();
         }
     }
@@ -115,7 +116,7 @@ impl Jobs {
     fn say(&mut self, frames: &mut Vec<u8>) {
         let before = frames.len();
         let _ = self.client.take(frames);
-        if self.speech != Speech::Free || !self.holds_lease() {
+        if self.life.speech != Speech::Free || !self.holds_lease() {
             frames.truncate(before);
             return;
         }
@@ -134,7 +135,7 @@ impl Jobs {
 
     /// The last incarnation that the client has begun.
     pub fn incarnation(&self) -> u64 {
-        self.incarnation
+        self.life.incarnation
     }
 
     /// How long the client may answer from its cache if no terms come any more, or `None` if for
@@ -149,7 +150,7 @@ impl Jobs {
     /// Whether the pin is one of the client of now that its caller still has, and its lease holds.
     /// A client that leaves gives back what it has pinned.
     pub fn holds_pin(&self, id: u64) -> bool {
-        self.held.pins.has(id) && self.stage == Stage::Here && !self.is_void() && self.holds_lease()
+        self.held.pins.has(id) && self.life.is_here() && self.holds_lease()
     }
 }
 

@@ -48,9 +48,13 @@ impl PinTable {
         self.pins.iter().any(|pin| pin.id == id && !pin.is_given_up)
     }
 
-    /// Whether a pin waits for a write, or spans for being given back.
+    /// Whether a pin waits for a write, or something waits to be given back.
     pub fn are_open(&self) -> bool {
-        !self.owed.is_empty() || self.pins.iter().any(|pin| pin.is_given_up)
+        !self.owed.is_empty() || self.are_given_up()
+    }
+
+    fn are_given_up(&self) -> bool {
+        self.pins.iter().any(|pin| pin.is_given_up)
     }
 
     /// The write of this number was sent, and is bound to the pin.
@@ -95,7 +99,7 @@ impl Jobs {
     /// Pins a range that is not empty, and returns the pin's name.
     pub fn pin(&mut self, keys: Range<u64>) -> Result<u64, Error> {
         self.end_lease_if_over();
-        match self.void {
+        match self.life.void {
             Some(why) => Err(why.refused()),
             None => Ok(self.add_pin(keys)?),
         }
@@ -119,6 +123,9 @@ impl Jobs {
 
     /// Frees the pins that were given up and do not stay for a write.
     pub(super) fn free_pins(&mut self) {
+        if !self.held.pins.are_given_up() {
+            return;
+        }
         let shown = self.client.status().ok();
         let not_judged = shown.filter(|shown| shown.outcome.is_none()).map(|shown| shown.number);
         while let Some(number) = self.held.pins.remove_next(not_judged) {

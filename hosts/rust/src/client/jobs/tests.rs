@@ -108,6 +108,17 @@ fn whoever_waits_hears_that_the_thread_has_ended() {
 }
 
 #[test]
+fn who_watches_several_clients_learns_that_one_has_ended() {
+    let mut world = World::new();
+    let rows = world.read(0, 0..9);
+    let (told, change) = std::sync::mpsc::sync_channel(1);
+    world.clients[0].watch_and_tell(0..9, rows, told.clone());
+    assert!(change.try_recv().is_err(), "nothing has changed");
+    world.clients[0].end();
+    assert_eq!(change.try_recv(), Ok(Err(Error::Stopped)));
+}
+
+#[test]
 fn a_write_that_waits_for_its_lock_is_not_made_if_the_store_went_back_or_the_client_ends() {
     let mut world = World::new();
     assert_eq!(world.write(0, Write::Insert(row(10, 1))), Outcome::Applied);

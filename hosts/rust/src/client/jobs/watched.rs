@@ -1,25 +1,41 @@
 //! Ranges whose changes a caller waits for.
-use super::{Asked, JobId, Jobs, Reply, Stage};
+use super::life::Stage;
+use super::{Asked, JobId, Jobs, Reply};
 use crate::client::answer::place;
-use crate::client::scratch::kept;
+use crate::client::scratch::with_room;
 use crate::model::code::Code;
 use crate::model::error::Error;
 use crate::model::row::Row;
 use crate::proved::client_handle::Scan;
+use std::mem;
 use std::ops::Range;
 use std::sync::mpsc::SyncSender;
 
+/// The changes for which callers wait.
+#[derive(Default)]
+pub(super) struct Watches {
+    open: Vec<Watched>,
+    /// What the client knows may have changed since they were looked at.
+    is_changed: bool,
+}
+
 /// A caller waits until the client no longer knows that the range has these rows.
-pub(super) struct Watched {
-    pub id: JobId,
+struct Watched {
+    id: JobId,
     keys: Range<u64>,
     rows: Vec<Row>,
     reply: Reply<()>,
 }
 
-impl Watched {
-    pub fn refuse(self, why: Error) {
-        self.reply.end(Err(why));
+impl Watches {
+    /// What the client knows may have changed.
+    pub fn note_change(&mut self) {
+        self.is_changed = true;
+    }
+
+    /// Nobody waits any more: each one ends for this reason.
+    pub fn refuse_all(&mut self, why: Error) {
+        self.open.drain(..).for_each(|watched| watched.reply.end(Err(why)));
     }
 }
 
@@ -42,11 +58,11 @@ impl Jobs {
 
     fn watch_for(&mut self, keys: Range<u64>, rows: Vec<Row>, reply: Reply<()>) -> JobId {
         let id = self.next_name();
-        if self.stage == Stage::Ended {
+        if self.life.stage == Stage::Ended {
             reply.end(Err(Error::Stopped));
         } else {
-            self.watched.push(Watched { id, keys, rows, reply });
-            self.is_changed = true;
+            self.watches.open.push(Watched { id, keys, rows, reply });
+            self.watches.note_change();
             self.tell_changes();
         }
         id
@@ -54,7 +70,7 @@ impl Jobs {
 
     /// Nobody waits any more for a change that this job watches for.
     pub fn unwatch(&mut self, job: JobId) {
-        self.watched.retain(|watched| watched.id != job);
+        self.watches.open.retain(|watched| watched.id != job);
     }
 
     /// The epoch that the client has joined.
@@ -64,12 +80,12 @@ impl Jobs {
 
     /// Tells those who wait for a change, if there may be one.
     pub(super) fn tell_changes(&mut self) {
-        if !std::mem::take(&mut self.is_changed) {
+        if !mem::take(&mut self.watches.is_changed) {
             return;
         }
-        for watched in std::mem::take(&mut self.watched) {
+        for watched in mem::take(&mut self.watches.open) {
             if self.knows(&watched.keys, &watched.rows) {
-                self.watched.push(watched);
+                self.watches.open.push(watched);
             } else {
                 watched.reply.end(Ok(()));
             }
@@ -78,14 +94,11 @@ impl Jobs {
 
     /// Whether the client knows that the range has these rows. While a write of its own is not
     /// answered it has learnt nothing else.
-    fn knows(&mut self, keys: &Range<u64>, rows: &[Row]) -> bool {
-        let mut room = std::mem::take(&mut self.room);
-        let is_known = match self.client.scan(keys, &mut room, self.now) {
-            Ok(Scan::Rows) => room == rows,
+    fn knows(&self, keys: &Range<u64>, rows: &[Row]) -> bool {
+        with_room(|room| match self.client.scan(keys, room, self.now) {
+            Ok(Scan::Rows) => room.as_slice() == rows,
             Ok(Scan::Pending) => true,
             _ => false,
-        };
-        self.room = kept(room);
-        is_known
+        })
     }
 }

@@ -6,7 +6,7 @@ use crate::model::change::{Outcome, Write};
 use crate::model::code::Code;
 use crate::model::error::Error;
 use crate::model::lock::Mode;
-use crate::proved::client_handle::{Scan, Shown};
+use crate::proved::client_handle::Scan;
 use std::time::{Duration, Instant};
 
 /// A delete keeps the slot of its row for so long, while it waits for the slot after it. Whoever
@@ -60,7 +60,8 @@ enum Step {
 
 impl Jobs {
     /// Ends the job whose write was judged, before another write takes its place.
-    pub(super) fn end_written(&mut self, shown: &Shown) {
+    pub(super) fn end_written(&mut self) {
+        let Ok(shown) = self.client.status() else { return };
         let Some(outcome) = shown.outcome else { return };
         let judged = self.held.written.take_if(|written| written.number == shown.number);
         let Some(Written { id, wanted, report, .. }) = judged else { return };

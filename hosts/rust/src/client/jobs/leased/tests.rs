@@ -76,7 +76,7 @@ fn a_greeting_that_is_lost_is_said_again_and_each_is_answered() {
     let second = jobs.greet_again_if_due().unwrap();
     assert!(second.stamp > first.stamp);
     jobs.hear_answer(granted(first, LONG)).unwrap();
-    assert_eq!(jobs.speech, Speech::Free);
+    assert_eq!(jobs.life.speech, Speech::Free);
     assert_eq!(jobs.greet_again_if_due(), None);
 }
 
@@ -85,7 +85,7 @@ fn a_server_without_signs_grants_for_ever_who_has_no_terms() {
     let mut jobs = client();
     jobs.greet().unwrap();
     jobs.go_without_terms().unwrap();
-    assert_eq!((jobs.speech, jobs.lease_left()), (Speech::Free, None));
+    assert_eq!((jobs.life.speech, jobs.lease_left()), (Speech::Free, None));
     pass(&mut jobs, NANOSECOND);
     assert_eq!(jobs.greet().unwrap().length, FOR_EVER, "the next server is told so");
     // Terms that end are lived by, whatever another server says.
