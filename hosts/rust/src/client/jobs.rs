@@ -246,18 +246,14 @@ impl Jobs {
         }
     }
 
+    /// The job ends for this reason, and what it has pinned on its way is free again.
     fn refuse_one(&mut self, id: JobId, mut job: Job, why: Error) {
-        self.free_pins_of(id, &mut job);
-        job.refuse(why);
-    }
-
-    /// The job ends without what it asked for, and what it has pinned on its way is free again.
-    fn free_pins_of(&mut self, id: JobId, job: &mut Job) {
-        match job {
+        match &mut job {
             Job::Hold(taking, _) => self.give_up(id, taking),
             Job::Write(wanted, _) => self.let_go(id, wanted),
             _ => {}
         }
+        job.refuse(why);
     }
 
     /// Whether something is asked that the server has not answered.
@@ -315,10 +311,8 @@ impl Jobs {
 
     /// Ticks, if the last tick is long enough ago.
     pub fn tick_if_due(&mut self) {
-        let now = self.now.monotonic;
-        let is_due = |ticked| now.saturating_duration_since(ticked) >= self.pace();
-        if self.ticked.is_none_or(is_due) {
-            self.ticked = Some(now);
+        if self.next_tick().is_zero() {
+            self.ticked = Some(self.now.monotonic);
             self.tick();
         }
     }
@@ -418,14 +412,20 @@ impl Jobs {
 
     /// Gives back what the client holds of the keys, if nothing hinders it just now.
     fn try_forget(&mut self, keys: &Range<u64>) -> Result<bool, Code> {
-        match self.client.forget(keys) {
-            Ok(()) => {
-                self.watches.note_change();
-                Ok(true)
-            }
-            Err(Code::Writing | Code::NotJoined) => Ok(false),
-            Err(code) => Err(code),
+        let is_given_back = is_taken(self.client.forget(keys))?;
+        if is_given_back {
+            self.watches.note_change();
         }
+        Ok(is_given_back)
+    }
+}
+
+/// Whether the library has taken a request, which it does not while something hinders it.
+fn is_taken(request: Result<(), Code>) -> Result<bool, Code> {
+    match request {
+        Ok(()) => Ok(true),
+        Err(Code::Busy | Code::Writing | Code::NotJoined) => Ok(false),
+        Err(code) => Err(code),
     }
 }
 

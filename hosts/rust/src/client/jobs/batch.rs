@@ -2,7 +2,7 @@
 //! soon as the one before it is judged, in the same step, and only the last answer wakes the
 //! caller.
 use super::bound::{Bond, Wanted};
-use super::{Asked, Job, JobId, Jobs, Reply};
+use super::{Asked, Job, Jobs, Reply};
 use crate::client::set;
 use crate::model::batch::{Judged, Mutation};
 use crate::model::change::{Outcome, Write};
@@ -123,11 +123,6 @@ impl Jobs {
             Mutation::Put(row) | Mutation::Set(row) => Write::Put(row),
             Mutation::Delete(key) => Write::Delete(key),
         }
-    }
-
-    /// A job of a batch continues after the others that are open: their writes come in between.
-    pub(super) fn reopen_last(&mut self, id: JobId, wanted: Wanted, report: Report) {
-        self.open.push((id, Job::Write(wanted, report)));
     }
 }
 

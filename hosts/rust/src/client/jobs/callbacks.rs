@@ -163,7 +163,7 @@ impl Jobs {
             && let Some(request) = &self.held.request
         {
             let client = &self.client;
-            self.held.callbacks.leave_out(request.points(), |point| client.holds(point));
+            self.held.callbacks.leave_out(&request.points, |point| client.holds(point));
         }
         for callback in &mut self.held.callbacks.last {
             if let Some(message) = &callback.crossing {

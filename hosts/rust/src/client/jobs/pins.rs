@@ -80,18 +80,14 @@ impl PinTable {
         Some(number)
     }
 
-    /// The span was called back. Each pin that meets it remembers it.
-    pub fn note(&mut self, span: &Range<u64>) {
+    /// The span was called back. Returns whether it meets a pin: each that it meets remembers it.
+    pub fn note(&mut self, span: &Range<u64>) -> bool {
+        let mut is_pinned = false;
         for pin in self.pins.iter_mut().filter(|pin| meet(&pin.keys, span)) {
             remember(&mut pin.called, span.clone());
+            is_pinned = true;
         }
-    }
-
-    /// Whether a span that was called back meets no pin any more. Otherwise the pins that it meets
-    /// remember it.
-    fn are_off(&mut self, span: &Range<u64>) -> bool {
-        self.note(span);
-        !self.pins.iter().any(|pin| meet(&pin.keys, span))
+        is_pinned
     }
 }
 
@@ -141,7 +137,7 @@ impl Jobs {
         for span in mem::take(&mut self.held.pins.owed) {
             // If memory is refused, the next call comes back to it. A client that has left owes
             // nothing.
-            let is_owed = self.held.pins.are_off(&span)
+            let is_owed = !self.held.pins.note(&span)
                 && matches!(self.try_forget(&span), Ok(false) | Err(Code::OutOfMemory));
             if is_owed {
                 self.held.pins.owed.push(span);
@@ -199,18 +195,18 @@ mod tests {
     #[test]
     fn what_meets_another_pin_waits_for_that_pin() {
         let mut pins = pins_of(&[10..15, 15..20]);
-        assert!(pins.are_off(&(0..10)) && pins.are_off(&(20..30)));
+        assert!(!pins.note(&(0..10)) && !pins.note(&(20..30)));
         for id in [0, 1] {
-            assert!(!pins.are_off(&(14..16)));
+            assert!(pins.note(&(14..16)));
             assert_eq!(owed_after(&mut pins, id).len(), 1);
         }
-        assert!(pins.are_off(&(14..16)));
+        assert!(!pins.note(&(14..16)));
     }
 
     #[test]
     fn many_spans_become_one() {
         let mut pins = pins_of(std::slice::from_ref(&(0..1000)));
-        (0..200).for_each(|place| pins.note(&(3 * place..3 * place + 1)));
+        assert!((0..200).all(|place| pins.note(&(3 * place..3 * place + 1))));
         let called = owed_after(&mut pins, 0);
         assert!(called.len() <= MAX_CALLED);
         assert!((0..200).all(|place| called.iter().any(|span| span.contains(&(3 * place)))));

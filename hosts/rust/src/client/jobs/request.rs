@@ -1,16 +1,14 @@
 //! The last lock that a client has asked for. A client has one request on its way at most.
 use super::{JobId, Jobs};
-use crate::model::code::Code;
-use crate::model::lock::Mode;
 use std::ops::Range;
 
 /// A request for a lock.
 #[derive(Debug)]
 pub(super) struct Request {
-    by: JobId,
-    points: Range<u64>,
+    pub by: JobId,
+    pub points: Range<u64>,
     /// What was given back just before it.
-    yielded: Option<Range<u64>>,
+    pub yielded: Option<Range<u64>>,
 }
 
 /// Whether a job may ask for a lock just now.
@@ -25,23 +23,6 @@ pub(crate) enum Asking {
 }
 
 impl Request {
-    pub fn new(by: JobId, points: Range<u64>) -> Request {
-        Request { by, points, yielded: None }
-    }
-
-    /// The same, just before which this is given back.
-    pub fn after(self, yielded: Range<u64>) -> Request {
-        Request { yielded: Some(yielded), ..self }
-    }
-
-    pub fn points(&self) -> &Range<u64> {
-        &self.points
-    }
-
-    pub fn yielded(&self) -> Option<&Range<u64>> {
-        self.yielded.as_ref()
-    }
-
     /// Whether another job than this one asks for something below this point.
     pub fn is_of_another_below(&self, id: JobId, end: u64) -> bool {
         self.by != id && self.points.start < end
@@ -59,17 +40,5 @@ impl Jobs {
     /// Whether the last lock was asked for by this job.
     pub(super) fn has_asked(&self, id: JobId) -> bool {
         self.held.request.as_ref().is_some_and(|request| request.by == id)
-    }
-
-    /// Asks for a lock. Returns whether the library has taken the request.
-    pub(super) fn ask(&mut self, request: Request, mode: Mode) -> Result<bool, Code> {
-        match self.client.lock(request.points.clone(), mode) {
-            Ok(()) => {
-                self.held.request = Some(request);
-                Ok(true)
-            }
-            Err(Code::Busy | Code::NotJoined) => Ok(false),
-            Err(code) => Err(code),
-        }
     }
 }

@@ -73,7 +73,8 @@ impl Jobs {
             let place = younger.unwrap_or(self.open.len());
             self.open.insert(place, (id, Job::Write(wanted, report)));
         } else if let Some((next, report)) = self.next_write(&wanted, outcome, report) {
-            self.reopen_last(id, next, report);
+            // The writes of other jobs come in between.
+            self.open.push((id, Job::Write(next, report)));
         }
     }
 
@@ -127,12 +128,13 @@ impl Jobs {
     }
 
     fn try_write(&mut self, id: JobId, wanted: &mut Wanted) -> Result<Step, Code> {
-        let write = &wanted.write;
-        if self.has_asked(id) && self.is_told_absent(write) {
+        let is_put = matches!(wanted.write, Write::Put(_));
+        // There is no entry to put another value to.
+        if is_put && self.has_asked(id) && self.shows(|shown| shown.is_absent) {
             self.held.request = None;
             return Ok(Step::Known(Outcome::Absent));
         }
-        match self.client.write(write) {
+        match self.client.write(&wanted.write) {
             Ok(number) => Ok(Step::Sent(number)),
             Err(Code::Writing | Code::NotJoined) => Ok(Step::Waits),
             Err(Code::NotHeld) if self.may_take(id, wanted) => {
@@ -141,12 +143,6 @@ impl Jobs {
             Err(Code::NotHeld) => self.lock_for(id, wanted),
             Err(code) => Err(code),
         }
-    }
-
-    /// The server said that there is no entry to put another value to.
-    fn is_told_absent(&mut self, write: &Write) -> bool {
-        let is_absent = self.client.status().is_ok_and(|shown| shown.is_absent);
-        is_absent && matches!(write, Write::Put(_))
     }
 
     fn lock_for(&mut self, id: JobId, wanted: &mut Wanted) -> Result<Step, Code> {

@@ -15,7 +15,7 @@
 mod reach;
 
 use super::request::Request;
-use super::{JobId, Jobs};
+use super::{JobId, Jobs, is_taken};
 use crate::model::code::Code;
 use crate::model::lock::Mode;
 use crate::model::row::{END, Row};
@@ -59,10 +59,8 @@ impl Jobs {
         if !self.may_ask(id, points.start) {
             return Ok(false);
         }
-        match self.slot_only_read(points.start, mode) {
-            Some(read) => self.give_back_and_ask(Request::new(id, points), read, mode),
-            None => self.ask(Request::new(id, points), mode),
-        }
+        let read = self.slot_only_read(points.start, mode);
+        self.ask(id, points, mode, read)
     }
 
     /// Asks for a lock with which the client reads, if it may ask just now. Returns whether it has.
@@ -71,37 +69,38 @@ impl Jobs {
         if !self.may_ask(id, points.start) {
             return Ok(false);
         }
-        match self.left_by_a_callback(points.start) {
-            Some(left) => self.give_back_and_ask(Request::new(id, points), left, Mode::RangeSS),
-            None => self.ask(Request::new(id, points), Mode::RangeSS),
-        }
+        let left = self.left_by_a_callback(points.start);
+        self.ask(id, points, Mode::RangeSS, left)
     }
 
-    fn give_back_and_ask(
+    fn ask(
         &mut self,
-        request: Request,
-        read: OnlyRead,
+        by: JobId,
+        points: Range<u64>,
         mode: Mode,
+        read: Option<OnlyRead>,
     ) -> Result<bool, Code> {
-        // The server passes over a release that leaves while a push is on its way.
-        if self.shows(Shown::awaits_a_push) {
-            return Ok(false);
+        let (mode, yielded) = match read {
+            None => (mode, None),
+            // The server passes over a release that leaves while a push is on its way.
+            Some(_) if self.shows(Shown::awaits_a_push) => return Ok(false),
+            Some(read) => match self.try_forget(&read.span) {
+                Ok(true) => (read.joined_with(mode), Some(read.span)),
+                Err(Code::Pinned) => (mode, None),
+                not_given_back => return not_given_back,
+            },
+        };
+        let has_asked = is_taken(self.client.lock(points.clone(), mode))?;
+        if has_asked {
+            self.held.request = Some(Request { by, points, yielded });
         }
-        match self.try_forget(&read.span) {
-            Ok(true) => {
-                let mode = read.joined_with(mode);
-                self.ask(request.after(read.span), mode)
-            }
-            Ok(false) => Ok(false),
-            Err(Code::Pinned) => self.ask(request, mode),
-            Err(code) => Err(code),
-        }
+        Ok(has_asked)
     }
 
     /// Gives back again what the client gave back before the request that waits. A connection that
     /// has ended may have lost the release, and the request is sent again on the next one.
     pub(super) fn yield_again(&mut self) {
-        if let Some(span) = self.held.request.as_ref().and_then(Request::yielded)
+        if let Some(Request { yielded: Some(span), .. }) = &self.held.request
             && self.shows(|shown| shown.is_waiting)
         {
             // Who has pinned there meanwhile waits where the request stands.
