@@ -106,8 +106,25 @@ pub(crate) enum WasSent {
     No,
 }
 
-/// The client and its jobs. Each call of it takes microseconds, and none waits or reads a clock:
-/// what is decided by a clock is decided by the moment that [`Jobs::at`] was given last.
+/// The state of a client: the library's client, what callers have asked, and by what the host
+/// decides.
+///
+/// Each call takes microseconds, and none waits or reads a clock: what is decided by a clock is
+/// decided by the moment that [`Jobs::at`] was given last. There are four kinds of methods:
+///
+/// - A. What callers ask: [`Jobs::read`], [`Jobs::write`], [`Jobs::hold`], [`Jobs::watch`] and
+///   others return an [`Asked`], whose answer comes later, or has come already. [`Jobs::abandon`]
+///   ends one for which nobody waits any more.
+/// - B. What comes from the server: [`Jobs::hear`] takes a message of the library, and
+///   [`Jobs::hear_answer`] what the server's host answers to a sign.
+/// - C. What time and connections bring: [`Jobs::greet`] and [`Jobs::disconnect`];
+///   [`Jobs::end_lease_if_over`], [`Jobs::advance`] and [`Jobs::tick_if_due`]; and
+///   [`Jobs::drop_all`] and [`Jobs::begin_anew`], between which the client has no incarnation.
+/// - D. What is to be done next: [`Jobs::take`] returns what leaves, [`Jobs::next_tick`] and
+///   [`Jobs::longest_sleep`] how long nothing is due, and [`Jobs::wakes`] the tasks to wake.
+///
+/// Each call begins with [`Jobs::at`]. After all that has come is taken, [`Jobs::advance`] lets the
+/// jobs ask for locks, and then [`Jobs::take`] follows, as it does after each call of the kind A.
 pub(crate) struct Jobs {
     client: ClientHandle,
     now: Now,

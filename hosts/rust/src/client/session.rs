@@ -35,11 +35,22 @@ type GivesUp = Box<dyn Fn(Refusal, Instant) -> bool + Send>;
 
 /// A client, its connection to one of its servers, and what it has heard of them.
 ///
-/// Each call of it is made at the moment that [`Session::at`] was given last. A connection is made
-/// by [`Session::connected`], and ends by [`Session::disconnected`]. In between,
-/// [`Session::receive`] takes what has come, [`Session::proceed`] what time brings, and
-/// [`Session::take`] gives what is to be said after each of them. The next [`Session::proceed`] is
-/// due [`Session::due_in`] later.
+/// Each call is made at the moment that [`Session::at`] was given last. There are four kinds of
+/// methods:
+///
+/// - A. What callers ask: [`Session::join`]; [`Session::jobs`], for all else; and
+///   [`Session::give_up`], for what nobody waits for any more.
+/// - B. Connections: [`Session::connected`] begins one, and [`Session::disconnected`] ends it, or
+///   reports that none was made. Before the first, a client that [`Session::has_to_begin_anew`]
+///   does so by [`Session::begin_anew`], and [`Session::confirm_incarnation`] follows when its
+///   incarnation is on the disk.
+/// - C. What comes, and what time brings: [`Session::receive`] and [`Session::proceed`]. If one of
+///   them fails, the connection has to end.
+/// - D. What is to be done next: [`Session::take`] returns what leaves, and [`Session::due_in`] how
+///   soon to proceed again if nothing comes.
+///
+/// On a connection, [`Session::receive`] takes all that has come, [`Session::proceed`] follows, and
+/// then [`Session::take`]. After a call of the kind A, [`Session::take`] follows at once.
 pub(crate) struct Session {
     jobs: Jobs,
     servers: Servers,
