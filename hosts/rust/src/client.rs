@@ -6,7 +6,6 @@ pub(crate) mod builder;
 pub(crate) mod changes;
 mod deadlines;
 pub(crate) mod evict;
-pub(crate) mod jobs;
 pub(crate) mod joining;
 pub(crate) mod link;
 pub(crate) mod lock_file;
@@ -18,15 +17,16 @@ pub(crate) mod session;
 pub(crate) mod set;
 pub(crate) mod shared;
 pub(crate) mod silence;
+pub(crate) mod state;
 pub(crate) mod wakes;
 mod writer;
 
 use crate::client::changes::{Changes, Waited, WatchedRange};
-use crate::client::jobs::{Asked, Held, Jobs, Purpose};
 use crate::client::link::Link;
 use crate::client::pin::Pin;
 use crate::client::scratch::with_room;
 use crate::client::shared::{MAX_WAIT, Shared};
+use crate::client::state::{Asked, Held, Purpose, State};
 use crate::log::span;
 use crate::model::batch::{BatchError, Mutation};
 use crate::model::change::{Outcome, Write};
@@ -153,7 +153,7 @@ impl Client {
             return Ok(rows);
         }
         let _span = span::of("read", self.number(), &keys);
-        self.ask(|jobs| jobs.read(keys))
+        self.ask(|state| state.read(keys))
     }
 
     /// The value of the row of this key, read as [`Client::read`] reads a range, or `None` if there is
@@ -254,7 +254,7 @@ impl Client {
     /// Those of `insert`.
     pub fn set(&self, key: u64, value: Value) -> Result<Outcome, Error> {
         let (first, end) = (self.shared.first_of_set(Row { key, value }), self.end());
-        set::set(first, end, |write| self.shared.write(end, write, Jobs::write))
+        set::set(first, end, |write| self.shared.write(end, write, State::write))
     }
 
     /// Deletes a row. The outcome is `Applied` or `Absent`.
@@ -300,7 +300,7 @@ impl Client {
         &self,
         writes: impl IntoIterator<Item = Mutation>,
     ) -> Result<Vec<Outcome>, BatchError> {
-        self.shared.write_all(self.end(), writes.into_iter().collect(), Jobs::write_all)
+        self.shared.write_all(self.end(), writes.into_iter().collect(), State::write_all)
     }
 
     /// Pins the range: what the client holds of it, or is granted while the pin lives, no callback
@@ -317,7 +317,7 @@ impl Client {
     /// `StoreWentBack`, `LeaseEnded` or `Unserved` while the client joins again.
     pub fn pin(&self, keys: impl RangeBounds<u64>) -> Result<Pin, Error> {
         let keys = keys_of(&keys)?;
-        let id = self.link().with_jobs(|jobs| jobs.pin(keys))?;
+        let id = self.link().with_state(|state| state.pin(keys))?;
         Ok(Pin::new(Arc::clone(&self.shared), id))
     }
 
@@ -411,7 +411,7 @@ impl Client {
     ) -> Result<Waited, Error> {
         let keys = keys_of(&keys)?;
         let end = Instant::now() + timeout.min(MAX_WAIT);
-        match self.link().ask(end, |jobs| jobs.watch(keys, rows.to_vec())) {
+        match self.link().ask(end, |state| state.watch(keys, rows.to_vec())) {
             Ok(()) => Ok(Waited::Changed),
             Err(Error::TimedOut | Error::Unserved(_)) => Ok(Waited::Unchanged),
             Err(refused) => Err(refused),
@@ -449,7 +449,7 @@ impl Client {
     ///
     /// `Left`; `StoreWentBack` while it joins again.
     pub fn epoch(&self) -> Result<u64, Error> {
-        self.link().with_jobs(Jobs::epoch).map_err(Code::into)
+        self.link().with_state(State::epoch).map_err(Code::into)
     }
 
     /// Whether the client has a connection to its server at this moment.
@@ -462,14 +462,14 @@ impl Client {
     /// another one. A program that acts on something outside may use it as a fence there.
     #[must_use]
     pub fn incarnation(&self) -> u64 {
-        self.link().with_jobs(|jobs| jobs.incarnation())
+        self.link().with_state(|state| state.incarnation())
     }
 
     /// How long the client may still answer from its cache if it hears nothing more from the
     /// server; or `None` if forever, as with a server without leases.
     #[must_use]
     pub fn lease_left(&self) -> Option<Duration> {
-        self.link().with_jobs(|jobs| jobs.lease_left())
+        self.link().with_state(|state| state.lease_left())
     }
 
     /// Gives back what the client holds of the range. While a write is on its way it waits for the
@@ -486,7 +486,7 @@ impl Client {
             return Ok(());
         }
         let _span = span::of("forget", self.number(), &keys);
-        self.ask(|jobs| jobs.forget(keys))
+        self.ask(|state| state.forget(keys))
     }
 
     /// The spans of keys that the server has called back from the client since the last call of
@@ -495,7 +495,7 @@ impl Client {
     /// are kept, until the client drops all that it holds, as at the end of its lease.
     #[must_use]
     pub fn take_called_back(&self) -> Vec<Range<u64>> {
-        self.link().with_jobs(Jobs::take_called_back)
+        self.link().with_state(State::take_called_back)
     }
 
     /// Gives back all that the client holds, and waits until the server has kept that it left. From
@@ -523,15 +523,15 @@ impl Client {
             return Err(Error::BadRange);
         }
         let _span = span::of("pin", self.number(), &keys);
-        let Held { rows, pin } = self.ask(|jobs| jobs.hold(keys, purpose))?;
+        let Held { rows, pin } = self.ask(|state| state.hold(keys, purpose))?;
         Ok((rows, Pin::new(Arc::clone(&self.shared), pin)))
     }
 
     fn write(&self, write: Write) -> Result<Outcome, Error> {
-        self.shared.write(self.end(), write, Jobs::write)
+        self.shared.write(self.end(), write, State::write)
     }
 
-    fn ask<T>(&self, ask: impl FnOnce(&mut Jobs) -> Asked<T>) -> Result<T, Error> {
+    fn ask<T>(&self, ask: impl FnOnce(&mut State) -> Asked<T>) -> Result<T, Error> {
         self.link().ask(self.end(), ask)
     }
 

@@ -3,9 +3,9 @@
 //!
 //! `hosts/capi` has it for C, by `krl_host.h`. Nothing here is a part of the interface in Rust,
 //! whose client is [`crate::Client`].
-use crate::client::jobs::{Asked, Jobs};
 use crate::client::lock_file::LockFile;
 use crate::client::session::Session;
+use crate::client::state::{Asked, State};
 use crate::lease::boot_clock::Moment;
 use crate::lease::clocks::Now;
 use crate::model::change::{Outcome, Write};
@@ -23,7 +23,7 @@ use std::path::Path;
 use std::sync::mpsc::TryRecvError;
 use std::time::Duration;
 
-pub use crate::client::jobs::{Held, Purpose};
+pub use crate::client::state::{Held, Purpose};
 
 /// A client. A moment is a time by a clock that continues while the machine is suspended, and never
 /// goes back.
@@ -99,8 +99,8 @@ impl Client {
         let taken = LockFile::take(lock_file, number);
         let (lock_file, incarnation) = taken.map_err(JoinError::of_lock_file(lock_file))?;
         let handle = ClientHandle::open_behind(number, incarnation, lock_file.older());
-        let jobs = Jobs::new(handle.map_err(Error::from)?, Now::of_host(now));
-        let session = Session::new(unnamed(servers, shard), jobs, seed);
+        let state = State::new(handle.map_err(Error::from)?, Now::of_host(now));
+        let session = Session::new(unnamed(servers, shard), state, seed);
         let (frames, output) = (Frames::to_client(), Vec::new());
         Ok(Client { session, lock_file, frames, output, now })
     }
@@ -114,7 +114,7 @@ impl Client {
     /// What the cache knows.
     #[must_use]
     pub fn cache(&mut self) -> CacheView {
-        CacheView(self.session.jobs().cache())
+        CacheView(self.session.state().cache())
     }
 
     /// The client's number.
@@ -201,51 +201,51 @@ impl Client {
 
     /// Asks to join.
     pub fn join(&mut self, now: Duration) -> Call<()> {
-        Call(self.at(now).jobs().join())
+        Call(self.at(now).state().join())
     }
 
     /// Asks for the rows of a range that is not empty.
     pub fn read(&mut self, now: Duration, keys: Range<u64>) -> Call<Vec<Row>> {
-        Call(self.at(now).jobs().read(keys))
+        Call(self.at(now).state().read(keys))
     }
 
     /// Asks for a write. With a pin, it is made while that holds, or never.
     pub fn write(&mut self, now: Duration, write: Write, pin: Option<u64>) -> Call<Outcome> {
-        let jobs = self.at(now).jobs();
+        let state = self.at(now).state();
         Call(match pin {
-            Some(pin) => jobs.write_under(pin, write),
-            None => jobs.write(write),
+            Some(pin) => state.write_under(pin, write),
+            None => state.write(write),
         })
     }
 
     /// Gives back a range that is not empty.
     pub fn forget(&mut self, now: Duration, keys: Range<u64>) -> Call<()> {
-        Call(self.at(now).jobs().forget(keys))
+        Call(self.at(now).state().forget(keys))
     }
 
     /// Asks for the rows of a range that is not empty, and pins it.
     pub fn hold(&mut self, now: Duration, keys: Range<u64>, purpose: Purpose) -> Call<Held> {
-        Call(self.at(now).jobs().hold(keys, purpose))
+        Call(self.at(now).state().hold(keys, purpose))
     }
 
     /// Whether the pin holds.
     pub fn holds_pin(&mut self, now: Duration, pin: u64) -> bool {
-        self.at(now).jobs().holds_pin(pin)
+        self.at(now).state().holds_pin(pin)
     }
 
     /// Drops a pin.
     pub fn unpin(&mut self, now: Duration, pin: u64) {
-        self.at(now).jobs().unpin(pin);
+        self.at(now).state().unpin(pin);
     }
 
     /// Waits until what it knows of the range is no longer these rows.
     pub fn watch(&mut self, now: Duration, keys: Range<u64>, rows: Vec<Row>) -> Call<()> {
-        Call(self.at(now).jobs().watch(keys, rows))
+        Call(self.at(now).state().watch(keys, rows))
     }
 
     /// Asks to leave.
     pub fn leave(&mut self, now: Duration) -> Call<()> {
-        Call(self.at(now).jobs().leave())
+        Call(self.at(now).state().leave())
     }
 
     /// Nobody waits for the call any more. It answers why that has no answer, if none has come.

@@ -6,7 +6,7 @@ mod server;
 pub use client::{Before, Begin, Cached, Call, Client};
 pub use server::{Said, Server, Start};
 
-pub use crate::client::jobs::{Held, Purpose};
+pub use crate::client::state::{Held, Purpose};
 
 use crate::lease::terms::Answer;
 use crate::lease::terms::Sign;

@@ -1,11 +1,11 @@
 //! A client whose calls are futures.
 use crate::client::Client;
 use crate::client::changes::Waited;
-use crate::client::jobs::{Asked, Held, Jobs, Purpose};
 use crate::client::link::{Awaited, Link};
 use crate::client::pin::Pin;
 use crate::client::set;
 use crate::client::shared::{MAX_WAIT, Shared};
+use crate::client::state::{Asked, Held, Purpose, State};
 use crate::model::batch::{self, BatchError, Judged, Mutation};
 use crate::model::change::{Outcome, Write};
 use crate::model::error::{Error, Unsent};
@@ -86,7 +86,7 @@ impl AsyncClient {
         let keys = keys_of(&keys)?;
         match self.client.cached(keys.clone())? {
             Some(rows) => Ok(rows),
-            None => self.ask(|jobs| jobs.read(keys)).await,
+            None => self.ask(|state| state.read(keys)).await,
         }
     }
 
@@ -115,7 +115,7 @@ impl AsyncClient {
     ///
     /// Those of [`Client::set`].
     pub async fn set(&self, key: u64, value: Value) -> Result<Outcome, Error> {
-        set_by(self.shared(), self.client.end(), Row { key, value }, Jobs::write).await
+        set_by(self.shared(), self.client.end(), Row { key, value }, State::write).await
     }
 
     /// Deletes a row, as [`Client::delete`] does.
@@ -138,7 +138,7 @@ impl AsyncClient {
         writes: impl IntoIterator<Item = Mutation>,
     ) -> Result<Vec<Outcome>, BatchError> {
         let writes = writes.into_iter().collect();
-        write_all(self.shared(), self.client.end(), writes, Jobs::write_all).await
+        write_all(self.shared(), self.client.end(), writes, State::write_all).await
     }
 
     /// Gives back what the client holds of the range, as [`Client::forget`] does.
@@ -148,7 +148,7 @@ impl AsyncClient {
     /// Those of [`Client::forget`].
     pub async fn forget(&self, keys: impl RangeBounds<u64>) -> Result<(), Error> {
         let keys = keys_of(&keys)?;
-        if keys.is_empty() { Ok(()) } else { self.ask(|jobs| jobs.forget(keys)).await }
+        if keys.is_empty() { Ok(()) } else { self.ask(|state| state.forget(keys)).await }
     }
 
     /// Reads the range and pins it, as [`Client::pin_for_read`] does.
@@ -192,7 +192,7 @@ impl AsyncClient {
     ) -> Result<Waited, Error> {
         let keys = keys_of(&keys)?;
         let end = Instant::now() + timeout.min(MAX_WAIT);
-        let watch = |jobs: &mut Jobs| jobs.watch(keys, rows.to_vec());
+        let watch = |state: &mut State| state.watch(keys, rows.to_vec());
         match Awaited::begin(self.shared().link(), end, watch).await {
             Ok(()) => Ok(Waited::Changed),
             Err(Error::TimedOut | Error::Unserved(_)) => Ok(Waited::Unchanged),
@@ -219,7 +219,7 @@ impl AsyncClient {
     ///
     /// Those of [`Client::leave`].
     pub async fn leave(&self) -> Result<(), Error> {
-        self.ask(Jobs::leave).await?;
+        self.ask(State::leave).await?;
         self.shared().has_left();
         Ok(())
     }
@@ -229,16 +229,17 @@ impl AsyncClient {
             return Err(Error::BadRange);
         }
         let (link, end) = (self.shared().link(), self.client.end());
-        let held = Awaited::begin(link, end, |jobs| jobs.hold(keys, purpose)).or_undo(unpin).await;
+        let held =
+            Awaited::begin(link, end, |state| state.hold(keys, purpose)).or_undo(unpin).await;
         let Held { rows, pin } = held?;
         Ok((rows, AsyncPin { pin: Pin::new(Arc::clone(self.shared()), pin) }))
     }
 
     async fn write(&self, write: Write) -> Result<Outcome, Error> {
-        write_by(self.shared(), self.client.end(), write, &Jobs::write).await
+        write_by(self.shared(), self.client.end(), write, &State::write).await
     }
 
-    async fn ask<T>(&self, ask: impl FnOnce(&mut Jobs) -> Asked<T>) -> Result<T, Error> {
+    async fn ask<T>(&self, ask: impl FnOnce(&mut State) -> Asked<T>) -> Result<T, Error> {
         Awaited::begin(self.shared().link(), self.client.end(), ask).await
     }
 
@@ -319,7 +320,7 @@ impl AsyncPin {
         writes: impl IntoIterator<Item = Mutation>,
     ) -> Result<Vec<Outcome>, BatchError> {
         let pin = self.pin.id();
-        let ask = |jobs: &mut Jobs, writes| jobs.write_all_under(pin, writes);
+        let ask = |state: &mut State, writes| state.write_all_under(pin, writes);
         write_all(self.pin.shared(), self.pin.end(), writes.into_iter().collect(), ask).await
     }
 
@@ -327,9 +328,9 @@ impl AsyncPin {
         write_by(self.pin.shared(), self.pin.end(), write, &self.bound()).await
     }
 
-    fn bound(&self) -> impl Fn(&mut Jobs, Write) -> Asked<Outcome> + use<> {
+    fn bound(&self) -> impl Fn(&mut State, Write) -> Asked<Outcome> + use<> {
         let pin = self.pin.id();
-        move |jobs, write| jobs.write_under(pin, write)
+        move |state, write| state.write_under(pin, write)
     }
 }
 
@@ -366,7 +367,7 @@ impl AsyncChanges {
 
 /// Nobody takes what was held: it is free again.
 fn unpin(link: &Link, held: &Held) {
-    link.with_jobs(|jobs| jobs.unpin(held.pin));
+    link.with_state(|state| state.unpin(held.pin));
     link.flush();
 }
 
@@ -374,13 +375,13 @@ async fn write_all(
     shared: &Arc<Shared>,
     end: Instant,
     writes: Vec<Mutation>,
-    ask: impl FnOnce(&mut Jobs, Vec<Mutation>) -> Asked<Judged>,
+    ask: impl FnOnce(&mut State, Vec<Mutation>) -> Asked<Judged>,
 ) -> Result<Vec<Outcome>, BatchError> {
     let count = writes.len();
     let judged = if let Some(refused) = batch::refused(&writes) {
         refused
     } else {
-        let judged = Awaited::begin(shared.link(), end, |jobs| ask(jobs, writes)).await;
+        let judged = Awaited::begin(shared.link(), end, |state| ask(state, writes)).await;
         judged.unwrap_or_else(Judged::nothing)
     };
     judged.all(count)
@@ -390,19 +391,19 @@ async fn write_by(
     shared: &Arc<Shared>,
     end: Instant,
     write: Write,
-    ask: &impl Fn(&mut Jobs, Write) -> Asked<Outcome>,
+    ask: &impl Fn(&mut State, Write) -> Asked<Outcome>,
 ) -> Result<Outcome, Error> {
     if write.key() >= END {
         return Err(Error::BadKey);
     }
-    Awaited::begin(shared.link(), end, |jobs| ask(jobs, write)).await
+    Awaited::begin(shared.link(), end, |state| ask(state, write)).await
 }
 
 async fn set_by(
     shared: &Arc<Shared>,
     end: Instant,
     row: Row,
-    ask: impl Fn(&mut Jobs, Write) -> Asked<Outcome>,
+    ask: impl Fn(&mut State, Write) -> Asked<Outcome>,
 ) -> Result<Outcome, Error> {
     let mut next = shared.first_of_set(row);
     loop {

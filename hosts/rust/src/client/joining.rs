@@ -1,9 +1,9 @@
 //! How a client joins.
 use crate::client::Client;
-use crate::client::jobs::Jobs;
 use crate::client::link::Link;
 use crate::client::lock_file::LockFile;
 use crate::client::shared::Shared;
+use crate::client::state::State;
 use crate::lease::clocks::Now;
 use crate::lease::terms::Older;
 use crate::model::client_number::ClientNumber;
@@ -91,8 +91,8 @@ fn start(
     };
     let handle = ClientHandle::open_behind(number, incarnation, older);
     let handle = handle.map_err(Error::from)?;
-    let jobs = Jobs::new(handle, Now::read());
-    let (link, poller) = Link::new(servers, jobs, Some(lock_file)).map_err(JoinError::NoThread)?;
+    let state = State::new(handle, Now::read());
+    let (link, poller) = Link::new(servers, state, Some(lock_file)).map_err(JoinError::NoThread)?;
     Shared::start(number, link, poller, waits.timeout).map_err(JoinError::NoThread)
 }
 

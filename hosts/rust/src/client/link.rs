@@ -2,9 +2,9 @@
 //! locks and the lock file, around what [`crate::client::session`] decides.
 use crate::client::backoff;
 use crate::client::deadlines::Deadlines;
-use crate::client::jobs::Jobs;
 use crate::client::lock_file::LockFile;
 use crate::client::session::Session;
+use crate::client::state::State;
 use crate::client::wakes::Wakes;
 use crate::client::writer::{Writer, Written};
 use crate::lease::clocks::Now;
@@ -83,14 +83,14 @@ impl Link {
     /// A client that is not connected, and what its thread waits by.
     pub fn new(
         servers: Servers,
-        jobs: Jobs,
+        state: State,
         lock_file: Option<LockFile>,
     ) -> io::Result<(Link, Poller)> {
         let (poller, waker) = Poller::new()?;
         let link = Link {
-            cache: jobs.cache(),
-            wakes: jobs.wakes(),
-            session: Mutex::new(Session::new(servers.clone(), jobs, backoff::seed())),
+            cache: state.cache(),
+            wakes: state.wakes(),
+            session: Mutex::new(Session::new(servers.clone(), state, backoff::seed())),
             servers,
             writer: Writer::default(),
             waker,
@@ -132,8 +132,8 @@ impl Link {
     }
 
     /// Makes a call of the client now. What it says leaves later.
-    pub fn with_jobs<T>(&self, call: impl FnOnce(&mut Jobs) -> T) -> T {
-        self.with_session(|session| call(session.jobs()))
+    pub fn with_state<T>(&self, call: impl FnOnce(&mut State) -> T) -> T {
+        self.with_session(|session| call(session.state()))
     }
 
     /// How the last connection ended, or why none was made, unless the server has answered on
@@ -375,7 +375,7 @@ struct Ended<'l>(&'l Link);
 impl Drop for Ended<'_> {
     fn drop(&mut self) {
         self.0.writer.close();
-        self.0.session().jobs().end();
+        self.0.session().state().end();
         *lock(&self.0.thread) = Thread::HasEnded;
         self.0.changed.notify_all();
         self.0.wakes.wake_all();

@@ -1,7 +1,7 @@
 //! A pinned range, and the writes that are bound to it.
-use crate::client::jobs::Jobs;
 use crate::client::set;
 use crate::client::shared::{MAX_WAIT, Shared};
+use crate::client::state::State;
 use crate::model::batch::{BatchError, Mutation};
 use crate::model::change::{Outcome, Write};
 use crate::model::error::Error;
@@ -49,7 +49,7 @@ impl Pin {
     /// the work: the answer is that of one moment of this call.
     #[must_use]
     pub fn holds(&self) -> bool {
-        self.shared.link().with_jobs(|jobs| jobs.holds_pin(self.id))
+        self.shared.link().with_state(|state| state.holds_pin(self.id))
     }
 
     /// The same writes, each of which waits so long for an answer, a year at most.
@@ -200,12 +200,12 @@ impl PinWithin<'_> {
         self,
         writes: impl IntoIterator<Item = Mutation>,
     ) -> Result<Vec<Outcome>, BatchError> {
-        let ask = |jobs: &mut Jobs, writes| jobs.write_all_under(self.pin.id, writes);
+        let ask = |state: &mut State, writes| state.write_all_under(self.pin.id, writes);
         self.pin.shared.write_all(self.end(), writes.into_iter().collect(), ask)
     }
 
     fn write(self, end: Instant, write: Write) -> Result<Outcome, Error> {
-        let ask = |jobs: &mut Jobs, write| jobs.write_under(self.pin.id, write);
+        let ask = |state: &mut State, write| state.write_under(self.pin.id, write);
         self.pin.shared.write(end, write, ask)
     }
 
@@ -222,7 +222,7 @@ impl fmt::Debug for Pin {
 
 impl Drop for Pin {
     fn drop(&mut self) {
-        self.shared.link().with_jobs(|jobs| jobs.unpin(self.id));
+        self.shared.link().with_state(|state| state.unpin(self.id));
         self.shared.link().flush();
     }
 }

@@ -1,6 +1,6 @@
 //! What the clones of a client and its pins share.
-use crate::client::jobs::{Asked, Jobs};
 use crate::client::link::Link;
+use crate::client::state::{Asked, State};
 use crate::lease::boot_clock::Moment;
 use crate::log::span;
 use crate::model::batch::{self, BatchError, Judged, Mutation};
@@ -85,14 +85,14 @@ impl Shared {
         &self,
         end: Instant,
         write: Write,
-        ask: impl FnOnce(&mut Jobs, Write) -> Asked<Outcome>,
+        ask: impl FnOnce(&mut State, Write) -> Asked<Outcome>,
     ) -> Result<Outcome, Error> {
         if write.key() >= END {
             return Err(Error::BadKey);
         }
         let key = write.key();
         let _span = span::of(name_of(write), self.number, &(key..key + 1));
-        self.link.ask(end, |jobs| ask(jobs, write))
+        self.link.ask(end, |state| ask(state, write))
     }
 
     /// Asks for several writes until the deadline, if each key may be one.
@@ -100,12 +100,12 @@ impl Shared {
         &self,
         end: Instant,
         writes: Vec<Mutation>,
-        ask: impl FnOnce(&mut Jobs, Vec<Mutation>) -> Asked<Judged>,
+        ask: impl FnOnce(&mut State, Vec<Mutation>) -> Asked<Judged>,
     ) -> Result<Vec<Outcome>, BatchError> {
         let count = writes.len();
         let made = |writes: Vec<Mutation>| {
             let _span = span::of("write_all", self.number, &hull(&writes));
-            self.link.ask(end, |jobs| ask(jobs, writes))
+            self.link.ask(end, |state| ask(state, writes))
         };
         let judged = batch::refused(&writes).map_or_else(|| made(writes), Ok);
         judged.unwrap_or_else(Judged::nothing).all(count)
@@ -113,7 +113,7 @@ impl Shared {
 
     /// Begins to leave, and waits for nothing.
     pub fn begin_to_leave(&self) -> Asked<()> {
-        self.link.begin(Jobs::leave)
+        self.link.begin(State::leave)
     }
 
     /// Waits until the deadline for the server to keep that the client left. Then its thread has

@@ -1,10 +1,10 @@
 //! The shards that a client has joined.
 use crate::client::Client;
 use crate::client::changes::Waited;
-use crate::client::jobs::{Asked, Held, Jobs, Purpose};
 use crate::client::link::Link;
 use crate::client::pin::Pin;
 use crate::client::shared::{FAREWELL, MAX_WAIT, Shared};
+use crate::client::state::{Asked, Held, Purpose, State};
 use crate::model::batch::{BatchError, Judged, Mutation};
 use crate::model::change::Outcome;
 use crate::model::error::Error;
@@ -115,7 +115,7 @@ impl Joined {
 
     /// Asks for all parts at once, and waits until each was known at some moment.
     fn fetch(&self, parts: &[Part], end: Instant) -> Result<(), ShardError> {
-        let read = |jobs: &mut Jobs, keys: &Range<u64>| jobs.read(keys.clone());
+        let read = |state: &mut State, keys: &Range<u64>| state.read(keys.clone());
         self.ask_all(parts, end, read).map(drop)
     }
 
@@ -125,10 +125,10 @@ impl Joined {
         &self,
         parts: &[Part],
         end: Instant,
-        ask: impl Fn(&mut Jobs, &Range<u64>) -> Asked<T>,
+        ask: impl Fn(&mut State, &Range<u64>) -> Asked<T>,
     ) -> Result<Vec<T>, ShardError> {
         let begin =
-            |part: &Part| (part.shard, self.link(part.shard).begin(|jobs| ask(jobs, &part.keys)));
+            |part: &Part| (part.shard, self.link(part.shard).begin(|state| ask(state, &part.keys)));
         let asked: Vec<_> = parts.iter().map(begin).collect();
         let finish = |(shard, asked): (usize, Asked<T>)| {
             self.link(shard).finish(asked, end).map_err(ShardError::at(shard))
@@ -165,7 +165,7 @@ impl Joined {
         end: Instant,
     ) -> Result<PinOfShard, ShardError> {
         let shared = self.client(*shard).shared();
-        let held = shared.link().ask(end, |jobs| jobs.hold(keys.clone(), purpose));
+        let held = shared.link().ask(end, |state| state.hold(keys.clone(), purpose));
         let Held { pin, .. } = held.map_err(ShardError::at(*shard))?;
         Ok(PinOfShard { shard: *shard, pin: Pin::new(Arc::clone(shared), pin) })
     }
@@ -204,11 +204,11 @@ impl Joined {
         &self,
         spread: &Spread,
         end: Instant,
-        ask: impl Fn(&mut Jobs, usize, Vec<Mutation>) -> Asked<Judged>,
+        ask: impl Fn(&mut State, usize, Vec<Mutation>) -> Asked<Judged>,
     ) -> Result<Vec<Outcome>, BatchError<ShardError>> {
         let begin = |PartOfBatch { shard, writes, .. }: &PartOfBatch| {
             let link = self.link(*shard);
-            (link, link.begin(|jobs| ask(jobs, *shard, writes.clone())))
+            (link, link.begin(|state| ask(state, *shard, writes.clone())))
         };
         let asked: Vec<_> = spread.parts().iter().map(begin).collect();
         let finish = |(link, asked): (&Link, Asked<Judged>)| {
@@ -219,7 +219,7 @@ impl Joined {
 
     /// Gives back what the client holds of the range, until the deadline.
     pub fn forget_by(&self, keys: impl RangeBounds<u64>, end: Instant) -> Result<(), ShardError> {
-        let forget = |jobs: &mut Jobs, keys: &Range<u64>| jobs.forget(keys.clone());
+        let forget = |state: &mut State, keys: &Range<u64>| state.forget(keys.clone());
         self.ask_all(&self.parts(keys)?, end, forget).map(drop)
     }
 
@@ -238,14 +238,14 @@ impl Joined {
         let (told, change) = sync_channel(parts.len());
         let watch = |Part { shard, keys }: &Part| {
             let known = rows.iter().filter(|row| keys.contains(&row.key)).copied().collect();
-            let watch = |jobs: &mut Jobs| jobs.watch_and_tell(keys.clone(), known, told.clone());
-            (*shard, self.link(*shard).with_jobs(watch))
+            let watch = |state: &mut State| state.watch_and_tell(keys.clone(), known, told.clone());
+            (*shard, self.link(*shard).with_state(watch))
         };
         let watched: Vec<_> = parts.iter().map(watch).collect();
         drop(told);
         let is_known = change.recv_timeout(timeout.min(MAX_WAIT)) == Err(RecvTimeoutError::Timeout);
         for (shard, job) in watched {
-            self.link(shard).with_jobs(|jobs| jobs.unwatch(job));
+            self.link(shard).with_state(|state| state.unwatch(job));
         }
         Ok(if is_known { Waited::Unchanged } else { Waited::Changed })
     }

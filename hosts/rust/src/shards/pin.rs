@@ -1,7 +1,7 @@
 //! A pinned range of several shards, and the writes that are bound to it.
-use crate::client::jobs::Jobs;
 use crate::client::pin::Pin;
 use crate::client::shared::MAX_WAIT;
+use crate::client::state::State;
 use crate::model::batch::{BatchError, Mutation};
 use crate::model::change::Outcome;
 use crate::model::error::Error;
@@ -106,10 +106,10 @@ impl ShardedPin {
         let writes: Vec<_> = writes.into_iter().collect();
         let spread = Spread::new(&writes, |key| self.part_of(key).map(|part| part.shard))?;
         let waits = self.pins.first().map_or(Duration::ZERO, |part| timeout(&part.pin));
-        let write_all = |jobs: &mut Jobs, shard, writes| {
+        let write_all = |state: &mut State, shard, writes| {
             // Each write has the shard of some part.
             let part = self.pins.iter().find(|part| part.shard == shard);
-            jobs.write_all_under(part.map_or(u64::MAX, |part| part.pin.id()), writes)
+            state.write_all_under(part.map_or(u64::MAX, |part| part.pin.id()), writes)
         };
         self.joined.write_all(&spread, Instant::now() + waits, write_all)
     }

@@ -1,6 +1,6 @@
 //! Calls of a sharded client that wait for a time of their own.
-use crate::client::jobs::Purpose;
 use crate::client::shared::MAX_WAIT;
+use crate::client::state::Purpose;
 use crate::model::batch::{BatchError, Mutation};
 use crate::model::change::Outcome;
 use crate::model::row::{Row, Value};
@@ -112,7 +112,7 @@ impl<'c> ShardedWithin<'c> {
     ) -> Result<Vec<Outcome>, BatchError<ShardError>> {
         let writes: Vec<_> = writes.into_iter().collect();
         let spread = Spread::new(&writes, |key| self.joined.shard_of(key))?;
-        self.joined.write_all(&spread, self.end(), |jobs, _, writes| jobs.write_all(writes))
+        self.joined.write_all(&spread, self.end(), |state, _, writes| state.write_all(writes))
     }
 
     /// Gives back what the client holds of the range, as [`ShardedClient::forget`] does.

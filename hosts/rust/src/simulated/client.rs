@@ -1,6 +1,6 @@
 //! A client of a simulation.
-use crate::client::jobs::{Asked, Held, Jobs, Purpose};
 use crate::client::session::Session;
+use crate::client::state::{Asked, Held, Purpose, State};
 use crate::lease::clocks::Now;
 use crate::lease::terms::{Older, Sign};
 use crate::model::change::{Outcome, Write};
@@ -85,12 +85,12 @@ impl Client {
     #[must_use]
     pub fn new(begin: Begin, time: Duration) -> Client {
         let Begin { number, incarnation, before, servers, signs, seed } = begin;
-        let jobs = Jobs::new(handle(number, incarnation, before), Now::simulated(time));
-        let cache = jobs.cache();
+        let state = State::new(handle(number, incarnation, before), Now::simulated(time));
+        let cache = state.cache();
         let names: Vec<String> = (0..servers).map(|server| format!("unix:{server}")).collect();
         let servers: Servers = names.join(",").parse().expect("these are addresses");
         let addresses = (0..servers.count()).map(|place| servers.at(place).clone()).collect();
-        let session = Session::new(servers, jobs, seed);
+        let session = Session::new(servers, state, seed);
         Client { session, cache, frames: Frames::to_client(), addresses, signs }
     }
 
@@ -127,7 +127,7 @@ impl Client {
         if self.signs {
             return Ok(greeting);
         }
-        self.session.jobs().go_without_terms()?;
+        self.session.state().go_without_terms()?;
         let unsigned = frames::split(&greeting).filter(|(frame, _)| Sign::read(frame).is_none());
         Ok(unsigned.flat_map(|(_, whole)| whole).copied().collect())
     }
@@ -168,52 +168,52 @@ impl Client {
 
     /// Asks to join.
     pub fn join(&mut self, time: Duration) -> Call<()> {
-        Call(self.at(time).jobs().join())
+        Call(self.at(time).state().join())
     }
 
     /// Asks for the rows of a range that is not empty.
     pub fn read(&mut self, keys: Range<u64>, time: Duration) -> Call<Vec<Row>> {
-        Call(self.at(time).jobs().read(keys))
+        Call(self.at(time).state().read(keys))
     }
 
     /// Asks for a write.
     pub fn write(&mut self, write: Write, time: Duration) -> Call<Outcome> {
-        Call(self.at(time).jobs().write(write))
+        Call(self.at(time).state().write(write))
     }
 
     /// Asks for a write that is made while the pin holds, or never.
     pub fn write_under(&mut self, pin: u64, write: Write, time: Duration) -> Call<Outcome> {
-        Call(self.at(time).jobs().write_under(pin, write))
+        Call(self.at(time).state().write_under(pin, write))
     }
 
     /// Gives back a range that is not empty.
     pub fn forget(&mut self, keys: Range<u64>, time: Duration) -> Call<()> {
-        Call(self.at(time).jobs().forget(keys))
+        Call(self.at(time).state().forget(keys))
     }
 
     /// Asks for the rows of a range that is not empty, and pins it.
     pub fn hold(&mut self, keys: Range<u64>, purpose: Purpose, time: Duration) -> Call<Held> {
-        Call(self.at(time).jobs().hold(keys, purpose))
+        Call(self.at(time).state().hold(keys, purpose))
     }
 
     /// Whether the pin holds.
     pub fn holds_pin(&mut self, pin: u64, time: Duration) -> bool {
-        self.at(time).jobs().holds_pin(pin)
+        self.at(time).state().holds_pin(pin)
     }
 
     /// Drops a pin.
     pub fn unpin(&mut self, pin: u64, time: Duration) {
-        self.at(time).jobs().unpin(pin);
+        self.at(time).state().unpin(pin);
     }
 
     /// Waits until what it knows of the range is no longer these rows.
     pub fn watch(&mut self, keys: Range<u64>, rows: Vec<Row>, time: Duration) -> Call<()> {
-        Call(self.at(time).jobs().watch(keys, rows))
+        Call(self.at(time).state().watch(keys, rows))
     }
 
     /// Asks to leave.
     pub fn leave(&mut self, time: Duration) -> Call<()> {
-        Call(self.at(time).jobs().leave())
+        Call(self.at(time).state().leave())
     }
 
     /// Nobody waits for the call any more. It answers how the call ended.

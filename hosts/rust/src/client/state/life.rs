@@ -7,7 +7,7 @@ use super::pins::PinTable;
 use super::request::Request;
 use super::takings::Takings;
 use super::writing::Written;
-use super::{Asked, Asking, Job, Jobs};
+use super::{Asked, Asking, Job, State};
 use crate::model::error::Error;
 use crate::model::refusal::Refusal;
 use crate::proved::client_handle::ClientHandle;
@@ -133,7 +133,7 @@ impl Job {
     }
 }
 
-impl Jobs {
+impl State {
     /// Sends Bye, and sends it again with each tick until the server has kept it.
     pub fn leave(&mut self) -> Asked<()> {
         match self.life.stage {

@@ -1,8 +1,8 @@
 use super::PAUSE;
-use crate::client::jobs::bound::Wanted;
-use crate::client::jobs::callbacks::CONTENDED_FOR;
-use crate::client::jobs::world::{World, pass, row};
-use crate::client::jobs::{Asking, Purpose};
+use crate::client::state::bound::Wanted;
+use crate::client::state::callbacks::CONTENDED_FOR;
+use crate::client::state::world::{World, pass, row};
+use crate::client::state::{Asking, Purpose};
 use crate::model::change::{Outcome, Write};
 use crate::model::error::Error;
 use crate::wire::message::kind::{ACK, LOCK, RELEASE};

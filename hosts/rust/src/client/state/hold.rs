@@ -1,5 +1,5 @@
 //! Taking a range part by part, and pinning what is taken.
-use super::{Asked, Job, JobId, Jobs, Reply};
+use super::{Asked, Job, JobId, Reply, State};
 use crate::model::code::Code;
 use crate::model::lock::Mode;
 use crate::model::row::Row;
@@ -54,7 +54,7 @@ impl Taking {
     }
 }
 
-impl Jobs {
+impl State {
     /// The rows of a range that is not empty, and a pin of it.
     pub fn hold(&mut self, keys: Range<u64>, purpose: Purpose) -> Asked<Held> {
         let next = keys.start;

@@ -1,5 +1,5 @@
 //! The last lock that a client has asked for. A client has one request on its way at most.
-use super::{JobId, Jobs};
+use super::{JobId, State};
 use std::ops::Range;
 
 /// A request for a lock.
@@ -29,7 +29,7 @@ impl Request {
     }
 }
 
-impl Jobs {
+impl State {
     /// Whether the job may ask for a lock from this point on, just now.
     pub(super) fn may_ask(&self, id: JobId, point: u64) -> bool {
         self.asking == Asking::Allowed

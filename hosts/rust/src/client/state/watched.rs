@@ -1,6 +1,6 @@
 //! Ranges whose changes a caller waits for.
 use super::life::Stage;
-use super::{Asked, JobId, Jobs, Reply};
+use super::{Asked, JobId, Reply, State};
 use crate::client::answer::place;
 use crate::client::scratch::with_room;
 use crate::model::code::Code;
@@ -39,7 +39,7 @@ impl Watches {
     }
 }
 
-impl Jobs {
+impl State {
     /// Ends when the client no longer knows that the range has these rows. It asks for nothing.
     pub fn watch(&mut self, keys: Range<u64>, rows: Vec<Row>) -> Asked<()> {
         let (reply, answer) = place(&self.wakes);

@@ -8,7 +8,7 @@
 //!
 //! What others wait for comes no later: a server calls it back when it has granted it, or its host
 //! has it do so (`EventLoop::send`).
-use super::Jobs;
+use super::State;
 use crate::proved::client_handle::Shown;
 use crate::wire::frames::split;
 use crate::wire::message::{Kind, Message};
@@ -23,7 +23,7 @@ pub(super) enum Acknowledging {
     Later,
 }
 
-impl Jobs {
+impl State {
     /// The client has heard a message of this kind. `awaited` is whether it waited for a push.
     pub(super) fn has_heard(&mut self, kind: Kind, awaited: bool) {
         let is_last = kind.is_push() && awaited && !self.shows(Shown::awaits_a_push);

@@ -1,6 +1,6 @@
 use super::OnlyRead;
-use crate::client::jobs::world::{World, row};
-use crate::client::jobs::{Asked, Asking, Purpose};
+use crate::client::state::world::{World, row};
+use crate::client::state::{Asked, Asking, Purpose};
 use crate::model::change::{Outcome, Write};
 use crate::model::row::Row;
 use crate::wire::message::Message;

@@ -110,22 +110,22 @@ pub(crate) enum WasSent {
 /// decides.
 ///
 /// Each call takes microseconds, and none waits or reads a clock: what is decided by a clock is
-/// decided by the moment that [`Jobs::at`] was given last. There are four kinds of methods:
+/// decided by the moment that [`State::at`] was given last. There are four kinds of methods:
 ///
-/// - A. What callers ask: [`Jobs::read`], [`Jobs::write`], [`Jobs::hold`], [`Jobs::watch`] and
-///   others return an [`Asked`], whose answer comes later, or has come already. [`Jobs::abandon`]
+/// - A. What callers ask: [`State::read`], [`State::write`], [`State::hold`], [`State::watch`] and
+///   others return an [`Asked`], whose answer comes later, or has come already. [`State::abandon`]
 ///   ends one for which nobody waits any more.
-/// - B. What comes from the server: [`Jobs::hear`] takes a message of the library, and
-///   [`Jobs::hear_answer`] what the server's host answers to a sign.
-/// - C. What time and connections bring: [`Jobs::greet`] and [`Jobs::disconnect`];
-///   [`Jobs::end_lease_if_over`], [`Jobs::advance`] and [`Jobs::tick_if_due`]; and
-///   [`Jobs::drop_all`] and [`Jobs::begin_anew`], between which the client has no incarnation.
-/// - D. What is to be done next: [`Jobs::take`] returns what leaves, [`Jobs::next_tick`] and
-///   [`Jobs::longest_sleep`] how long nothing is due, and [`Jobs::wakes`] the tasks to wake.
+/// - B. What comes from the server: [`State::hear`] takes a message of the library, and
+///   [`State::hear_answer`] what the server's host answers to a sign.
+/// - C. What time and connections bring: [`State::greet`] and [`State::disconnect`];
+///   [`State::end_lease_if_over`], [`State::advance`] and [`State::tick_if_due`]; and
+///   [`State::drop_all`] and [`State::begin_anew`], between which the client has no incarnation.
+/// - D. What is to be done next: [`State::take`] returns what leaves, [`State::next_tick`] and
+///   [`State::longest_sleep`] how long nothing is due, and [`State::wakes`] the tasks to wake.
 ///
-/// Each call begins with [`Jobs::at`]. After all that has come is taken, [`Jobs::advance`] lets the
-/// jobs ask for locks, and then [`Jobs::take`] follows, as it does after each call of the kind A.
-pub(crate) struct Jobs {
+/// Each call begins with [`State::at`]. After all that has come is taken, [`State::advance`] lets the
+/// jobs ask for locks, and then [`State::take`] follows, as it does after each call of the kind A.
+pub(crate) struct State {
     client: ClientHandle,
     now: Now,
     /// None if a tick is due.
@@ -143,9 +143,9 @@ pub(crate) struct Jobs {
     attempts: Attempts,
 }
 
-impl Jobs {
-    pub fn new(client: ClientHandle, now: Now) -> Jobs {
-        Jobs {
+impl State {
+    pub fn new(client: ClientHandle, now: Now) -> State {
+        State {
             now,
             ticked: None,
             open: Vec::new(),
@@ -163,7 +163,7 @@ impl Jobs {
 
     /// The client at this moment, which is not before the last one. Whoever makes a call of the
     /// client gives it the moment first, read after all that the call takes has come.
-    pub fn at(&mut self, now: Now) -> &mut Jobs {
+    pub fn at(&mut self, now: Now) -> &mut State {
         self.now = now;
         self
     }

@@ -2,7 +2,7 @@
 //! soon as the one before it is judged, in the same step, and only the last answer wakes the
 //! caller.
 use super::bound::{Bond, Wanted};
-use super::{Asked, Job, Jobs, Reply};
+use super::{Asked, Job, Reply, State};
 use crate::client::set;
 use crate::model::batch::{Judged, Mutation};
 use crate::model::change::{Outcome, Write};
@@ -60,7 +60,7 @@ enum Next {
     Other(Mutation),
 }
 
-impl Jobs {
+impl State {
     /// Writes that are made one after the other, of which there is at least one.
     pub fn write_all(&mut self, writes: Vec<Mutation>) -> Asked<Judged> {
         self.write_all_bound(Bond::Free, writes)

@@ -1,8 +1,8 @@
 //! Clients that always have something on its way, next to a patient one. Messages are handed over
 //! in round trips, and each comes by itself: so no clock has a part in it.
 use super::*;
-use crate::client::jobs::world::{World, row};
-use crate::client::jobs::{Asked, Asking};
+use crate::client::state::world::{World, row};
+use crate::client::state::{Asked, Asking};
 use crate::model::change::{Outcome, Write};
 use crate::wire::message::Message;
 use crate::wire::message::kind::{LOCK, RELEASE};

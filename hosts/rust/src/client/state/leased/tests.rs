@@ -21,8 +21,8 @@ fn granted(sign: Sign, length: u64) -> Answer {
     Answer::Granted(Grant { incarnation: sign.incarnation, stamp: sign.stamp, length })
 }
 
-fn client() -> Jobs {
-    Jobs::new(ClientHandle::open(0, 1).unwrap(), Now::read())
+fn client() -> State {
+    State::new(ClientHandle::open(0, 1).unwrap(), Now::read())
 }
 
 fn nanoseconds(time: Duration) -> u64 {
@@ -30,10 +30,10 @@ fn nanoseconds(time: Duration) -> u64 {
 }
 
 /// Greets, and takes terms of this length.
-fn lease_for(jobs: &mut Jobs, length: u64) {
-    pass(jobs, NANOSECOND);
-    let sign = jobs.greet().unwrap();
-    jobs.hear_answer(granted(sign, length)).unwrap();
+fn lease_for(state: &mut State, length: u64) {
+    pass(state, NANOSECOND);
+    let sign = state.greet().unwrap();
+    state.hear_answer(granted(sign, length)).unwrap();
 }
 
 /// A world in which client 0 reads a range by a lease that has ended.
@@ -48,52 +48,52 @@ fn ended() -> World {
 
 #[test]
 fn nothing_of_the_library_is_said_before_the_terms() {
-    let mut jobs = client();
-    let said = |jobs: &mut Jobs| messages(|frames| jobs.take(frames));
-    let sign = jobs.greet().unwrap();
-    jobs.tick();
-    assert_eq!(said(&mut jobs).len(), 0);
-    assert_eq!(jobs.lease_left(), Some(Duration::ZERO));
-    jobs.hear_answer(granted(sign, LONG)).unwrap();
-    jobs.tick();
-    assert_eq!(said(&mut jobs).len(), 1, "its Hello");
-    assert!(jobs.lease_left().unwrap() > Duration::from_secs(50));
+    let mut state = client();
+    let said = |state: &mut State| messages(|frames| state.take(frames));
+    let sign = state.greet().unwrap();
+    state.tick();
+    assert_eq!(said(&mut state).len(), 0);
+    assert_eq!(state.lease_left(), Some(Duration::ZERO));
+    state.hear_answer(granted(sign, LONG)).unwrap();
+    state.tick();
+    assert_eq!(said(&mut state).len(), 1, "its Hello");
+    assert!(state.lease_left().unwrap() > Duration::from_secs(50));
     // Another connection, and the terms of the one before.
-    pass(&mut jobs, NANOSECOND);
-    jobs.greet().unwrap();
-    jobs.hear_answer(granted(sign, LONG)).unwrap();
-    jobs.tick();
-    assert_eq!(said(&mut jobs).len(), 0);
+    pass(&mut state, NANOSECOND);
+    state.greet().unwrap();
+    state.hear_answer(granted(sign, LONG)).unwrap();
+    state.tick();
+    assert_eq!(said(&mut state).len(), 0);
 }
 
 #[test]
 fn a_greeting_that_is_lost_is_said_again_and_each_is_answered() {
-    let mut jobs = client();
-    let first = jobs.greet().unwrap();
-    pass(&mut jobs, Duration::from_nanos(GREETS_AGAIN - 1));
-    assert_eq!(jobs.greet_again_if_due(), None);
-    pass(&mut jobs, NANOSECOND);
-    let second = jobs.greet_again_if_due().unwrap();
+    let mut state = client();
+    let first = state.greet().unwrap();
+    pass(&mut state, Duration::from_nanos(GREETS_AGAIN - 1));
+    assert_eq!(state.greet_again_if_due(), None);
+    pass(&mut state, NANOSECOND);
+    let second = state.greet_again_if_due().unwrap();
     assert!(second.stamp > first.stamp);
-    jobs.hear_answer(granted(first, LONG)).unwrap();
-    assert_eq!(jobs.life.speech, Speech::Free);
-    assert_eq!(jobs.greet_again_if_due(), None);
+    state.hear_answer(granted(first, LONG)).unwrap();
+    assert_eq!(state.life.speech, Speech::Free);
+    assert_eq!(state.greet_again_if_due(), None);
 }
 
 #[test]
 fn a_server_without_signs_grants_for_ever_who_has_no_terms() {
-    let mut jobs = client();
-    jobs.greet().unwrap();
-    jobs.go_without_terms().unwrap();
-    assert_eq!((jobs.life.speech, jobs.lease_left()), (Speech::Free, None));
-    pass(&mut jobs, NANOSECOND);
-    assert_eq!(jobs.greet().unwrap().length, FOR_EVER, "the next server is told so");
+    let mut state = client();
+    state.greet().unwrap();
+    state.go_without_terms().unwrap();
+    assert_eq!((state.life.speech, state.lease_left()), (Speech::Free, None));
+    pass(&mut state, NANOSECOND);
+    assert_eq!(state.greet().unwrap().length, FOR_EVER, "the next server is told so");
     // Terms that end are lived by, whatever another server says.
-    lease_for(&mut jobs, LONG);
-    pass(&mut jobs, NANOSECOND);
-    jobs.greet().unwrap();
-    jobs.go_without_terms().unwrap();
-    assert!(jobs.lease_left().is_some_and(|left| left > Duration::ZERO));
+    lease_for(&mut state, LONG);
+    pass(&mut state, NANOSECOND);
+    state.greet().unwrap();
+    state.go_without_terms().unwrap();
+    assert!(state.lease_left().is_some_and(|left| left > Duration::ZERO));
 }
 
 #[test]
@@ -167,26 +167,26 @@ fn an_incarnation_that_has_ended_begins_anew_or_has_left() {
 }
 
 /// How many signs the client says.
-fn signs(jobs: &mut Jobs) -> usize {
-    let said = messages(|frames| jobs.take(frames));
+fn signs(state: &mut State) -> usize {
+    let said = messages(|frames| state.take(frames));
     said.iter().filter(|frame| Sign::read(frame).is_some()).count()
 }
 
 #[test]
 fn signs_ride_on_messages_and_go_alone_when_they_must() {
-    let mut jobs = client();
-    lease_for(&mut jobs, nanoseconds(LEASE));
-    pass(&mut jobs, RIDES_NOT);
-    jobs.tick();
-    assert_eq!(signs(&mut jobs), 0, "too early, with messages");
-    pass(&mut jobs, NANOSECOND);
-    assert_eq!(signs(&mut jobs), 0, "too early, alone");
-    jobs.tick();
-    assert_eq!(signs(&mut jobs), 1);
-    pass(&mut jobs, GOES_NOT_ALONE);
-    assert_eq!(signs(&mut jobs), 0);
-    pass(&mut jobs, NANOSECOND);
-    assert_eq!(signs(&mut jobs), 1);
+    let mut state = client();
+    lease_for(&mut state, nanoseconds(LEASE));
+    pass(&mut state, RIDES_NOT);
+    state.tick();
+    assert_eq!(signs(&mut state), 0, "too early, with messages");
+    pass(&mut state, NANOSECOND);
+    assert_eq!(signs(&mut state), 0, "too early, alone");
+    state.tick();
+    assert_eq!(signs(&mut state), 1);
+    pass(&mut state, GOES_NOT_ALONE);
+    assert_eq!(signs(&mut state), 0);
+    pass(&mut state, NANOSECOND);
+    assert_eq!(signs(&mut state), 1);
 }
 
 #[test]

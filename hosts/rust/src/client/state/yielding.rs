@@ -15,7 +15,7 @@
 mod reach;
 
 use super::request::Request;
-use super::{JobId, Jobs, is_taken};
+use super::{JobId, State, is_taken};
 use crate::model::code::Code;
 use crate::model::lock::Mode;
 use crate::model::row::{END, Row};
@@ -46,7 +46,7 @@ impl OnlyRead {
     }
 }
 
-impl Jobs {
+impl State {
     /// Asks for a lock with which the client may change something, now or later, if it may ask just
     /// now. Returns whether it has. What the client only reads of the first slot it gives back
     /// before, unless it is pinned: the release and the request leave together.

@@ -15,7 +15,7 @@
 //!   answered a push would be on its way each time, and others would wait for long. So it takes
 //!   such a callback again as soon as it has the push, before it asks for anything else. The
 //!   library sends the release again then, and this time it names that push.
-use super::Jobs;
+use super::State;
 use crate::model::code::Code;
 use crate::proved::client_handle::{ClientHandle, Shown};
 use crate::wire::message::Message;
@@ -111,7 +111,7 @@ impl Callbacks {
     }
 }
 
-impl Jobs {
+impl State {
     /// Returns the spans that were called back since the last call of this.
     pub fn take_called_back(&mut self) -> Vec<Range<u64>> {
         self.held.callbacks.take_news()

@@ -1,7 +1,7 @@
 //! Writes: the locks that each needs, and how it was judged.
 use super::batch::Report;
 use super::bound::Wanted;
-use super::{Job, JobId, Jobs};
+use super::{Job, JobId, State};
 use crate::model::change::{Outcome, Write};
 use crate::model::code::Code;
 use crate::model::error::Error;
@@ -58,7 +58,7 @@ enum Step {
     Refused(Error),
 }
 
-impl Jobs {
+impl State {
     /// Ends the job whose write was judged, before another write takes its place.
     pub(super) fn end_written(&mut self) {
         let Ok(shown) = self.client.status() else { return };

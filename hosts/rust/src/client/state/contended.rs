@@ -10,7 +10,7 @@
 //! A client to which the server has answered nothing yet asks for its lock first too. If it has no
 //! right to rows, it learns so before it has sent a write, and knows that nothing was changed.
 use super::bound::{Bond, Wanted};
-use super::{JobId, Jobs};
+use super::{JobId, State};
 use crate::model::change::Write;
 
 /// If the lock of a write was not free, so many writes ask for theirs first: it is the first of them.
@@ -43,7 +43,7 @@ impl Attempts {
     }
 }
 
-impl Jobs {
+impl State {
     /// Whether the write of this job, for which the client lacks the lock, takes it by itself: if
     /// the client might ask for that lock just now, and has nothing there that it would have to
     /// give back before. Where the client has a pin it holds something already.

@@ -2,7 +2,7 @@
 use super::batch::Report;
 use super::life::Stage;
 use super::writing::Kept;
-use super::{Asked, Job, Jobs};
+use super::{Asked, Job, State};
 use crate::model::change::{Outcome, Write};
 use crate::model::error::Error;
 
@@ -40,7 +40,7 @@ impl Wanted {
     }
 }
 
-impl Jobs {
+impl State {
     /// A write that is made while the pin holds, or never.
     ///
     /// Only the incarnation that has the pin sends it. A server takes a write from the registered

@@ -10,7 +10,7 @@
 //! The client knows that others want a row if the row was called back while it had it in X. It does
 //! not know when they lose interest: so one callback counts for so many writes, and then the next
 //! callback has to come.
-use super::{Job, Jobs};
+use super::{Job, State};
 use crate::model::lock::Mode;
 use crate::proved::client_handle::Shown;
 use std::collections::HashMap;
@@ -47,7 +47,7 @@ impl SharedRows {
     }
 }
 
-impl Jobs {
+impl State {
     /// This slot is called back. The client still holds what it held of it.
     pub(super) fn note_shared(&mut self, slot: &Range<u64>) {
         let entry = entry_of(slot);

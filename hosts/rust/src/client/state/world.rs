@@ -1,5 +1,5 @@
 //! A server and clients of the library, whose messages are handed over one by one.
-use super::{Asking, Jobs};
+use super::{Asking, State};
 use crate::lease::clocks::Now;
 use crate::model::change::{Change, Outcome, Write};
 use crate::model::reach::Reach;
@@ -16,7 +16,7 @@ use std::time::Duration;
 /// A server and clients of it.
 pub(crate) struct World {
     pub server: ServerHandle,
-    pub clients: Vec<Jobs>,
+    pub clients: Vec<State>,
 }
 
 pub(crate) fn messages(take: impl FnOnce(&mut Vec<u8>)) -> Vec<Vec<u8>> {
@@ -36,9 +36,9 @@ impl World {
         let (mut server, epoch) =
             ServerHandle::open(&Snapshot::default(), Room::default(), Reach::default()).unwrap();
         server.confirm(&[Change::Started { epoch }], &[]).unwrap();
-        let open = |number| Jobs::new(ClientHandle::open(number, 1).unwrap(), Now::read());
+        let open = |number| State::new(ClientHandle::open(number, 1).unwrap(), Now::read());
         let mut world = World { server, clients: (0..clients).map(open).collect() };
-        let joined: Vec<_> = world.clients.iter_mut().map(Jobs::join).collect();
+        let joined: Vec<_> = world.clients.iter_mut().map(State::join).collect();
         assert!(joined.iter().all(|joined| joined.answer.try_recv().is_err()), "too early");
         world.settle();
         assert!(joined.iter().all(|joined| joined.answer.try_recv() == Ok(Ok(()))));
@@ -88,8 +88,8 @@ impl World {
         let said: Vec<_> = (0..self.clients.len()).flat_map(|client| self.said(client)).collect();
         self.tell_server(&said);
         let heard = self.tell_clients();
-        for jobs in &mut self.clients {
-            jobs.advance(Asking::Allowed);
+        for state in &mut self.clients {
+            state.advance(Asking::Allowed);
         }
         !said.is_empty() || heard > 0
     }
@@ -107,15 +107,15 @@ impl World {
     }
 
     pub fn is_cached(&mut self, client: usize, keys: Range<u64>) -> bool {
-        let jobs = &self.clients[client];
-        jobs.cache().scan(&keys, &mut Vec::new(), || jobs.now.boot()) == Ok(Scan::Rows)
+        let state = &self.clients[client];
+        state.cache().scan(&keys, &mut Vec::new(), || state.now.boot()) == Ok(Scan::Rows)
     }
 }
 
 /// So much time passes for the client.
-pub(crate) fn pass(jobs: &mut Jobs, time: Duration) {
-    let later = jobs.now.after(time);
-    jobs.at(later);
+pub(crate) fn pass(state: &mut State, time: Duration) {
+    let later = state.now.after(time);
+    state.at(later);
 }
 
 pub(crate) fn row(key: u64, number: u64) -> Row {

@@ -1,6 +1,6 @@
 //! The lease of a client: what it may say, its signs, and how it ends.
 use super::life::Stage;
-use super::{Dropped, Jobs};
+use super::{Dropped, State};
 use crate::lease::boot_clock::Moment;
 use crate::lease::of_client::Company;
 use crate::lease::terms::Answer;
@@ -22,7 +22,7 @@ pub(super) enum Speech {
     AwaitsTerms(Moment),
 }
 
-impl Jobs {
+impl State {
     /// The sign with which a connection begins. Until its answer comes, the library says nothing.
     pub fn greet(&mut self) -> io::Result<Sign> {
         let now = self.now.boot()?;

@@ -1,5 +1,5 @@
 //! Pinned ranges, and what is given back after them.
-use super::Jobs;
+use super::State;
 use crate::model::code::Code;
 use crate::model::error::Error;
 use std::mem;
@@ -91,7 +91,7 @@ impl PinTable {
     }
 }
 
-impl Jobs {
+impl State {
     /// Pins a range that is not empty, and returns the pin's name.
     pub fn pin(&mut self, keys: Range<u64>) -> Result<u64, Error> {
         self.end_lease_if_over();
@@ -166,7 +166,7 @@ fn remember(called: &mut Vec<Range<u64>>, span: Range<u64>) {
 #[cfg(test)]
 mod tests {
     use super::*;
-    use crate::client::jobs::world::{World, row};
+    use crate::client::state::world::{World, row};
     use crate::model::change::{Outcome, Write};
 
     /// Gives the pin up, and takes what is owed after it.

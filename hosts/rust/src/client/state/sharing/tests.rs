@@ -1,6 +1,6 @@
 use super::{MAX_ROWS, SharedRows, WRITES};
-use crate::client::jobs::world::{World, row};
-use crate::client::jobs::{Asking, Purpose};
+use crate::client::state::world::{World, row};
+use crate::client::state::{Asking, Purpose};
 use crate::model::change::{Outcome, Write};
 use crate::wire::message::{Kind, Message};
 
@@ -29,8 +29,8 @@ fn callbacks_until_read(world: &mut World, number: u64) -> usize {
             callbacks += usize::from(client == 0 && message.kind() == Kind::Callback);
             world.clients[client].hear(message.bytes()).unwrap();
         }
-        for jobs in &mut world.clients {
-            jobs.advance(Asking::Allowed);
+        for state in &mut world.clients {
+            state.advance(Asking::Allowed);
         }
     }
     assert_eq!(asked.answer.try_recv().unwrap().unwrap(), [row(10, number)]);

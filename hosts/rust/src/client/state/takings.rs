@@ -5,7 +5,7 @@
 //! waits for a point below one that it keeps. A client has one request on its way, for one of its
 //! jobs. So a job waits that would ask below what another one keeps; and none keeps what lies above
 //! a request of another one.
-use super::{JobId, Jobs};
+use super::{JobId, State};
 use std::ops::Range;
 
 /// The jobs that take several slots.
@@ -65,7 +65,7 @@ impl Takings {
     }
 }
 
-impl Jobs {
+impl State {
     /// Whether a job may keep points below this one while it waits for more: not if the request of
     /// another job waits for one of them, or below.
     pub(super) fn may_keep(&self, id: JobId, end: u64) -> bool {
