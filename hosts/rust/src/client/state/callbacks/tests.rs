@@ -134,42 +134,42 @@ fn what_is_called_back_is_taken_once() {
     assert_eq!(world.clients[HASTY].take_called_back(), []);
 }
 
-fn noted(spans: impl IntoIterator<Item = Range<u64>>) -> Callbacks {
-    let (mut callbacks, now) = (Callbacks::default(), Instant::now());
-    spans.into_iter().for_each(|span| callbacks.note_at(span, now));
+/// Callbacks of these spans, which have all come at this moment.
+fn noted(spans: impl IntoIterator<Item = Range<u64>>, at: Instant) -> Callbacks {
+    let mut callbacks = Callbacks::default();
+    spans.into_iter().for_each(|span| callbacks.note_at(span, at));
     callbacks
 }
 
 #[test]
 fn the_last_callbacks_are_noted_once_for_each_span() {
     let spans = || (0..=MAX_CALLBACKS as u64).map(|start| start..start + 1);
-    let mut callbacks = noted(spans().chain(spans().skip(1)));
     let now = Instant::now();
-    assert!(
-        !callbacks.show_contention(0, now) && callbacks.narrowed_slot(0).is_none(),
-        "forgotten"
-    );
-    assert!(callbacks.show_contention(1, now) && callbacks.narrowed_slot(1).is_some());
+    let mut callbacks = noted(spans().chain(spans().skip(1)), now);
+    let shown =
+        |point| (callbacks.show_contention(point, now), callbacks.narrowed_slot(point).is_some());
+    assert_eq!([shown(0), shown(1)], [(false, false), (true, true)], "the oldest is forgotten");
     assert!(callbacks.take_news().into_iter().eq(spans().skip(1)));
 }
 
 #[test]
 fn another_client_is_at_work_for_a_while_after_a_callback() {
-    let (callbacks, now) = (noted([2..3, 5..11]), Instant::now());
+    let now = Instant::now();
+    let callbacks = noted([2..3, 5..11], now);
     assert!(callbacks.show_contention(10, now) && !callbacks.show_contention(11, now));
     assert!(!callbacks.show_contention(10, now + CONTENDED_FOR));
 }
 
 #[test]
 fn the_last_callback_of_a_slot_counts() {
-    let callbacks = noted([5..11, 8..11]);
+    let callbacks = noted([5..11, 8..11], Instant::now());
     assert_eq!(callbacks.narrowed_slot(10), Some(&(8..11)));
     assert_eq!(callbacks.narrowed_slot(7), None);
 }
 
 #[test]
 fn what_a_lock_gave_is_not_called_back_again() {
-    let mut callbacks = noted([0..1, 2..3]);
+    let mut callbacks = noted([0..1, 2..3], Instant::now());
     let crossing = |callbacks: &Callbacks| {
         callbacks.last.iter().filter(|callback| callback.crossing.is_some()).count()
     };
