@@ -1,5 +1,6 @@
 //! How a client joins.
 use crate::client::Client;
+use crate::client::incarnations::Incarnations;
 use crate::client::link::Link;
 use crate::client::lock_file::LockFile;
 use crate::client::shared::Shared;

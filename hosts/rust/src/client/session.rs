@@ -42,8 +42,7 @@ type GivesUp = Box<dyn Fn(Refusal, Instant) -> bool + Send>;
 ///   [`Session::give_up`], for what nobody waits for any more.
 /// - B. Connections: [`Session::connected`] begins one, and [`Session::disconnected`] ends it, or
 ///   reports that none was made. Before the first, a client that [`Session::has_to_begin_anew`]
-///   does so by [`Session::begin_anew`], and [`Session::confirm_incarnation`] follows when its
-///   incarnation is on the disk.
+///   does so by [`Session::begin_anew`]. [`crate::client::engine`] has the order.
 /// - C. What comes, and what time brings: [`Session::receive`] and [`Session::proceed`]. If one of
 ///   them fails, the connection has to end.
 /// - D. What is to be done next: [`Session::take`] returns what leaves, and [`Session::due_in`] how
@@ -157,19 +156,16 @@ impl Session {
         self.state.begin_anew(client);
     }
 
-    /// The incarnation is on the disk, so it may be said.
-    pub fn confirm_incarnation(&mut self) -> io::Result<()> {
-        self.state.confirm_incarnation().map_err(io::Error::other)
-    }
-
-    /// A connection is made, and the client's incarnation is on the disk. It answers what the
-    /// connection begins with. One that ends before anything has come says nothing about its
-    /// server: one without the greeting would be one without a lease.
+    /// A connection is made, and the client's incarnation is on the disk, so it may be sent. Returns
+    /// the bytes with which the connection begins. One that ends before anything has come reports
+    /// nothing about its server: one without the greeting would be one without a lease.
     ///
     /// # Errors
     ///
-    /// If the clock of leases can't be read, or has not gone on since the last sign.
+    /// If the client has to begin again first; and if the clock of leases can't be read, or has not
+    /// gone on since the last sign.
     pub fn connected(&mut self) -> io::Result<Vec<u8>> {
+        self.state.confirm_incarnation().map_err(io::Error::other)?;
         let sign = self.state.greet()?;
         self.connection = Some(Connection {
             heard: Heard::default(),
@@ -181,7 +177,7 @@ impl Session {
         Ok([self.hello(), sign.frame()].concat())
     }
 
-    /// The connection has ended, or was not made, for this reason. It answers how long to wait
+    /// The connection has ended, or was not made, for this reason. Returns how long to wait
     /// before the next attempt.
     pub fn disconnected(&mut self, end: io::Error) -> Duration {
         let heard = self.connection.take().map_or(Heard::default(), |it| it.heard);
@@ -326,7 +322,7 @@ impl Session {
         asked
     }
 
-    /// Nobody waits for the job any more. It answers why it has no answer.
+    /// Nobody waits for the job any more. Returns why it has no answer.
     pub fn give_up(&mut self, job: JobId) -> Error {
         let why = self.unanswered(self.state.was_sent(job));
         self.state.abandon(job, why);

@@ -69,7 +69,7 @@ impl Link {
     }
 
     /// Reads the connection until the answer has come, if no other caller does so: then no thread
-    /// has to wake another one. It answers nothing if there is no answer by the end.
+    /// has to wake another one. Returns `None` if there is no answer by the end.
     pub(super) fn read_until<T>(
         &self,
         answer: &Answer<Result<T, Error>>,
@@ -93,7 +93,7 @@ impl Link {
         }
     }
 
-    /// Waits for something to come, and takes it. It answers whether to continue so.
+    /// Waits for something to come, and takes it. Returns whether to continue so.
     pub(super) fn read_once(&self, longest: Duration) -> bool {
         let Ok(ready) = self.poller.wait(longest) else { return false };
         let goes_on = self.read_ready(ready.into_iter());

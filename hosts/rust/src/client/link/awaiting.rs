@@ -36,7 +36,7 @@ impl<T> Awaited<T> {
         self
     }
 
-    /// Nobody waits any more. It answers why there was no answer, unless there is one after all.
+    /// Nobody waits any more. Returns why there was no answer, unless there is one after all.
     fn give_up(&mut self) -> Option<Result<T, Error>> {
         let asked = self.asked.take()?;
         self.link.deadlines.remove(self.end, asked.id);

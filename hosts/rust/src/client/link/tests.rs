@@ -4,7 +4,7 @@ use crate::lease::boot_clock::Moment;
 use crate::model::error::Error;
 use crate::net::outbox::STALL;
 use crate::net::stream::{Listener, Stream};
-use crate::proved::client_handle::Scan;
+use crate::proved::client_handle::{ClientHandle, Scan};
 use crate::server::Server;
 use crate::store::MemoryStore;
 use std::os::unix::net::UnixStream;
@@ -25,7 +25,6 @@ fn link_and_poller() -> (Link, Poller) {
 /// A link over this connection, whose thread does not run, and its poller.
 fn link_over(carrier: Carrier) -> (Link, Poller) {
     let (link, poller) = link_and_poller();
-    link.session().confirm_incarnation().unwrap();
     let first = link.session().connected().unwrap();
     link.writer.open(carrier.try_clone().unwrap(), first);
     link.open_reading(carrier, &poller).unwrap();

@@ -70,7 +70,7 @@ impl Session {
 
     /// The server's store lacks what the client has seen. From here on nothing of that is answered,
     /// and no message that rests on it is said or taken: another connection has another
-    /// incarnation. It answers by what the connection ends with.
+    /// incarnation. Returns why the connection ends.
     fn drop_all(&mut self) -> io::Error {
         self.state.drop_all(Dropped::StoreWentBack);
         self.seen = None;
@@ -81,8 +81,8 @@ impl Session {
     }
 
     /// The server serves another store than the one that the client has seen. From here on nothing
-    /// that the client knows of that one is answered: it may be gone. It answers by what the
-    /// connection ends with.
+    /// that the client knows of that one is answered: it may be gone. Returns why the
+    /// connection ends.
     ///
     /// The client keeps the mark, and so stays refused: without one it would join the other table,
     /// and its callers would not notice. One that has not joined since it dropped all has nothing

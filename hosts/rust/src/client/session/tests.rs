@@ -24,7 +24,6 @@ fn pass(session: &mut Session, time: Duration) {
 }
 
 fn connect(session: &mut Session) -> Vec<u8> {
-    session.confirm_incarnation().unwrap();
     pass(session, MILLISECOND);
     session.connected().unwrap()
 }

@@ -40,7 +40,7 @@ impl Batch {
         self.reply.end(Ok(Judged { outcomes: self.outcomes, ended }));
     }
 
-    /// The write was judged so. It answers what is to be written next.
+    /// The write was judged so. Returns what is to be written next.
     fn next_after(&mut self, write: &Write, outcome: Outcome) -> Option<Next> {
         if let Some(Mutation::Set(_)) = self.left.front()
             && let Some(other) = set::after(*write, outcome)
@@ -89,7 +89,7 @@ impl State {
         })
     }
 
-    /// The write of a job was judged so. It answers what the job writes next.
+    /// The write of a job was judged so. Returns what the job writes next.
     pub(super) fn next_write(
         &mut self,
         wanted: &Wanted,

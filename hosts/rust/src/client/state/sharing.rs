@@ -36,7 +36,7 @@ impl SharedRows {
         self.0.insert(key, WRITES);
     }
 
-    /// The row of this key was written. It answers whether the client shares it now.
+    /// The row of this key was written. Returns whether the client shares it now.
     fn count(&mut self, key: u64) -> bool {
         let Entry::Occupied(mut left) = self.0.entry(key) else { return false };
         *left.get_mut() -= 1;
