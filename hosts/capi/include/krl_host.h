@@ -166,7 +166,8 @@ KRLC_NODISCARD uint32_t krlh_pin(krlh_client *client, uint64_t now, uint64_t lo,
 /* Whether no other client has taken anything of the range since it was pinned. */
 bool krlh_pin_holds(krlh_client *client, uint64_t now, uint64_t pin);
 
-/* Ends a pin: other clients get the range that they wait for. */
+/* Ends a pin: other clients get the range that they wait for. One that has ended already is left as it is, since no two
+ * pins of a client have one number. */
 void krlh_unpin(krlh_client *client, uint64_t now, uint64_t pin);
 
 /* Nobody waits for a call any more: it is answered as if its deadline were over, by this call. A write may still be

@@ -7,8 +7,9 @@ pub(crate) mod builder;
 pub(crate) mod calls;
 pub(crate) mod changes;
 mod deadlines;
+pub(crate) mod engine;
 pub(crate) mod evict;
-pub(crate) mod jobs;
+pub(crate) mod incarnations;
 mod joined;
 pub(crate) mod joining;
 pub(crate) mod link;
@@ -16,13 +17,13 @@ pub(crate) mod lock_file;
 pub(crate) mod numbers;
 pub(crate) mod pin;
 mod pinned;
-mod pins;
 pub(crate) mod place;
 mod refused_connects;
 pub(crate) mod scratch;
 pub(crate) mod session;
 pub(crate) mod shard_client;
 pub(crate) mod silence;
+pub(crate) mod state;
 pub(crate) mod status;
 pub(crate) mod timeout;
 pub(crate) mod wakes;
@@ -30,12 +31,12 @@ mod writer;
 
 use crate::client::calls::{Calls, Waited};
 use crate::client::changes::{Changes, WatchedRange};
-use crate::client::jobs::{Jobs, Purpose};
 use crate::client::joined::Joined;
 use crate::client::pin::Pin;
 use crate::client::pinned::Pinned;
 use crate::client::scratch::with_room;
 use crate::client::shard_client::ShardClient;
+use crate::client::state::{Purpose, State};
 use crate::client::timeout::MAX_WAIT;
 use crate::log::span;
 use crate::model::batch::{BatchError, Mutation};
@@ -363,7 +364,7 @@ impl Client {
             return self.pin_for_read(keys).map(|(_, pin)| pin);
         };
         let keys = keys_of(&keys)?;
-        let id = only.link().with_jobs(|jobs| jobs.pin(keys))?;
+        let id = only.link().with_state(|state| state.pin(keys))?;
         let mut pinned = Pinned::new(&self.joined);
         pinned.add(0, id);
         Ok(Pin::of(pinned))
@@ -509,10 +510,11 @@ impl Client {
     /// The spans of keys that the server has called back from the client since the last call of
     /// this, the oldest first and each once: other clients wanted to change something there, or to
     /// read what this one has written. It is a hint for callers that read ahead. The last 256 spans
-    /// of each server are kept, and those of the first shard come first.
+    /// of each server are kept, until the client drops all that it holds there, as at the end of its
+    /// lease. Those of the first shard come first.
     #[must_use]
     pub fn take_called_back(&self) -> Vec<Range<u64>> {
-        let taken = |client: &ShardClient| client.link().with_jobs(Jobs::take_called_back);
+        let taken = |client: &ShardClient| client.link().with_state(State::take_called_back);
         self.joined.clients().flat_map(|(_, client)| taken(client)).collect()
     }
 

@@ -35,7 +35,7 @@
 //! | `serde` | `Row`, `Value`, `Status` and others as `serde` has them |
 //! | `fence` | what a store needs that several servers may open at once |
 //! | `store-tests` | the tests that every store has to pass |
-//! | `unstable`, `sans-io`, `simulated` | for the programs of this repository: not stable |
+//! | `unstable`, `sans-io` | for the programs of this repository: not stable |
 mod access;
 mod client;
 mod lease;
@@ -48,7 +48,7 @@ mod proved;
 pub mod sans_io;
 mod server;
 mod shards;
-#[cfg(feature = "simulated")]
+#[cfg(feature = "sans-io")]
 #[doc(hidden)]
 pub mod simulated;
 mod store;

@@ -1,13 +1,15 @@
 //! A client without sockets, threads and clocks, for hosts that have their own: bytes go in, bytes
-//! come out, and each call gets the time. The lock file of its number is inside.
+//! come out, and each call gets the time. The incarnations of its number are inside.
 //!
-//! `hosts/capi` has it for C, by `krl_host.h`. Nothing here is a part of the interface in Rust,
-//! whose client is [`crate::Client`].
-use crate::client::jobs::{Asked, Jobs};
-use crate::client::lock_file::LockFile;
+//! `hosts/capi` has it for C, by `krl_host.h`, with the lock file of the number. `hosts/simulation`
+//! has it with a disk of its own. Nothing here is a part of the interface in Rust, whose client is
+//! [`crate::Client`].
+use crate::client::engine;
 use crate::client::session::Session;
+use crate::client::state::{Asked, State};
 use crate::lease::boot_clock::Moment;
 use crate::lease::clocks::Now;
+use crate::lease::terms::Sign;
 use crate::model::change::{Outcome, Write};
 use crate::model::client_number::ClientNumber;
 use crate::model::error::{Error, ErrorKind, JoinError, JoinErrorKind};
@@ -15,7 +17,7 @@ use crate::model::row::Row;
 use crate::model::shard_bounds::ShardBounds;
 use crate::net::servers::Servers;
 use crate::proved::client_handle::{Cache, ClientHandle, Scan};
-use crate::wire::frames::Frames;
+use crate::wire::frames::{self, Frames};
 use std::fmt;
 use std::io;
 use std::ops::Range;
@@ -23,13 +25,16 @@ use std::path::Path;
 use std::sync::mpsc::TryRecvError;
 use std::time::Duration;
 
-pub use crate::client::jobs::{Held, Purpose};
+pub use crate::client::incarnations::Incarnations;
+pub use crate::client::lock_file::LockFile;
+pub use crate::client::state::{Held, Purpose};
+pub use crate::lease::terms::Older;
 
 /// A client. A moment is a time by a clock that continues while the machine is suspended, and never
 /// goes back.
-pub struct Client {
+pub struct Client<N = LockFile> {
     session: Session,
-    lock_file: LockFile,
+    incarnations: N,
     frames: Frames,
     /// What is to be sent, as far as it was not yet.
     output: Vec<u8>,
@@ -37,7 +42,7 @@ pub struct Client {
     now: Duration,
 }
 
-/// What a client begins with.
+/// What a client with a lock file begins with.
 #[derive(Clone, Copy, Debug)]
 pub struct Begin<'p> {
     /// Its number.
@@ -58,6 +63,19 @@ pub struct Call<T>(Asked<T>);
 /// What the cache knows, for any number of threads.
 pub struct CacheView(Cache);
 
+/// What a cache knows of a range.
+#[derive(Clone, Copy, Debug, PartialEq, Eq)]
+pub enum Cached {
+    /// Its rows.
+    Rows,
+    /// Not all of it.
+    Missing,
+    /// A write of the client to it is not answered.
+    Pending,
+    /// Nothing more: the client's lease has ended.
+    Ended,
+}
+
 impl<T> Call<T> {
     /// The answer, if it has come. It comes once.
     #[must_use]
@@ -71,21 +89,25 @@ impl<T> Call<T> {
 }
 
 impl CacheView {
-    /// Reads the range into `rows`, in place of what they are. It answers whether the cache has all
-    /// of it. The clock is read after the rows.
+    /// Reads the range into `rows`, in place of what they are, and returns what the cache knows of
+    /// it. The clock is read after the rows.
     pub fn read(
         &self,
         keys: &Range<u64>,
         rows: &mut Vec<Row>,
         clock: impl FnOnce() -> Duration,
-    ) -> bool {
-        let scanned = self.0.scan(keys, rows, || Ok(moment(clock())));
-        matches!(scanned, Ok(Scan::Rows))
+    ) -> Cached {
+        match self.0.scan(keys, rows, || Ok(moment(clock()))) {
+            Ok(Scan::Rows) => Cached::Rows,
+            Ok(Scan::Pending) => Cached::Pending,
+            Ok(Scan::Ended) => Cached::Ended,
+            Ok(Scan::Miss(_)) | Err(_) => Cached::Missing,
+        }
     }
 }
 
 impl Client {
-    /// A client that is not connected.
+    /// A client with a lock file, which is not connected.
     ///
     /// # Errors
     ///
@@ -97,13 +119,32 @@ impl Client {
             return Err(JoinErrorKind::BadNumber.into());
         }
         let taken = LockFile::take(lock_file, number);
-        let (lock_file, incarnation) = taken.map_err(JoinErrorKind::of_lock_file(lock_file))?;
-        let handle = ClientHandle::open_behind(number, incarnation, lock_file.older());
-        let handle = handle.map_err(|code| JoinErrorKind::Refused(code.into()))?;
-        let jobs = Jobs::new(handle, Now::of_host(now));
-        let session = Session::new(unnamed(servers, shard), jobs, seed);
+        let (lock_file, _) = taken.map_err(JoinErrorKind::of_lock_file(lock_file))?;
+        let client = Client::of(lock_file, servers, shard, seed, now);
+        client.map_err(|refused| JoinErrorKind::Refused(refused.kind).into())
+    }
+}
+
+impl<N: Incarnations> Client<N> {
+    /// A client of these incarnations, which is not connected and begins with the current one. The
+    /// rest is that of [`Begin`].
+    ///
+    /// # Errors
+    ///
+    /// If memory was refused.
+    pub fn of(
+        incarnations: N,
+        servers: usize,
+        shard: Option<ShardBounds>,
+        seed: u64,
+        now: Duration,
+    ) -> Result<Client<N>, Error> {
+        let (number, current) = (incarnations.number(), incarnations.current());
+        let handle = ClientHandle::open_behind(number, current, incarnations.older())?;
+        let state = State::new(handle, Now::of_host(now));
+        let session = Session::new(unnamed(servers, shard), state, seed);
         let (frames, output) = (Frames::to_client(), Vec::new());
-        Ok(Client { session, lock_file, frames, output, now })
+        Ok(Client { session, incarnations, frames, output, now })
     }
 
     /// The session at this moment, or at the last one if that is later.
@@ -115,13 +156,24 @@ impl Client {
     /// What the cache knows.
     #[must_use]
     pub fn cache(&mut self) -> CacheView {
-        CacheView(self.session.jobs().cache())
+        CacheView(self.session.state().cache())
     }
 
     /// The client's number.
     #[must_use]
     pub fn number(&self) -> u8 {
-        self.lock_file.number()
+        self.incarnations.number()
+    }
+
+    /// The incarnations of that number.
+    #[must_use]
+    pub fn incarnations(&self) -> &N {
+        &self.incarnations
+    }
+
+    /// The same, to be changed.
+    pub fn incarnations_mut(&mut self) -> &mut N {
+        &mut self.incarnations
     }
 
     /// The place of the server that it is connected to, or that the next connection goes to.
@@ -135,19 +187,31 @@ impl Client {
     ///
     /// # Errors
     ///
-    /// If the lock file can't be written, or memory was refused.
+    /// If the incarnation can't be kept, or memory was refused.
     pub fn connected(&mut self, now: Duration) -> io::Result<()> {
-        if self.at(now).has_to_begin_anew() {
-            let incarnation = self.lock_file.renew();
-            let older = self.lock_file.older();
-            let handle = ClientHandle::open_behind(self.lock_file.number(), incarnation, older);
-            self.session.begin_anew(handle.map_err(io::Error::other)?);
-        }
-        self.lock_file.keep()?;
-        self.session.confirm_incarnation()?;
+        self.at(now);
         self.frames = Frames::to_client();
-        self.output = self.session.connected()?;
+        self.output = engine::begin_connection(&mut self.session, &mut self.incarnations)?;
         Ok(())
+    }
+
+    /// The same of a host of an older version, which has no leases: it sends no sign, and waits for
+    /// no terms.
+    ///
+    /// # Errors
+    ///
+    /// Those of [`Client::connected`].
+    pub fn connected_without_lease(&mut self, now: Duration) -> io::Result<()> {
+        self.connected(now)?;
+        self.session.state().go_without_terms()?;
+        let unsigned = frames::split(&self.output).filter(|(frame, _)| Sign::read(frame).is_none());
+        self.output = unsigned.flat_map(|(_, whole)| whole).copied().collect();
+        Ok(())
+    }
+
+    /// Whether it needs a greater incarnation, which it takes with its next connection.
+    pub fn has_to_begin_anew(&mut self, now: Duration) -> bool {
+        self.at(now).has_to_begin_anew()
     }
 
     /// Bytes have come, cut anywhere.
@@ -193,7 +257,7 @@ impl Client {
         self.output.drain(..count.min(self.output.len()));
     }
 
-    /// The connection has ended, or was not made. It answers when to make the next one.
+    /// The connection has ended, or was not made. Returns when to make the next one.
     pub fn disconnected(&mut self, now: Duration, why: io::Error) -> Duration {
         self.output.clear();
         let pause = self.at(now).disconnected(why);
@@ -202,54 +266,54 @@ impl Client {
 
     /// Asks to join.
     pub fn join(&mut self, now: Duration) -> Call<()> {
-        Call(self.at(now).jobs().join())
+        Call(self.at(now).state().join())
     }
 
     /// Asks for the rows of a range that is not empty.
     pub fn read(&mut self, now: Duration, keys: Range<u64>) -> Call<Vec<Row>> {
-        Call(self.at(now).jobs().read(keys))
+        Call(self.at(now).state().read(keys))
     }
 
     /// Asks for a write. With a pin, it is made while that holds, or never.
     pub fn write(&mut self, now: Duration, write: Write, pin: Option<u64>) -> Call<Outcome> {
-        let jobs = self.at(now).jobs();
+        let state = self.at(now).state();
         Call(match pin {
-            Some(pin) => jobs.write_under(pin, write),
-            None => jobs.write(write),
+            Some(pin) => state.write_under(pin, write),
+            None => state.write(write),
         })
     }
 
     /// Gives back a range that is not empty.
     pub fn forget(&mut self, now: Duration, keys: Range<u64>) -> Call<()> {
-        Call(self.at(now).jobs().forget(keys))
+        Call(self.at(now).state().forget(keys))
     }
 
     /// Asks for the rows of a range that is not empty, and pins it.
     pub fn hold(&mut self, now: Duration, keys: Range<u64>, purpose: Purpose) -> Call<Held> {
-        Call(self.at(now).jobs().hold(keys, purpose))
+        Call(self.at(now).state().hold(keys, purpose))
     }
 
     /// Whether the pin holds.
     pub fn holds_pin(&mut self, now: Duration, pin: u64) -> bool {
-        self.at(now).jobs().holds_pin(pin)
+        self.at(now).state().holds_pin(pin)
     }
 
     /// Drops a pin.
     pub fn unpin(&mut self, now: Duration, pin: u64) {
-        self.at(now).jobs().unpin(pin);
+        self.at(now).state().unpin(pin);
     }
 
     /// Waits until what it knows of the range is no longer these rows.
     pub fn watch(&mut self, now: Duration, keys: Range<u64>, rows: Vec<Row>) -> Call<()> {
-        Call(self.at(now).jobs().watch(keys, rows))
+        Call(self.at(now).state().watch(keys, rows))
     }
 
     /// Asks to leave.
     pub fn leave(&mut self, now: Duration) -> Call<()> {
-        Call(self.at(now).jobs().leave())
+        Call(self.at(now).state().leave())
     }
 
-    /// Nobody waits for the call any more. It answers why that has no answer, if none has come.
+    /// Nobody waits for the call any more. Returns why that has no answer, if none has come.
     ///
     /// # Errors
     ///
@@ -279,7 +343,7 @@ impl<T> fmt::Debug for Call<T> {
     }
 }
 
-impl fmt::Debug for Client {
+impl<N: Incarnations> fmt::Debug for Client<N> {
     fn fmt(&self, f: &mut fmt::Formatter<'_>) -> fmt::Result {
         f.debug_struct("Client").field("number", &self.number()).finish_non_exhaustive()
     }

@@ -1,12 +1,8 @@
-//! What a client and a server decide, for a simulation of this workspace: it has their clocks,
-//! their network and their disks. Nothing here is a part of the interface.
-mod client;
+//! What a server decides, for a simulation of this workspace: it has the clocks, the network and
+//! the disks. Its clients are those of [`crate::sans_io`]. Nothing here is a part of the interface.
 mod server;
 
-pub use client::{Before, Begin, Cached, Call, Client};
 pub use server::{Said, Server, Start};
-
-pub use crate::client::jobs::{Held, Purpose};
 
 use crate::lease::terms::Answer;
 use crate::lease::terms::Sign;

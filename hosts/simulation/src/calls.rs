@@ -1,6 +1,7 @@
 //! The calls of a client that wait for their answers.
 use crate::judge::Version;
-use krl::simulated::{Call, Client, Held};
+use crate::lock_file::LockFile;
+use krl::sans_io::{Cached, Call, Client, Held};
 use krl::{Error, Outcome, Row, Write};
 use std::ops::Range;
 use std::time::Duration;
@@ -103,16 +104,27 @@ impl<Asked, Answer> Waiting<Asked, Answer> {
     }
 }
 
+/// What a client knows of a range, and its rows if it knows all of it.
+pub fn cached(
+    client: &mut Client<LockFile>,
+    keys: &Range<u64>,
+    time: Duration,
+) -> (Cached, Vec<Row>) {
+    let mut rows = Vec::new();
+    let cached = client.cache().read(keys, &mut rows, || time);
+    (cached, rows)
+}
+
 /// Takes a call out of its place if it has ended. One whose time is over is given up.
 pub fn ended<Asked, Answer>(
     place: &mut Option<Waiting<Asked, Answer>>,
-    client: &mut Client,
+    client: &mut Client<LockFile>,
     time: Duration,
 ) -> Option<Ended<Asked, Answer>> {
     let waiting = place.as_ref()?;
     let answer = match waiting.call.answer() {
         Some(answer) => answer,
-        None if time >= waiting.deadline => client.give_up(&waiting.call, time),
+        None if time >= waiting.deadline => client.give_up(time, &waiting.call),
         None => return None,
     };
     let Waiting { asked, made, .. } = place.take()?;

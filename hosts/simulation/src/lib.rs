@@ -7,6 +7,7 @@ mod counts;
 mod dice;
 mod disk;
 mod judge;
+mod lock_file;
 mod network;
 pub mod picture;
 pub mod record;

@@ -10,12 +10,14 @@ pub use crate::counts::Counts;
 use crate::dice::Dice;
 use crate::disk::Disk;
 use crate::judge::{Judge, Left};
+use crate::lock_file::LockFile;
 use crate::network::{Network, Side};
 use crate::record::{Happened, Line, Node, Record};
 use crate::timer::{Fired, Timer};
 use crate::weather::Weather;
 use krl::Change;
-use krl::simulated::{Call, Client, Server};
+use krl::sans_io::{Call, Client};
+use krl::simulated::Server;
 use std::cmp::{Ordering, Reverse};
 use std::collections::{BTreeMap, BTreeSet, BinaryHeap};
 use std::time::Duration;
@@ -210,12 +212,10 @@ struct Machine {
     number: u8,
     signs: bool,
     errand: Errand,
-    client: Option<Client>,
+    client: Option<Client<LockFile>>,
     /// How many times it was started.
     life: u64,
-    /// Its last incarnation, or 0.
-    incarnation: u64,
-    /// The last one that is on its disk: it may have been sent.
+    /// The last incarnation that is on its disk, or 0: it may have been sent.
     kept: u64,
     /// How far its clock that operators set is ahead.
     ahead: Duration,
@@ -542,7 +542,6 @@ impl Machine {
             errand: Errand::Work,
             client: None,
             life: 0,
-            incarnation: 0,
             kept: 0,
             ahead: Duration::ZERO,
             stays_down: (place == weather.clients).then_some(Down::Retired),

@@ -8,7 +8,7 @@ use crate::host::{self, Asked, CallBack, Host, NEVER, NO_PIN};
 use crate::host_options::{HostOptions, host_options_at};
 use crate::input::{self, GivenRow, range};
 use krl::Row;
-use krl::sans_io::Client as HostClient;
+use krl::sans_io::{Cached, Client as HostClient};
 use std::ffi::c_void;
 use std::ptr;
 use std::slice;
@@ -350,7 +350,7 @@ pub unsafe extern "C" fn krlh_cached(
         let mut rows = Vec::new();
         // SAFETY: the caller vouches for its clock.
         let clock = || Duration::from_nanos(unsafe { clock() }.min(host::LAST_MOMENT));
-        if !host.cache().read(&range(lo, hi)?, &mut rows, clock) {
+        if host.cache().read(&range(lo, hi)?, &mut rows, clock) != Cached::Rows {
             return Ok(Code::Miss);
         }
         let copied = rows.len().min(room);

@@ -1,8 +1,8 @@
 //! A client whose calls are futures.
 use crate::client::Client;
 use crate::client::calls::{Calls, Waited};
-use crate::client::jobs::Purpose;
 use crate::client::pin::Pin;
+use crate::client::state::Purpose;
 use crate::client::timeout::MAX_WAIT;
 use crate::model::batch::{BatchError, Mutation};
 use crate::model::change::{Outcome, Write};

@@ -1,9 +1,9 @@
 //! The calls of clients and pins, over one server or several. They wait on their threads or in
 //! tasks.
-use crate::client::jobs::{Asked, Held, Jobs, Purpose};
 use crate::client::joined::Joined;
 use crate::client::link::{Awaited, Link};
 use crate::client::pinned::Pinned;
+use crate::client::state::{Asked, Held, Purpose, State};
 use crate::model::batch::{BatchError, Judged, Mutation};
 use crate::model::change::{Outcome, Write};
 use crate::model::error::{Error, ErrorKind};
@@ -67,7 +67,7 @@ impl<'c> Calls<'c> {
         Calls { waiting: Waiting::InTask, ..self }
     }
 
-    fn ask<T>(&self, shard: usize, ask: impl FnOnce(&mut Jobs) -> Asked<T>) -> Awaited<T> {
+    fn ask<T>(&self, shard: usize, ask: impl FnOnce(&mut State) -> Asked<T>) -> Awaited<T> {
         Awaited::begin(self.joined.link(shard), self.end, ask)
     }
 
@@ -83,9 +83,9 @@ impl<'c> Calls<'c> {
     async fn ask_all<T>(
         &self,
         parts: &[Part],
-        ask: impl Fn(&mut Jobs, Range<u64>) -> Asked<T>,
+        ask: impl Fn(&mut State, Range<u64>) -> Asked<T>,
     ) -> Result<Vec<T>, Error> {
-        let begin = |part: &Part| self.ask(part.shard, |jobs| ask(jobs, part.keys.clone()));
+        let begin = |part: &Part| self.ask(part.shard, |state| ask(state, part.keys.clone()));
         let asked: Vec<_> = parts.iter().map(begin).collect();
         let mut answers = Vec::with_capacity(asked.len());
         for (part, asked) in parts.iter().zip(asked) {
@@ -98,7 +98,7 @@ impl<'c> Calls<'c> {
     /// The rows of a range that the caches do not know.
     pub async fn read(&self, keys: Range<u64>) -> Result<Vec<Row>, Error> {
         if self.joined.only().is_some() {
-            return Ok(self.answer(self.ask(0, |jobs| jobs.read(keys))).await?);
+            return Ok(self.answer(self.ask(0, |state| state.read(keys))).await?);
         }
         let (parts, mut rows) = (self.joined.parts(&keys)?, Vec::new());
         loop {
@@ -123,7 +123,7 @@ impl<'c> Calls<'c> {
 
     /// Asks for all parts at once, and waits until each was known at some moment.
     async fn fetch(&self, parts: &[Part]) -> Result<(), Error> {
-        self.ask_all(parts, Jobs::read).await.map(drop)
+        self.ask_all(parts, State::read).await.map(drop)
     }
 
     /// Reads the range and pins it for this.
@@ -174,7 +174,7 @@ impl<'c> Calls<'c> {
         purpose: Purpose,
         pinned: &mut Pinned,
     ) -> Result<Vec<Row>, Error> {
-        let asked = self.ask(shard, |jobs| jobs.hold(keys, purpose)).or_undo(unpin);
+        let asked = self.ask(shard, |state| state.hold(keys, purpose)).or_undo(unpin);
         let held = self.answer(asked).await.map_err(self.joined.error_at(shard));
         let Held { rows, pin } = held?;
         pinned.add(shard, pin);
@@ -193,9 +193,9 @@ impl<'c> Calls<'c> {
 
     pub async fn write(&self, write: Write) -> Result<Outcome, Error> {
         let (shard, pin) = self.place_of(write.key())?;
-        let asked = self.ask(shard, |jobs| match pin {
-            None => jobs.write(write),
-            Some(pin) => jobs.write_under(pin, write),
+        let asked = self.ask(shard, |state| match pin {
+            None => state.write(write),
+            Some(pin) => state.write_under(pin, write),
         });
         self.answer(asked).await.map_err(self.joined.error_at(shard))
     }
@@ -203,7 +203,7 @@ impl<'c> Calls<'c> {
     /// Gives a key a value, whether or not it has a row.
     pub async fn set(&self, row: Row) -> Result<Outcome, Error> {
         let (shard, pin) = self.place_of(row.key)?;
-        let asked = self.ask(shard, |jobs| ask_to_write(jobs, pin, vec![Mutation::Set(row)]));
+        let asked = self.ask(shard, |state| ask_to_write(state, pin, vec![Mutation::Set(row)]));
         let judged = self.answer(asked).await.and_then(Judged::only);
         judged.map_err(self.joined.error_at(shard))
     }
@@ -218,7 +218,7 @@ impl<'c> Calls<'c> {
         let mut asked = Vec::new();
         for part in spread.parts() {
             let (pin, writes) = (part.pin, std::mem::take(&mut part.writes));
-            asked.push(self.ask(part.shard, |jobs| ask_to_write(jobs, pin, writes)));
+            asked.push(self.ask(part.shard, |state| ask_to_write(state, pin, writes)));
         }
         let mut answers = Vec::with_capacity(asked.len());
         for asked in asked {
@@ -232,7 +232,7 @@ impl<'c> Calls<'c> {
         if keys.is_empty() {
             return Ok(());
         }
-        self.ask_all(&self.joined.parts(&keys)?, Jobs::forget).await.map(drop)
+        self.ask_all(&self.joined.parts(&keys)?, State::forget).await.map(drop)
     }
 
     /// Waits until the client no longer knows that the range has these rows, at any shard. It waits
@@ -244,7 +244,7 @@ impl<'c> Calls<'c> {
         }
         let watch = |Part { shard, keys }: &Part| {
             let known = rows.iter().filter(|row| keys.contains(&row.key)).copied().collect();
-            (*shard, self.ask(*shard, |jobs| jobs.watch(keys.clone(), known)))
+            (*shard, self.ask(*shard, |state| state.watch(keys.clone(), known)))
         };
         match first(parts.iter().map(watch).collect()).await {
             (_, Ok(())) => Ok(Waited::Changed),
@@ -255,7 +255,7 @@ impl<'c> Calls<'c> {
 
     /// Leaves all shards at once, and waits for each until the deadline.
     pub async fn leave(&self) -> Result<(), Error> {
-        let begin = |(shard, _)| (shard, self.ask(shard, Jobs::leave));
+        let begin = |(shard, _)| (shard, self.ask(shard, State::leave));
         let leaving: Vec<_> = self.joined.clients().map(begin).collect();
         let mut left = Ok(());
         for (shard, leaving) in leaving {
@@ -278,16 +278,16 @@ impl<'c> Calls<'c> {
     }
 }
 
-fn ask_to_write(jobs: &mut Jobs, pin: Option<u64>, writes: Vec<Mutation>) -> Asked<Judged> {
+fn ask_to_write(state: &mut State, pin: Option<u64>, writes: Vec<Mutation>) -> Asked<Judged> {
     match pin {
-        None => jobs.write_all(writes),
-        Some(pin) => jobs.write_all_under(pin, writes),
+        None => state.write_all(writes),
+        Some(pin) => state.write_all_under(pin, writes),
     }
 }
 
 /// Nobody takes what was held: it is free again.
 fn unpin(link: &Link, held: &Held) {
-    link.with_jobs(|jobs| jobs.unpin(held.pin));
+    link.with_state(|state| state.unpin(held.pin));
     link.flush();
 }
 

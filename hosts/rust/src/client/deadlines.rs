@@ -1,5 +1,5 @@
 //! When tasks that wait for answers give up: none of them has a thread that could wait for that.
-use crate::client::jobs::JobId;
+use crate::client::state::JobId;
 use std::collections::BTreeMap;
 use std::sync::{Mutex, MutexGuard, PoisonError};
 use std::task::Waker;

@@ -1,7 +1,7 @@
 //! The servers that a client has joined: one, or those of shards of a map.
-use crate::client::jobs::Jobs;
 use crate::client::link::Link;
 use crate::client::shard_client::{FAREWELL, ShardClient};
+use crate::client::state::State;
 use crate::client::timeout::Timeout;
 use crate::model::error::{Error, ErrorKind};
 use crate::model::row::{END, Row};
@@ -134,7 +134,7 @@ impl Drop for Joined {
             return;
         }
         let end = Instant::now() + FAREWELL;
-        let begin = |(_, client): (usize, &ShardClient)| client.link().begin(Jobs::leave);
+        let begin = |(_, client): (usize, &ShardClient)| client.link().begin(State::leave);
         let leaving: Vec<_> = self.clients().map(begin).collect();
         for ((_, client), leaving) in self.clients().zip(leaving) {
             if client.link().finish(leaving, end).is_ok() {

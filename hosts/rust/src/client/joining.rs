@@ -1,8 +1,9 @@
 //! How a client joins.
-use crate::client::jobs::Jobs;
+use crate::client::incarnations::Incarnations;
 use crate::client::link::Link;
 use crate::client::lock_file::LockFile;
 use crate::client::shard_client::ShardClient;
+use crate::client::state::State;
 use crate::client::timeout::MAX_WAIT;
 use crate::lease::clocks::Now;
 use crate::lease::terms::Older;
@@ -90,9 +91,9 @@ fn start(
     };
     let handle = ClientHandle::open_behind(number, incarnation, older);
     let handle = handle.map_err(|code| JoinErrorKind::Refused(code.into()))?;
-    let jobs = Jobs::new(handle, Now::read());
+    let state = State::new(handle, Now::read());
     let (link, poller) =
-        Link::new(servers, jobs, Some(lock_file)).map_err(JoinErrorKind::NoThread)?;
+        Link::new(servers, state, Some(lock_file)).map_err(JoinErrorKind::NoThread)?;
     ShardClient::start(number, link, poller).map_err(JoinErrorKind::NoThread)
 }
 

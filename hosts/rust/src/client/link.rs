@@ -2,9 +2,10 @@
 //! locks and the lock file, around what [`crate::client::session`] decides.
 use crate::client::backoff;
 use crate::client::deadlines::Deadlines;
-use crate::client::jobs::Jobs;
+use crate::client::engine::{self, Shell};
 use crate::client::lock_file::LockFile;
 use crate::client::session::Session;
+use crate::client::state::State;
 use crate::client::wakes::Wakes;
 use crate::client::writer::{Writer, Written};
 use crate::lease::clocks::Now;
@@ -15,11 +16,12 @@ use crate::net::connect_fault::Rejection;
 use crate::net::poller::{Poller, Ready, SecondPoller, Watched};
 use crate::net::readiness::Unread;
 use crate::net::servers::Servers;
-use crate::proved::client_handle::{Cache, ClientHandle};
+use crate::proved::client_handle::Cache;
 use crate::wire::frames::Frames;
 use mio::Waker;
 use std::convert::Infallible;
 use std::io::{self, ErrorKind};
+use std::ops::DerefMut;
 use std::sync::{Arc, Condvar, Mutex, MutexGuard, PoisonError, TryLockError};
 use std::time::{Duration, Instant};
 
@@ -83,14 +85,14 @@ impl Link {
     /// A client that is not connected, and what its thread waits by.
     pub fn new(
         servers: Servers,
-        jobs: Jobs,
+        state: State,
         lock_file: Option<LockFile>,
     ) -> io::Result<(Link, Poller)> {
         let (poller, waker) = Poller::new()?;
         let link = Link {
-            cache: jobs.cache(),
-            wakes: jobs.wakes(),
-            session: Mutex::new(Session::new(servers.clone(), jobs, backoff::seed())),
+            cache: state.cache(),
+            wakes: state.wakes(),
+            session: Mutex::new(Session::new(servers.clone(), state, backoff::seed())),
             servers,
             writer: Writer::default(),
             waker,
@@ -132,8 +134,8 @@ impl Link {
     }
 
     /// Makes a call of the client now. What it says leaves later.
-    pub fn with_jobs<T>(&self, call: impl FnOnce(&mut Jobs) -> T) -> T {
-        self.with_session(|session| call(session.jobs()))
+    pub fn with_state<T>(&self, call: impl FnOnce(&mut State) -> T) -> T {
+        self.with_session(|session| call(session.state()))
     }
 
     /// How the last connection ended, or why none was made, unless the server has answered on
@@ -180,7 +182,7 @@ impl Link {
         let _ = self.waker.wake();
     }
 
-    /// Waits until the thread has ended, or until the deadline. It answers whether it has.
+    /// Waits until the thread has ended, or until the deadline. Returns whether it has.
     pub fn has_ended(&self, end: Instant) -> bool {
         let left = end.saturating_duration_since(Instant::now());
         let waited = self
@@ -222,11 +224,9 @@ impl Link {
 
     /// Connects, and serves the connection until it ends.
     fn connect_and_serve(&self, address: &Address, poller: &mut Poller) -> io::Result<Infallible> {
-        self.begin_anew_if_due()?;
-        self.wakes.wake_all();
+        self.with_lock_file(|link, file| engine::begin_anew_if_due(link, file))?;
         let carrier = Carrier::connect(address, self.servers.tls(), CONNECT)?;
-        self.keep_incarnation()?;
-        let first = self.session().connected()?;
+        let first = self.with_lock_file(|link, file| engine::begin_connection(link, file))?;
         self.writer.open(carrier.try_clone()?, first);
         event_log::connected(address);
         let ended = self.serve(carrier, poller);
@@ -331,7 +331,7 @@ impl Link {
     }
 
     /// Takes what has come, if something has; continues with what the client was asked, and writes
-    /// what it says. It answers when that is due again if nothing comes.
+    /// what it says. Returns when that is due again if nothing comes.
     fn proceed(&self, came: Option<&mut Frames>) -> io::Result<(Written, Instant)> {
         let mut session = self.session();
         if let Some(frames) = came {
@@ -342,30 +342,24 @@ impl Link {
         Ok((self.send(session), is_due))
     }
 
-    /// Has the incarnation on the disk before anything of it leaves. A client whose number is free
-    /// again says nothing more.
-    fn keep_incarnation(&self) -> io::Result<()> {
-        let mut lock_file = lock(&self.lock_file);
-        let file = lock_file.as_mut().ok_or(ErrorKind::Interrupted)?;
-        file.keep().map_err(|error| {
-            io::Error::new(error.kind(), format!("the lock file can't be written: {error}"))
-        })?;
-        self.session().confirm_incarnation()
+    /// Works with the file of the client's number, and wakes the tasks that were answered. A client
+    /// whose number is free again sends nothing more.
+    fn with_lock_file<T>(
+        &self,
+        work: impl FnOnce(&mut &Link, &mut LockFile) -> io::Result<T>,
+    ) -> io::Result<T> {
+        let done = match &mut *lock(&self.lock_file) {
+            Some(file) => work(&mut &*self, file),
+            None => Err(ErrorKind::Interrupted.into()),
+        };
+        self.wakes.wake_all();
+        done
     }
+}
 
-    /// Gives a client that has dropped all, or whose lease has ended, a greater incarnation, under
-    /// which it joins again.
-    fn begin_anew_if_due(&self) -> io::Result<()> {
-        if !self.session().has_to_begin_anew() {
-            return Ok(());
-        }
-        let mut lock_file = lock(&self.lock_file);
-        let Some(file) = &mut *lock_file else { return Err(ErrorKind::Interrupted.into()) };
-        let incarnation = file.renew();
-        let client = ClientHandle::open_behind(file.number(), incarnation, file.older());
-        self.session().begin_anew(client.map_err(io::Error::other)?);
-        event_log::began_anew(file.number(), incarnation);
-        Ok(())
+impl Shell for &Link {
+    fn session(&mut self) -> impl DerefMut<Target = Session> {
+        Link::session(self)
     }
 }
 
@@ -375,7 +369,7 @@ struct Ended<'l>(&'l Link);
 impl Drop for Ended<'_> {
     fn drop(&mut self) {
         self.0.writer.close();
-        self.0.session().jobs().end();
+        self.0.session().state().end();
         *lock(&self.0.thread) = Thread::HasEnded;
         self.0.changed.notify_all();
         self.0.wakes.wake_all();

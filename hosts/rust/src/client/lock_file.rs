@@ -1,8 +1,9 @@
 //! The lock file of a client number: one process at a time, and greater incarnations.
 //!
-//! The file has the last incarnation that may have been said to a server. One that reached no server
+//! The file has the last incarnation that may have been sent to a server. One that reached no server
 //! leaves the file as it was: the next one then knows the incarnation that a server may still know,
 //! and that no process of it is left.
+use crate::client::incarnations::Incarnations;
 use crate::lease::terms::Older;
 use std::fmt;
 use std::fs::{File, OpenOptions, TryLockError};
@@ -13,14 +14,14 @@ use std::time::{SystemTime, UNIX_EPOCH};
 /// A lock file that this process holds. Another process may take it when this value is gone, or the
 /// process is.
 #[derive(Debug)]
-pub(crate) struct LockFile {
+pub struct LockFile {
     file: File,
     number: u8,
-    /// The incarnation of now.
+    /// The current incarnation.
     incarnation: u64,
-    /// The last one that may have been said to a server, or 0. It is in the file.
+    /// The last one that may have been sent to a server, or 0. It is in the file.
     kept: u64,
-    /// The last one before that of now which may have been said to a server, or 0.
+    /// The last one before the current one which may have been sent to a server, or 0.
     before: u64,
 }
 
@@ -42,11 +43,15 @@ const FORM: &str = "krl client 00 incarnation 00000000000000000000\n";
 
 impl LockFile {
     /// Takes the file for the client of this number, makes it if there is none, and gives the
-    /// client's incarnation: greater than every one that was said before. [`LockFile::keep`] has to
-    /// come before this one is said.
+    /// client's incarnation: greater than every one that was sent before. [`LockFile::keep`] has to
+    /// come before this one is sent.
     ///
     /// The incarnation is the time in nanoseconds, or one more than the last one if the clock
     /// went back. So it rises even if the file was lost.
+    ///
+    /// # Errors
+    ///
+    /// Why the file can't be used.
     pub fn take(path: &Path, number: u8) -> Result<(LockFile, u64), LockFileError> {
         let mut options = OpenOptions::new();
         let file = options.read(true).write(true).create(true).truncate(false).open(path)?;
@@ -59,45 +64,21 @@ impl LockFile {
         lock.kept = lock.last()?;
         lock.incarnation = lock.kept;
         sync_folder_of(path)?;
-        let incarnation = lock.renew();
+        lock.renew();
+        let incarnation = lock.incarnation;
         Ok((lock, incarnation))
     }
 
-    /// Gives the client another incarnation, greater than every one before.
-    pub fn renew(&mut self) -> u64 {
-        self.before = self.kept;
-        self.incarnation = now().max(self.incarnation + 1);
-        self.incarnation
-    }
-
     /// Has the client's incarnation be greater than this one too, and gives it.
-    pub fn rise_above(&mut self, other: u64) -> u64 {
+    pub(crate) fn rise_above(&mut self, other: u64) -> u64 {
         self.incarnation = self.incarnation.max(other.saturating_add(1));
         self.incarnation
     }
 
-    /// Has the incarnation of now on the disk when it returns: from then on it may be said.
-    pub fn keep(&mut self) -> io::Result<()> {
-        if self.kept == self.incarnation {
-            return Ok(());
-        }
+    fn write(&mut self) -> io::Result<()> {
         self.file.seek(SeekFrom::Start(0))?;
         self.file.write_all(line(self.number, self.incarnation).as_bytes())?;
-        self.file.sync_all()?;
-        self.kept = self.incarnation;
-        Ok(())
-    }
-
-    /// What is known of older incarnations: no process of the last one before is left, since whoever
-    /// has the file alone runs as this client. It is the one that a server knows, unless that was
-    /// not reached from this machine.
-    pub fn older(&self) -> Older {
-        if self.before == 0 { Older::Unknown } else { Older::IsOver(self.before) }
-    }
-
-    /// The client's number.
-    pub fn number(&self) -> u8 {
-        self.number
+        self.file.sync_all()
     }
 
     /// The incarnation in the file, or 0 if it is new.
@@ -112,6 +93,37 @@ impl LockFile {
         let last = text.strip_prefix(&head).and_then(|rest| rest.strip_suffix('\n'));
         let last = last.and_then(|digits| digits.parse::<u64>().ok());
         last.filter(|last| *last < u64::MAX).ok_or(LockFileError::Strange)
+    }
+}
+
+impl Incarnations for LockFile {
+    fn number(&self) -> u8 {
+        self.number
+    }
+
+    fn current(&self) -> u64 {
+        self.incarnation
+    }
+
+    fn renew(&mut self) {
+        self.before = self.kept;
+        self.incarnation = now().max(self.incarnation + 1);
+    }
+
+    /// No process of the last one before is left, since only whoever has the file runs as this
+    /// client. It is the one that a server knows, unless that was not reached from this machine.
+    fn older(&self) -> Older {
+        if self.before == 0 { Older::Unknown } else { Older::IsOver(self.before) }
+    }
+
+    fn keep(&mut self) -> io::Result<()> {
+        if self.kept != self.incarnation {
+            self.write().map_err(|error| {
+                io::Error::new(error.kind(), format!("the lock file can't be written: {error}"))
+            })?;
+            self.kept = self.incarnation;
+        }
+        Ok(())
     }
 }
 
@@ -176,6 +188,11 @@ mod tests {
         std::env::temp_dir().join(format!("krl-{}-{name}.lock", std::process::id()))
     }
 
+    fn renewed(held: &mut LockFile) -> u64 {
+        held.renew();
+        held.current()
+    }
+
     #[test]
     fn one_holder_and_rising_incarnations() {
         let path = path("rising");
@@ -194,11 +211,11 @@ mod tests {
         assert_eq!((first, held.older()), (far + 1, Older::IsOver(far)));
         held.keep().unwrap();
         assert_eq!(std::fs::read_to_string(&path).unwrap(), line(3, far + 1));
-        assert_eq!([held.renew(), held.renew()], [far + 2, far + 3]);
+        assert_eq!([renewed(&mut held), renewed(&mut held)], [far + 2, far + 3]);
         assert_eq!(held.older(), Older::IsOver(far + 1));
         held.keep().unwrap();
         assert_eq!(std::fs::read_to_string(&path).unwrap(), line(3, far + 3));
-        assert_eq!((held.renew(), held.older()), (far + 4, Older::IsOver(far + 3)));
+        assert_eq!((renewed(&mut held), held.older()), (far + 4, Older::IsOver(far + 3)));
         std::fs::remove_file(&path).unwrap();
     }
 

@@ -32,7 +32,7 @@ impl Pinned {
 
     /// Whether no other client has taken what was held of the range, at any shard.
     pub fn holds(&self) -> bool {
-        let holds = |(shard, pin)| self.joined.link(shard).with_jobs(|jobs| jobs.holds_pin(pin));
+        let holds = |(shard, pin)| self.joined.link(shard).with_state(|state| state.holds_pin(pin));
         self.parts().all(holds)
     }
 
@@ -46,7 +46,7 @@ impl Drop for Pinned {
     fn drop(&mut self) {
         for (shard, pin) in self.parts() {
             let link = self.joined.link(shard);
-            link.with_jobs(|jobs| jobs.unpin(pin));
+            link.with_state(|state| state.unpin(pin));
             link.flush();
         }
     }

@@ -22,11 +22,6 @@ pub(crate) fn copied(room: &mut Vec<Row>) -> Result<Vec<Row>, Code> {
     Ok(rows)
 }
 
-/// The room as the next scan finds it: what a long one took is given back.
-pub(crate) fn kept(room: Vec<Row>) -> Vec<Row> {
-    if room.capacity() > MAX_KEPT { Vec::new() } else { room }
-}
-
 /// Lends the room of this thread. Who asks for it once more meanwhile gets another one, and so does
 /// a thread that ends.
 pub(crate) fn with_room<T>(work: impl FnOnce(&mut Vec<Row>) -> T) -> T {
@@ -53,8 +48,6 @@ mod tests {
             let mut room = rows(count);
             assert_eq!(copied(&mut room), Ok(rows(count)));
             assert_eq!(room.is_empty(), count == 0 || count > MAX_KEPT, "{count}");
-            assert!(kept(rows(count)).capacity() <= MAX_KEPT);
         }
-        assert_eq!(kept(rows(5)).capacity(), rows(5).capacity());
     }
 }

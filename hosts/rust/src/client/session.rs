@@ -1,9 +1,9 @@
 //! A client and its connection, without a socket, a thread and a clock: what comes goes in, and
 //! what is to be said comes out. [`crate::client::link`] is the shell around it.
 use crate::client::backoff::Backoff;
-use crate::client::jobs::{Asked, Asking, IDLE_TICK, JobId, Jobs, WasSent};
 use crate::client::refused_connects::RefusedConnects;
 use crate::client::silence::{Silence, Silent};
+use crate::client::state::{Asked, Asking, IDLE_TICK, JobId, State, WasSent};
 use crate::lease::clocks::Now;
 use crate::log::event_log;
 use crate::model::code::Code;
@@ -35,13 +35,23 @@ type GivesUp = Box<dyn Fn(Refusal, Instant) -> bool + Send>;
 
 /// A client, its connection to one of its servers, and what it has heard of them.
 ///
-/// Each call of it is made at the moment that [`Session::at`] was given last. A connection is made
-/// by [`Session::connected`], and ends by [`Session::disconnected`]. In between,
-/// [`Session::receive`] takes what has come, [`Session::proceed`] what time brings, and
-/// [`Session::take`] gives what is to be said after each of them. The next [`Session::proceed`] is
-/// due [`Session::due_in`] later.
+/// Each call is made at the moment that [`Session::at`] was given last. There are four kinds of
+/// methods:
+///
+/// - A. What callers ask: [`Session::join`]; [`Session::state`], for all else; and
+///   [`Session::give_up`], for what nobody waits for any more.
+/// - B. Connections: [`Session::connected`] begins one, and [`Session::disconnected`] ends it, or
+///   reports that none was made. Before the first, a client that [`Session::has_to_begin_anew`]
+///   does so by [`Session::begin_anew`]. [`crate::client::engine`] has the order.
+/// - C. What comes, and what time brings: [`Session::receive`] and [`Session::proceed`]. If one of
+///   them fails, the connection has to end.
+/// - D. What is to be done next: [`Session::take`] returns what leaves, and [`Session::due_in`] how
+///   soon to proceed again if nothing comes.
+///
+/// On a connection, [`Session::receive`] takes all that has come, [`Session::proceed`] follows, and
+/// then [`Session::take`]. After a call of the kind A, [`Session::take`] follows at once.
 pub(crate) struct Session {
-    jobs: Jobs,
+    state: State,
     servers: Servers,
     /// The place of the server that it is connected to, or tries next.
     place: usize,
@@ -93,9 +103,9 @@ struct Joining {
 
 impl Session {
     /// A client that is not connected, and draws its pauses between connections by this seed.
-    pub fn new(servers: Servers, jobs: Jobs, seed: u64) -> Session {
+    pub fn new(servers: Servers, state: State, seed: u64) -> Session {
         Session {
-            jobs,
+            state,
             place: 0,
             backoff: Backoff::among(servers.count(), seed),
             servers,
@@ -114,13 +124,13 @@ impl Session {
 
     /// The session at this moment, read after all that the next call takes has come.
     pub fn at(&mut self, now: Now) -> &mut Session {
-        self.jobs.at(now);
+        self.state.at(now);
         self
     }
 
     /// What the client was asked.
-    pub fn jobs(&mut self) -> &mut Jobs {
-        &mut self.jobs
+    pub fn state(&mut self) -> &mut State {
+        &mut self.state
     }
 
     /// The server that it is connected to, or tries next.
@@ -137,44 +147,41 @@ impl Session {
     /// Whether the client needs a greater incarnation before it connects: it has dropped all, or
     /// its lease has ended.
     pub fn has_to_begin_anew(&mut self) -> bool {
-        self.jobs.end_lease_if_over();
-        self.jobs.is_void()
+        self.state.end_lease_if_over();
+        self.state.is_void()
     }
 
     /// The client continues under the incarnation of this handle.
     pub fn begin_anew(&mut self, client: ClientHandle) {
-        self.jobs.begin_anew(client);
+        self.state.begin_anew(client);
     }
 
-    /// The incarnation is on the disk, so it may be said.
-    pub fn confirm_incarnation(&mut self) -> io::Result<()> {
-        self.jobs.confirm_incarnation().map_err(io::Error::other)
-    }
-
-    /// A connection is made, and the client's incarnation is on the disk. It answers what the
-    /// connection begins with. One that ends before anything has come says nothing about its
-    /// server: one without the greeting would be one without a lease.
+    /// A connection is made, and the client's incarnation is on the disk, so it may be sent. Returns
+    /// the bytes with which the connection begins. One that ends before anything has come reports
+    /// nothing about its server: one without the greeting would be one without a lease.
     ///
     /// # Errors
     ///
-    /// If the clock of leases can't be read, or has not gone on since the last sign.
+    /// If the client has to begin again first; and if the clock of leases can't be read, or has not
+    /// gone on since the last sign.
     pub fn connected(&mut self) -> io::Result<Vec<u8>> {
-        let sign = self.jobs.greet()?;
+        self.state.confirm_incarnation().map_err(io::Error::other)?;
+        let sign = self.state.greet()?;
         self.connection = Some(Connection {
             heard: Heard::default(),
             silence: Silence::new(self.now(), self.servers.count()),
             fence: Fence::new(self.servers.shard()),
             said: Vec::new(),
         });
-        self.jobs.tick_soon();
+        self.state.tick_soon();
         Ok([self.hello(), sign.frame()].concat())
     }
 
-    /// The connection has ended, or was not made, for this reason. It answers how long to wait
+    /// The connection has ended, or was not made, for this reason. Returns how long to wait
     /// before the next attempt.
     pub fn disconnected(&mut self, end: io::Error) -> Duration {
         let heard = self.connection.take().map_or(Heard::default(), |it| it.heard);
-        self.jobs.disconnect();
+        self.state.disconnect();
         let fault = ConnectFault::from(end);
         // A client that has to begin again does so at once.
         if heard.went_back || heard.message && fault.rejection().is_none() {
@@ -227,7 +234,7 @@ impl Session {
     }
 
     fn hear_message(&mut self, message: Message<'_>) -> io::Result<()> {
-        self.jobs.hear(message.bytes()).map_err(bad_message)?;
+        self.state.hear(message.bytes()).map_err(bad_message)?;
         self.connection()?.heard.message = true;
         self.accepted();
         self.compare_epochs(message)
@@ -261,12 +268,12 @@ impl Session {
     pub fn proceed(&mut self) -> io::Result<()> {
         self.greet_again_if_due()?;
         self.look_at_silence()?;
-        self.jobs.end_lease_if_over();
-        if self.jobs.is_void() {
+        self.state.end_lease_if_over();
+        if self.state.is_void() {
             return Err(io::Error::other(Error::from(ErrorKind::LeaseEnded)));
         }
-        self.jobs.advance(Asking::Allowed);
-        self.jobs.tick_if_due();
+        self.state.advance(Asking::Allowed);
+        self.state.tick_if_due();
         self.end_join_if_hopeless();
         Ok(())
     }
@@ -294,15 +301,15 @@ impl Session {
         match &mut self.connection {
             Some(connection) => {
                 frames.append(&mut connection.said);
-                self.jobs.take(frames);
+                self.state.take(frames);
             }
-            None => self.jobs.lose(),
+            None => self.state.lose(),
         }
     }
 
     /// How long it may sleep if nothing comes: until the next tick or sign.
     pub fn due_in(&self) -> Duration {
-        self.jobs.longest_sleep().unwrap_or(IDLE_TICK).min(self.jobs.next_tick())
+        self.state.longest_sleep().unwrap_or(IDLE_TICK).min(self.state.next_tick())
     }
 
     /// The same as a moment: it stays the same as long as nothing comes and no tick is due earlier.
@@ -313,15 +320,15 @@ impl Session {
     /// Waits until the client has joined, and no longer once the server reports a reason for which
     /// the caller gives up.
     pub fn join(&mut self, gives_up: GivesUp) -> Asked<()> {
-        let asked = self.jobs.join();
+        let asked = self.state.join();
         self.joining = Some(Joining { job: asked.id, gives_up });
         asked
     }
 
-    /// Nobody waits for the job any more. It answers why it has no answer.
+    /// Nobody waits for the job any more. Returns why it has no answer.
     pub fn give_up(&mut self, job: JobId) -> ErrorKind {
-        let why = self.unanswered(self.jobs.was_sent(job));
-        self.jobs.abandon(job, why);
+        let why = self.unanswered(self.state.was_sent(job));
+        self.state.abandon(job, why);
         why
     }
 
@@ -334,7 +341,7 @@ impl Session {
         }
         let is_of_shard = matches!(self.rejections.last(), Some(Rejection::OtherShard(_)));
         let of_sent = is_of_shard.then(|| self.unanswered(WasSent::Yes));
-        self.jobs.refuse_all(self.unanswered(WasSent::No), of_sent);
+        self.state.refuse_all(self.unanswered(WasSent::No), of_sent);
     }
 
     /// A client that joins gives up if another program answers at its only address repeatedly. One
@@ -344,7 +351,7 @@ impl Session {
             return;
         }
         if let Some(Joining { job, .. }) = self.joining.take() {
-            self.jobs.refuse(job, self.unanswered(WasSent::No));
+            self.state.refuse(job, self.unanswered(WasSent::No));
         }
     }
 
@@ -357,12 +364,12 @@ impl Session {
         }
         self.nothing_listens = self.fault.take();
         if let Some(Joining { job, .. }) = self.joining.take() {
-            self.jobs.refuse(job, ErrorKind::TimedOut);
+            self.state.refuse(job, ErrorKind::TimedOut);
         }
     }
 
     fn gives_up_if_refused(&self) -> bool {
-        let is_joining = |joining: &Joining| self.jobs.is_open(joining.job);
+        let is_joining = |joining: &Joining| self.state.is_open(joining.job);
         !self.servers.are_several() && self.joining.as_ref().is_some_and(is_joining)
     }
 
@@ -371,7 +378,7 @@ impl Session {
             return;
         };
         if gives_up(hint, self.now()) {
-            self.jobs.refuse(*job, self.unanswered(WasSent::No));
+            self.state.refuse(*job, self.unanswered(WasSent::No));
             self.joining = None;
         }
     }
@@ -427,7 +434,7 @@ impl Session {
     }
 
     fn now(&self) -> Instant {
-        self.jobs.now().monotonic
+        self.state.now().monotonic
     }
 }
 

@@ -1,6 +1,6 @@
 //! A client of one server: of its only one, or of that of a shard.
-use crate::client::jobs::Jobs;
 use crate::client::link::Link;
+use crate::client::state::State;
 use crate::lease::boot_clock::Moment;
 use crate::model::error::ErrorKind;
 use crate::model::row::Row;
@@ -49,7 +49,7 @@ impl ShardClient {
     /// Leaves, and waits until the deadline for the server to keep that. Then its thread has ended,
     /// and its number is free.
     pub fn leave_by(&self, end: Instant) -> Result<(), ErrorKind> {
-        self.link.ask(end, Jobs::leave)?;
+        self.link.ask(end, State::leave)?;
         self.end(end);
         Ok(())
     }

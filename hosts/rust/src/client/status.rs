@@ -31,12 +31,12 @@ impl Client {
         let status = |(shard, client): (usize, &ShardClient)| {
             let (link, error_at) = (client.link(), self.joined.error_at(shard));
             let is_connected = link.is_connected();
-            link.with_jobs(|jobs| ShardStatus {
+            link.with_state(|state| ShardStatus {
                 shard,
-                epoch: jobs.epoch().map_err(|code| error_at(code.into())),
+                epoch: state.epoch().map_err(|code| error_at(code.into())),
                 is_connected,
-                incarnation: jobs.incarnation(),
-                lease_left: jobs.lease_left(),
+                incarnation: state.incarnation(),
+                lease_left: state.lease_left(),
             })
         };
         self.joined.clients().map(status).collect()

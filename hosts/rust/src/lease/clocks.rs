@@ -51,7 +51,7 @@ impl Now {
     }
 }
 
-#[cfg(feature = "simulated")]
+#[cfg(feature = "sans-io")]
 impl Now {
     /// The clocks of a machine that was started at this moment, and has run for this long. Of the
     /// clock of timeouts only differences mean something.

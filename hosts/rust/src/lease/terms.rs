@@ -100,7 +100,7 @@ pub enum LeaseLeft {
 
 /// What a client's host knows of the older incarnations of its client.
 #[derive(Clone, Copy, Debug, PartialEq, Eq)]
-pub(crate) enum Older {
+pub enum Older {
     /// Nothing: each may still answer.
     Unknown,
     /// No process of this one is left: it stood in the lock file that this host holds.

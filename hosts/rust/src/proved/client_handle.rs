@@ -322,6 +322,13 @@ impl ClientHandle {
         self.handle.get().handle.held(key).key == S
     }
 
+    /// Whether the client reads the entry of this slot, and not the gap below it.
+    pub fn reads_only_entry(&self, slot: &Range<u64>) -> bool {
+        // No slot is empty, and a message may still say so.
+        let entry = slot.end.saturating_sub(1);
+        self.reads_entry(entry) && !self.reads_gap(entry)
+    }
+
     pub fn status(&self) -> Result<Shown, Code> {
         const LOCK_WAITING: u32 = 1;
         const LOCK_GRANTED: u32 = 2;

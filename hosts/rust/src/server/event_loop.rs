@@ -43,10 +43,19 @@ const LAST_TURNS: Duration = Duration::from_millis(100);
 /// How old what others see of a server may be while it is busy.
 const SHOWN_FOR: Duration = Duration::from_millis(5);
 
-/// What a server decides. It makes turns: each takes what has come by [`EventLoop::hear_next`], and
-/// what time brings by [`EventLoop::nudge`]. What [`EventLoop::take_commit`] answers is committed
-/// then, at once or while more turns are made, and [`EventLoop::committed`] takes it back. Only
-/// after that [`EventLoop::send`] gives the connections what waited for it.
+/// What a server decides. It makes turns, by four kinds of methods:
+///
+/// - A. What comes: [`EventLoop::hear_next`] judges what the connection has whose turn it is, or
+///   names one that has to be read first, for [`EventLoop::take`].
+/// - B. What time brings: [`EventLoop::nudge`].
+/// - C. Commits: [`EventLoop::take_commit`] returns what has to be committed, at once or while more
+///   turns are made, and [`EventLoop::committed`] takes it back.
+/// - D. What is to be done next: [`EventLoop::send`] gives the connections what rests on finished
+///   commits only, [`EventLoop::goes_on`] returns whether to make another turn, and
+///   [`EventLoop::longest_wait`] how long that one waits if nothing comes.
+///
+/// A turn makes them in this order. If a commit is made meanwhile, [`EventLoop::committed`] and
+/// [`EventLoop::send`] come first in the turn that finds it made.
 pub(crate) struct EventLoop {
     server: ServerHandle,
     history: Option<History>,

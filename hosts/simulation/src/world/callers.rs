@@ -1,10 +1,10 @@
 //! What the callers of a client do, and what they are answered.
 use super::{Errand, Event, World};
-use crate::calls::{self, Ended, Made, Pinned, Waiting, Watched};
+use crate::calls::{self, Ended, Made, Pinned, Waiting, Watched, cached};
 use crate::judge::{Version, Window};
 use crate::record::Node;
 use crate::weather::Ask;
-use krl::simulated::{Cached, Held, Purpose};
+use krl::sans_io::{Cached, Held, Purpose};
 use krl::{ClientSet, END, Error, ErrorKind, Outcome, Refusal, Row, Unsent, Value, Write};
 use std::ops::Range;
 use std::time::Duration;
@@ -73,8 +73,8 @@ impl World {
         let machine = &mut self.machines[client];
         let time = machine.clock.at(self.now);
         let Some(it) = &mut machine.client else { return };
-        match it.cached(&keys, time) {
-            Cached::Rows(rows) => {
+        match cached(it, &keys, time) {
+            (Cached::Rows, rows) => {
                 self.counts.cached += 1;
                 machine.is_served[0] |= self.healed.is_some();
                 let now = self.window(client, self.judge.version());
@@ -84,7 +84,7 @@ impl World {
                 let deadline = self.draw_deadline(time);
                 let machine = &mut self.machines[client];
                 let Some(it) = &mut machine.client else { return };
-                let call = it.read(keys.clone(), time);
+                let call = it.read(time, keys.clone());
                 machine.calls.reading = Some(Waiting::new(keys, call, made, deadline));
             }
             _ => {}
@@ -98,7 +98,7 @@ impl World {
         let machine = &mut self.machines[client];
         let Some(it) = &mut machine.client else { return };
         if !machine.calls.may_write() {
-            let call = it.write(write, time);
+            let call = it.write(time, write, None);
             machine.calls.writing = Some(Waiting::new(write, call, made, deadline));
         }
     }
@@ -112,7 +112,7 @@ impl World {
         let machine = &mut self.machines[client];
         let Some(it) = &mut machine.client else { return };
         if !machine.calls.may_write() {
-            let call = it.hold(keys.clone(), purpose, time);
+            let call = it.hold(time, keys.clone(), purpose);
             machine.calls.holding = Some(Waiting::new(keys, call, made, deadline));
         }
     }
@@ -124,7 +124,7 @@ impl World {
         let machine = &mut self.machines[client];
         let Some(it) = &mut machine.client else { return };
         if machine.calls.forgetting.is_none() {
-            let call = it.forget(keys.clone(), time);
+            let call = it.forget(time, keys.clone());
             machine.calls.forgetting = Some(Waiting::new(keys, call, made, deadline));
         }
     }
@@ -136,9 +136,9 @@ impl World {
         let time = machine.clock.at(self.now);
         let Some(it) = &mut machine.client else { return };
         if machine.calls.watched.is_none()
-            && let Cached::Rows(rows) = it.cached(&keys, time)
+            && let (Cached::Rows, rows) = cached(it, &keys, time)
         {
-            let call = it.watch(keys.clone(), rows.clone(), time);
+            let call = it.watch(time, keys.clone(), rows.clone());
             machine.calls.watched = Some(Watched { keys, rows, call });
         }
     }
@@ -314,16 +314,16 @@ impl World {
         let machine = &mut self.machines[client];
         let time = machine.clock.at(self.now);
         let Some(Watched { keys, rows, call }) = &machine.calls.watched else { return };
-        let Some(it) = &machine.client else { return };
+        let Some(it) = &mut machine.client else { return };
         if call.answer().is_some() {
             machine.calls.watched = None;
             self.counts.watched += 1;
             return;
         }
-        let is_news = match it.cached(keys, time) {
-            Cached::Rows(known) => known != *rows,
-            Cached::Missing => true,
-            Cached::Pending | Cached::Ended => false,
+        let is_news = match cached(it, keys, time) {
+            (Cached::Rows, known) => known != *rows,
+            (Cached::Missing, _) => true,
+            (Cached::Pending | Cached::Ended, _) => false,
         };
         if is_news {
             let keys = keys.clone();
@@ -351,7 +351,7 @@ impl World {
         let is_writing = machine.calls.bound.is_some();
         let (Some(pinned), Some(it)) = (&machine.calls.pinned, &mut machine.client) else { return };
         let Pinned { keys, rows, pin, until } = pinned;
-        let holds = it.holds_pin(*pin, time);
+        let holds = it.holds_pin(time, *pin);
         // A write under the pin may be made, and not be answered yet.
         if holds && !is_writing && !self.judge.has(keys, rows, &now) {
             self.judge.find(format!("client {client} has {keys:?} pinned as {rows:?}"));
@@ -368,7 +368,7 @@ impl World {
         let machine = &mut self.machines[client];
         let time = machine.clock.at(self.now);
         if let (Some(pinned), Some(it)) = (machine.calls.pinned.take(), &mut machine.client) {
-            it.unpin(pinned.pin, time);
+            it.unpin(time, pinned.pin);
             self.says_to_server(client);
         }
     }
@@ -384,7 +384,7 @@ impl World {
         let machine = &mut self.machines[client];
         let (Some(pinned), Some(it)) = (&machine.calls.pinned, &mut machine.client) else { return };
         self.judge.bind(write, pinned.keys.clone(), pinned.rows.clone());
-        let call = it.write_under(pinned.pin, write, time);
+        let call = it.write(time, write, Some(pinned.pin));
         machine.calls.bound = Some(Waiting::new(write, call, made, deadline));
         self.says_to_server(client);
     }

@@ -1,10 +1,12 @@
 //! What happens at the clients.
 use super::{Down, Errand, Event, Machine, World};
 use crate::calls::Calls;
+use crate::lock_file::LockFile;
 use crate::network::{Carried, PREFIX, Side};
 use crate::record::{Delivery, Fate, Happened, Node};
 use crate::timer::Timer;
-use krl::simulated::{self, Before, Begin, Client, FrameKind};
+use krl::sans_io::{Call, Client, Incarnations};
+use krl::simulated::{self, FrameKind};
 use std::io::{self, ErrorKind};
 use std::time::Duration;
 
@@ -28,10 +30,9 @@ impl Machine {
         self.clock.at(now)
     }
 
-    /// Takes a greater incarnation, and answers what is known of those before.
-    fn renew(&mut self, now: Duration) -> Before {
-        self.incarnation = incarnation_at(self.time(now) + self.ahead).max(self.incarnation + 1);
-        if self.kept > 0 { Before::IsOver(self.kept) } else { Before::Unknown }
+    /// What its clock shows that operators set.
+    fn wall_clock(&self, now: Duration) -> u64 {
+        incarnation_at(self.time(now) + self.ahead)
     }
 }
 
@@ -49,17 +50,15 @@ impl World {
         if std::mem::replace(&mut machine.ahead, ahead) > Duration::ZERO {
             machine.kept = 0;
         }
-        machine.incarnation = machine.kept;
-        let before = machine.renew(now);
-        self.start_client(client, before, seed);
+        let taken = LockFile::taken(machine.number, machine.kept, machine.wall_clock(now));
+        self.start_client(client, taken, seed);
     }
 
-    pub(super) fn start_client(&mut self, client: usize, before: Before, seed: u64) {
-        let servers = self.sites.len();
+    fn start_client(&mut self, client: usize, lock_file: LockFile, seed: u64) {
+        let (servers, incarnation) = (self.sites.len(), lock_file.current());
         let machine = &mut self.machines[client];
-        let Machine { number, incarnation, signs, .. } = *machine;
-        let begin = Begin { number, incarnation, before, servers, signs, seed };
-        machine.client = Some(Client::new(begin, machine.time(self.now)));
+        let started = Client::of(lock_file, servers, None, seed, machine.time(self.now));
+        machine.client = Some(started.expect("there is memory"));
         self.happened += 1;
         machine.life += 1;
         machine.frozen_until = Duration::ZERO;
@@ -103,12 +102,9 @@ impl World {
             if let Errand::Evict { victim, .. } = machine.errand {
                 return self.end_eviction(client, victim);
             }
-            let before = machine.renew(now);
             machine.before = None;
-            let Some(it) = &mut machine.client else { return };
-            it.begin_anew(machine.number, machine.incarnation, before, time);
         }
-        let site = machine.client.as_ref().map_or(0, Client::place);
+        let site = it.place();
         self.happened += 1;
         self.count_attempt(client);
         match self.open_link(client, site) {
@@ -143,17 +139,22 @@ impl World {
 
     fn greet(&mut self, client: usize, link: u64) {
         let machine = &mut self.machines[client];
-        let time = machine.clock.at(self.now);
+        let (time, clock) = (machine.time(self.now), machine.wall_clock(self.now));
         let Some(it) = &mut machine.client else { return };
-        machine.kept = machine.incarnation;
-        match it.connect(time) {
-            Ok(greeting) => {
-                self.note(Node::Client(client), 12, || format!("connects by {link}"));
-                self.carry(link, Side::Server, &greeting);
-                self.proceed(client);
-            }
-            Err(error) => self.disconnect(client, error),
+        it.incarnations_mut().set_clock(clock);
+        let signs = machine.signs;
+        let connected = if signs { it.connected(time) } else { it.connected_without_lease(time) };
+        machine.kept = it.incarnations().kept();
+        let is_kept = machine.kept == it.incarnations().current();
+        if let Err(error) = connected {
+            return self.disconnect(client, error);
         }
+        if !is_kept {
+            self.judge.find(format!("client {client} sends an incarnation that is not kept"));
+        }
+        self.note(Node::Client(client), 12, || format!("connects by {link}"));
+        self.says_to_server(client);
+        self.proceed(client);
     }
 
     /// Connections on which no message comes are made ever less often.
@@ -178,7 +179,7 @@ impl World {
         let machine = &mut self.machines[client];
         let time = machine.clock.at(self.now);
         let Some(it) = &mut machine.client else { return };
-        let pause = machine.clock.takes(it.disconnect(why, time));
+        let pause = machine.clock.takes(it.disconnected(time, why).saturating_sub(time));
         let life = machine.life;
         if let Some(link) = machine.link.take() {
             self.end_link(link, Side::Client);
@@ -247,7 +248,7 @@ impl World {
         if kind == FrameKind::OtherStore || kind == FrameKind::WentBack && !machine.may_lack {
             self.judge.find(format!("client {client} is told {kind:?}, and it is not so"));
         }
-        match it.deliver(bytes, time) {
+        match it.received(time, bytes) {
             Ok(()) => self.proceed(client),
             Err(error) => self.disconnect(client, error),
         }
@@ -289,8 +290,8 @@ impl World {
         let time = machine.clock.at(self.now);
         let (Some(it), Some(_)) = (&mut machine.client, machine.link) else { return };
         match it.proceed(time) {
-            Ok(due) => {
-                let due = machine.clock.takes(due);
+            Ok(()) => {
+                let due = machine.clock.takes(it.due().saturating_sub(time));
                 self.says_to_server(client);
                 self.proceed_in(client, due);
             }
@@ -311,8 +312,8 @@ impl World {
         let machine = &mut self.machines[client];
         let time = machine.clock.at(self.now);
         let Some(it) = &mut machine.client else { return };
-        let mut said = Vec::new();
-        it.take(&mut said, time);
+        let said = it.output(time).to_vec();
+        it.sent(said.len());
         if let Some(link) = machine.link {
             self.carry(link, Side::Server, &said);
         }
@@ -329,15 +330,16 @@ impl World {
         let Some(known) = known.filter(|_| is_free) else { return };
         let incarnation = known.incarnation + 1;
         let machine = &self.machines[victim];
-        if machine.client.is_some() && machine.incarnation <= incarnation {
+        let is_older = |it: &Client<LockFile>| it.incarnations().current() <= incarnation;
+        if machine.client.as_ref().is_some_and(is_older) {
             return;
         }
         let (seed, clock) = (self.dice.draw(), machine.clock);
         self.machines[victim].stays_down = Some(Down::Evicted);
         let machine = &mut self.machines[operator];
         machine.clock = clock;
-        (machine.number, machine.incarnation, machine.kept) = (number, incarnation, 0);
-        self.start_client(operator, Before::Vouched, seed);
+        (machine.number, machine.kept) = (number, 0);
+        self.start_client(operator, LockFile::of_operator(number, incarnation), seed);
         let machine = &mut self.machines[operator];
         let time = machine.clock.at(self.now);
         let joining = machine.client.as_mut().map(|it| it.join(time));
@@ -354,7 +356,7 @@ impl World {
             *joining = None;
             *leaving = Some(it.leave(time));
         }
-        let has_left = leaving.as_ref().and_then(simulated::Call::answer);
+        let has_left = leaving.as_ref().and_then(Call::answer);
         if let Some(left) = has_left {
             self.counts.evicted += u64::from(left.is_ok());
             self.end_eviction(operator, victim);

@@ -1,8 +1,8 @@
 //! What callers ask of a client, and how they wait for the answer.
 use super::{Link, lock};
 use crate::client::answer::Answer;
-use crate::client::jobs::{Asked, BUSY_TICK, Jobs};
 use crate::client::session::Session;
+use crate::client::state::{Asked, BUSY_TICK, State};
 use crate::client::writer::Written;
 use crate::model::error::ErrorKind;
 use crate::model::refusal::Refusal;
@@ -16,7 +16,7 @@ impl Link {
     pub fn ask<T>(
         &self,
         end: Instant,
-        ask: impl FnOnce(&mut Jobs) -> Asked<T>,
+        ask: impl FnOnce(&mut State) -> Asked<T>,
     ) -> Result<T, ErrorKind> {
         let asked = self.begin(ask);
         self.finish(asked, end)
@@ -35,8 +35,8 @@ impl Link {
     }
 
     /// Asks for something, and waits for nothing.
-    pub fn begin<T>(&self, ask: impl FnOnce(&mut Jobs) -> Asked<T>) -> Asked<T> {
-        self.call(|session| ask(session.jobs()))
+    pub fn begin<T>(&self, ask: impl FnOnce(&mut State) -> Asked<T>) -> Asked<T> {
+        self.call(|session| ask(session.state()))
     }
 
     /// Waits until the deadline for the answer to what was begun.
@@ -67,7 +67,7 @@ impl Link {
     }
 
     /// Reads the connection until the answer has come, if no other caller does so: then no thread
-    /// has to wake another one. It answers nothing if there is no answer by the end.
+    /// has to wake another one. Returns `None` if there is no answer by the end.
     pub(super) fn read_until<T>(
         &self,
         answer: &Answer<Result<T, ErrorKind>>,
@@ -91,7 +91,7 @@ impl Link {
         }
     }
 
-    /// Waits for something to come, and takes it. It answers whether to continue so.
+    /// Waits for something to come, and takes it. Returns whether to continue so.
     pub(super) fn read_once(&self, longest: Duration) -> bool {
         let Ok(ready) = self.poller.wait(longest) else { return false };
         let goes_on = self.read_ready(ready.into_iter());

@@ -1,6 +1,6 @@
 //! How callers wait for answers: on their threads, or as tasks.
 use super::Link;
-use crate::client::jobs::{Asked, Jobs};
+use crate::client::state::{Asked, State};
 use crate::model::error::ErrorKind;
 use std::future::Future;
 use std::pin::Pin;
@@ -24,7 +24,7 @@ impl<T> Awaited<T> {
     pub fn begin(
         link: &Arc<Link>,
         end: Instant,
-        ask: impl FnOnce(&mut Jobs) -> Asked<T>,
+        ask: impl FnOnce(&mut State) -> Asked<T>,
     ) -> Awaited<T> {
         let asked = Some(link.begin(ask));
         Awaited { link: Arc::clone(link), end, asked, undo: |_, _| () }

@@ -4,7 +4,7 @@ use crate::lease::boot_clock::Moment;
 use crate::model::error::ErrorKind;
 use crate::net::outbox::STALL;
 use crate::net::stream::{Listener, Stream};
-use crate::proved::client_handle::Scan;
+use crate::proved::client_handle::{ClientHandle, Scan};
 use crate::server::Server;
 use crate::store::MemoryStore;
 use std::os::unix::net::UnixStream;
@@ -18,14 +18,13 @@ fn link() -> Link {
 }
 
 fn link_and_poller() -> (Link, Poller) {
-    let jobs = Jobs::new(ClientHandle::open(1, 1).unwrap(), Now::read());
-    Link::new("unix:nowhere".parse().unwrap(), jobs, None).unwrap()
+    let state = State::new(ClientHandle::open(1, 1).unwrap(), Now::read());
+    Link::new("unix:nowhere".parse().unwrap(), state, None).unwrap()
 }
 
 /// A link over this connection, whose thread does not run, and its poller.
 fn link_over(carrier: Carrier) -> (Link, Poller) {
     let (link, poller) = link_and_poller();
-    link.session().confirm_incarnation().unwrap();
     let first = link.session().connected().unwrap();
     link.writer.open(carrier.try_clone().unwrap(), first);
     link.open_reading(carrier, &poller).unwrap();
@@ -49,7 +48,7 @@ fn a_peer_that_takes_nothing_holds_no_call_beyond_its_deadline() {
         for _ in 0..8 {
             scope.spawn(|| {
                 let begun = Instant::now();
-                let read = link.ask(begun + SHORT, |jobs| jobs.read(0..9));
+                let read = link.ask(begun + SHORT, |state| state.read(0..9));
                 assert_eq!(read, Err(ErrorKind::TimedOut));
                 assert!(begun.elapsed() < STALL / 2, "{:?}", begun.elapsed());
             });
@@ -67,7 +66,7 @@ fn a_peer_that_takes_nothing_holds_no_call_beyond_its_deadline() {
 fn callers_hear_that_the_thread_has_panicked() {
     let link = link();
     std::thread::scope(|scope| {
-        let read = scope.spawn(|| link.ask(Instant::now() + LONG, |jobs| jobs.read(0..9)));
+        let read = scope.spawn(|| link.ask(Instant::now() + LONG, |state| state.read(0..9)));
         std::thread::sleep(SHORT);
         let panicked = scope.spawn(|| {
             let _ended = Ended(&link);
@@ -77,7 +76,7 @@ fn callers_hear_that_the_thread_has_panicked() {
         assert_eq!(read.join().unwrap(), Err(ErrorKind::Stopped));
     });
     assert!(link.has_ended(Instant::now()));
-    let later = link.ask(Instant::now() + LONG, |jobs| jobs.read(0..9));
+    let later = link.ask(Instant::now() + LONG, |state| state.read(0..9));
     assert_eq!(later, Err(ErrorKind::Stopped));
 }
 
@@ -88,9 +87,9 @@ fn a_caller_reads_the_connection_while_it_waits() {
     let carrier = Carrier::connect(server.address(), None, LONG).unwrap();
     // No thread of the link runs, which would read it else.
     let (link, _poller) = link_over(carrier);
-    let joining = link.begin(Jobs::join);
+    let joining = link.begin(State::join);
     assert_eq!(link.read_until(&joining.answer, Instant::now() + LONG), Some(Ok(())));
-    let reading = link.begin(|jobs| jobs.read(0..9));
+    let reading = link.begin(|state| state.read(0..9));
     assert_eq!(link.read_until(&reading.answer, Instant::now() + LONG), Some(Ok(Vec::new())));
     server.stop().unwrap();
 }
@@ -101,12 +100,12 @@ fn a_caller_that_has_its_answer_leaves_the_thread_asleep() {
     let server = Server::start(listener, MemoryStore::default()).unwrap();
     let carrier = Carrier::connect(server.address(), None, LONG).unwrap();
     let (link, mut poller) = link_over(carrier);
-    let joining = link.begin(Jobs::join);
+    let joining = link.begin(State::join);
     assert_eq!(link.read_until(&joining.answer, Instant::now() + LONG), Some(Ok(())));
     // From here on the thread would sleep until its next tick.
     link.go_on(std::iter::empty()).unwrap();
     for key in 0..50 {
-        let reading = link.begin(|jobs| jobs.read(key..key + 1));
+        let reading = link.begin(|state| state.read(key..key + 1));
         assert_eq!(link.read_until(&reading.answer, Instant::now() + LONG), Some(Ok(Vec::new())));
     }
     poller.wait(Duration::ZERO).unwrap();

@@ -1,6 +1,6 @@
 //! What a client's host and that of its server say to one another beneath the messages.
 use super::Session;
-use crate::client::jobs::Dropped;
+use crate::client::state::Dropped;
 use crate::lease::terms::Answer;
 use crate::log::event_log;
 use crate::model::error::{Error, ErrorKind};
@@ -20,7 +20,7 @@ impl Session {
 
     /// Says the greeting again, if it has not been answered for long.
     pub(super) fn greet_again_if_due(&mut self) -> io::Result<()> {
-        if let Some(sign) = self.jobs.greet_again_if_due() {
+        if let Some(sign) = self.state.greet_again_if_due() {
             let greeting = [self.hello(), sign.frame()].concat();
             self.connection()?.said.extend(greeting);
         }
@@ -53,7 +53,7 @@ impl Session {
             Some(FromServer::Shard(served)) => self.connection()?.fence.hear(served)?,
             Some(FromServer::Hello { answers_signs: false }) => {
                 self.connection()?.fence.passes()?;
-                self.jobs.go_without_terms()?;
+                self.state.go_without_terms()?;
             }
             Some(FromServer::Hello { answers_signs: true }) => {}
             None => {
@@ -61,7 +61,7 @@ impl Session {
                     self.connection()?.fence.passes()?;
                     // Who may not sign for the client is denied in place of that.
                     self.accepted();
-                    self.jobs.hear_answer(answer)?;
+                    self.state.hear_answer(answer)?;
                 }
             }
         }
@@ -70,9 +70,9 @@ impl Session {
 
     /// The server's store lacks what the client has seen. From here on nothing of that is answered,
     /// and no message that rests on it is said or taken: another connection has another
-    /// incarnation. It answers by what the connection ends with.
+    /// incarnation. Returns why the connection ends.
     fn drop_all(&mut self) -> io::Error {
-        self.jobs.drop_all(Dropped::StoreWentBack);
+        self.state.drop_all(Dropped::StoreWentBack);
         self.seen = None;
         // The epochs of an older store may be older too.
         self.epoch = 0;
@@ -81,16 +81,16 @@ impl Session {
     }
 
     /// The server serves another store than the one that the client has seen. From here on nothing
-    /// that the client knows of that one is answered: it may be gone. It answers by what the
-    /// connection ends with.
+    /// that the client knows of that one is answered: it may be gone. Returns why the
+    /// connection ends.
     ///
     /// The client keeps the mark, and so stays refused: without one it would join the other table,
     /// and its callers would not notice. One that has not joined since it dropped all has nothing
     /// to drop, and its calls wait for the right store: no attempt to connect uses up an
     /// incarnation.
     fn leave_other_store(&mut self) -> io::Error {
-        if self.jobs.has_joined() {
-            self.jobs.drop_all(Dropped::OtherStore);
+        if self.state.has_joined() {
+            self.state.drop_all(Dropped::OtherStore);
             event_log::store_is_another_one(self.address());
         }
         // Callers hear of it once nothing is answered from the old cache.

@@ -15,16 +15,15 @@ const MILLISECOND: Duration = Duration::from_millis(1);
 /// A client of incarnation 1, of these servers.
 fn session(servers: &str) -> Session {
     let client = ClientHandle::open_behind(1, 1, Older::Unknown).unwrap();
-    Session::new(servers.parse().unwrap(), Jobs::new(client, Now::read()), 1)
+    Session::new(servers.parse().unwrap(), State::new(client, Now::read()), 1)
 }
 
 fn pass(session: &mut Session, time: Duration) {
-    let later = session.jobs.now().after(time);
+    let later = session.state.now().after(time);
     session.at(later);
 }
 
 fn connect(session: &mut Session) -> Vec<u8> {
-    session.confirm_incarnation().unwrap();
     pass(session, MILLISECOND);
     session.connected().unwrap()
 }
@@ -94,7 +93,7 @@ fn a_connection_begins_with_the_greeting_and_goes_on_by_its_terms() {
     assert_eq!(said(&mut session).len(), 1, "the library's Hello");
     // A connection that has ended takes nothing with it.
     session.disconnected(io::ErrorKind::UnexpectedEof.into());
-    session.jobs().tick();
+    session.state().tick();
     assert_eq!(said(&mut session).len(), 0);
 }
 
@@ -109,9 +108,9 @@ fn a_client_that_is_asked_nothing_sleeps_until_a_sign_or_a_tick_is_due() {
     pass(&mut session, Duration::from_millis(249));
     session.proceed().unwrap();
     assert_eq!(session.due_in(), MILLISECOND);
-    let read = session.jobs().read(0..9);
+    let read = session.state().read(0..9);
     session.proceed().unwrap();
-    assert_eq!(session.due_in(), crate::client::jobs::BUSY_TICK);
+    assert_eq!(session.due_in(), crate::client::state::BUSY_TICK);
     assert_eq!(session.give_up(read.id), ErrorKind::TimedOut);
     assert_eq!(session.due_in(), IDLE_TICK);
 }
@@ -156,7 +155,7 @@ fn the_hello_of_another_version_ends_the_connection() {
     connect(&mut session);
     let ended = hear(&mut session, &refused(Refusal::Version { read: 3 })).unwrap_err();
     assert!(ended.to_string().contains("speaks version 3 of the protocol"), "{ended}");
-    let read = session.jobs().read(0..9);
+    let read = session.state().read(0..9);
     for _ in 0..2 {
         session.disconnected(OtherVersion(3).into());
     }
@@ -168,18 +167,18 @@ fn the_hello_of_another_version_ends_the_connection() {
 fn all_jobs_end_when_the_only_server_has_rejected_this_side_twice() {
     let reject = |session: &mut Session| session.disconnected(NotTaken("no".into()).into());
     let mut alone = session("unix:one");
-    let read = alone.jobs().read(0..9);
-    let watched = alone.jobs().watch(0..9, Vec::new());
+    let read = alone.state().read(0..9);
+    let watched = alone.state().watch(0..9, Vec::new());
     assert_eq!(watched.answer.try_recv(), Ok(Ok(())), "it knows nothing of the range");
     reject(&mut alone);
     assert!(read.answer.try_recv().is_err(), "one may be a proxy's mistake");
     reject(&mut alone);
     assert_eq!(read.answer.try_recv(), Ok(Err(ErrorKind::TurnedAway)));
-    let later = alone.jobs().read(0..9);
+    let later = alone.state().read(0..9);
     alone.end_hopeless();
     assert_eq!(later.answer.try_recv(), Ok(Err(ErrorKind::TurnedAway)));
     let mut among_two = session("unix:one,unix:two");
-    let read = among_two.jobs().read(0..9);
+    let read = among_two.state().read(0..9);
     for _ in 0..5 {
         reject(&mut among_two);
     }
@@ -217,7 +216,7 @@ fn who_joins_gives_up_when_another_program_has_answered_twice_at_the_only_addres
 #[test]
 fn a_client_that_has_joined_waits_for_its_server_whatever_else_answers_there() {
     let mut session = session("unix:one");
-    let read = session.jobs().read(0..9);
+    let read = session.state().read(0..9);
     for _ in 0..5 {
         hear_and_end(&mut session, OF_HTTP);
     }
@@ -283,8 +282,8 @@ fn who_joins_waits_for_one_of_several_servers() {
 fn a_client_that_has_joined_waits_for_a_server_that_refuses() {
     let mut session = session("unix:one");
     let asked = session.join(Box::new(|_, _| false));
-    session.jobs().refuse(asked.id, ErrorKind::Left);
-    let read = session.jobs().read(0..9);
+    session.state().refuse(asked.id, ErrorKind::Left);
+    let read = session.state().read(0..9);
     let end = session.now() + Duration::from_secs(60);
     let mut attempts = 0;
     while session.now() < end && attempts < 80 {
@@ -352,11 +351,11 @@ fn who_joins_gives_up_for_a_reason_as_soon_as_it_may() {
 #[test]
 fn what_a_server_told_long_ago_is_no_reason() {
     let mut session = session("unix:nowhere");
-    let read = session.jobs().read(0..9);
+    let read = session.state().read(0..9);
     connect(&mut session);
     let full = Refusal::Full { connections: 9 };
     hear(&mut session, &refused(full)).unwrap();
-    let next = session.jobs().read(0..9);
+    let next = session.state().read(0..9);
     assert_eq!(session.give_up(read.id), ErrorKind::Unserved(full));
     pass(&mut session, HINT);
     assert_eq!(session.give_up(next.id), ErrorKind::TimedOut);

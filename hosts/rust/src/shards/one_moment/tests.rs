@@ -1,5 +1,5 @@
 use super::*;
-use crate::client::jobs::world::{World, row};
+use crate::client::state::world::{World, row};
 use crate::model::change::{Outcome, Write};
 use crate::proved::client_handle::Cache;
 use std::thread;

@@ -1,8 +1,8 @@
 //! Clients that wait for what a release has given to another one.
 use crate::access::Entry;
 use crate::access::identity::Identity;
-use crate::client::jobs::world::{messages, row};
-use crate::client::jobs::{Asked, Asking, Held, Jobs, Purpose};
+use crate::client::state::world::{messages, row};
+use crate::client::state::{Asked, Asking, Held, Purpose, State};
 use crate::lease::clocks::Now;
 use crate::model::change::{Outcome, Write};
 use crate::model::reach::Reach;
@@ -26,7 +26,7 @@ use std::time::Duration;
 struct World {
     events: EventLoop,
     now: Now,
-    clients: Vec<Jobs>,
+    clients: Vec<State>,
     /// The connection of each client.
     connections: Vec<u64>,
 }
@@ -56,7 +56,7 @@ impl World {
         let opened = decided.open(&mut MemoryStore::default(), &address, timings, || now).unwrap();
         let mut events = opened.events;
         let connections = (0..clients).map(|_| connect(&mut events, now)).collect();
-        let open = |number| Jobs::new(ClientHandle::open(number, 1).unwrap(), now);
+        let open = |number| State::new(ClientHandle::open(number, 1).unwrap(), now);
         let mut world =
             World { events, now, clients: (0..clients).map(open).collect(), connections };
         world.settle();
@@ -71,8 +71,8 @@ impl World {
     /// The server takes what each client sends. It answers whether one has sent anything.
     fn hear_clients(&mut self) -> bool {
         let mut has_heard = false;
-        for (jobs, connection) in self.clients.iter_mut().zip(&self.connections) {
-            for message in messages(|frames| jobs.take(frames)) {
+        for (state, connection) in self.clients.iter_mut().zip(&self.connections) {
+            for message in messages(|frames| state.take(frames)) {
                 self.events.hear(*connection, &message, self.now).unwrap();
                 has_heard = true;
             }
@@ -98,14 +98,14 @@ impl World {
 
     fn tell(&mut self, connection: u64, bytes: &[u8]) {
         let place = self.connections.iter().position(|it| *it == connection).unwrap();
-        let jobs = &mut self.clients[place];
+        let state = &mut self.clients[place];
         for (message, _) in split(bytes).filter(|(message, _)| !host_frame::is_of_host(message)) {
-            jobs.hear(message).unwrap();
+            state.hear(message).unwrap();
         }
-        jobs.advance(Asking::Allowed);
+        state.advance(Asking::Allowed);
     }
 
-    fn ask<T>(&mut self, client: usize, ask: impl FnOnce(&mut Jobs) -> Asked<T>) -> Asked<T> {
+    fn ask<T>(&mut self, client: usize, ask: impl FnOnce(&mut State) -> Asked<T>) -> Asked<T> {
         let asked = ask(&mut self.clients[client]);
         self.settle();
         asked
@@ -121,12 +121,12 @@ impl World {
 fn what_a_release_has_granted_is_called_back_for_who_waits_for_it() {
     let (writer, reader, next) = (0, 1, 2);
     let mut world = World::of(3);
-    let inserted = world.ask(reader, |jobs| jobs.write(Write::Insert(row(10, 1))));
+    let inserted = world.ask(reader, |state| state.write(Write::Insert(row(10, 1))));
     assert_eq!(inserted.answer.try_recv(), Ok(Ok(Outcome::Applied)));
-    let held = world.ask(reader, |jobs| jobs.hold(0..20, Purpose::Read));
+    let held = world.ask(reader, |state| state.hold(0..20, Purpose::Read));
     let Held { pin, .. } = held.answer.try_recv().unwrap().unwrap();
-    let writing = world.ask(writer, |jobs| jobs.hold(10..11, Purpose::Write));
-    let reading = world.ask(next, |jobs| jobs.read(0..11));
+    let writing = world.ask(writer, |state| state.hold(10..11, Purpose::Write));
+    let reading = world.ask(next, |state| state.read(0..11));
     assert!(writing.answer.try_recv().is_err() && reading.answer.try_recv().is_err());
     world.unpin(reader, pin);
     // The writer has all that it has asked for, and need not acknowledge it.
@@ -141,11 +141,11 @@ fn what_a_release_has_granted_is_called_back_for_who_waits_for_it() {
 fn crowd() -> (World, u64, Vec<Asked<Vec<Row>>>) {
     let readers = MOST + 3;
     let mut world = World::of(u8::try_from(readers + 1).unwrap());
-    let inserted = world.ask(0, |jobs| jobs.write(Write::Insert(row(10, 1))));
+    let inserted = world.ask(0, |state| state.write(Write::Insert(row(10, 1))));
     assert_eq!(inserted.answer.try_recv(), Ok(Ok(Outcome::Applied)));
-    let held = world.ask(0, |jobs| jobs.hold(10..11, Purpose::Write));
+    let held = world.ask(0, |state| state.hold(10..11, Purpose::Write));
     let Held { pin, .. } = held.answer.try_recv().unwrap().unwrap();
-    let reads = (1..=readers).map(|client| world.ask(client, |jobs| jobs.read(10..11))).collect();
+    let reads = (1..=readers).map(|client| world.ask(client, |state| state.read(10..11))).collect();
     (world, pin, reads)
 }
 
@@ -206,13 +206,13 @@ fn a_request_of_an_earlier_connection_is_not_taken() {
 #[test]
 fn a_client_that_has_left_waits_for_nothing() {
     let mut world = World::of(2);
-    let inserted = world.ask(0, |jobs| jobs.write(Write::Insert(row(10, 1))));
+    let inserted = world.ask(0, |state| state.write(Write::Insert(row(10, 1))));
     assert_eq!(inserted.answer.try_recv(), Ok(Ok(Outcome::Applied)));
-    let held = world.ask(0, |jobs| jobs.hold(10..11, Purpose::Write));
+    let held = world.ask(0, |state| state.hold(10..11, Purpose::Write));
     let Held { pin, .. } = held.answer.try_recv().unwrap().unwrap();
-    let _reading = world.ask(1, |jobs| jobs.read(10..11));
+    let _reading = world.ask(1, |state| state.read(10..11));
     assert_eq!(world.events.open.waiting().count(), 1);
-    let _left = world.ask(1, Jobs::leave);
+    let _left = world.ask(1, State::leave);
     world.unpin(0, pin);
     assert!(world.events.server.record(1).unwrap().unwrap().left);
     assert_eq!(world.events.open.waiting().count(), 0, "it has left");

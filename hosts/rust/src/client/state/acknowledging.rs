@@ -1,0 +1,116 @@
+//! Acknowledgements that need no message of their own.
+//!
+//! Each message of a client acknowledges the last push that it has. A server needs that before its
+//! next push to the same client, and has none to make as long as the client waits for nothing. So
+//! the acknowledgement of the last push for which the client has waited is left out: the client's
+//! next message does it, or its next tick. If neither comes soon, the server repeats the push, and
+//! a repeated push is acknowledged at once.
+//!
+//! What others wait for comes no later: a server calls it back when it has granted it, or its host
+//! has it do so (`EventLoop::send`).
+use super::State;
+use crate::proved::client_handle::Shown;
+use crate::wire::frames::split;
+use crate::wire::message::{Kind, Message};
+
+/// How the client acknowledges what it has heard since it spoke last.
+#[derive(Clone, Copy, Debug, Default, PartialEq, Eq)]
+pub(super) enum Acknowledging {
+    /// By a message.
+    #[default]
+    AtOnce,
+    /// By its next message: it has heard the one push for which it has waited.
+    Later,
+}
+
+impl State {
+    /// The client has heard a message of this kind. `awaited` is whether it waited for a push.
+    pub(super) fn has_heard(&mut self, kind: Kind, awaited: bool) {
+        let is_last = kind.is_push() && awaited && !self.shows(Shown::awaits_a_push);
+        self.held.acknowledging =
+            if is_last { Acknowledging::Later } else { Acknowledging::AtOnce };
+    }
+
+    /// Leaves out what the client sends from this place on, if that is one acknowledgement that can
+    /// wait.
+    pub(super) fn leave_out_acknowledgement(&mut self, frames: &mut Vec<u8>, from: usize) {
+        let how = std::mem::take(&mut self.held.acknowledging);
+        if how == Acknowledging::Later && is_one_acknowledgement(&frames[from..]) {
+            frames.truncate(from);
+        }
+    }
+}
+
+fn is_one_acknowledgement(frames: &[u8]) -> bool {
+    let mut messages = split(frames).map(|(message, _)| Message::read(message).kind());
+    messages.next() == Some(Kind::Ack) && messages.next().is_none()
+}
+
+#[cfg(test)]
+mod tests {
+    use super::super::world::{World, row};
+    use crate::model::change::{Outcome, Write};
+    use crate::wire::message::kind::ACK;
+
+    /// The kinds of what the client sends.
+    fn said(world: &mut World, client: usize) -> Vec<u8> {
+        world.said(client).iter().map(|message| message[1]).collect()
+    }
+
+    #[test]
+    fn the_last_push_for_which_a_client_waits_is_acknowledged_by_its_next_message() {
+        let mut world = World::new();
+        let read = world.clients[0].read(0..5);
+        let asked = world.said(0);
+        world.tell_server(&asked);
+        assert_eq!(world.tell_clients(), 1);
+        assert_eq!(read.answer.try_recv(), Ok(Ok(vec![])));
+        assert!(said(&mut world, 0).is_empty());
+        // The next request does it, so the server answers.
+        assert_eq!(world.write(0, Write::Insert(row(3, 1))), Outcome::Applied);
+        assert_eq!(world.read(1, 0..5), [row(3, 1)]);
+    }
+
+    #[test]
+    fn a_push_that_comes_again_is_acknowledged_at_once() {
+        let mut world = World::new();
+        let _read = world.clients[0].read(0..5);
+        let asked = world.said(0);
+        world.tell_server(&asked);
+        assert_eq!(world.tell_clients(), 1);
+        assert!(said(&mut world, 0).is_empty());
+        world.server.nudge(0).unwrap();
+        assert_eq!(world.tell_clients(), 1, "the server lacks the acknowledgement");
+        assert_eq!(said(&mut world, 0), [ACK]);
+    }
+
+    #[test]
+    fn a_tick_acknowledges() {
+        let mut world = World::new();
+        world.read(0, 0..5);
+        world.clients[0].tick();
+        assert_eq!(said(&mut world, 0), [ACK]);
+    }
+
+    #[test]
+    fn a_client_that_waits_for_another_push_acknowledges_at_once() {
+        let mut world = World::new();
+        assert_eq!(world.write(1, Write::Insert(row(10, 1))), Outcome::Applied);
+        assert_eq!(world.write(0, Write::Insert(row(3, 1))), Outcome::Applied);
+        let write = world.clients[0].write(Write::Put(row(3, 2)));
+        let read = world.clients[0].read(10..11);
+        let asked = world.said(0);
+        assert_eq!(asked.len(), 2);
+        world.tell_server(&asked);
+        world.tell_clients();
+        assert!(read.answer.try_recv().is_err());
+        let said = world.said(0);
+        assert!(said.iter().any(|message| message[1] == ACK));
+        world.tell_server(&said);
+        // The server has passed over the request, which left before the answer had come.
+        world.clients[0].tick();
+        world.settle();
+        assert_eq!(write.answer.try_recv(), Ok(Ok(Outcome::Applied)));
+        assert_eq!(read.answer.try_recv(), Ok(Ok(vec![row(10, 1)])));
+    }
+}

@@ -1,0 +1,63 @@
+//! Where other clients are at work, so that a write asks for its lock there first.
+//!
+//! A client that holds nothing where it inserts or puts a row asks for a lock, which is one trip,
+//! and then writes, which is another one. A write may take its lock by itself instead, in one trip,
+//! if nobody waits there and no other client's lock forbids it. If that is not so, it is judged
+//! `NotHeld`, and the trip was made in vain: then the client asks for the lock after all. So a write
+//! takes its lock only where nothing was called back lately, and a few writes take none after one
+//! whose lock was not free.
+//!
+//! A client to which the server has answered nothing yet asks for its lock first too. If it has no
+//! right to rows, it learns so before it has sent a write, and knows that nothing was changed.
+use super::bound::{Bond, Wanted};
+use super::{JobId, State};
+use crate::model::change::Write;
+
+/// If the lock of a write was not free, so many writes ask for theirs first: it is the first of them.
+const PAUSE: u8 = 8;
+
+/// Whether writes try to take their locks, but for where others are at work.
+#[derive(Debug, Default)]
+pub(super) struct Attempts {
+    is_served: bool,
+    /// So many writes do not.
+    pause: u8,
+}
+
+impl Attempts {
+    /// The server has answered something that the client asked.
+    pub fn note_served(&mut self) {
+        self.is_served = true;
+    }
+
+    /// The lock of a write was not free.
+    pub fn note_not_free(&mut self) {
+        self.pause = PAUSE;
+    }
+
+    /// Whether the next write tries to take its lock. If it does not, the pause is shorter by one.
+    fn try_next(&mut self) -> bool {
+        let is_over = self.pause == 0;
+        self.pause = self.pause.saturating_sub(1);
+        self.is_served && is_over
+    }
+}
+
+impl State {
+    /// Whether the write of this job, for which the client lacks the lock, takes it by itself: if
+    /// the client might ask for that lock just now, and has nothing there that it would have to
+    /// give back before. Where the client has a pin it holds something already.
+    pub(super) fn may_take(&mut self, id: JobId, wanted: &Wanted) -> bool {
+        let key = wanted.write.key();
+        // A delete needs the locks of two slots, and takes neither.
+        !matches!(wanted.write, Write::Delete(_))
+            && wanted.bond == Bond::Free
+            && self.may_ask(id, key)
+            && !self.client.holds(key)
+            && !self.held.callbacks.show_contention(key, self.now.monotonic)
+            && self.attempts.try_next()
+    }
+}
+
+#[cfg(test)]
+mod tests;

@@ -1,0 +1,223 @@
+//! How a client leaves and ends; and how it drops what it knows and begins again, after its
+//! server's store went back or is another one, or its lease has ended.
+use super::acknowledging::Acknowledging;
+use super::callbacks::Callbacks;
+use super::leased::Speech;
+use super::pins::PinTable;
+use super::request::Request;
+use super::takings::Takings;
+use super::writing::Written;
+use super::{Asked, Asking, Job, State};
+use crate::model::error::ErrorKind;
+use crate::model::refusal::Refusal;
+use crate::proved::client_handle::ClientHandle;
+use std::mem;
+
+/// What ends with the incarnation of a client: the next one begins with none of it.
+#[derive(Default)]
+pub(super) struct PerIncarnation {
+    pub written: Option<Written>,
+    /// The last request for a lock.
+    pub request: Option<Request>,
+    pub acknowledging: Acknowledging,
+    pub pins: PinTable,
+    pub takings: Takings,
+    pub callbacks: Callbacks,
+}
+
+/// Whether a client is there, and what of its incarnation may leave.
+#[derive(Debug)]
+pub(super) struct Life {
+    pub stage: Stage,
+    /// Why the client has dropped all, if it has not begun again.
+    pub void: Option<Dropped>,
+    has_begun_anew: bool,
+    /// The last incarnation that it has begun.
+    pub incarnation: u64,
+    pub speech: Speech,
+}
+
+/// Whether the client is still there.
+#[derive(Clone, Copy, Debug, PartialEq, Eq)]
+pub(super) enum Stage {
+    Here,
+    /// It joins again to send Bye: the server may know it by an older incarnation.
+    Returning,
+    /// It sends Bye.
+    Leaving,
+    /// The server has kept the Bye. Nothing more is asked.
+    Gone,
+    /// Its thread has ended, and no job continues.
+    Ended,
+}
+
+/// Why a client has dropped all.
+#[derive(Clone, Copy, Debug, PartialEq, Eq)]
+pub(crate) enum Dropped {
+    StoreWentBack,
+    OtherStore,
+    LeaseEnded,
+}
+
+impl Dropped {
+    /// The error of those who wait and can't continue.
+    pub fn refused(self) -> ErrorKind {
+        match self {
+            Dropped::StoreWentBack => ErrorKind::StoreWentBack,
+            Dropped::OtherStore => ErrorKind::Unserved(Refusal::OtherStore),
+            Dropped::LeaseEnded => ErrorKind::LeaseEnded,
+        }
+    }
+}
+
+impl Life {
+    pub fn of(incarnation: u64) -> Life {
+        let (stage, speech) = (Stage::Here, Speech::Free);
+        Life { stage, void: None, has_begun_anew: false, incarnation, speech }
+    }
+
+    /// Whether it has what it was given, and has not begun to leave.
+    pub fn is_here(&self) -> bool {
+        self.stage == Stage::Here && self.void.is_none()
+    }
+
+    /// Whether it leaves, and the server has not kept that.
+    pub fn is_leaving(&self) -> bool {
+        matches!(self.stage, Stage::Returning | Stage::Leaving)
+    }
+
+    /// The server has kept that the client has left, if it has sent Bye.
+    pub fn note_bye_kept(&mut self) {
+        if self.stage == Stage::Leaving {
+            self.stage = Stage::Gone;
+        }
+    }
+}
+
+impl Job {
+    /// What happens to an open job when the client drops all. After the end of a lease it goes on
+    /// from its start. If the store went back or is another one, only those continue that join
+    /// and leave.
+    fn after_drop(self, why: Dropped) -> Option<Job> {
+        match (self, why) {
+            (Job::Hold(taking, reply), Dropped::LeaseEnded) => {
+                Some(Job::Hold(taking.begun_again(), reply))
+            }
+            (Job::Write(wanted, report), Dropped::LeaseEnded) => {
+                Some(Job::Write(wanted.begun_again(), report))
+            }
+            (job @ (Job::Join(_) | Job::Leave(_)), _) | (job, Dropped::LeaseEnded) => Some(job),
+            (job, Dropped::StoreWentBack | Dropped::OtherStore) => {
+                job.refuse(why.refused());
+                None
+            }
+        }
+    }
+
+    /// Ends it as one of a client that has left: to leave again is done.
+    pub(super) fn end_after_bye(self) {
+        match self {
+            Job::Leave(reply) => reply.end(Ok(())),
+            job => job.refuse(ErrorKind::Left),
+        }
+    }
+
+    pub(super) fn refuse(self, why: ErrorKind) {
+        match self {
+            Job::Join(reply) | Job::Forget(_, reply) | Job::Leave(reply) => reply.end(Err(why)),
+            Job::Read(_, reply) => reply.end(Err(why)),
+            // One that is open was not sent, or was judged NotHeld.
+            Job::Write(_, report) => report.refuse(why.of_unsent_write()),
+            Job::Hold(_, reply) => reply.end(Err(why)),
+        }
+    }
+}
+
+impl State {
+    /// Sends Bye, and sends it again with each tick until the server has kept it.
+    pub fn leave(&mut self) -> Asked<()> {
+        match self.life.stage {
+            Stage::Here if self.has_to_return() => self.life.stage = Stage::Returning,
+            Stage::Here => self.send_bye(),
+            _ => {}
+        }
+        self.add(Job::Leave)
+    }
+
+    /// Whether a client that leaves has to join first, since the server may know it by an older
+    /// incarnation only.
+    fn has_to_return(&self) -> bool {
+        self.is_void() || self.life.has_begun_anew && !self.has_joined()
+    }
+
+    /// Sends Bye if the client has joined again to do so.
+    pub(super) fn send_bye_if_returned(&mut self) {
+        if self.life.stage == Stage::Returning && self.has_joined() {
+            self.send_bye();
+        }
+    }
+
+    fn send_bye(&mut self) {
+        self.life.stage = Stage::Leaving;
+        // If there is no memory for it just now, the next tick sends it.
+        let _ = self.client.leave();
+        self.watches.note_change();
+    }
+
+    /// The client's thread has ended: no job continues, and each one that waits learns it. A client
+    /// that has left stays so.
+    pub fn end(&mut self) {
+        if self.life.stage != Stage::Gone {
+            self.life.stage = Stage::Ended;
+        }
+        for (_, job) in self.open.drain(..) {
+            job.refuse(ErrorKind::Stopped);
+        }
+        if let Some(written) = self.held.written.take() {
+            written.refuse(ErrorKind::Stopped);
+        }
+        self.watches.refuse_all(ErrorKind::Stopped);
+    }
+
+    /// The client drops all that it holds and knows, as if it had crashed, and is void until it
+    /// begins again: no read is answered, nothing is sent, and nothing that comes is taken. A write
+    /// that is on its way ends: if it may have left, it is not known whether it is done. A client
+    /// that has left has nothing to drop.
+    pub fn drop_all(&mut self, why: Dropped) {
+        match self.life.stage {
+            Stage::Gone | Stage::Ended => return,
+            Stage::Leaving => self.life.stage = Stage::Returning,
+            Stage::Here | Stage::Returning => {}
+        }
+        self.life.void = Some(why);
+        self.client.replace(ClientHandle::closed());
+        if let Some(written) = mem::take(&mut self.held).written {
+            written.end_with_its_client(why.refused());
+        }
+        self.end_unbound_writes();
+        for (id, job) in mem::take(&mut self.open) {
+            self.open.extend(job.after_drop(why).map(|job| (id, job)));
+        }
+        self.watches.note_change();
+        self.tell_changes();
+    }
+
+    /// Whether the client has to begin again.
+    pub fn is_void(&self) -> bool {
+        self.life.void.is_some()
+    }
+
+    /// Whether the client has joined since it began, or began again: otherwise it knows nothing.
+    pub fn has_joined(&self) -> bool {
+        self.shows(|shown| shown.epoch > 0)
+    }
+
+    /// Continues as a client of a greater incarnation, which has not joined yet.
+    pub fn begin_anew(&mut self, client: ClientHandle) {
+        self.life.incarnation = client.lease().incarnation();
+        self.client.replace(client);
+        self.life.void = None;
+        self.life.has_begun_anew = true;
+        self.advance(Asking::Later);
+    }
+}
