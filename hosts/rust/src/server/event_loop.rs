@@ -44,9 +44,9 @@ const LAST_TURNS: Duration = Duration::from_millis(100);
 const SHOWN_FOR: Duration = Duration::from_millis(5);
 
 /// What a server decides. It makes turns: each takes what has come by [`EventLoop::hear_next`], and
-/// what time brings by [`EventLoop::nudge`]. What [`EventLoop::take_commit`] answers is committed
-/// then, at once or while more turns are made, and [`EventLoop::committed`] takes it back. Only
-/// after that [`EventLoop::send`] gives the connections what waited for it.
+/// what time brings by [`EventLoop::nudge`]. What [`EventLoop::take_commit`] returns is committed
+/// then, before anything more is judged, and [`EventLoop::committed`] takes it back. Only after that
+/// [`EventLoop::send`] gives the connections what waited for it.
 pub(crate) struct EventLoop {
     server: ServerHandle,
     history: Option<History>,
@@ -55,8 +55,6 @@ pub(crate) struct EventLoop {
     leases: LeaseTable,
     /// What the next commit has to make.
     gathered: Gathered,
-    /// A commit is under way.
-    is_committing: bool,
     watch: Watch,
     last_heard: LastHeard,
     status: Status,
@@ -124,7 +122,6 @@ impl EventLoop {
             held_back: HeldBack::new(),
             leases,
             gathered: Gathered::default(),
-            is_committing: false,
             watch: Watch::default(),
             last_heard: LastHeard::new(),
             status: Status { epoch, ..Status::default() },
@@ -164,8 +161,7 @@ impl EventLoop {
     /// Whether to make another turn after one that began then and judged so much. What came before
     /// the stop is seen by the turn after it.
     pub fn goes_on(&self, was_to_end: bool, began: Now, judged: usize) -> bool {
-        let is_over =
-            |until| was_to_end && !self.is_committing && (judged == 0 || began.monotonic >= until);
+        let is_over = |until| was_to_end && (judged == 0 || began.monotonic >= until);
         !self.until.is_some_and(is_over)
     }
 
@@ -176,7 +172,7 @@ impl EventLoop {
 
     /// How long to wait for the next turn if nothing comes.
     pub fn longest_wait(&self) -> Duration {
-        if self.until.is_some() || self.has_to_commit() {
+        if self.until.is_some() || self.gathered.is_due() {
             return Duration::ZERO;
         }
         let longest = if self.is_stale {
@@ -396,7 +392,7 @@ impl EventLoop {
         let length = match self.server.take(&mut self.frames) {
             Ok(length) => length,
             // All that waits rests on changes that are not on the disk.
-            Err(Code::Unkept) if self.has_uncommitted() => 0,
+            Err(Code::Unkept) if !self.gathered.changes.is_empty() => 0,
             Err(code) => return Err(ServeError::Refused(code)),
         };
         let mut sending = self.connections.send(self.history.as_ref().and_then(History::seen));
@@ -426,9 +422,7 @@ pub(crate) mod thread;
 mod admission;
 mod clients;
 mod commit_group;
-mod committer;
 mod greeting;
-mod hand_over;
 mod leases;
 mod long_frames;
 mod looks;
