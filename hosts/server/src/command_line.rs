@@ -1,10 +1,12 @@
 //! The words of the command line.
 use crate::next_map::{MergeMap, SplitMap};
 use crate::pages::{JSON, TEXT};
-use crate::settings::StorePlace;
-use clap::{Args, Parser, Subcommand, ValueEnum};
+use crate::settings::{Key, Source, StorePlace, key};
+use clap::parser::ValueSource;
+use clap::{ArgMatches, Args, FromArgMatches, Parser, Subcommand, ValueEnum};
 use clap_complete::Shell;
 use krl_rows::Existing;
+use std::collections::BTreeMap;
 use std::path::PathBuf;
 
 /// A key-range lock server over a file of SQLite, a cluster of etcd, or PostgreSQL.
@@ -67,7 +69,7 @@ pub enum Command {
     /// Print what a server shows of itself
     Status {
         /// The server's status port, with tls: before it if it serves by TLS
-        #[arg(env = "KRL_STATUS", default_value = crate::settings::STATUS)]
+        #[arg(env = "KRL_STATUS", default_value = key::STATUS.default)]
         address: String,
         #[command(flatten)]
         tls: TlsOptions,
@@ -83,7 +85,7 @@ connection. Its columns are its number, its peer's address, how long its connect
 how long ago something last came from it, how long its lease still runs, and what it waits for.")]
     Clients {
         /// The server's status port, with tls: before it if it serves by TLS
-        #[arg(env = "KRL_STATUS", default_value = crate::settings::STATUS)]
+        #[arg(env = "KRL_STATUS", default_value = key::STATUS.default)]
         address: String,
         #[command(flatten)]
         tls: TlsOptions,
@@ -98,7 +100,7 @@ It is 0 if the server is, and 1 if not, or if the server gives no answer within 
 server that stands by, or waits for reports of clients, is alive and not ready.")]
     Health {
         /// The server's status port, with tls: before it if it serves by TLS
-        #[arg(env = "KRL_STATUS", default_value = crate::settings::STATUS)]
+        #[arg(env = "KRL_STATUS", default_value = key::STATUS.default)]
         address: String,
         #[command(flatten)]
         tls: TlsOptions,
@@ -283,7 +285,7 @@ pub struct LocksOptions {
         long,
         env = "KRL_STATUS",
         value_name = "ADDRESS",
-        default_value = crate::settings::STATUS
+        default_value = key::STATUS.default
     )]
     pub status: String,
     #[command(flatten)]
@@ -317,38 +319,40 @@ impl FormatOptions {
 }
 
 /// What is shown by TLS, and whom it believes.
-#[derive(Args, Debug)]
+#[derive(Debug)]
 pub struct TlsOptions {
-    /// The certificate of the authority that certified servers, clients and operators, as PEM
-    #[arg(long, env = "KRL_TLS_AUTHORITY", value_name = "FILE")]
-    pub tls_authority: Option<String>,
-    /// The certificate that is shown by TLS, as PEM, with those between it and the authority's
-    #[arg(long, env = "KRL_TLS_CERTIFICATE", value_name = "FILE")]
-    pub tls_certificate: Option<String>,
-    /// The key of that certificate, as PEM
-    #[arg(long, env = "KRL_TLS_KEY", value_name = "FILE")]
-    pub tls_key: Option<String>,
-    /// The name of the table, if certificates have it after an @, such as krl:client:3@orders
-    #[arg(long, env = "KRL_TABLE", value_name = "NAME")]
+    pub authority: Option<String>,
+    pub certificate: Option<String>,
+    pub key: Option<String>,
     pub table: Option<String>,
 }
 
-/// Whom a server lets in without a certificate.
-#[derive(Args, Debug)]
-pub struct AccessOptions {
-    /// Other users of this machine who may connect over a Unix socket, by number, and for which
-    /// clients each may speak: 1001=3,4 or '1001=3 1002=operator'
-    #[arg(long, env = "KRL_USERS", value_name = "USERS")]
-    pub users: Option<String>,
-    /// Listen by plain TCP even if other machines may connect: each may speak for any client
-    #[arg(
-        long,
-        env = "KRL_PLAIN_BEYOND_LOOPBACK",
-        value_name = "YES",
-        num_args = 0..=1,
-        default_missing_value = "yes"
-    )]
-    pub plain_beyond_loopback: Option<String>,
+impl FromArgMatches for TlsOptions {
+    fn from_arg_matches(matches: &ArgMatches) -> Result<TlsOptions, clap::Error> {
+        let text = |key: &Key| matches.get_one::<String>(key.name).cloned();
+        Ok(TlsOptions {
+            authority: text(&key::TLS_AUTHORITY),
+            certificate: text(&key::TLS_CERTIFICATE),
+            key: text(&key::TLS_KEY),
+            table: text(&key::TABLE),
+        })
+    }
+
+    fn update_from_arg_matches(&mut self, matches: &ArgMatches) -> Result<(), clap::Error> {
+        *self = TlsOptions::from_arg_matches(matches)?;
+        Ok(())
+    }
+}
+
+impl Args for TlsOptions {
+    fn augment_args(command: clap::Command) -> clap::Command {
+        let keys = [key::TLS_AUTHORITY, key::TLS_CERTIFICATE, key::TLS_KEY, key::TABLE];
+        command.args(keys.map(|key| key.argument()))
+    }
+
+    fn augment_args_for_update(command: clap::Command) -> clap::Command {
+        TlsOptions::augment_args(command)
+    }
 }
 
 /// How an answer is printed.
@@ -362,77 +366,46 @@ pub enum Format {
 /// configuration file, then from the defaults.
 #[derive(Args, Debug)]
 pub struct ServeOptions {
-    /// Where clients connect: tls:10.0.0.5:7400, 127.0.0.1:7400, or unix: and a path
-    #[arg(long, env = "KRL_LISTEN", value_name = "ADDRESS")]
-    pub listen: Option<String>,
     #[command(flatten)]
-    pub tls: TlsOptions,
-    #[command(flatten)]
-    pub access: AccessOptions,
-    /// What keeps the table: a file of SQLite; a cluster, such as
-    /// etcd://10.0.0.1:2379,10.0.0.2:2379/krl/orders, over which several servers may run: one
-    /// serves, and the others stand by; or a database, such as
-    /// <postgres://krl@10.0.0.1/orders?sslmode=verify-full>
-    #[arg(long, env = "KRL_STORE", value_name = "STORE")]
-    pub store: Option<String>,
-    /// Make a new store if there is none. Otherwise the server refuses to start on a store that is
-    /// missing or holds nothing
-    #[arg(
-        long,
-        env = "KRL_CREATE",
-        value_name = "YES",
-        num_args = 0..=1,
-        default_missing_value = "yes"
-    )]
-    pub create: Option<String>,
-    /// The certificate of the authority that certified the cluster's nodes, as PEM
-    #[arg(long, env = "KRL_STORE_AUTHORITY", value_name = "FILE")]
-    pub store_authority: Option<String>,
-    /// The certificate that the server shows to the cluster, as PEM
-    #[arg(long, env = "KRL_STORE_CERTIFICATE", value_name = "FILE", requires = "store_key")]
-    pub store_certificate: Option<String>,
-    /// The key of that certificate, as PEM in PKCS #8
-    #[arg(long, env = "KRL_STORE_KEY", value_name = "FILE", requires = "store_certificate")]
-    pub store_key: Option<String>,
-    /// How many rows the table may have, from 1 to 1048576. By default it is the greatest that a
-    /// server over this store had before, and 65536 over a new store
-    #[arg(long, env = "KRL_ROOM", value_name = "ROWS")]
-    pub room: Option<String>,
-    /// How many slots one grant takes at most, from 1 to 128: a client that reads many rows for the
-    /// first time asks once per that many slots
-    #[arg(long, env = "KRL_REACH", value_name = "SLOTS")]
-    pub reach: Option<String>,
-    /// The shard that the server serves, FIRST..END@VERSION: its keys, and the version of the map.
-    /// Clients of another map are refused
-    #[arg(long, env = "KRL_SHARD", value_name = "SHARD")]
-    pub shard: Option<String>,
-    /// Where clients reach this server, if that is not where it listens. It is kept in the store
-    #[arg(long, env = "KRL_ADVERTISE", value_name = "ADDRESS")]
-    pub advertise: Option<String>,
-    /// How many seconds a server over a cluster may be silent before another takes its place
-    #[arg(long, env = "KRL_ELECTION_LEASE", value_name = "SECONDS")]
-    pub election_lease: Option<String>,
-    /// Where the status is served by HTTP: 127.0.0.1:7401, tls:10.0.0.5:7401 for operators, or off
-    #[arg(long, env = "KRL_STATUS", value_name = "ADDRESS")]
-    pub status: Option<String>,
-    /// The status ports of the other servers, of those that stand by and of other shards, separated
-    /// by spaces: the page of this server shows them too
-    #[arg(long, env = "KRL_OTHERS", value_name = "ADDRESSES")]
-    pub others: Option<String>,
-    /// The least severe events that are logged: error, warn, info, debug or trace
-    #[arg(long, env = "KRL_LOG_LEVEL", value_name = "LEVEL")]
-    pub log_level: Option<String>,
-    /// How events are logged to standard error: text or json
-    #[arg(long, env = "KRL_LOG_FORMAT", value_name = "FORMAT")]
-    pub log_format: Option<String>,
-    /// How long a client may answer from its cache after its last sign, such as 10s or 500ms. One
-    /// that is silent for longer is evicted. Or off: then only an operator evicts a client
-    #[arg(long, env = "KRL_LEASE", value_name = "LENGTH")]
-    pub lease: Option<String>,
-    /// How much further this machine's clock may advance than a client's meanwhile, in percent
-    #[arg(long, env = "KRL_DRIFT", value_name = "PERCENT")]
-    pub drift: Option<String>,
+    pub given: GivenSettings,
     /// A configuration file in TOML. Its keys are the names of these options
     #[arg(long, env = "KRL_CONFIG", value_name = "FILE")]
     pub config: Option<PathBuf>,
+}
+
+/// The settings that are given by flags or by the environment: the text of each by its name, and
+/// where it comes from.
+#[derive(Debug)]
+pub struct GivenSettings(pub BTreeMap<&'static str, (String, Source)>);
+
+impl FromArgMatches for GivenSettings {
+    fn from_arg_matches(matches: &ArgMatches) -> Result<GivenSettings, clap::Error> {
+        let given = |key: &'static Key| {
+            let text = matches.get_one::<String>(key.name)?.clone();
+            let source = match matches.value_source(key.name) {
+                Some(ValueSource::EnvVariable) => Source::Environment(key),
+                _ => Source::Flag(key),
+            };
+            Some((key.name, (text, source)))
+        };
+        Ok(GivenSettings(key::ALL.iter().copied().filter_map(given).collect()))
+    }
+
+    fn update_from_arg_matches(&mut self, matches: &ArgMatches) -> Result<(), clap::Error> {
+        *self = GivenSettings::from_arg_matches(matches)?;
+        Ok(())
+    }
+}
+
+impl Args for GivenSettings {
+    fn augment_args(command: clap::Command) -> clap::Command {
+        command
+            .args(key::ALL.iter().map(|key| key.argument()))
+            .mut_arg(key::STORE_CERTIFICATE.name, |it| it.requires(key::STORE_KEY.name))
+            .mut_arg(key::STORE_KEY.name, |it| it.requires(key::STORE_CERTIFICATE.name))
+    }
+
+    fn augment_args_for_update(command: clap::Command) -> clap::Command {
+        GivenSettings::augment_args(command)
+    }
 }

@@ -1,6 +1,6 @@
 //! One request to a status port.
 use crate::command_line::TlsOptions;
-use crate::settings::{BadSetting, STATUS};
+use crate::settings::{BadSetting, key};
 use crate::tls_files::TlsFiles;
 use crate::tls_stream;
 use hyper::body::HttpBody;
@@ -53,7 +53,8 @@ impl StatusPort {
         };
         if !is_place(place) {
             return Err(BadSetting::new(format!(
-                "'{address}' is no address of a status port, such as {STATUS} or tls:db1:7401"
+                "'{address}' is no address of a status port, such as {} or tls:db1:7401",
+                key::STATUS.default
             )));
         }
         let tls = if is_tls { tls()? } else { None };

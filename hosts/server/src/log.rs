@@ -51,13 +51,13 @@ pub fn lost() -> u64 {
 pub fn start(settings: &Settings) -> io::Result<Log> {
     let queue = Queue::new(io::stderr())?;
     let writer = queue.clone();
-    let level = settings.log_level.value;
+    let level = settings.log_level;
     let log = tracing_subscriber::fmt()
         .with_max_level(level)
         .with_writer(move || writer.clone())
         .with_target(false);
     let shown = shown_at(level);
-    let started = match settings.log_format.value {
+    let started = match settings.log_format {
         LogFormat::Text => log.finish().with(shown).try_init(),
         LogFormat::Json => log.json().flatten_event(true).finish().with(shown).try_init(),
     };

@@ -35,8 +35,8 @@ mod tls_stream;
 mod visitors;
 mod watchdog;
 
-use clap::{ArgMatches, CommandFactory, FromArgMatches};
-use command_line::{Command, CommandLine, ServeOptions, TlsOptions};
+use clap::Parser;
+use command_line::{Command, CommandLine, TlsOptions};
 use health::Asked;
 use http::StatusPort;
 use krl::{Servers, ShardBounds, StoreError};
@@ -51,10 +51,7 @@ use tls_files::TlsFiles;
 const USAGE: u8 = 2;
 
 fn main() -> ExitCode {
-    let matches = CommandLine::command().get_matches();
-    let words = CommandLine::from_arg_matches(&matches).unwrap_or_else(|error| error.exit());
-    let options = matches.subcommand().map_or(&matches, |(_, options)| options);
-    match run(words.command, options) {
+    match run(CommandLine::parse().command) {
         Ok(status) => status,
         Err(error) => failed(error.as_ref()),
     }
@@ -73,11 +70,11 @@ fn failed(error: &(dyn Error + 'static)) -> ExitCode {
     status
 }
 
-fn run(command: Command, matches: &ArgMatches) -> Result<ExitCode, Box<dyn Error>> {
+fn run(command: Command) -> Result<ExitCode, Box<dyn Error>> {
     match command {
-        Command::Serve(options) => return Ok(serve::serve(&settings(&options, matches)?)),
+        Command::Serve(options) => return Ok(serve::serve(&Settings::of(&options)?)),
         Command::Config(options) => {
-            let settings = settings(&options, matches)?;
+            let settings = Settings::of(&options)?;
             // What `serve` would refuse is refused here too.
             settings.access.tls()?;
             output::print(&settings.to_string())?;
@@ -116,10 +113,6 @@ fn run(command: Command, matches: &ArgMatches) -> Result<ExitCode, Box<dyn Error
         Command::Completion { shell } => completion::print(shell)?,
     }
     Ok(ExitCode::SUCCESS)
-}
-
-fn settings(options: &ServeOptions, matches: &ArgMatches) -> Result<Settings, BadSetting> {
-    Settings::of(options, matches)
 }
 
 fn evict(

@@ -16,11 +16,7 @@ pub struct AskedFor<S> {
 
 impl<S: Store> AskedFor<S> {
     pub fn new(store: S, settings: &Settings) -> AskedFor<S> {
-        AskedFor {
-            store,
-            place: settings.store.value.clone(),
-            may_be_new: settings.may_make_store(),
-        }
+        AskedFor { store, place: settings.store.clone(), may_be_new: settings.may_make_store }
     }
 }
 

@@ -76,14 +76,13 @@ fn run(settings: &Settings) -> Result<(), Box<dyn Error>> {
     reload::start(tls.clone())?;
     watchdog::start(role.clone())?;
     long_waits::start(role.clone())?;
-    if let StatusAddress::At(address) = &settings.status.value {
-        let table =
-            Table { others: Others::new(settings.others()?), shard: settings.shard.value.0 };
+    if let StatusAddress::At(address) = &settings.status {
+        let table = Table { others: Others::new(settings.others()?), shard: settings.shard };
         let at = status_port::start(address, tls, role.clone(), table)
             .map_err(|error| format!("can't serve the status at {address}: {error}"))?;
         tracing::info!(address = %at, "status port");
     }
-    match &settings.store.value {
+    match &settings.store {
         StorePlace::File(path) => serve_file(settings, path, &access, &signal, &role)?,
         StorePlace::Etcd(address) => stand_by::run(settings, address, &access, &signal, &role)?,
         StorePlace::Postgres(address) => {
@@ -108,9 +107,9 @@ fn serve_file(
         format!("the store {} can't be opened: {}", path.display(), cause(&error))
     };
     // Next to a file of another program, and where there is none, no lock file is left.
-    new_store::judge_file(path, settings.may_make_store()).map_err(fails)?;
+    new_store::judge_file(path, settings.may_make_store).map_err(fails)?;
     SqliteStore::judge_first_bytes(path).map_err(fails)?;
-    let _owner = Owner::take(path, &settings.listen.value)?;
+    let _owner = Owner::take(path, &settings.listen)?;
     let store = SqliteStore::open(path).map_err(fails)?;
     serve_store(settings, store, access, signal, role)
 }
@@ -156,7 +155,7 @@ fn serve_store(
     signal: &Signal,
     role: &Role,
 ) -> Result<(), Box<dyn Error>> {
-    let listen = &settings.listen.value;
+    let listen = &settings.listen;
     let listener = Listener::bind(listen)
         .map_err(|error| format!("can't listen for clients at {listen}: {error}"))?;
     let server = start(settings, listener, (store, access))?;
@@ -177,14 +176,14 @@ pub fn start(
 ) -> Result<Server, ServeError> {
     let store = AskedFor::new(store, settings);
     let mut builder = Server::builder(listener, store).access(access.clone());
-    builder = builder.reach(settings.reach.value);
-    if let Some(room) = settings.room.value.0 {
+    builder = builder.reach(settings.reach);
+    if let Some(room) = settings.room {
         builder = builder.room(room);
     }
-    if let Some(shard) = settings.shard.value.0 {
+    if let Some(shard) = settings.shard {
         builder = builder.shard(shard);
     }
-    match settings.lease.value.with(settings.drift.value) {
+    match settings.lease.with(settings.drift) {
         Some(leases) => builder.leases(leases).start(),
         None => builder.start(),
     }
@@ -197,10 +196,10 @@ pub fn ready(settings: &Settings, server: &Server, role: &Role) {
         version = env!("CARGO_PKG_VERSION"),
         epoch = server.status().epoch,
         address = %server.address(),
-        store = %settings.store.value,
+        store = %settings.store,
         room = %server.room(),
         reach = %server.reach(),
-        shard = settings.shard.value.0.map(tracing::field::display),
+        shard = settings.shard.map(tracing::field::display),
         "ready"
     );
     tell(&[NotifyState::Ready, NotifyState::Status(&format!("serves at {}", server.address()))]);

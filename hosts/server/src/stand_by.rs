@@ -17,8 +17,8 @@ pub fn run(
     role: &Role,
 ) -> Result<(), Box<dyn Error>> {
     let credentials = credentials(settings);
-    let advertised = settings.advertise.value.0.as_ref().unwrap_or(&settings.listen.value);
-    let lease = settings.election_lease.value.duration();
+    let advertised = settings.advertise.as_ref().unwrap_or(&settings.listen);
+    let lease = settings.election_lease;
     let election =
         Election::new(address.clone(), credentials.clone(), &advertised.to_string(), lease)?;
     let mut unanswered = Unanswered::default();
@@ -59,7 +59,7 @@ fn serve_term(
     role: &Role,
 ) -> Result<Result<Ended, HasFailed>, ServeError> {
     // Clients are refused at this address at all other times, and try the next one.
-    let listener = Listener::bind(&settings.listen.value)?;
+    let listener = Listener::bind(&settings.listen)?;
     let server = serve::start(settings, listener, (store, access))?;
     serve::ready(settings, &server, role);
     let runs = |wait: Duration| term.runs_after(wait);
@@ -83,17 +83,16 @@ fn stands_by_again(error: ServeError) -> Result<(), ServeError> {
 
 /// What the server shows to the cluster.
 fn credentials(settings: &Settings) -> Credentials {
-    let (certificate, key) = (&settings.store_certificate.value, &settings.store_key.value);
     Credentials {
         user: user(),
-        authority: settings.store_authority.value.0.clone(),
-        certificate: certificate.0.clone().zip(key.0.clone()),
+        authority: settings.store_authority.clone(),
+        certificate: settings.store_certificate.clone().zip(settings.store_key.clone()),
     }
 }
 
 /// The same of a command that takes no settings.
 pub fn credentials_of_environment() -> Credentials {
-    let path = |key: &Key| std::env::var_os(key.variable).map(PathBuf::from);
+    let path = |key: &Key| std::env::var_os(key.variable()).map(PathBuf::from);
     Credentials {
         user: user(),
         authority: path(&key::STORE_AUTHORITY),

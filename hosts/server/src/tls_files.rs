@@ -18,11 +18,11 @@ impl TlsFiles {
     pub fn of(options: &TlsOptions) -> Result<TlsFiles, BadSetting> {
         let path = |text: &Option<String>| text.as_ref().map(PathBuf::from);
         let table = options.table.as_ref().map(|text| text.parse()).transpose();
-        let bad_table = |error| BadSetting::new(format!("{}: {error}", key::TABLE.flag));
+        let bad_table = |error| BadSetting::new(format!("{}: {error}", key::TABLE.flag()));
         Ok(TlsFiles {
-            authority: path(&options.tls_authority),
-            certificate: path(&options.tls_certificate),
-            key: path(&options.tls_key),
+            authority: path(&options.authority),
+            certificate: path(&options.certificate),
+            key: path(&options.key),
             table: table.map_err(bad_table)?,
         })
     }
@@ -42,9 +42,9 @@ impl TlsFiles {
             }
             _ => Err(BadSetting::new(format!(
                 "TLS needs all of {}, {} and {}",
-                key::TLS_AUTHORITY.flag,
-                key::TLS_CERTIFICATE.flag,
-                key::TLS_KEY.flag
+                key::TLS_AUTHORITY.flag(),
+                key::TLS_CERTIFICATE.flag(),
+                key::TLS_KEY.flag()
             ))),
         }
     }

@@ -93,15 +93,6 @@ pub enum Terms {
     Each,
 }
 
-/// What servers do while the store commits.
-#[derive(Clone, Copy, Debug, PartialEq, Eq)]
-pub enum WhileCommitting {
-    /// They wait.
-    Wait,
-    /// They judge what comes.
-    Judge,
-}
-
 /// What a world is like.
 #[derive(Clone, Debug)]
 pub struct Weather {
@@ -129,8 +120,6 @@ pub struct Weather {
     pub store_fails: u64,
     /// See above.
     pub store_hangs: u64,
-    /// What servers do meanwhile.
-    pub while_committing: WhileCommitting,
     /// How the network carries frames.
     pub network: Faults,
     /// How long a frame is on its way, in microseconds.
@@ -176,7 +165,6 @@ impl Weather {
             far_ahead: if terms != Terms::Each && dice.happens(50) { 200 } else { 0 },
             store_fails: if dice.happens(400) { dice.pick(&[5, 50]) } else { 0 },
             store_hangs: if dice.happens(500) { dice.pick(&[5, 20, 100]) } else { 0 },
-            while_committing: WhileCommitting::Wait,
             network: network(dice),
             latency: dice.pick(&[50..300, 50..2_000, 50..2_000, 1_000..30_000]),
             between_faults: dice.pick(&[10_000..200_000, 10_000..1_500_000, 100_000..6_000_000]),
@@ -187,9 +175,6 @@ impl Weather {
         };
         weather.draw_faults(dice);
         weather.draw_asks(dice);
-        if dice.happens(700) {
-            weather.while_committing = WhileCommitting::Judge;
-        }
         weather
     }
 

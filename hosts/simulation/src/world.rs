@@ -180,8 +180,6 @@ struct Serving {
     server: Server,
     start: u64,
     was_frozen: bool,
-    /// It judges what comes while it commits.
-    judges_on: bool,
     timer: Timer,
     /// The connections by the numbers that it has given them.
     links: BTreeMap<u64, u64>,

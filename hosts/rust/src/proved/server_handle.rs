@@ -135,17 +135,16 @@ impl ServerHandle {
         change_of(&stepped.change)
     }
 
-    /// Confirms that the changes of `kept` are on the disk, after all earlier ones: what rests on
-    /// them may be sent. Those of `gathered` are to be committed next. Together they have to be
-    /// all that the server has reported since.
+    /// Confirms that these changes are on the disk, after all earlier ones: what rests on them may
+    /// be sent. They have to be all that the server has reported since.
     ///
     /// # Errors
     ///
     /// [`Code::Unkept`] if one is missing, and [`Code::NotTold`] if there are more.
-    pub fn confirm(&mut self, kept: &[Change], gathered: &[Change]) -> Result<(), Code> {
+    pub fn confirm(&mut self, kept: &[Change]) -> Result<(), Code> {
         self.confirmed += notes(kept);
         let reported = self.handle.confirm(self.confirmed)?;
-        if reported == self.confirmed + notes(gathered) { Ok(()) } else { Err(Code::Unkept) }
+        if reported == self.confirmed { Ok(()) } else { Err(Code::Unkept) }
     }
 
     pub fn nudge(&mut self, client: u8) -> Result<(), Code> {

@@ -195,7 +195,7 @@ impl Server {
         let shown = Arc::clone(&status);
         let longest_store_wait = store.longest_wait();
         let store = TimedStore::new(store, Arc::clone(&timings));
-        let serving = ServerThread::new(events, store, sockets, waker, asked);
+        let serving = ServerThread::new(events, store, sockets, asked);
         let thread = thread::Builder::new().name("krl-server".into());
         let thread = thread.spawn(move || serving.run_to_the_end(&shown))?;
         let thread = Some(thread);

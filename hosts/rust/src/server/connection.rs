@@ -302,25 +302,20 @@ impl Connection {
         }
     }
 
-    /// Takes a frame of the host, which leaves after the commit that begins next.
+    /// Takes a frame of the host, which leaves after the next commit.
     pub fn tell(&mut self, frame: &[u8]) {
         self.told.put(frame);
     }
 
-    /// Something of the connection waits for the commit that begins next: a frame of the host, or
-    /// the end of the connection. It answers whether nothing did before.
+    /// Something of the connection waits for the next commit: a frame of the host, or the end of
+    /// the connection. Returns whether nothing did before.
     pub fn waits_for_commit(&mut self) -> bool {
         self.told.waits()
     }
 
-    /// A commit begins: the host frames that were put so far wait for it.
-    pub fn begin_commit(&mut self) {
-        self.told.begin_commit();
-    }
-
-    /// That commit is made: what waited for it leaves with the next batch.
-    pub fn end_commit(&mut self) {
-        self.told.end_commit();
+    /// The commit is made: what waited for it leaves with the next batch.
+    pub fn committed(&mut self) {
+        self.told.committed();
     }
 
     /// Puts a frame of the server into the batch. `seen` is how far the store has come.

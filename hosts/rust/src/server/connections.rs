@@ -39,10 +39,8 @@ pub(crate) struct Connections {
     closings: Closings,
     /// Those that may have a frame, in the order of their turns. Each is there once.
     ready: VecDeque<u64>,
-    /// Those of which something waits for the commit that begins next, and for the one that is
-    /// under way. Each is there once.
+    /// Those of which something waits for the next commit. Each is there once.
     waiting: Vec<u64>,
-    committing: Vec<u64>,
     /// Those that have something to send. Each is there once.
     sending: Vec<u64>,
     /// Those that have to be written, and those that were closed.
@@ -96,7 +94,6 @@ impl Connections {
             closings: Closings::default(),
             ready: VecDeque::new(),
             waiting: Vec::new(),
-            committing: Vec::new(),
             sending: Vec::new(),
             to_write: VecDeque::new(),
             closed: VecDeque::new(),
@@ -118,11 +115,6 @@ impl Connections {
     /// Whether a connection may have something to be judged or read.
     pub fn are_busy(&self) -> bool {
         !self.ready.is_empty()
-    }
-
-    /// How many connections may have something to be judged or read.
-    pub fn count_ready(&self) -> usize {
-        self.ready.len()
     }
 
     /// The system has reported what the socket of this connection is ready for.
@@ -231,8 +223,8 @@ impl Connections {
         self.routes.close(number);
     }
 
-    /// Takes nothing more from the connection, for this reason, and closes it after the commit that
-    /// begins next, when all is written.
+    /// Takes nothing more from the connection, for this reason, and closes it after the next commit,
+    /// when all is written.
     pub fn end(&mut self, number: u64, reason: CloseReason) {
         if let Some(peer) = self.in_waiting(number) {
             peer.end(reason);
@@ -253,7 +245,7 @@ impl Connections {
         self.open.get(&number).is_some_and(|peer| peer.connection.is_greeted())
     }
 
-    /// Reports to the peer's host why its client is not served, after the commit that begins next.
+    /// Reports to the peer's host why its client is not served, after the next commit.
     pub fn refuse(&mut self, number: u64, refusal: Refusal) {
         let now = self.now.monotonic;
         if let Some(peer) = self.in_waiting(number) {
@@ -261,30 +253,19 @@ impl Connections {
         }
     }
 
-    /// Sends a frame of the host on the connection, after the commit that begins next.
+    /// Sends a frame of the host on the connection, after the next commit.
     pub fn tell(&mut self, number: u64, frame: &[u8]) {
         if let Some(peer) = self.in_waiting(number) {
             peer.tell(frame);
         }
     }
 
-    /// A commit begins: the host frames that were put so far wait for it, and so do the ends of
-    /// connections.
-    pub fn begin_commit(&mut self) {
-        self.committing = std::mem::take(&mut self.waiting);
-        for number in &self.committing {
-            if let Some(peer) = self.open.get_mut(number) {
-                peer.connection.begin_commit();
-            }
-        }
-    }
-
-    /// That commit is made, or nothing had to be committed: what waited for it leaves with the next
-    /// batch.
-    pub fn end_commit(&mut self) {
-        for number in std::mem::take(&mut self.committing) {
+    /// A commit is made, or nothing had to be committed: the host frames that waited for it leave
+    /// with the next batch, and so do the ends of connections.
+    pub fn committed(&mut self) {
+        for number in std::mem::take(&mut self.waiting) {
             if let Some(peer) = self.in_sending(number) {
-                peer.end_commit();
+                peer.committed();
             }
         }
     }
@@ -300,7 +281,7 @@ impl Connections {
         self.open.get(&number).is_some_and(|peer| peer.connection.is_let_in())
     }
 
-    /// A connection of which something waits for the commit that begins next.
+    /// A connection of which something waits for the next commit.
     fn in_waiting(&mut self, number: u64) -> Option<&mut Connection> {
         let peer = self.open.get_mut(&number)?;
         if peer.connection.waits_for_commit() {

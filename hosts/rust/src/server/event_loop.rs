@@ -48,14 +48,13 @@ const SHOWN_FOR: Duration = Duration::from_millis(5);
 /// - A. What comes: [`EventLoop::hear_next`] judges what the connection has whose turn it is, or
 ///   names one that has to be read first, for [`EventLoop::take`].
 /// - B. What time brings: [`EventLoop::nudge`].
-/// - C. Commits: [`EventLoop::take_commit`] returns what has to be committed, at once or while more
-///   turns are made, and [`EventLoop::committed`] takes it back.
-/// - D. What is to be done next: [`EventLoop::send`] gives the connections what rests on finished
-///   commits only, [`EventLoop::goes_on`] returns whether to make another turn, and
+/// - C. Commits: [`EventLoop::take_commit`] returns what has to be committed before anything more is
+///   judged, and [`EventLoop::committed`] takes it back.
+/// - D. What is to be done next: [`EventLoop::send`] gives the connections what waited for the commit,
+///   [`EventLoop::goes_on`] returns whether to make another turn, and
 ///   [`EventLoop::longest_wait`] how long that one waits if nothing comes.
 ///
-/// A turn makes them in this order. If a commit is made meanwhile, [`EventLoop::committed`] and
-/// [`EventLoop::send`] come first in the turn that finds it made.
+/// A turn makes them in this order.
 pub(crate) struct EventLoop {
     server: ServerHandle,
     history: Option<History>,
@@ -64,8 +63,6 @@ pub(crate) struct EventLoop {
     leases: LeaseTable,
     /// What the next commit has to make.
     gathered: Gathered,
-    /// A commit is under way.
-    is_committing: bool,
     watch: Watch,
     last_heard: LastHeard,
     status: Status,
@@ -133,7 +130,6 @@ impl EventLoop {
             held_back: HeldBack::new(),
             leases,
             gathered: Gathered::default(),
-            is_committing: false,
             watch: Watch::default(),
             last_heard: LastHeard::new(),
             status: Status { epoch, ..Status::default() },
@@ -173,8 +169,7 @@ impl EventLoop {
     /// Whether to make another turn after one that began then and judged so much. What came before
     /// the stop is seen by the turn after it.
     pub fn goes_on(&self, was_to_end: bool, began: Now, judged: usize) -> bool {
-        let is_over =
-            |until| was_to_end && !self.is_committing && (judged == 0 || began.monotonic >= until);
+        let is_over = |until| was_to_end && (judged == 0 || began.monotonic >= until);
         !self.until.is_some_and(is_over)
     }
 
@@ -185,7 +180,7 @@ impl EventLoop {
 
     /// How long to wait for the next turn if nothing comes.
     pub fn longest_wait(&self) -> Duration {
-        if self.until.is_some() || self.has_to_commit() {
+        if self.until.is_some() || self.gathered.is_due() {
             return Duration::ZERO;
         }
         let longest = if self.is_stale {
@@ -405,7 +400,7 @@ impl EventLoop {
         let length = match self.server.take(&mut self.frames) {
             Ok(length) => length,
             // All that waits rests on changes that are not on the disk.
-            Err(Code::Unkept) if self.has_uncommitted() => 0,
+            Err(Code::Unkept) if !self.gathered.changes.is_empty() => 0,
             Err(code) => return Err(ServeError::Refused(code)),
         };
         let mut sending = self.connections.send(self.history.as_ref().and_then(History::seen));
@@ -435,9 +430,7 @@ pub(crate) mod thread;
 mod admission;
 mod clients;
 mod commit_group;
-mod committer;
 mod greeting;
-mod hand_over;
 mod leases;
 mod long_frames;
 mod looks;

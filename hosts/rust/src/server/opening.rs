@@ -57,7 +57,7 @@ impl Decided {
         let changes = [Change::Started { epoch }].into_iter().chain(revised);
         let changes: Vec<Change> = changes.chain(at_start.change(&snapshot)).collect();
         store.commit(&changes)?;
-        server.confirm(&changes, &[]).map_err(ServeError::Refused)?;
+        server.confirm(&changes).map_err(ServeError::Refused)?;
         // No older server grants anything after that commit, and the clock is read after it.
         let now = clocks();
         let boot = now.boot().map_err(ServeError::Clock)?;

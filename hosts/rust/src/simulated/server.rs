@@ -54,8 +54,8 @@ pub struct Server {
     events: EventLoop,
     unread: BTreeMap<u64, Unread>,
     turn: Turn,
-    /// The commit that is under way, and when it began.
-    commit: Option<(Commit, Now)>,
+    /// The commit that is under way.
+    commit: Option<Commit>,
 }
 
 /// The turn that is made, or was made last.
@@ -139,21 +139,14 @@ impl Server {
         self.events.stop(now);
     }
 
-    /// Whether it may make a turn now: always if no commit is under way, and during one unless it
-    /// is to end.
-    #[must_use]
-    pub fn may_turn(&self) -> bool {
-        self.commit.is_none() || !self.events.is_to_end()
-    }
-
-    /// Whether a commit is under way.
+    /// Whether a commit is under way: until it is made, the server makes no turn.
     #[must_use]
     pub fn is_committing(&self) -> bool {
         self.commit.is_some()
     }
 
-    /// Judges what has come, and what time brings. It answers the changes of the commit that begins
-    /// now, if one does: none begins while one is under way.
+    /// Judges what has come, and what time brings. Returns the changes of the commit that begins
+    /// now, if one does.
     ///
     /// # Errors
     ///
@@ -170,9 +163,7 @@ impl Server {
         self.events.see_phase();
         let commit = self.events.take_commit(now);
         let changes = commit.as_ref().map(|commit| commit.changes().to_vec());
-        if let Some(commit) = commit {
-            self.commit = Some((commit, now));
-        }
+        self.commit = commit;
         Ok(changes)
     }
 
@@ -201,9 +192,7 @@ impl Server {
     /// The server has failed.
     pub fn committed(&mut self, time: Duration) -> Result<(), ServeError> {
         let now = self.at(time);
-        let Some((commit, began)) = self.commit.take() else { return Ok(()) };
-        let took = now.monotonic.saturating_duration_since(began.monotonic);
-        self.events.committed(&commit, took, now)
+        self.commit.take().map_or(Ok(()), |commit| self.events.committed(commit, now))
     }
 
     /// What leaves: nothing that rests on what is not committed.

@@ -4,7 +4,7 @@ use super::{Event, Serving, World};
 use crate::network::Side;
 use crate::record::Node;
 use crate::timer::Timer;
-use crate::weather::{self, Terms, WhileCommitting};
+use crate::weather::{self, Terms};
 use krl::simulated::{FrameKind, Said, Server, Start};
 use krl::{Leases, Room, ServeError};
 use std::collections::BTreeMap;
@@ -46,7 +46,6 @@ impl World {
             server,
             start,
             was_frozen: false,
-            judges_on: self.weather.while_committing == WhileCommitting::Judge,
             timer: Timer::IDLE,
             links: BTreeMap::new(),
         };
@@ -102,17 +101,13 @@ impl World {
     pub(super) fn turn(&mut self, site: usize, start: u64) {
         let time = self.sites[site].clock.at(self.now);
         let serving = self.sites[site].serving.as_mut().filter(|it| it.start == start);
-        let Some(serving) = serving.filter(|it| it.may_turn()) else { return };
+        let Some(serving) = serving.filter(|it| !it.server.is_committing()) else { return };
         self.happened += 1;
         match serving.server.turn(time) {
             Ok(None) => self.send(site),
             Ok(Some(changes)) => {
                 self.judge_incarnations(site, &changes);
                 self.ask_store(start, &changes);
-                let serving = self.sites[site].serving.as_ref();
-                if serving.is_some_and(Serving::may_turn) {
-                    self.send(site);
-                }
             }
             Err(error) => self.fail(site, &error),
         }
@@ -204,7 +199,7 @@ impl World {
         let Some(serving) = &mut self.sites[site].serving else { return };
         self.happened += 1;
         serving.server.deliver(connection, bytes, time);
-        if serving.may_turn() {
+        if !serving.server.is_committing() {
             self.turn_in(site, Duration::ZERO);
         }
     }
@@ -216,16 +211,9 @@ impl World {
         serving.links.remove(&connection);
         self.happened += 1;
         serving.server.hang_up(connection, time);
-        if serving.may_turn() {
+        if !serving.server.is_committing() {
             self.turn_in(site, Duration::ZERO);
         }
-    }
-}
-
-impl Serving {
-    /// Whether the server makes a turn if something comes.
-    fn may_turn(&self) -> bool {
-        !self.server.is_committing() || self.judges_on && self.server.may_turn()
     }
 }
 

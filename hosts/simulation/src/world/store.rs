@@ -1,7 +1,6 @@
 //! What the store does with the commits of servers.
 use super::{Event, World};
 use crate::record::Happened;
-use crate::weather::WhileCommitting;
 use krl::{Change, Outcome};
 use std::time::Duration;
 
@@ -71,12 +70,10 @@ impl World {
         }
     }
 
-    /// How long the store's answer is on its way. A server that judges meanwhile may learn of a
-    /// commit when another server has had the store for a long time.
+    /// How long the store's answer is on its way. A server may learn of a commit when another
+    /// server has had the store for a long time.
     fn draw_answer(&mut self) -> Duration {
-        let hangs = self.weather.store_hangs;
-        let judges_on = self.weather.while_committing == WhileCommitting::Judge;
-        let is_late = judges_on && self.dice.among(0..10_000) < hangs;
+        let is_late = self.dice.among(0..10_000) < self.weather.store_hangs;
         self.dice.time(if is_late { 10_000..3_000_000 } else { 10..300 })
     }
 

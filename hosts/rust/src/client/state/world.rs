@@ -35,7 +35,7 @@ impl World {
     pub fn of(clients: u8) -> World {
         let (mut server, epoch) =
             ServerHandle::open(&Snapshot::default(), Room::default(), Reach::default()).unwrap();
-        server.confirm(&[Change::Started { epoch }], &[]).unwrap();
+        server.confirm(&[Change::Started { epoch }]).unwrap();
         let open = |number| State::new(ClientHandle::open(number, 1).unwrap(), Now::read());
         let mut world = World { server, clients: (0..clients).map(open).collect() };
         let joined: Vec<_> = world.clients.iter_mut().map(State::join).collect();
@@ -54,7 +54,7 @@ impl World {
         for message in said {
             // A message that is refused is one that is lost.
             if let Ok(Some(change)) = self.server.step(message) {
-                self.server.confirm(&[change], &[]).unwrap();
+                self.server.confirm(&[change]).unwrap();
             }
         }
     }

@@ -55,7 +55,7 @@ impl<S: Scanned> World<S> {
         let snapshot = Snapshot { rows, ..Snapshot::default() };
         let (mut server, epoch) =
             ServerHandle::open(&snapshot, Room::default(), Reach::default()).unwrap();
-        server.confirm(&[Change::Started { epoch }], &[]).unwrap();
+        server.confirm(&[Change::Started { epoch }]).unwrap();
         let [first, other] = [0, 1].map(|number| ClientHandle::open(number, 1).unwrap());
         let mut world = World { server, scanned: scanned(first), other, frames: Vec::new() };
         world.settle();
@@ -98,7 +98,7 @@ impl<S: Scanned> World<S> {
         self.other.take(&mut self.frames).unwrap();
         for (message, _) in split(&self.frames) {
             if let Some(change) = self.server.step(message).unwrap() {
-                self.server.confirm(&[change], &[]).unwrap();
+                self.server.confirm(&[change]).unwrap();
             }
         }
     }

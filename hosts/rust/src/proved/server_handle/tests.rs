@@ -1,7 +1,6 @@
 use super::*;
 use crate::proved::client_handle::ClientHandle;
 use crate::wire::frames::split;
-use crate::wire::message::Message;
 
 /// A server without rows, and its epoch.
 fn open() -> (ServerHandle, u64) {
@@ -11,7 +10,7 @@ fn open() -> (ServerHandle, u64) {
 /// A server without rows whose epoch is kept.
 fn started() -> ServerHandle {
     let (mut server, epoch) = open();
-    server.confirm(&[Change::Started { epoch }], &[]).unwrap();
+    server.confirm(&[Change::Started { epoch }]).unwrap();
     server
 }
 
@@ -34,9 +33,7 @@ fn what_is_said_waits_for_the_start_and_for_each_change() {
     assert_eq!(server.take(&mut Vec::new()), Ok(0), "nothing is sent");
     let change = register(&mut server, 0);
     assert_eq!(server.take(&mut Vec::new()), Err(Code::Unkept));
-    server.confirm(&[Change::Started { epoch }], &[change]).unwrap();
-    assert_eq!(server.take(&mut Vec::new()), Err(Code::Unkept));
-    server.confirm(&[change], &[]).unwrap();
+    server.confirm(&[Change::Started { epoch }, change]).unwrap();
     assert!(server.take(&mut Vec::new()).unwrap() > 0);
     assert_eq!(server.take(&mut Vec::new()), Ok(0), "it leaves once");
 }
@@ -46,37 +43,14 @@ fn a_change_that_gets_lost_before_the_commit_is_missed() {
     let mut server = started();
     register(&mut server, 0);
     let kept = register(&mut server, 1);
-    assert_eq!(server.confirm(&[kept], &[]), Err(Code::Unkept));
-}
-
-#[test]
-fn what_rests_on_the_first_of_two_commits_leaves_after_it() {
-    let mut server = started();
-    let mut room = Vec::new();
-    let [first, second] = [0, 1].map(|client| register(&mut server, client));
-    server.confirm(&[first], &[second]).unwrap();
-    let length = server.take(&mut room).unwrap();
-    let said: Vec<_> = split(&room[..length]).map(|(it, _)| Message::read(it).client()).collect();
-    assert_eq!(said, [Some(0)]);
-    assert_eq!(server.take(&mut room), Err(Code::Unkept));
-    server.confirm(&[second], &[]).unwrap();
-    assert!(server.take(&mut room).unwrap() > 0);
-}
-
-#[test]
-fn a_change_that_gets_lost_during_a_commit_is_missed() {
-    let mut server = started();
-    let first = register(&mut server, 0);
-    register(&mut server, 1);
-    let gathered = register(&mut server, 2);
-    assert_eq!(server.confirm(&[first], &[gathered]), Err(Code::Unkept));
+    assert_eq!(server.confirm(&[kept]), Err(Code::Unkept));
 }
 
 #[test]
 fn a_change_that_was_not_reported_is_refused() {
     let mut server = started();
     let change = register(&mut server, 0);
-    assert_eq!(server.confirm(&[change, change], &[]), Err(Code::NotTold));
+    assert_eq!(server.confirm(&[change, change]), Err(Code::NotTold));
 }
 
 #[test]

@@ -44,8 +44,7 @@ fn connection() -> (Wired, UnixStream) {
 
 /// Sends a batch after a commit for which the host frames have waited.
 fn send(connection: &mut Wired, frame: &[u8], seen: Option<Seen>) {
-    connection.begin_commit();
-    connection.end_commit();
+    connection.committed();
     connection.say(frame, seen);
     connection.end_batch(seen);
     connection.write();

@@ -48,8 +48,7 @@ impl Rig {
 
     /// Sends a batch with the host frames, and nothing else, as if nothing had to be committed.
     fn flush(&mut self) {
-        self.connections.begin_commit();
-        self.connections.end_commit();
+        self.connections.committed();
         self.connections.send(None).end();
         self.settle();
     }

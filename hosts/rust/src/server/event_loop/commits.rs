@@ -1,8 +1,8 @@
 //! What a server commits, and what waits for that.
 //!
-//! One commit may be under way. What is judged meanwhile is gathered for the next one, and waits
-//! for that: a message in the library, which knows on which changes it rests, and a frame of the
-//! host itself in its connection.
+//! Nothing is judged while a commit is made. So all that was judged before it may leave after it:
+//! a message, which the library keeps until the changes on which it rests are confirmed, and a
+//! frame of the host itself, which waits in its connection.
 use super::greeting::Doubt;
 use super::{ASKS_STORE, EventLoop};
 use crate::lease::clocks::Now;
@@ -23,13 +23,14 @@ pub(super) struct Gathered {
 impl Gathered {
     /// Whether there is something to commit, or the store has to be asked whether it is still this
     /// server's.
-    fn is_due(&self) -> bool {
+    pub(super) fn is_due(&self) -> bool {
         !self.changes.is_empty() || self.owes_terms || !self.doubts.is_empty()
     }
 }
 
-/// A commit that has begun. The thread that makes it gives it back.
+/// A commit that the store has to make before the loop judges anything more.
 #[derive(Debug)]
+#[must_use]
 pub(crate) struct Commit {
     changes: Vec<Change>,
     doubts: Vec<Doubt>,
@@ -45,70 +46,51 @@ impl Commit {
 }
 
 impl EventLoop {
-    /// Whether a commit has to begin as soon as none is under way.
-    pub(super) fn has_to_commit(&self) -> bool {
-        !self.is_committing && self.gathered.is_due()
-    }
-
-    /// Whether there are changes that are not known to be on the disk.
-    pub(super) fn has_uncommitted(&self) -> bool {
-        self.is_committing || !self.gathered.changes.is_empty()
-    }
-
     /// Whether what is to be committed waits for writers that are about to write again, if it has
-    /// waited this long since no commit is under way.
+    /// waited this long.
     pub fn waits_for_writers(&self, waited: Duration) -> bool {
-        !self.is_committing && self.group.waits(&self.gathered.changes, waited)
+        self.group.waits(&self.gathered.changes, waited)
     }
 
-    /// Begins a commit, unless one is under way, or nothing has to be committed: then the host
-    /// frames may leave. If a commit fails, nothing leaves that waits for it or for a later one.
+    /// Begins a commit, unless nothing has to be committed: then the host frames may leave. If a
+    /// commit fails, nothing leaves that waits for it.
     ///
     /// An empty commit is made too, if the store has to be asked whether it is still this server's:
     /// before terms leave, before a store is called an older one, and now and then. A server after
     /// which another one has started would find that at its next commit, and its clients might wait
     /// for it until then.
     pub fn take_commit(&mut self, now: Now) -> Option<Commit> {
-        if self.is_committing {
-            return None;
-        }
         let since_asked = now.monotonic.saturating_duration_since(self.asked_store);
-        self.connections.begin_commit();
         if !(self.gathered.is_due() || since_asked >= ASKS_STORE) {
-            self.connections.end_commit();
+            self.connections.committed();
             return None;
         }
-        self.is_committing = true;
         let Gathered { changes, doubts, .. } = std::mem::take(&mut self.gathered);
         Some(Commit { changes, doubts, began: now.monotonic })
     }
 
-    /// The store has made this commit, and took this long. Only what rests on it and on earlier
-    /// ones may leave.
-    pub fn committed(
-        &mut self,
-        commit: &Commit,
-        took: Duration,
-        now: Now,
-    ) -> Result<(), ServeError> {
+    /// The store has made this commit. What rests on it may leave.
+    pub fn committed(&mut self, commit: Commit, now: Now) -> Result<(), ServeError> {
         let Commit { changes, doubts, began } = commit;
-        self.server.confirm(changes, &self.gathered.changes).map_err(ServeError::Refused)?;
-        self.is_committing = false;
-        self.asked_store = *began;
+        self.server.confirm(&changes).map_err(ServeError::Refused)?;
+        self.asked_store = began;
+        // A peer that does not take what leaves now has not stood still during the commit.
+        self.connections.set_now(now);
         if !changes.is_empty() {
             if let Some(history) = &mut self.history {
                 history.commit();
             }
+            let took = now.monotonic.saturating_duration_since(began);
             self.timings.committed(changes.len(), took);
-            self.group.committed(changes, took);
-            self.log.committed(changes, |client| self.connections.at_of(client));
-            self.count(changes);
-            self.see_members(changes);
+            self.group.committed(&changes, took);
+            self.log.committed(&changes, |client| self.connections.at_of(client));
+            self.count(&changes);
+            self.see_members(&changes);
         }
-        for doubt in doubts {
+        for doubt in &doubts {
             self.alarm_older_store(doubt, now);
         }
-        self.connections.end_commit();
+        self.connections.committed();
         Ok(())
     }
 }

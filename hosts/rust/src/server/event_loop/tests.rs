@@ -76,7 +76,7 @@ fn event_loop() -> (ServerThread<Watching>, TcpStream, Arc<Mutex<Vec<usize>>>) {
 }
 
 /// A loop over a store that is made of this one, and its peer.
-fn event_loop_over<S: Store + 'static>(
+fn event_loop_over<S: Store>(
     store_of: impl FnOnce(MemoryStore, &TcpStream) -> S,
 ) -> (ServerThread<S>, TcpStream) {
     let listener = TcpListener::bind("127.0.0.1:0").unwrap();
@@ -87,11 +87,11 @@ fn event_loop_over<S: Store + 'static>(
     let (mut server, epoch) =
         ServerHandle::open(&snapshot, Room::default(), Reach::default()).unwrap();
     store.commit(&[Change::Started { epoch }]).unwrap();
-    server.confirm(&[Change::Started { epoch }], &[]).unwrap();
+    server.confirm(&[Change::Started { epoch }]).unwrap();
     let store = store_of(store, &peer);
     let (sockets, waker) = Sockets::new(listener.into(), Access::new()).unwrap();
     let connections = Connections::new(4, Room::default(), Now::read());
-    let (_, asked) = Requests::new(Arc::clone(&waker));
+    let (_, asked) = Requests::new(waker);
     let log = EventLog::started(epoch, &Address::Unix("nowhere".into()), 0, &[]);
     let now = Moment::now().unwrap();
     let terms = Leases::of(Duration::from_millis(LEASE)).unwrap().with_drift(0).unwrap();
@@ -100,14 +100,14 @@ fn event_loop_over<S: Store + 'static>(
     let history = None;
     let started = Started { server, epoch, history, leases, connections, timings, log };
     let events = EventLoop::new(started);
-    let mut serving = ServerThread::new(events, store, sockets, waker, asked);
+    let mut serving = ServerThread::new(events, store, sockets, asked);
     let mut peer = peer;
     greet(&mut serving, &mut peer);
     (serving, peer)
 }
 
 /// The peer's host sends its Hello, and takes the answer. Nothing has to be committed for it.
-fn greet<S: Store + 'static>(serving: &mut ServerThread<S>, peer: &mut TcpStream) {
+fn greet<S: Store>(serving: &mut ServerThread<S>, peer: &mut TcpStream) {
     peer.write_all(&FromClient::Hello(None).frame()).unwrap();
     let answer = FromServer::Hello { answers_signs: true }.frame();
     let mut heard = vec![0; answer.len()];
@@ -238,12 +238,12 @@ fn sign() -> Vec<u8> {
 
 /// What was committed, batch by batch.
 fn batches(serving: &mut ServerThread<Watching>) -> Vec<Vec<Change>> {
-    serving.committer.store().unwrap().batches.lock().unwrap().clone()
+    serving.store.batches.lock().unwrap().clone()
 }
 
 /// Takes turns until the store was asked this many times.
 fn turns_until(serving: &mut ServerThread<Watching>, asked: usize) -> Result<(), ServeError> {
-    let heard = Arc::clone(&serving.committer.store().unwrap().heard);
+    let heard = Arc::clone(&serving.store.heard);
     while heard.lock().unwrap().len() < asked {
         serving.turn()?;
     }
@@ -265,7 +265,7 @@ fn terms_leave_when_the_store_was_asked() {
 #[test]
 fn a_server_behind_which_another_one_started_grants_nothing() {
     let (mut serving, mut peer, _) = event_loop();
-    serving.committer.store().unwrap().is_deposed.store(true, Ordering::SeqCst);
+    serving.store.is_deposed.store(true, Ordering::SeqCst);
     peer.write_all(&sign()).unwrap();
     let ended = turns_until(&mut serving, 2).unwrap_err();
     assert!(matches!(ended, ServeError::Store(StoreError::Deposed(_))), "{ended}");
@@ -315,7 +315,7 @@ fn the_greatest_incarnation_is_not_evicted_and_ends_no_server() {
     let hello = [&HELLO[8..18], &GREATEST.to_le_bytes()].concat();
     // An older server has registered it: this one would not.
     let registered = serving.events.server.step(&hello).unwrap().unwrap();
-    serving.events.server.confirm(&[registered], &[]).unwrap();
+    serving.events.server.confirm(&[registered]).unwrap();
     serving.events.keep(registered, Now::read()).unwrap();
     serving.events.gathered.changes.clear();
     peer.write_all(&sign_of(GREATEST)).unwrap();
@@ -351,4 +351,51 @@ fn an_idle_client_is_counted_once() {
     }
 }
 
-mod during_commits;
+/// A store one of whose commits takes longer than a lease. As it ends, the next sign comes.
+struct Slow {
+    store: MemoryStore,
+    peer: TcpStream,
+    next_takes_long: bool,
+}
+
+impl Store for Slow {
+    fn load(&mut self) -> Result<Snapshot, StoreError> {
+        self.store.load()
+    }
+
+    fn commit(&mut self, changes: &[Change]) -> Result<(), StoreError> {
+        if std::mem::take(&mut self.next_takes_long) {
+            std::thread::sleep(Duration::from_millis(2 * LEASE));
+            self.peer.write_all(&sign()).unwrap();
+        }
+        self.store.commit(changes)
+    }
+
+    fn snapshot(&mut self) -> Result<Snapshot, StoreError> {
+        self.store.snapshot()
+    }
+}
+
+#[test]
+fn nobody_is_taken_for_silent_for_the_time_of_a_long_commit() {
+    let (mut serving, mut peer) = event_loop_over(|store, peer| {
+        let peer = peer.try_clone().unwrap();
+        Slow { store, peer, next_takes_long: false }
+    });
+    peer.write_all(&[sign(), HELLO.to_vec()].concat()).unwrap();
+    while serving.events.status.taken == 0 {
+        assert!(serving.turn().unwrap());
+    }
+    serving.store.next_takes_long = true;
+    peer.write_all(&sign()).unwrap();
+    let began = Instant::now();
+    while serving.store.next_takes_long {
+        assert!(serving.turn().unwrap());
+    }
+    let now = serving.events.connections.now().monotonic;
+    assert!(now - began >= Duration::from_millis(2 * LEASE), "what leaves then is written then");
+    while serving.events.status.signs < 3 {
+        assert!(serving.turn().unwrap());
+        assert_eq!(serving.events.status.evicted, 0);
+    }
+}

@@ -2,8 +2,6 @@
 //! [`EventLoop`] decides.
 use super::EventLoop;
 use super::Heard;
-use super::committer::{Committer, Made};
-use super::hand_over::HandOver;
 use crate::lease::clocks::Now;
 use crate::log::event_log;
 use crate::server::error::ServeError;
@@ -12,14 +10,13 @@ use crate::server::requests::Request;
 use crate::server::shown::status::Status;
 use crate::server::sockets::Sockets;
 use crate::store::Store;
-use mio::Waker;
 use std::panic::{AssertUnwindSafe, catch_unwind};
 use std::sync::mpsc::Receiver;
-use std::sync::{Arc, Mutex, PoisonError};
+use std::sync::{Mutex, PoisonError};
 use std::time::{Duration, Instant};
 
-/// The most messages that a turn judges before it commits what they changed, and that are judged
-/// while a commit is under way. A read that brings no whole message counts as one.
+/// The most messages that a turn judges before it commits what they changed. A read that brings no
+/// whole message counts as one.
 pub(super) const MAX_AT_ONCE: usize = 256;
 
 /// How long a turn counts what clients hold.
@@ -35,38 +32,24 @@ const LOOKS: Duration = Duration::from_millis(10);
 /// How long a server that ends waits until what it sent is written.
 const LAST_WRITES: Duration = Duration::from_millis(500);
 
-/// The one thread that owns the server. It owns the store too, but for commits that it has handed
-/// over.
+/// The one thread that owns the server and its store. It reads nothing while the store commits.
 pub(crate) struct ServerThread<S> {
     pub(super) events: EventLoop,
-    pub(super) committer: Committer<S>,
-    pub(super) hand_over: HandOver,
-    /// How many times it has judged a connection since it handed a commit over.
-    pub(super) heard_meanwhile: usize,
+    pub(super) store: S,
     sockets: Sockets,
     asked: Receiver<Request>,
     /// When it counts next what clients hold; at once if it has counted nothing yet.
     counts_from: Option<Instant>,
 }
 
-impl<S: Store + 'static> ServerThread<S> {
-    /// The waker is that of the sockets.
+impl<S: Store> ServerThread<S> {
     pub fn new(
         events: EventLoop,
         store: S,
         sockets: Sockets,
-        waker: Arc<Waker>,
         asked: Receiver<Request>,
     ) -> ServerThread<S> {
-        ServerThread {
-            events,
-            committer: Committer::new(store, waker),
-            hand_over: HandOver::default(),
-            heard_meanwhile: 0,
-            sockets,
-            asked,
-            counts_from: None,
-        }
+        ServerThread { events, store, sockets, asked, counts_from: None }
     }
 
     /// Serves until it is stopped or fails, and shows how it failed.
@@ -92,16 +75,14 @@ impl<S: Store + 'static> ServerThread<S> {
         self.events.take_failure().map_or(Ok(()), Err)
     }
 
-    /// Takes what waits, judges it all, commits what it changed, and only then sends. What a commit
-    /// that is handed over has changed is sent by the turn that finds it made. It answers whether
-    /// to continue.
+    /// Takes what waits, judges it all, commits what it changed, and only then sends. Returns
+    /// whether to continue.
     pub(super) fn turn(&mut self) -> Result<bool, ServeError> {
         let was_to_end = self.events.is_to_end();
         let longest_wait = self.events.longest_wait();
         let began = self.sockets.wait(self.events.connections(), longest_wait)?;
-        self.take_back(was_to_end || self.heard_meanwhile >= MAX_AT_ONCE)?;
-        self.answer_requests()?;
-        let mut looks = self.hear(MAX_AT_ONCE - self.heard_meanwhile)?;
+        self.answer_requests();
+        let mut looks = self.hear(MAX_AT_ONCE)?;
         looks += self.gather(MAX_AT_ONCE - looks)?;
         if self.events.nudge(began)? {
             self.count_held();
@@ -123,30 +104,24 @@ impl<S: Store + 'static> ServerThread<S> {
         Ok(looks)
     }
 
-    /// Judges connections in their turn, at most this many times, and answers how many times it
+    /// Judges connections in their turn, at most this many times, and returns how many times it
     /// did.
     fn hear(&mut self, most: usize) -> Result<usize, ServeError> {
         let mut looks = 0;
         while looks < most && self.hear_next()? {
             looks += 1;
         }
-        if self.committer.is_committing() {
-            self.heard_meanwhile += looks;
-        }
         Ok(looks)
     }
 
     /// Answers what other threads have asked.
-    fn answer_requests(&mut self) -> Result<(), ServeError> {
+    fn answer_requests(&mut self) {
         let mut looks_end = None;
         while let Ok(request) = self.asked.try_recv() {
             match request {
                 Request::Snapshot(reply) => {
-                    self.take_back(true)?;
-                    if let Some(store) = self.committer.store() {
-                        // A caller that asks and no longer waits gets no answer.
-                        let _ = reply.send(store.snapshot());
-                    }
+                    // A caller that asks and no longer waits gets no answer.
+                    let _ = reply.send(self.store.snapshot());
                 }
                 Request::Locks(search, reply) => {
                     let began = Now::read();
@@ -159,7 +134,6 @@ impl<S: Store + 'static> ServerThread<S> {
                 Request::Stop => self.events.stop(Now::read()),
             }
         }
-        Ok(())
     }
 
     /// Judges the connection whose turn it is, and answers whether there was one.
@@ -187,45 +161,11 @@ impl<S: Store + 'static> ServerThread<S> {
         self.counts_from = Some(ended + (ended - began) * (COUNT_SHARE - 1));
     }
 
-    /// Commits what was changed, or asks whether the store is still this server's, unless a commit
-    /// is under way. The commits of a server that is to end are made here.
+    /// Commits what was changed, or asks whether the store is still this server's.
     fn commit(&mut self) -> Result<(), ServeError> {
-        let Some(mut commit) = self.events.take_commit(Now::read()) else { return Ok(()) };
-        if self.hand_over.pays() && !self.events.is_to_end() {
-            self.heard_meanwhile = 0;
-            match self.committer.hand_over(commit) {
-                Ok(()) => return Ok(()),
-                Err(refused) => commit = refused,
-            }
-        }
-        let made = self.committer.make(commit)?;
-        self.look_who_waits()?;
-        let messages = self.events.connections().count_ready();
-        self.committed(&made, messages)
-    }
-
-    /// Sees which connections have something, after a commit for which they had to wait. Few are not
-    /// worth a look.
-    fn look_who_waits(&mut self) -> Result<(), ServeError> {
-        if HandOver::may_pay(self.events.connections().count()) {
-            self.sockets.wait(self.events.connections(), Duration::ZERO)?;
-        }
-        Ok(())
-    }
-
-    /// Takes back the commit that was handed over, if it is made, and sends what waited for it. If
-    /// `waits`, it waits until the commit is made.
-    fn take_back(&mut self, waits: bool) -> Result<(), ServeError> {
-        let Some(made) = self.committer.take_back(waits)? else { return Ok(()) };
-        let messages = std::mem::take(&mut self.heard_meanwhile);
-        self.committed(&made, messages)?;
-        self.send()
-    }
-
-    /// The store has made a commit, and this many messages have come meanwhile.
-    fn committed(&mut self, made: &Made, messages: usize) -> Result<(), ServeError> {
-        self.hand_over.committed(made.took, messages);
-        self.events.committed(&made.commit, made.took, Now::read())
+        let Some(commit) = self.events.take_commit(Now::read()) else { return Ok(()) };
+        self.store.commit(commit.changes())?;
+        self.events.committed(commit, Now::read())
     }
 
     /// Writes what leaves, as far as the peers take it at once.

@@ -82,8 +82,8 @@ impl World {
 
     /// The clients take what the server sends. It answers whether it has sent anything.
     fn tell_clients(&mut self) -> bool {
-        if let Some(changes) = self.events.take_commit(self.now) {
-            self.events.committed(&changes, Duration::ZERO, self.now).unwrap();
+        if let Some(commit) = self.events.take_commit(self.now) {
+            self.events.committed(commit, self.now).unwrap();
         }
         self.events.send(self.now).unwrap();
         let mut has_told = false;

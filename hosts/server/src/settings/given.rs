@@ -1,0 +1,123 @@
+//! What an operator has given: on the command line, by the environment and in a file.
+use super::key::{self, Key, Kind};
+use super::{BadSetting, Source};
+use crate::command_line::ServeOptions;
+use krl_postgres::without_password;
+use serde::Deserialize;
+use serde::de::{Deserializer, MapAccess, Visitor};
+use std::collections::BTreeMap;
+use std::fmt;
+use std::path::Path;
+
+/// The text of each setting by its name, and where it comes from.
+#[derive(Debug)]
+pub struct Given(BTreeMap<&'static str, (String, Source)>);
+
+impl Given {
+    /// A flag comes first, then the environment, then the configuration file, then the default.
+    pub fn of(options: &ServeOptions) -> Result<Given, BadSetting> {
+        let path = options.config.as_deref();
+        let file = path.map(ConfigFile::read).transpose()?.unwrap_or_default();
+        let text = |key: &'static Key| {
+            let option = options.given.0.get(key.name).cloned();
+            let in_file = || Some((file.0.get(key.name)?.clone(), Source::File(path?.into())));
+            let default = || (key.default.to_string(), Source::Default);
+            (key.name, option.or_else(in_file).unwrap_or_else(default))
+        };
+        Ok(Given(key::ALL.iter().copied().map(text).collect()))
+    }
+
+    /// The text of a setting, and where it comes from.
+    pub fn text(&self, key: &Key) -> (&str, &Source) {
+        let given = self.0.get(key.name);
+        given.map_or((key.default, &Source::Default), |(text, source)| (text, source))
+    }
+
+    /// The value of a setting.
+    pub fn value<T>(
+        &self,
+        key: &Key,
+        parse: impl FnOnce(&str) -> Option<T>,
+    ) -> Result<T, BadSetting> {
+        self.judged(key, |text| {
+            parse(text).ok_or_else(|| format!(", and has to be {}", key.expected))
+        })
+    }
+
+    /// The value of a setting that may be left out.
+    pub fn optional<T>(
+        &self,
+        key: &Key,
+        parse: impl FnOnce(&str) -> Option<T>,
+    ) -> Result<Option<T>, BadSetting> {
+        let (text, _) = self.text(key);
+        if text.is_empty() { Ok(None) } else { self.value(key, parse).map(Some) }
+    }
+
+    /// The value of a setting whose parser states why it refuses a text.
+    pub fn judged<T>(
+        &self,
+        key: &Key,
+        parse: impl FnOnce(&str) -> Result<T, String>,
+    ) -> Result<T, BadSetting> {
+        let (text, source) = self.text(key);
+        parse(text).map_err(|why| {
+            let (name, shown) = (key.name, without_password(text));
+            BadSetting::new(format!("{name} is '{shown}' ({source}){why}"))
+        })
+    }
+
+    /// The setting as a line of a configuration file, with a comment on where it comes from.
+    pub fn line(&self, key: &Key) -> String {
+        let (text, source) = self.text(key);
+        let value = match text.parse() {
+            Ok(number) if key.kind == Kind::Number => toml::Value::Integer(number),
+            _ => toml::Value::String(text.to_string()),
+        };
+        format!("{} = {value} # {source}\n", key.name)
+    }
+}
+
+/// The texts of a configuration file, by the names of their settings.
+#[derive(Debug, Default)]
+struct ConfigFile(BTreeMap<&'static str, String>);
+
+impl ConfigFile {
+    fn read(path: &Path) -> Result<ConfigFile, BadSetting> {
+        let bad_file = |what: &str| {
+            let what = what.trim_end();
+            BadSetting::new(format!("the configuration file {}: {what}", path.display()))
+        };
+        let text = std::fs::read_to_string(path).map_err(|error| bad_file(&error.to_string()))?;
+        toml::from_str(&text).map_err(|error| bad_file(&error.to_string()))
+    }
+}
+
+impl<'de> Deserialize<'de> for ConfigFile {
+    fn deserialize<D: Deserializer<'de>>(deserializer: D) -> Result<ConfigFile, D::Error> {
+        deserializer.deserialize_map(Texts)
+    }
+}
+
+/// Reads the texts of a configuration file.
+struct Texts;
+
+impl<'de> Visitor<'de> for Texts {
+    type Value = ConfigFile;
+
+    fn expecting(&self, f: &mut fmt::Formatter<'_>) -> fmt::Result {
+        f.write_str("settings")
+    }
+
+    fn visit_map<A: MapAccess<'de>>(self, mut map: A) -> Result<ConfigFile, A::Error> {
+        let mut texts = BTreeMap::new();
+        while let Some(key) = map.next_key::<&'static Key>()? {
+            let text = match key.kind {
+                Kind::Number => map.next_value::<u64>()?.to_string(),
+                Kind::Text | Kind::YesNo => map.next_value()?,
+            };
+            texts.insert(key.name, text);
+        }
+        Ok(ConfigFile(texts))
+    }
+}
