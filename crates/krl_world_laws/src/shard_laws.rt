@@ -1,4 +1,6 @@
-//! Laws of scans over several servers.
+//! Laws of scans over several servers. Where a law names systems, each shard has a world of that
+//! system.
+ghost use Rattle.krl_world_laws.specs.Systems.{worlds, hosts, fenced_hosts};
 ghost use Rattle.krl_world_laws.specs.Shards.Scans.{ScanOfAll, ScanMeanwhile, TogetherIsUnion};
 ghost use Rattle.krl_world_laws.specs.Shards.Scans.{SomeTogether};
 ghost use Rattle.krl_world_laws.specs.Shards.Held.{ScanWhileHeld};
@@ -9,13 +11,17 @@ ghost use Rattle.krl_world_laws.specs.Shards.Somewhere.{ScansBothSomewhere};
 /// together, at the moment when it is made: for any worlds of these shards, in each of which its
 /// client answers the part of the scan that the shard has.
 pub fn scan_of_all()
-    ensures { ScanOfAll }
+    ensures of_worlds { ScanOfAll worlds }
+    ensures of_hosts { ScanOfAll hosts }
+    ensures of_fenced_hosts { ScanOfAll fenced_hosts }
 {}
 
 /// So it is if the parts were read one after another, as long as none of these clients changed:
 /// the rows are that range of all indexes together at each moment meanwhile.
 pub fn scan_meanwhile()
-    ensures { ScanMeanwhile }
+    ensures of_worlds { ScanMeanwhile worlds }
+    ensures of_hosts { ScanMeanwhile hosts }
+    ensures of_fenced_hosts { ScanMeanwhile fenced_hosts }
 {}
 
 /// So it is while these clients are held: while each takes no message and no command but scans,
@@ -29,7 +35,9 @@ pub fn scan_while_held()
 /// all indexes together at the moment of the first scan. Meanwhile the clients may obey callbacks
 /// and commands, tick, crash and start.
 pub fn scan_without_pushes()
-    ensures { ScanWithoutPushes }
+    ensures of_worlds { ScanWithoutPushes worlds }
+    ensures of_hosts { ScanWithoutPushes hosts }
+    ensures of_fenced_hosts { ScanWithoutPushes fenced_hosts }
 {}
 
 /// The indexes together are their union if each has keys of its own shard only.

@@ -19,9 +19,10 @@ use Rattle.krl_steps.specs.declared.answer.Answer.{Answer}
 use Rattle.krl_world.specs.States.{State, ClientPlace, ServerPlace, Up, Down, client_of, seated}
 use Rattle.krl_world.specs.Steps.{Takes, Delivers, ServerReads, ClientReads, Obeys, message_at, span, nudged, started, crashed}
 use Rattle.krl_shards.specs.declared.part.Part.{Part}
-use Rattle.krl_world_laws.specs.Shards.Scans.{Rows, Moment, IsStill, AnswerMeanwhile}
+use Rattle.krl_world_laws.specs.Readers.{Rows, IsStill}
+use Rattle.krl_world_laws.specs.Shards.Scans.{Moment, AnswerMeanwhile}
 use Rattle.krl_world_laws.specs.Shards.Held.{IsNotTo, IsOthersCommand, IsElsewhere, RunsHeld, IsMeanwhile, AnswerHeld, ScanWhileHeld}
-use Rattle.krl_world_laws.proofs.Shards.Scanned.{scan_meanwhile}
+use Rattle.krl_world_laws.proofs.Shards.Scanned.{meanwhile_of_worlds}
 
 not_same : (c d : ℕ) → d ≢ c → nat_eq c d ≡ false
 not_same c d h = grind (arith, nat_tests)
@@ -91,4 +92,4 @@ answer_held w c [] rows e = e
 answer_held w c (p ∷ ps) rows a = (a.0, a.1, a.2, meanwhile a.0 (w p.shard) (c p.shard) a.3, a.4, answer_held w c ps a.2 a.5, a.6)
 
 pub scan_while_held : ScanWhileHeld
-scan_while_held bounds w c m lo hi parts rows reach together f answer = scan_meanwhile bounds w c m lo hi parts rows reach together f (answer_held w c parts rows answer)
+scan_while_held bounds w c m lo hi parts rows reach together f answer = meanwhile_of_worlds bounds w c m lo hi parts rows reach together f (answer_held w c parts rows answer)

@@ -12,7 +12,9 @@ use Rattle.krl_world.specs.States.{State}
 use Rattle.krl_world.specs.Steps.{Takes, message_at}
 use Rattle.krl_shards.specs.declared.part.Part.{Part}
 use Rattle.krl_shards.specs.Parts.{Follow}
-use Rattle.krl_world_laws.specs.Shards.Scans.{Rows, Moment, AreReachable, IsTogether, AnswersScan}
+use Rattle.krl_world_laws.specs.Systems.{worlds}
+use Rattle.krl_world_laws.specs.Readers.{Rows, AnswersScan}
+use Rattle.krl_world_laws.specs.Shards.Scans.{Moment, AreReached, IsTogether}
 
 -- no message to this client
 abbrev pub IsNotTo : ℕ → Option Message → Type 0
@@ -57,5 +59,5 @@ AnswerHeld w c (p ∷ ps) rows =
 abbrev pub ScanWhileHeld : Type 0
 ScanWhileHeld =
     (bounds : List ℕ) (w : Moment) (c : ℕ → ℕ) (m : Index) (lo hi : ℕ) (parts : List Part) (rows : Rows) →
-    AreReachable bounds w → IsTogether bounds w m → Follow bounds hi lo hi parts → AnswerHeld w c parts rows →
+    AreReached worlds bounds w → IsTogether bounds w m → Follow bounds hi lo hi parts → AnswerHeld w c parts rows →
     rows ≡ range m lo hi

@@ -4,7 +4,8 @@ use Rattle.krl_durable.specs.Index.{Index, range}
 use Rattle.krl_shards.specs.declared.part.Part.{Part}
 use Rattle.krl_shards.specs.Partition.{IsPartition}
 use Rattle.krl_shards.specs.Parts.{Follow}
-use Rattle.krl_world_laws.specs.Shards.Scans.{Moment, AreReachable, IsTogether, AnswerAll}
+use Rattle.krl_world_laws.specs.Systems.{worlds}
+use Rattle.krl_world_laws.specs.Shards.Scans.{Moment, AreReached, IsTogether, AnswerAll}
 
 -- two shards: the points below 5, and those from 5 on
 abbrev pub two : List ℕ
@@ -17,7 +18,7 @@ halves = record { shard = 0; lo = 0; hi = 5 } ∷ record { shard = 1; lo = 5; hi
 -- a scan of both from caches only gives an entry
 pub record ScansBoth (w : Moment) (m : Index) : Type 0 where
   pub partition : IsPartition two
-  pub reachable : AreReachable two w
+  pub reachable : AreReached worlds two w
   pub together : IsTogether two w m
   pub parts : Follow two 11 0 11 halves
   pub answers : AnswerAll w (λ i. 0) halves ((10, 1 ∷ []) ∷ [])
