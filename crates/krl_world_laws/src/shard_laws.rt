@@ -5,7 +5,8 @@ ghost use Rattle.krl_world_laws.specs.Shards.Scans.{ScanOfAll, ScanMeanwhile, To
 ghost use Rattle.krl_world_laws.specs.Shards.Scans.{SomeTogether};
 ghost use Rattle.krl_world_laws.specs.Shards.Held.{ScanWhileHeld};
 ghost use Rattle.krl_world_laws.specs.Shards.Pushes.{ScanWithoutPushes};
-ghost use Rattle.krl_world_laws.specs.Shards.Somewhere.{ScansBothSomewhere};
+ghost use Rattle.krl_world_laws.specs.Shards.Leased.{ScanWithLeases};
+ghost use Rattle.krl_world_laws.specs.Shards.Somewhere.{ScansBothSomewhere, HandsOverSomewhere};
 
 /// A scan over shards that is answered from caches only is that range of all the shards' indexes
 /// together, at the moment when it is made: for any worlds of these shards, in each of which its
@@ -40,6 +41,16 @@ pub fn scan_without_pushes()
     ensures of_fenced_hosts { ScanWithoutPushes fenced_hosts }
 {}
 
+/// And so it is with leases: a process that holds its client of each shard, reads all parts, and
+/// checks each client's lease after it has read that part, hands over that range of all indexes
+/// together at the moment from which on it held them. Meanwhile leases may end, clients be evicted
+/// and servers replaced, of which it knows nothing.
+pub fn scan_with_leases()
+    ensures of_worlds { ScanWithLeases worlds }
+    ensures of_hosts { ScanWithLeases hosts }
+    ensures of_fenced_hosts { ScanWithLeases fenced_hosts }
+{}
+
 /// The indexes together are their union if each has keys of its own shard only.
 pub fn together_is_union()
     ensures { TogetherIsUnion }
@@ -53,4 +64,9 @@ pub fn some_together()
 /// Some worlds of two shards answer a scan of both from caches only, and it gives an entry.
 pub fn scans_both_somewhere()
     ensures { ScansBothSomewhere }
+{}
+
+/// And some process that has leases at two shards hands an entry over.
+pub fn hands_over_somewhere()
+    ensures { HandsOverSomewhere }
 {}

@@ -84,13 +84,13 @@ is_partition i le = ⊎_elim
     (λ (ge : 1 ≤ i). let is : i ≡ 1 = omega arith in subst (λ n. first_of two n < end_of two n) (sym is) (omega arith))
     (cases_lt i 1)
 
-follow : Follow two 11 0 11 halves
+pub follow : Follow two 11 0 11 halves
 follow = (
   record { begins = refl; ends = refl; whole = omega arith; shard = record { there = omega arith; lies = (omega arith, omega arith) } },
   (record { begins = refl; ends = refl; whole = omega arith; shard = record { there = omega arith; lies = (omega arith, omega arith) } }, refl),
 )
 
-answers : AnswerAll (λ i. w6) (λ i. 0) halves ((10, 1 ∷ []) ∷ [])
+pub answers : AnswerAll (λ i. w6) (λ i. 0) halves ((10, 1 ∷ []) ∷ [])
 answers = (
   [],
   (10, 1 ∷ []) ∷ [],

@@ -6,6 +6,7 @@ use Rattle.krl_shards.specs.Partition.{IsPartition}
 use Rattle.krl_shards.specs.Parts.{Follow}
 use Rattle.krl_world_laws.specs.Systems.{worlds}
 use Rattle.krl_world_laws.specs.Shards.Scans.{Moment, AreReached, IsTogether, AnswerAll}
+use Rattle.krl_world_laws.specs.Shards.Leased.{Shard, moment, AllReached, HandsOverAll}
 
 -- two shards: the points below 5, and those from 5 on
 abbrev pub two : List ℕ
@@ -26,3 +27,13 @@ pub record ScansBoth (w : Moment) (m : Index) : Type 0 where
 
 abbrev pub ScansBothSomewhere : Type 0
 ScansBothSomewhere = (w : Moment) × (m : Index) × ScansBoth w m
+
+-- The same with leases: the process has terms of both shards' servers, and hands the entry over
+pub record HandsBothOver (x : ℕ → Shard worlds) (m : Index) : Type 0 where
+  pub reached : AllReached worlds two x
+  pub together : IsTogether two (moment worlds x) m
+  pub parts : Follow two 11 0 11 halves
+  pub hands : HandsOverAll worlds x halves ((10, 1 ∷ []) ∷ [])
+
+abbrev pub HandsOverSomewhere : Type 0
+HandsOverSomewhere = (x : ℕ → Shard worlds) × (m : Index) × HandsBothOver x m
