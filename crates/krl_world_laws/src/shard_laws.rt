@@ -3,6 +3,7 @@
 ghost use Rattle.krl_world_laws.specs.Systems.{worlds, hosts, fenced_hosts};
 ghost use Rattle.krl_world_laws.specs.Shards.Scans.{ScanOfAll, ScanMeanwhile, TogetherIsUnion};
 ghost use Rattle.krl_world_laws.specs.Shards.Scans.{SomeTogether};
+ghost use Rattle.krl_world_laws.specs.Shards.Held.{held_worlds, held_hosts, held_fenced_hosts};
 ghost use Rattle.krl_world_laws.specs.Shards.Held.{ScanWhileHeld};
 ghost use Rattle.krl_world_laws.specs.Shards.Pushes.{ScanWithoutPushes};
 ghost use Rattle.krl_world_laws.specs.Shards.Leased.{ScanWithLeases};
@@ -28,7 +29,9 @@ pub fn scan_meanwhile()
 /// So it is while these clients are held: while each takes no message and no command but scans,
 /// and doesn't tick, start or crash, whatever the servers and all other clients do.
 pub fn scan_while_held()
-    ensures { ScanWhileHeld }
+    ensures of_worlds { ScanWhileHeld held_worlds }
+    ensures of_hosts { ScanWhileHeld held_hosts }
+    ensures of_fenced_hosts { ScanWhileHeld held_fenced_hosts }
 {}
 
 /// Only a push that a client accepts matters: if the parts are read one after another, and no

@@ -53,7 +53,7 @@ module _ (s : System) (f : Follows s) where
   of_all bounds x c m lo hi parts rows reach together follow answer =
       ranges_together bounds (views s x) m lo hi parts rows together follow (answer_ranges bounds x c lo hi parts rows reach follow answer)
 
-  meanwhile : ScanMeanwhile s
+  pub meanwhile : ScanMeanwhile s
   meanwhile bounds x c m lo hi parts rows reach together follow answer =
       of_all bounds x c m lo hi parts rows reach together follow (answer_all (views s x) c parts rows answer)
 
