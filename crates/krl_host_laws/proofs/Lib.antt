@@ -4,7 +4,6 @@ pub mod Incarnations
 pub mod Shown
 pub mod Starts
 pub mod Promised
-pub mod Lasting
 pub mod Evicting
 pub mod Ahead
 pub mod Parts

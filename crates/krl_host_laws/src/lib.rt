@@ -6,7 +6,6 @@
 ghost use Rattle.krl_world.specs.Promises.{Headline};
 ghost use Rattle.krl_host_laws.specs.Hosts.{HostWorld, IsReached};
 ghost use Rattle.krl_host_laws.specs.Batches.{JudgesAhead, KeepsInParts};
-ghost use Rattle.krl_host_laws.specs.Readers.{ScansLast};
 ghost use Rattle.krl_host_laws.specs.Evictions.{EvictionsAreMoves};
 ghost use Rattle.krl_host_laws.specs.Promises.{BatchesAreWorlds, HoldsAhead, NeverAlarms};
 
@@ -27,14 +26,6 @@ pub fn headline()
 /// then. So a scan's rows are also that range of the index that the server has in memory.
 pub fn holds_ahead()
     ensures { (w : HostWorld) → IsReached w → HoldsAhead w }
-{}
-
-/// A scan that reads a client's cache while other threads work has a beginning and an end. If no
-/// call changes the client meanwhile, its rows are that range of the index on the disk at each
-/// moment from the one to the other. So the message by which the client gives something up leaves
-/// after each scan that could see it.
-pub fn scans_last()
-    ensures { ScansLast }
 {}
 
 /// A host that evicts a client is such a host: the Hello and the Bye that it makes for it are those

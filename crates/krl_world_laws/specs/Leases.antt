@@ -1,3 +1,2 @@
-pub mod Systems
 pub mod Leased
 pub mod Laws

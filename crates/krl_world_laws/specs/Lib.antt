@@ -1,2 +1,4 @@
+pub mod Systems
+pub mod Readers
 pub mod Leases
 pub mod Shards

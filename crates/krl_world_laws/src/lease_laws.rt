@@ -1,6 +1,6 @@
 //! Laws of systems whose clients have leases: of worlds of one server, of the host of one server,
 //! and of any number of hosts over one store.
-ghost use Rattle.krl_world_laws.specs.Leases.Systems.{worlds, hosts, fenced_hosts};
+ghost use Rattle.krl_world_laws.specs.Systems.{worlds, hosts, fenced_hosts};
 ghost use Rattle.krl_world_laws.specs.Leases.Laws.{ScansAreIndex, WorldsAreReached};
 
 /// What a process reads, and hands over after a check of its lease, is that range of the index that

@@ -1,42 +1,17 @@
 -- Leases go as their own machines do, and a system as its moves lead.
-use Rattle.std.proofs.Common.{◌≡◌, inl, inr, ℕ, Bool, true, false, ◌&&◌, List, [], ◌∷◌, Ok, refl, sym, ap, ◌∙◌, subst, eqb-true, if◌then◌else◌}
+use Rattle.std.proofs.Common.{◌≡◌, inl, inr, ℕ, Bool, true, false, ◌&&◌, List, [], ◌∷◌, refl, sym, ap, ◌∙◌, subst, eqb-true, if◌then◌else◌}
 use Rattle.std.specs.Prelude.{nat_eq}
 use Rattle.std.proofs.lemmas.Bool.{and_parts}
-use Rattle.krl_refinement.proofs.Server.Whole.{all_follow}
-use Rattle.krl_world.specs.Promises.{Headline}
-use Rattle.krl_world.specs.Steps.{Steps}
-use Rattle.krl_world.proofs.Functions.Shapes.{reachable_stays}
-use Rattle.krl_world.proofs.Promises.Kept.{headline_holds}
-use Rattle.krl_host_laws.specs.Hosts as host
-use Rattle.krl_host_laws.proofs.Promised as hosts_promised
-use Rattle.krl_fenced_hosts.specs.Processes as store
-use Rattle.krl_fenced_hosts.proofs.Promised as stores_promised
 use Rattle.krl_leases.specs.Clocks.{Clocks, Limits}
 use Rattle.krl_leases.specs.Machine.{State as Lease, Unknown, Evicted, Event as LeaseEvent, Pass, Connect, Say, Hear, Confirm, Take, Hello, Register, Stop, Start, Revise, Evict, begun as no_lease, Goes as LeaseGoes, Runs as LeaseRuns}
 use Rattle.krl_leases.proofs.Evicted.{evicted_answer_nothing}
-use Rattle.krl_world_laws.specs.Leases.Systems.{System, worlds, hosts, fenced_hosts}
+use Rattle.krl_world_laws.specs.Systems.{System, worlds, hosts, fenced_hosts}
 use Rattle.krl_world_laws.specs.Leases.Leased.{Machines, AllAgree, Leased, Event, Acts, Passes, Leases, Evicts, Changes, GoesWithout, Goes, Runs, unleased, IsReached}
 use Rattle.krl_world_laws.specs.Leases.Laws.{MayHandOver, ScansAreIndex, WorldsAreReached}
+use Rattle.krl_world_laws.proofs.Systems.{Follows, worlds_follow, hosts_follow, fenced_hosts_follow}
+use Rattle.krl_world_laws.proofs.Readers.{rows_are}
 
 -- Systems
-
--- its moves lead on, and what is reached has the headline
-record Follows (s : System) : Type 0 where
-  moves : (w v : s.World) → s.IsReached w → s.Moves w v → s.IsReached v
-  holds : (w : s.World) → s.IsReached w → Headline (s.view w)
-
-worlds_follow : Follows worlds
-unfolding Steps
-worlds_follow = record {
-  moves = λ w v r m. reachable_stays.step w v m.0 (Ok m.1) r m.2;
-  holds = λ w r. headline_holds all_follow w r;
-}
-
-hosts_follow : Follows hosts
-hosts_follow = record { moves = λ w v r m. host.moved w v r m; holds = hosts_promised.headline }
-
-fenced_hosts_follow : Follows fenced_hosts
-fenced_hosts_follow = record { moves = λ w v r m. store.moved w v r m; holds = stores_promised.headline }
 
 module _ (s : System) (f : Follows s) where
   goes_without : (w w' : s.World) (c i : ℕ) → GoesWithout s w c i w' → s.IsReached w → s.IsReached w'
@@ -53,8 +28,16 @@ module _ (s : System) (f : Follows s) where
     world_runs w w' [] g r = subst (λ (x : Leased s). s.IsReached x.world) (sym g) r
     world_runs w w' (e ∷ es) g r = world_runs g.0 w' es g.2 (world_goes w g.0 e g.1 r)
 
-    reached : (w : Leased s) → IsReached s limits m w → s.IsReached w.world
+    pub reached : (w : Leased s) → IsReached s limits m w → s.IsReached w.world
     reached w h = world_runs (unleased s h.0) w h.2 h.3 h.1
+
+module _ (s : System) (limits : Limits) (m : Machines) where
+  runs_on : (u v w : Leased s) (es fs : List Event) → Runs s limits m u es v → Runs s limits m v fs w → (gs : List Event) × Runs s limits m u gs w
+  runs_on u v w [] fs r t = (fs, subst (λ x. Runs s limits m x fs w) r t)
+  runs_on u v w (e ∷ es) fs r t = let rest = runs_on r.0 v w es fs r.2 t in (e ∷ rest.0, (r.0, r.1, rest.1))
+
+  pub reached_on : (v w : Leased s) (es : List Event) → IsReached s limits m v → Runs s limits m v es w → IsReached s limits m w
+  reached_on v w es h r = let all = runs_on (unleased s h.0) v w h.2 es h.3 r in (h.0, h.1, all.0, all.1)
 
 -- Leases
 
@@ -135,7 +118,7 @@ module _ (s : System) (f : Follows s) where
   they_are_reached : WorldsAreReached s
   they_are_reached limits m w h = let r = reached s f limits m w h in (r, f.holds w.world r)
 
-  too_late : (limits : Limits) (m : Machines) (v w : Leased s) (es : List Event) (c i : ℕ) → AllAgree limits m → IsReached s limits m v → (v.leases c i).standing ≡ Evicted → Runs s limits m v es w → MayHandOver s m w c i → ⊥
+  pub too_late : (limits : Limits) (m : Machines) (v w : Leased s) (es : List Event) (c i : ℕ) → AllAgree limits m → IsReached s limits m v → (v.leases c i).standing ≡ Evicted → Runs s limits m v es w → MayHandOver s m w c i → ⊥
   too_late limits m v w es c i agree h x r a =
       let before = lease_runs s limits m (unleased s h.0) v c i h.2 h.3 in
       let after = lease_runs s limits m v w c i es r in
@@ -144,9 +127,8 @@ module _ (s : System) (f : Follows s) where
       (evicted_on limits (m c i) (v.leases c i) (w.leases c i) after.0 after.1 x) a
 
   they_are_index : ScansAreIndex s
-  unfolding Steps
   they_are_index limits m v w es c i lo hi rows agree h (inl read) r a =
-      (f.holds v.world (reached s f limits m v h)).scans c lo hi rows (s.view v.world) read.1
+      rows_are (s.view v.world) c lo hi rows (f.holds v.world (reached s f limits m v h)) read.1
   they_are_index limits m v w es c i lo hi rows agree h (inr x) r a = absurd (too_late limits m v w es c i agree h x r a)
 
 pub scans_of_worlds : ScansAreIndex worlds

@@ -1,5 +1,5 @@
 -- A client that is held stays as it is.
-use Rattle.std.proofs.Common.{◌≡◌, ◌≢◌, ℕ, suc, ◌∙◌, false, List, [], ◌∷◌, Some, None, Option, sym, ap, arith}
+use Rattle.std.proofs.Common.{◌≡◌, ◌≢◌, ℕ, suc, ◌∙◌, false, List, [], ◌∷◌, Some, None, Option, refl, sym, ap, arith}
 use Rattle.std.specs.Prelude.{nat_eq, if◌then◌else◌}
 use Rattle.std.proofs.Math.Logic.{⊎_elim}
 use Rattle.std.proofs.lemmas.Bool.Decides.{nat_tests}
@@ -19,9 +19,13 @@ use Rattle.krl_steps.specs.declared.answer.Answer.{Answer}
 use Rattle.krl_world.specs.States.{State, ClientPlace, ServerPlace, Up, Down, client_of, seated}
 use Rattle.krl_world.specs.Steps.{Takes, Delivers, ServerReads, ClientReads, Obeys, message_at, span, nudged, started, crashed}
 use Rattle.krl_shards.specs.declared.part.Part.{Part}
-use Rattle.krl_world_laws.specs.Shards.Scans.{Rows, Moment, IsStill, AnswerMeanwhile}
-use Rattle.krl_world_laws.specs.Shards.Held.{IsNotTo, IsOthersCommand, IsElsewhere, RunsHeld, IsMeanwhile, AnswerHeld, ScanWhileHeld}
-use Rattle.krl_world_laws.proofs.Shards.Scanned.{scan_meanwhile}
+use Rattle.krl_host_laws.specs.Hosts as host
+use Rattle.krl_fenced_hosts.specs.Processes as store
+use Rattle.krl_world_laws.specs.Readers.{Rows, IsStill}
+use Rattle.krl_world_laws.specs.Shards.Scans.{views, AnswerMeanwhile}
+use Rattle.krl_world_laws.specs.Shards.Held.{IsNotTo, IsOthersCommand, IsElsewhere, HeldSystem, held_worlds, spares_of_host, held_hosts, spares_of_store, held_fenced_hosts, RunsHeld, begins, goes_on, IsMeanwhile, AnswerHeld, ScanWhileHeld}
+use Rattle.krl_world_laws.proofs.Systems.{Follows, worlds_follow, hosts_follow, fenced_hosts_follow}
+use Rattle.krl_world_laws.proofs.Shards.Scanned.{meanwhile}
 
 not_same : (c d : ℕ) → d ≢ c → nat_eq c d ≡ false
 not_same c d h = grind (arith, nat_tests)
@@ -79,16 +83,63 @@ one_step v w c (step.CrashClient d) answer t ne = other_place v w c d _ [] ne t.
 one_step v w c step.StartServer answer t ne = starts v w c v.server t.1.1
 one_step v w c step.CrashServer answer t ne = crashes v w c v.server t.1.1
 
-held : (v w : State) (c : ℕ) (steps : List Step) → RunsHeld v c steps w → IsStill v w c
-held v w c [] e = same_world v w c e
-held v w c (s ∷ steps) r = one_step v r.1 c s r.0 r.2 r.3 ∙ held r.1 w c steps r.4
+-- Moves
 
-meanwhile : (v w : State) (c : ℕ) → IsMeanwhile v w c → IsStill v w c
-meanwhile v w c h = ⊎_elim (λ (r : RunsHeld v c h.0 w). held v w c h.0 r) (λ (r : RunsHeld w c h.0 v). sym (held w v c h.0 r)) h.1
+host_spares : (c : ℕ) (v w : host.HostWorld) (m : host.Moves v w) → spares_of_host c v w m → IsStill v.world w.world c
+host_spares c v _ (host.acts s answer u ne t) alone = one_step v.world u c s answer t alone
+host_spares c v _ (host.begins d n number off less le) alone = other_place v.world (host.client_started v.world d n) c d _ (says_hello (begun d n) ∷ []) alone refl
+host_spares c v _ (host.starts l e fits can) alone = refl
+host_spares c v _ (host.judges h t m outs said e at step among) alone = refl
+host_spares c v _ (host.nudges h d said e lt among) alone = refl
+host_spares c v _ (host.keeps h n e le) alone = refl
+host_spares c v _ (host.releases h x e i le) alone = refl
+host_spares c v _ (host.drops h left e among) alone = refl
+host_spares c v _ host.crashes alone = refl
 
-answer_held : (w : Moment) (c : ℕ → ℕ) (ps : List Part) (rows : Rows) → AnswerHeld w c ps rows → AnswerMeanwhile w c ps rows
-answer_held w c [] rows e = e
-answer_held w c (p ∷ ps) rows a = (a.0, a.1, a.2, meanwhile a.0 (w p.shard) (c p.shard) a.3, a.4, answer_held w c ps a.2 a.5, a.6)
+store_spares : (c : ℕ) (v w : store.StoreWorld) (m : store.Moves v w) → spares_of_store c v w m → IsStill v.world w.world c
+store_spares c v _ (store.acts s answer u ne t) alone = one_step v.world u c s answer t alone
+store_spares c v _ (store.begins d n number off less le) alone = other_place v.world (host.client_started v.world d n) c d _ (says_hello (begun d n) ∷ []) alone refl
+store_spares c v _ (store.starts p l off fits can) alone = refl
+store_spares c v _ (store.judges p x t m outs said e at step among) alone = refl
+store_spares c v _ (store.nudges p x d said e lt among) alone = refl
+store_spares c v _ (store.keeps p x n e current some le) alone = refl
+store_spares c v _ (store.releases p x y e i le) alone = refl
+store_spares c v _ (store.drops p x left e among) alone = refl
+store_spares c v _ (store.crashes p) alone = refl
 
-pub scan_while_held : ScanWhileHeld
-scan_while_held bounds w c m lo hi parts rows reach together f answer = scan_meanwhile bounds w c m lo hi parts rows reach together f (answer_held w c parts rows answer)
+-- a move that spares a client leaves it as it is
+record Stays (h : HeldSystem) : Type 0 where
+  by : (c : ℕ) (v w : h.system.World) (m : h.system.Moves v w) → h.Spares c v w m → IsStill (h.system.view v) (h.system.view w) c
+
+worlds_stay : Stays held_worlds
+worlds_stay = record { by = λ c v w m alone. one_step v w c m.0 m.1 m.2 alone }
+
+hosts_stay : Stays held_hosts
+hosts_stay = record { by = host_spares }
+
+fenced_hosts_stay : Stays held_fenced_hosts
+fenced_hosts_stay = record { by = store_spares }
+
+module _ (h : HeldSystem) (f : Follows h.system) (k : Stays h) where
+  held : (c : ℕ) (v w : h.system.World) → RunsHeld h c v w → IsStill (h.system.view v) (h.system.view w) c
+  held c v w begins = refl
+  held c v w (goes_on u x r m alone) = held c v u r ∙ k.by c u w m alone
+
+  between : (v w : h.system.World) (c : ℕ) → IsMeanwhile h v w c → IsStill (h.system.view v) (h.system.view w) c
+  between v w c i = ⊎_elim (λ (r : RunsHeld h c v w). held c v w r) (λ (r : RunsHeld h c w v). sym (held c w v r)) i
+
+  answer_held : (x : ℕ → h.system.World) (c : ℕ → ℕ) (ps : List Part) (rows : Rows) → AnswerHeld h x c ps rows → AnswerMeanwhile (views h.system x) c ps rows
+  answer_held x c [] rows e = e
+  answer_held x c (p ∷ ps) rows a = (h.system.view a.0, a.1, a.2, between a.0 (x p.shard) (c p.shard) a.3, a.4, answer_held x c ps a.2 a.5, a.6)
+
+  scan : ScanWhileHeld h
+  scan bounds x c m lo hi parts rows reach together follow a = meanwhile h.system f bounds x c m lo hi parts rows reach together follow (answer_held x c parts rows a)
+
+pub held_of_worlds : ScanWhileHeld held_worlds
+held_of_worlds = scan held_worlds worlds_follow worlds_stay
+
+pub held_of_hosts : ScanWhileHeld held_hosts
+held_of_hosts = scan held_hosts hosts_follow hosts_stay
+
+pub held_of_fenced_hosts : ScanWhileHeld held_fenced_hosts
+held_of_fenced_hosts = scan held_fenced_hosts fenced_hosts_follow fenced_hosts_stay

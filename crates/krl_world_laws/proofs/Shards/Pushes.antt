@@ -1,5 +1,5 @@
 -- What a client knows it has known since it last accepted a push.
-use Rattle.std.proofs.Common.{◌≡◌, ℕ, suc, ◌<◌, ◌∙◌, ◌⊎◌, inl, inr, Bool, true, false, ◌||◌, Option, Some, None, Ok, is_some, not, List, [], ◌∷◌, refl, sym, ap, subst, arith, nat_lt, nat_le, nat_eq, if◌then◌else◌, eqb-true, ltb-true}
+use Rattle.std.proofs.Common.{◌≡◌, ℕ, suc, ◌<◌, ◌∙◌, ◌⊎◌, inl, inr, Bool, true, false, ◌||◌, Option, Some, None, is_some, not, List, [], ◌∷◌, refl, sym, ap, subst, arith, nat_lt, nat_le, nat_eq, if◌then◌else◌, eqb-true, ltb-true}
 use Rattle.std.proofs.lemmas.Bool.{eqb-false, not-false, and_parts}
 use Rattle.krl_modes.specs.declared.point.TheConstants.{END, TOP}
 use Rattle.krl_modes.specs.declared.part.RangePart.{RangePart}
@@ -11,6 +11,7 @@ use Rattle.krl_messages.specs.Values.{Value}
 use Rattle.krl_messages.specs.declared.to_server.ToServer.{ToServer}
 use Rattle.krl_messages.specs.declared.to_client.ToClient.{ToClient}
 use Rattle.krl_messages.specs.declared.to_client.PushBody.{PushBody}
+use Rattle.krl_messages.specs.declared.to_client.PushBody.TheVariants as push
 use Rattle.krl_messages.specs.declared.write_op.WriteOp.{WriteOp}
 use Rattle.krl_cache.specs.Beliefs.{Belief, is_covered, AreRows}
 use Rattle.krl_client.specs.Clients.{Client, begun}
@@ -18,13 +19,14 @@ use Rattle.krl_refinement.proofs.Client.Basics.{passed}
 use Rattle.krl_refinement.specs.Client.Shows.{ShowsClient, ShowsPlace}
 use Rattle.krl_steps.specs.declared.step.Step.{Step}
 use Rattle.krl_steps.specs.declared.answer.Answer.{Answer}
-use Rattle.krl_world.specs.States.{State, ClientPlace, client_of, seated}
+use Rattle.krl_world.specs.States.{State, ClientPlace, Up, client_of, seated}
 use Rattle.krl_world.specs.Steps.{span, message_at, Takes, IsReachable}
 use Rattle.krl_modes.specs.declared.part.RangePart.TheVariants as range
 use Rattle.krl_modes.specs.declared.part.KeyPart.TheVariants as key
 use Rattle.krl_modes.specs.Spans.{Bounds, contains, IsPointOf}
 use Rattle.krl_modes.proofs.ModeLaws.{reads_its_key}
 use Rattle.krl_cache.specs.Beliefs.{CoversAll, is_span}
+use Rattle.krl_machine.specs.Links.{Link}
 use Rattle.krl_machine.specs.Worlds.{row_of}
 use Rattle.krl_client.specs.declared.scan_answer.ScanAnswer.{ScanAnswer}
 use Rattle.krl_client.specs.declared.scan_answer.ScanAnswer.TheVariants as scanned
@@ -43,16 +45,25 @@ use Rattle.krl_steps.specs.Refusals.{refused_by_client}
 use Rattle.krl_world.specs.declared.message.Message.{Message}
 use Rattle.krl_world.specs.declared.message.Message.TheVariants as message
 use Rattle.krl_world.specs.Steps.{Steps, Obeys, Delivers, ClientReads, of_client, if_runs, named, command_refusal}
-use Rattle.krl_world.proofs.Functions.Shapes.{reachable_stays}
 use Rattle.krl_world.proofs.Refinement.Reached.{world_reached}
 use Rattle.krl_world.proofs.Refinement.Taken.{client_ok, not_named, runs_ok}
 use Rattle.krl_world.proofs.Promises.CompatibilityAndScans.{rows_agree}
+use Rattle.krl_failover.proofs.Worlds.Promised.{reached_shown as fenced_shown}
+use Rattle.krl_host_laws.specs.Hosts.{client_started}
+use Rattle.krl_host_laws.specs.Hosts as host
+use Rattle.krl_host_laws.proofs.Incarnations.{at_set}
+use Rattle.krl_host_laws.proofs.Promised.{batches_are_worlds}
+use Rattle.krl_fenced_hosts.specs.Processes as store
+use Rattle.krl_fenced_hosts.proofs.Promised.{is_fenced}
 use Rattle.krl_shards.specs.declared.part.Part.{Part}
 use Rattle.krl_shards.specs.Parts.{Follow}
-use Rattle.krl_world_laws.specs.Shards.Scans.{Rows, Moment, AreReachable, AnswersScan, AnswerAll, IsStill}
-use Rattle.krl_world_laws.specs.Shards.Pushes.{Accepted, BringsNoPush, AcceptsNoPush, RunsWithoutPush, AnswerSince, ScanWithoutPushes}
+use Rattle.krl_world_laws.specs.Systems.{System, worlds, hosts, fenced_hosts}
+use Rattle.krl_world_laws.specs.Readers.{Rows, AnswersScan, IsStill}
+use Rattle.krl_world_laws.specs.Shards.Scans.{views, AreReached, AnswerAll}
+use Rattle.krl_world_laws.specs.Shards.Pushes.{HasAccepted, RunsWithoutPush, begins, goes_on, AnswerSince, ScanWithoutPushes}
+use Rattle.krl_world_laws.proofs.Systems.{Follows, worlds_follow, hosts_follow, fenced_hosts_follow}
 use Rattle.krl_world_laws.proofs.Shards.Held.{server_reads, nudges, starts, crashes}
-use Rattle.krl_world_laws.proofs.Shards.Scanned.{scan_of_all}
+use Rattle.krl_world_laws.proofs.Shards.Scanned.{of_all}
 
 -- What is lowered was known, with the same value
 
@@ -163,15 +174,17 @@ becomes v w c d g k o ms e up h = place v w c d _ ms e (λ i. subst (λ x. AllKn
 abbrev NoEntry : Client → Type 0
 NoEntry k = (p : ℕ) → k.belief.key_at p ≡ key.N → k.belief.value_at p ≡ None
 
-no_entry : (w : State) (c : ℕ) (k : Client) → IsReachable w → client_of w c ≡ Some k → NoEntry k
-no_entry w c k h up p e =
-    let r = (world_reached all_follow w h).1 in
-    let place : ShowsPlace c (w.places c).last_incarnation (Some k) (r.of c) = subst (λ x. ShowsPlace c (w.places c).last_incarnation x (r.of c)) up (r.mirrors.places c) in
-    by_test (nat_eq p END) refl place.1
+shown_no_entry : (c g : ℕ) (k : Client) (l : Link) → ShowsPlace c g (Some k) l → NoEntry k
+shown_no_entry c g k l place p e = by_test (nat_eq p END) refl place.1
   where
     by_test : {l : _} (t : Bool) → nat_eq p END ≡ t → ShowsClient c k l → k.belief.value_at p ≡ None
     by_test true i shows = subst (λ n. k.belief.value_at n ≡ None) (sym (eqb-true p END i)) shows.at_end
     by_test {l} false i shows = shows.value p (eqb-false p END i) ∙ ap (λ x. row_of x (l.value p)) (sym (shows.key p) ∙ e)
+
+no_entry : (w : State) (c : ℕ) (k : Client) → IsReachable w → client_of w c ≡ Some k → NoEntry k
+no_entry w c k h up =
+    let r = (world_reached all_follow w h).1 in
+    shown_no_entry c (w.places c).last_incarnation k (r.of c) (subst (λ x. ShowsPlace c (w.places c).last_incarnation x (r.of c)) up (r.mirrors.places c))
 
 -- Steps
 
@@ -184,22 +197,39 @@ lowers k s keep none = one k (lowered k s keep) (λ p h.
 changes : (j k : Client) → k.belief ≡ j.belief → ((op : WriteOp) → outstanding j.written ≡ Some op → outstanding k.written ≡ Some op) → AllKnown (Some j) (Some k)
 changes j k e f = one j k (λ p h. record { covered = subst (λ b. is_covered b p ≡ true) e h; value = ap (λ (b : Belief). b.value_at p) e; writes = f })
 
-hears : (k : Client) (x : Case) → NoEntry k → ((what : PushBody) → x ≡ Accepts what → ⊥) → AllKnown (Some k) (Some (receiver.after k x))
+-- a push that is accepted is counted
+counted : (k : Client) (what : PushBody) → HasAccepted (Some k) (Some (receiver.accepted k what))
+counted k (push.Grant req hs) = (refl, refl, omega arith)
+counted k (push.Absent req point) = (refl, refl, omega arith)
+counted k (push.Answer number outcome h) = (refl, refl, omega arith)
+
+hears : (k : Client) (x : Case) → NoEntry k → (HasAccepted (Some k) (Some (receiver.after k x)) → ⊥) → AllKnown (Some k) (Some (receiver.after k x))
 hears k Ignores none calm = all_same (Some k)
 hears k AcksAgain none calm = all_same (Some k)
 hears k (Adopts epoch) none calm = changes k (receiver.joined k epoch) refl (λ op i. i)
-hears k (Accepts what) none calm = absurd (calm what refl)
+hears k (Accepts what) none calm = absurd (calm (counted k what))
 hears k (Lowers s keep) none calm = lowers k s keep none
 
-client_reads : (v w : State) (c : ℕ) (o : Option Client) (m : ToClient) → IsReachable v → client_of v m.client ≡ o → (m.client ≡ c → Accepted (client_of v c) m → ⊥) → ClientReads v o m w → AllKnown (client_of v c) (client_of w c)
-client_reads v w c None m reach up calm h = still v w c (ap (λ x. client_of x c) (sym h))
-client_reads v w c (Some k) m reach up calm h =
-    becomes v w c m.client _ k _ (receiver.sends h.0 k (case_of k m)) h.2 up (λ i. hears k (case_of k m) (no_entry v m.client k reach up) (λ what a. calm (sym i) (subst (λ n. Accepted (client_of v n) m) (sym i) (subst (λ o. Accepted o m) (sym up) (what, a)))))
+-- what a world shows of entries
+abbrev NoEntries : State → Type 0
+NoEntries w = (c : ℕ) (k : Client) → client_of w c ≡ Some k → NoEntry k
 
-delivers : (v w : State) (c : ℕ) (o : Option Message) → IsReachable v → BringsNoPush v c o → Delivers v o w → AllKnown (client_of v c) (client_of w c)
-delivers v w c (Some (message.ToServer m)) reach calm h = still v w c (server_reads v w c v.server m h)
-delivers v w c (Some (message.ToClient m)) reach calm h = client_reads v w c (client_of v m.client) m reach refl calm h
-delivers v w c None reach calm h = absurd h
+-- the client accepts no push between these two
+abbrev Calm : State → State → ℕ → Type 0
+Calm v w c = HasAccepted (client_of v c) (client_of w c) → ⊥
+
+client_reads : (v w : State) (c : ℕ) (o : Option Client) (m : ToClient) → NoEntries v → client_of v m.client ≡ o → Calm v w c → ClientReads v o m w → AllKnown (client_of v c) (client_of w c)
+client_reads v w c None m none up calm h = still v w c (ap (λ x. client_of x c) (sym h))
+client_reads v w c (Some k) m none up calm h =
+    becomes v w c m.client _ k _ (receiver.sends h.0 k (case_of k m)) h.2 up (λ i. hears k (case_of k m) (none m.client k up) (λ a. calm (subst (λ n. HasAccepted (client_of v n) (client_of w n)) (sym i) (subst (λ x. HasAccepted x (client_of w m.client)) (sym up) (subst (λ x. HasAccepted (Some k) x) (sym (seat i)) a)))))
+  where
+    seat : c ≡ m.client → client_of w m.client ≡ Some (receiver.after k (case_of k m))
+    seat i = ap (λ (y : State). client_of y m.client) h.2 ∙ ap (λ (x : ClientPlace). x.client) (at_set v.places m.client _)
+
+delivers : (v w : State) (c : ℕ) (o : Option Message) → NoEntries v → Calm v w c → Delivers v o w → AllKnown (client_of v c) (client_of w c)
+delivers v w c (Some (message.ToServer m)) none calm h = still v w c (server_reads v w c v.server m h)
+delivers v w c (Some (message.ToClient m)) none calm h = client_reads v w c (client_of v m.client) m none refl calm h
+delivers v w c None none calm h = absurd h
 
 -- nothing is outstanding before a write
 writes_first : (k : Client) (op : WriteOp) → write_refusal k op ≡ None → (x : WriteOp) → outstanding k.written ≡ Some x → outstanding (wrote k op).written ≡ Some x
@@ -228,23 +258,74 @@ obeys v w c d k (command.Pin lo hi) answer none up ok h = becomes v w c d _ k _ 
 obeys v w c d k (command.Unpin id) answer none up ok h = becomes v w c d _ k _ [] h.1 up (λ i. changes k _ refl (λ op x. x))
 obeys v w c d k command.Leave answer none up ok h = becomes v w c d _ k None (says_bye k ∷ []) h.1 up (λ i. gone (Some k))
 
-one_step : (v w : State) (c : ℕ) (s : Step) (answer : Answer) → IsReachable v → Takes v s answer w → AcceptsNoPush v c s → AllKnown (client_of v c) (client_of w c)
-one_step v w c (step.Deliver i) answer reach t calm = delivers v w c (message_at v.sent i) reach calm t.1.1
-one_step v w c (step.Command d what) answer reach t calm =
+one_step : (v w : State) (c : ℕ) (s : Step) (answer : Answer) → NoEntries v → Takes v s answer w → Calm v w c → AllKnown (client_of v c) (client_of w c)
+one_step v w c (step.Deliver i) answer none t calm = delivers v w c (message_at v.sent i) none calm t.1.1
+one_step v w c (step.Command d what) answer none t calm =
     let k = t.1.0 in let up = t.1.1 in
-    obeys v w c d k what answer (no_entry v d k reach up) up (not_named refused_by_client (command_refusal k what) (runs_ok (client_of v d) k _ up (client_ok d _ t.0))) t.1.2
-one_step v w c (step.Tick d) answer reach t calm = becomes v w c d _ t.1.1.0 _ (tick t.1.1.2.0 t.1.1.0) t.1.1.2.2 t.1.1.1 (λ i. all_same (Some t.1.1.0))
-one_step v w c (step.Nudge d) answer reach t calm = still v w c (nudges v w c d v.server t.1.1)
-one_step v w c (step.StartClient d) answer reach t calm = place v w c d _ (says_hello (begun d (suc (v.places d).last_incarnation)) ∷ []) t.1.1 (λ i. anew (client_of v d) d _)
-one_step v w c (step.CrashClient d) answer reach t calm = place v w c d _ [] t.1.1 (λ i. gone (client_of v d))
-one_step v w c step.StartServer answer reach t calm = still v w c (starts v w c v.server t.1.1)
-one_step v w c step.CrashServer answer reach t calm = still v w c (crashes v w c v.server t.1.1)
+    obeys v w c d k what answer (none d k up) up (not_named refused_by_client (command_refusal k what) (runs_ok (client_of v d) k _ up (client_ok d _ t.0))) t.1.2
+one_step v w c (step.Tick d) answer none t calm = becomes v w c d _ t.1.1.0 _ (tick t.1.1.2.0 t.1.1.0) t.1.1.2.2 t.1.1.1 (λ i. all_same (Some t.1.1.0))
+one_step v w c (step.Nudge d) answer none t calm = still v w c (nudges v w c d v.server t.1.1)
+one_step v w c (step.StartClient d) answer none t calm = place v w c d _ (says_hello (begun d (suc (v.places d).last_incarnation)) ∷ []) t.1.1 (λ i. anew (client_of v d) d _)
+one_step v w c (step.CrashClient d) answer none t calm = place v w c d _ [] t.1.1 (λ i. gone (client_of v d))
+one_step v w c step.StartServer answer none t calm = still v w c (starts v w c v.server t.1.1)
+one_step v w c step.CrashServer answer none t calm = still v w c (crashes v w c v.server t.1.1)
 
-known_since : (v w : State) (c : ℕ) (steps : List Step) → IsReachable v → RunsWithoutPush v c steps w → AllKnown (client_of v c) (client_of w c)
-unfolding Steps
-known_since v w c [] reach e = still v w c (ap (λ x. client_of x c) (sym e))
-known_since v w c (s ∷ steps) reach r =
-    later (client_of v c) (client_of r.1 c) (client_of w c) (one_step v r.1 c s r.0 reach r.2 r.3) (known_since r.1 w c steps (reachable_stays.step v r.1 s (Ok r.0) reach r.2) r.4)
+-- Moves
+
+-- by a move of the system without a push each client knows what it knew
+record Remembers (s : System) : Type 0 where
+  moves : (v w : s.World) (c : ℕ) → s.IsReached v → s.Moves v w → Calm (s.view v) (s.view w) c → AllKnown (client_of (s.view v) c) (client_of (s.view w) c)
+
+worlds_remember : Remembers worlds
+worlds_remember = record { moves = λ v w c reach m calm. one_step v w c m.0 m.1 (λ d k up. no_entry v d k reach up) m.2 calm }
+
+-- a client starts
+starts_anew : (w : State) (c d n : ℕ) → AllKnown (client_of w c) (client_of (client_started w d n) c)
+starts_anew w c d n = place w (client_started w d n) c d _ (says_hello (begun d n) ∷ []) refl (λ i. anew (client_of w d) d n)
+
+host_no_entries : (w : host.HostWorld) → host.IsReached w → NoEntries w.world
+host_no_entries w r c k up = let x = (batches_are_worlds w r).now in no_entry (record w.world { server = x.server; sent = x.sent }) c k x.reachable up
+
+host_moves : (v w : host.HostWorld) (c : ℕ) → host.IsReached v → host.Moves v w → Calm v.world w.world c → AllKnown (client_of v.world c) (client_of w.world c)
+host_moves v _ c r (host.acts s answer u ne t) calm = one_step v.world u c s answer (host_no_entries v r) t calm
+host_moves v _ c r (host.begins d n lt off less le) calm = starts_anew v.world c d n
+host_moves v _ c r (host.starts l e fits can) calm = all_same (client_of v.world c)
+host_moves v _ c r (host.judges h t m outs said e at step among) calm = all_same (client_of v.world c)
+host_moves v _ c r (host.nudges h d said e lt among) calm = all_same (client_of v.world c)
+host_moves v _ c r (host.keeps h n e le) calm = all_same (client_of v.world c)
+host_moves v _ c r (host.releases h x e i le) calm = all_same (client_of v.world c)
+host_moves v _ c r (host.drops h left e among) calm = all_same (client_of v.world c)
+host_moves v _ c r host.crashes calm = all_same (client_of v.world c)
+
+hosts_remember : Remembers hosts
+hosts_remember = record { moves = host_moves }
+
+store_no_entries : (w : store.StoreWorld) → store.IsReached w → NoEntries w.world
+store_no_entries w r c k up =
+    let x = is_fenced w r in
+    let h = fenced_shown (record { world = record w.world { server = Up x.store; sent = x.sent }; old = x.old }) x.reached in
+    shown_no_entry c (w.world.places c).last_incarnation k (h.of c) (subst (λ y. ShowsPlace c (w.world.places c).last_incarnation y (h.of c)) up (h.world.places c))
+
+store_moves : (v w : store.StoreWorld) (c : ℕ) → store.IsReached v → store.Moves v w → Calm v.world w.world c → AllKnown (client_of v.world c) (client_of w.world c)
+store_moves v _ c r (store.acts s answer u ne t) calm = one_step v.world u c s answer (store_no_entries v r) t calm
+store_moves v _ c r (store.begins d n lt off less le) calm = starts_anew v.world c d n
+store_moves v _ c r (store.starts p l off fits can) calm = all_same (client_of v.world c)
+store_moves v _ c r (store.judges p x t m outs said e at step among) calm = all_same (client_of v.world c)
+store_moves v _ c r (store.nudges p x d said e lt among) calm = all_same (client_of v.world c)
+store_moves v _ c r (store.keeps p x n e current some le) calm = all_same (client_of v.world c)
+store_moves v _ c r (store.releases p x y e i le) calm = all_same (client_of v.world c)
+store_moves v _ c r (store.drops p x left e among) calm = all_same (client_of v.world c)
+store_moves v _ c r (store.crashes p) calm = all_same (client_of v.world c)
+
+fenced_hosts_remember : Remembers fenced_hosts
+fenced_hosts_remember = record { moves = store_moves }
+
+module _ (s : System) (f : Follows s) (k : Remembers s) where
+  known_since : (v : s.World) (c : ℕ) (w : s.World) → s.IsReached v → RunsWithoutPush s c v w → s.IsReached w × AllKnown (client_of (s.view v) c) (client_of (s.view w) c)
+  known_since v c w reach begins = (reach, all_same (client_of (s.view v) c))
+  known_since v c w reach (goes_on u x r m calm) =
+      let before = known_since v c u reach r in
+      (f.moves u w before.0 m, later (client_of (s.view v) c) (client_of (s.view u) c) (client_of (s.view w) c) before.1 (k.moves u w c before.0 m calm))
 
 -- Scans
 
@@ -295,15 +376,25 @@ answered_before v w c lo hi rows known a = (
     free : is_writing_in j (span lo hi) ≡ false
     free = writes_none (span lo hi) (outstanding j.written) (outstanding k.written) first.2.writes f.0
 
-answer_since : (bounds : List ℕ) (w : Moment) (c : ℕ → ℕ) (hi lo : ℕ) (ps : List Part) (rows : Rows) → AreReachable bounds w → Follow bounds hi lo hi ps → AnswerSince w c ps rows → AnswerAll w c ps rows
-answer_since bounds w c hi lo [] rows reach f a = a
-answer_since bounds w c hi lo (p ∷ ps) rows reach f a = (
-  a.1,
-  a.2,
-  answered_before (w p.shard) a.0 (c p.shard) p.lo p.hi a.1 (known_since (w p.shard) a.0 (c p.shard) a.3.0 (reach p.shard f.0.shard.there) a.3.1) a.4,
-  answer_since bounds w c hi p.hi ps a.2 reach f.1 a.5,
-  a.6,
-)
+module _ (s : System) (f : Follows s) (k : Remembers s) where
+  answer_since : (bounds : List ℕ) (x : ℕ → s.World) (c : ℕ → ℕ) (hi lo : ℕ) (ps : List Part) (rows : Rows) → AreReached s bounds x → Follow bounds hi lo hi ps → AnswerSince s x c ps rows → AnswerAll (views s x) c ps rows
+  answer_since bounds x c hi lo [] rows reach follow a = a
+  answer_since bounds x c hi lo (p ∷ ps) rows reach follow a = (
+    a.1,
+    a.2,
+    answered_before (s.view (x p.shard)) (s.view a.0) (c p.shard) p.lo p.hi a.1 (known_since s f k (x p.shard) (c p.shard) a.0 (reach p.shard follow.0.shard.there) a.3).1 a.4,
+    answer_since bounds x c hi p.hi ps a.2 reach follow.1 a.5,
+    a.6,
+  )
 
-pub scan_without_pushes : ScanWithoutPushes
-scan_without_pushes bounds w c m lo hi parts rows reach together f answer = scan_of_all bounds w c m lo hi parts rows reach together f (answer_since bounds w c hi lo parts rows reach f answer)
+  without : ScanWithoutPushes s
+  without bounds x c m lo hi parts rows reach together follow a = of_all s f bounds x c m lo hi parts rows reach together follow (answer_since bounds x c hi lo parts rows reach follow a)
+
+pub without_of_worlds : ScanWithoutPushes worlds
+without_of_worlds = without worlds worlds_follow worlds_remember
+
+pub without_of_hosts : ScanWithoutPushes hosts
+without_of_hosts = without hosts hosts_follow hosts_remember
+
+pub without_of_fenced_hosts : ScanWithoutPushes fenced_hosts
+without_of_fenced_hosts = without fenced_hosts fenced_hosts_follow fenced_hosts_remember

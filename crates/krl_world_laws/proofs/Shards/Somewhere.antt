@@ -28,9 +28,10 @@ use Rattle.krl_world.specs.Steps.{Steps, span, of_client, if_runs, named, comman
 use Rattle.krl_world.proofs.Examples.Running.{w6, reached, scans}
 use Rattle.krl_shards.specs.Partition.{first_of, end_of, IsPartition}
 use Rattle.krl_shards.specs.Parts.{Follow}
-use Rattle.krl_world_laws.specs.Shards.Scans.{Rows, AnswersScan, AnswerAll}
+use Rattle.krl_world_laws.specs.Readers.{Rows, AnswersScan}
+use Rattle.krl_world_laws.specs.Shards.Scans.{AnswerAll}
 use Rattle.krl_world_laws.specs.Shards.Somewhere.{two, halves, ScansBothSomewhere}
-use Rattle.krl_world_laws.proofs.Shards.Scanned.{scan_of_all}
+use Rattle.krl_world_laws.proofs.Shards.Scanned.{all_of_worlds}
 
 -- What answers a scan answers each part of it
 
@@ -83,13 +84,13 @@ is_partition i le = ⊎_elim
     (λ (ge : 1 ≤ i). let is : i ≡ 1 = omega arith in subst (λ n. first_of two n < end_of two n) (sym is) (omega arith))
     (cases_lt i 1)
 
-follow : Follow two 11 0 11 halves
+pub follow : Follow two 11 0 11 halves
 follow = (
   record { begins = refl; ends = refl; whole = omega arith; shard = record { there = omega arith; lies = (omega arith, omega arith) } },
   (record { begins = refl; ends = refl; whole = omega arith; shard = record { there = omega arith; lies = (omega arith, omega arith) } }, refl),
 )
 
-answers : AnswerAll (λ i. w6) (λ i. 0) halves ((10, 1 ∷ []) ∷ [])
+pub answers : AnswerAll (λ i. w6) (λ i. 0) halves ((10, 1 ∷ []) ∷ [])
 answers = (
   [],
   (10, 1 ∷ []) ∷ [],
@@ -108,6 +109,6 @@ scans_both = (
     together = λ i k le at. refl;
     parts = follow;
     answers = answers;
-    rows = scan_of_all two (λ i. w6) (λ i. 0) (index_of w6) 0 11 halves ((10, 1 ∷ []) ∷ []) (λ i le. reached) (λ i k le at. refl) follow answers;
+    rows = all_of_worlds two (λ i. w6) (λ i. 0) (index_of w6) 0 11 halves ((10, 1 ∷ []) ∷ []) (λ i le. reached) (λ i k le at. refl) follow answers;
   },
 )

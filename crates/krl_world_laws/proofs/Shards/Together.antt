@@ -13,7 +13,8 @@ use Rattle.krl_durable.specs.Index.{Index, range}
 use Rattle.krl_world.specs.States.{index_of}
 use Rattle.krl_shards.specs.Partition.{first_of, end_of, span_of, last_shard, IsPartition, IsShardOf}
 use Rattle.krl_shards.proofs.Bounds.{one_shard}
-use Rattle.krl_world_laws.specs.Shards.Scans.{Rows, Moment, KeepToShards, IsUnion, TogetherIsUnion, SomeTogether}
+use Rattle.krl_world_laws.specs.Readers.{Rows}
+use Rattle.krl_world_laws.specs.Shards.Scans.{Moment, KeepToShards, IsUnion, TogetherIsUnion, SomeTogether}
 use Rattle.krl_world_laws.proofs.Shards.Ranges.{find_range}
 
 -- The union

@@ -4,7 +4,7 @@ use Rattle.krl_client.specs.Clients.{Client}
 use Rattle.krl_world.specs.States.{State, client_of}
 use Rattle.krl_leases.specs.Clocks.{Clocks, Limits, Agree}
 use Rattle.krl_leases.specs.Machine.{State as Lease, Event as LeaseEvent, Pass, Evict, begun as no_lease, Goes as LeaseGoes}
-use Rattle.krl_world_laws.specs.Leases.Systems.{System}
+use Rattle.krl_world_laws.specs.Systems.{System}
 
 -- The clocks that concern an incarnation of a client, by client number and incarnation: that of the machine on which
 -- the incarnation runs, and those of the machines of its servers

@@ -1,29 +1,27 @@
 -- Scans over several servers.
-use Rattle.std.specs.Prelude.{◌≡◌, ◌≤◌, ◌↔◌, ℕ, List, [], ◌∷◌, ◌++◌, Some, Ok}
+use Rattle.std.specs.Prelude.{◌≡◌, ◌≤◌, ◌↔◌, ℕ, List, [], ◌∷◌, ◌++◌, Some}
 use Rattle.std.specs.FinMap as map
 use Rattle.krl_modes.specs.Spans.{IsPointOf}
 use Rattle.krl_messages.specs.Values.{Value}
 use Rattle.krl_durable.specs.Index.{Index, range}
-use Rattle.krl_steps.specs.declared.step.Step.TheVariants as step
-use Rattle.krl_steps.specs.declared.step.Command.TheVariants as command
-use Rattle.krl_steps.specs.declared.answer.Answer.TheVariants as answered
-use Rattle.krl_world.specs.States.{State, index_of, client_of}
-use Rattle.krl_world.specs.Steps.{Steps, IsReachable}
+use Rattle.krl_world.specs.States.{State, index_of}
 use Rattle.krl_shards.specs.declared.part.Part.{Part}
 use Rattle.krl_shards.specs.Partition.{last_shard, span_of, IsPartition}
 use Rattle.krl_shards.specs.Parts.{Follow}
-
--- the rows of a scan
-abbrev pub Rows : Type 0
-Rows = List (ℕ × Value)
+use Rattle.krl_world_laws.specs.Systems.{System}
+use Rattle.krl_world_laws.specs.Readers.{Rows, AnswersScan, IsStill}
 
 -- A world for each shard, by its number, is a moment of all of them.
 abbrev pub Moment : Type 0
 Moment = ℕ → State
 
--- some list of steps leads to the world of each shard
-abbrev pub AreReachable : List ℕ → Moment → Type 0
-AreReachable bounds w = (i : ℕ) → i ≤ last_shard bounds → IsReachable (w i)
+-- Each shard has a world of the system: these are seen of them
+abbrev pub views : (s : System) → (ℕ → s.World) → Moment
+views s x i = s.view (x i)
+
+-- moves of the system lead to the world of each shard
+abbrev pub AreReached : (s : System) → List ℕ → (ℕ → s.World) → Type 0
+AreReached s bounds x = (i : ℕ) → i ≤ last_shard bounds → s.IsReached (x i)
 
 -- All indexes together
 
@@ -47,20 +45,12 @@ IsUnion bounds w m = (k : ℕ) (v : Value) → (map.get m k ≡ Some v) ↔ HasE
 
 -- Scans
 
--- in this world the client answers a scan of these points with these rows
-abbrev pub AnswersScan : State → ℕ → ℕ → ℕ → Rows → Type 0
-AnswersScan w c lo hi rows = Steps w (step.Command c (command.Scan lo hi)) (Ok (answered.Rows rows)) w
-
 -- each part's client answers it, in the world of the part's shard; the rows of the parts stand one after another
 abbrev pub AnswerAll : Moment → (ℕ → ℕ) → List Part → Rows → Type 0
 AnswerAll w c [] rows = rows ≡ []
 AnswerAll w c (p ∷ ps) rows =
     (some : Rows) × (rest : Rows) × AnswersScan (w p.shard) (c p.shard) p.lo p.hi some × AnswerAll w c ps rest
     × (rows ≡ some ++ rest)
-
--- a client is the same in these two worlds of its shard
-abbrev pub IsStill : State → State → ℕ → Type 0
-IsStill v w c = client_of v c ≡ client_of w c
 
 -- each part's client answers it in some world of its own, in which it is as it is at the moment
 abbrev pub AnswerMeanwhile : Moment → (ℕ → ℕ) → List Part → Rows → Type 0
@@ -71,17 +61,17 @@ AnswerMeanwhile w c (p ∷ ps) rows =
 
 -- The laws
 
-abbrev pub ScanOfAll : Type 0
-ScanOfAll =
-    (bounds : List ℕ) (w : Moment) (c : ℕ → ℕ) (m : Index) (lo hi : ℕ) (parts : List Part) (rows : Rows) →
-    AreReachable bounds w → IsTogether bounds w m → Follow bounds hi lo hi parts → AnswerAll w c parts rows →
-    rows ≡ range m lo hi
+abbrev pub ScanOfAll : System → Type 0
+ScanOfAll s =
+    (bounds : List ℕ) (x : ℕ → s.World) (c : ℕ → ℕ) (m : Index) (lo hi : ℕ) (parts : List Part) (rows : Rows) →
+    AreReached s bounds x → IsTogether bounds (views s x) m → Follow bounds hi lo hi parts →
+    AnswerAll (views s x) c parts rows → rows ≡ range m lo hi
 
-abbrev pub ScanMeanwhile : Type 0
-ScanMeanwhile =
-    (bounds : List ℕ) (w : Moment) (c : ℕ → ℕ) (m : Index) (lo hi : ℕ) (parts : List Part) (rows : Rows) →
-    AreReachable bounds w → IsTogether bounds w m → Follow bounds hi lo hi parts → AnswerMeanwhile w c parts rows →
-    rows ≡ range m lo hi
+abbrev pub ScanMeanwhile : System → Type 0
+ScanMeanwhile s =
+    (bounds : List ℕ) (x : ℕ → s.World) (c : ℕ → ℕ) (m : Index) (lo hi : ℕ) (parts : List Part) (rows : Rows) →
+    AreReached s bounds x → IsTogether bounds (views s x) m → Follow bounds hi lo hi parts →
+    AnswerMeanwhile (views s x) c parts rows → rows ≡ range m lo hi
 
 -- what has the entries of the union is what the indexes are together
 abbrev pub TogetherIsUnion : Type 0

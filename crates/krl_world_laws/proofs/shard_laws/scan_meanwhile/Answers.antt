@@ -1,5 +1,11 @@
-use Rattle.krl_world_laws.proofs.Shards.Scanned.{scan_meanwhile}
+use Rattle.krl_world_laws.proofs.Shards.Scanned as lemmas
 use Rattle.krl_world_laws.proofs.shard_laws.scan_meanwhile.Goals as goal
 
-pub returns : goal.returns
-returns c = scan_meanwhile
+pub returns-clause-of_worlds : goal.returns-clause-of_worlds
+returns-clause-of_worlds c = lemmas.meanwhile_of_worlds
+
+pub returns-clause-of_hosts : goal.returns-clause-of_hosts
+returns-clause-of_hosts c = lemmas.meanwhile_of_hosts
+
+pub returns-clause-of_fenced_hosts : goal.returns-clause-of_fenced_hosts
+returns-clause-of_fenced_hosts c = lemmas.meanwhile_of_fenced_hosts

@@ -1,5 +1,11 @@
-use Rattle.krl_world_laws.proofs.Shards.Scanned.{scan_of_all}
+use Rattle.krl_world_laws.proofs.Shards.Scanned as lemmas
 use Rattle.krl_world_laws.proofs.shard_laws.scan_of_all.Goals as goal
 
-pub returns : goal.returns
-returns c = scan_of_all
+pub returns-clause-of_worlds : goal.returns-clause-of_worlds
+returns-clause-of_worlds c = lemmas.all_of_worlds
+
+pub returns-clause-of_hosts : goal.returns-clause-of_hosts
+returns-clause-of_hosts c = lemmas.all_of_hosts
+
+pub returns-clause-of_fenced_hosts : goal.returns-clause-of_fenced_hosts
+returns-clause-of_fenced_hosts c = lemmas.all_of_fenced_hosts

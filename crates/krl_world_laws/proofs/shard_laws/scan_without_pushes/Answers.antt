@@ -1,5 +1,11 @@
-use Rattle.krl_world_laws.proofs.Shards.Pushes.{scan_without_pushes}
+use Rattle.krl_world_laws.proofs.Shards.Pushes as lemmas
 use Rattle.krl_world_laws.proofs.shard_laws.scan_without_pushes.Goals as goal
 
-pub returns : goal.returns
-returns c = scan_without_pushes
+pub returns-clause-of_worlds : goal.returns-clause-of_worlds
+returns-clause-of_worlds c = lemmas.without_of_worlds
+
+pub returns-clause-of_hosts : goal.returns-clause-of_hosts
+returns-clause-of_hosts c = lemmas.without_of_hosts
+
+pub returns-clause-of_fenced_hosts : goal.returns-clause-of_fenced_hosts
+returns-clause-of_fenced_hosts c = lemmas.without_of_fenced_hosts

@@ -1,4 +1,4 @@
--- The systems whose clients may have leases.
+-- The systems of which the laws of this crate hold.
 use Rattle.krl_steps.specs.declared.step.Step.{Step}
 use Rattle.krl_steps.specs.declared.answer.Answer.{Answer}
 use Rattle.krl_world.specs.States.{State}

@@ -1,0 +1,11 @@
+use Rattle.krl_world_laws.proofs.Shards.Leased as lemmas
+use Rattle.krl_world_laws.proofs.shard_laws.scan_with_leases.Goals as goal
+
+pub returns-clause-of_worlds : goal.returns-clause-of_worlds
+returns-clause-of_worlds c = lemmas.scan_of_worlds
+
+pub returns-clause-of_hosts : goal.returns-clause-of_hosts
+returns-clause-of_hosts c = lemmas.scan_of_hosts
+
+pub returns-clause-of_fenced_hosts : goal.returns-clause-of_fenced_hosts
+returns-clause-of_fenced_hosts c = lemmas.scan_of_fenced_hosts
