@@ -112,12 +112,11 @@ fn a_watch_outlives_a_writer_that_holds_the_range_for_long() {
     let world = World::new("long");
     let client = world.client(1);
     assert_eq!(client.insert(15, value("a")), Ok(Outcome::Applied));
-    let (mut program, mut lines) =
-        watch(&world, &["10", "20", "--count", "1", "--timeout", "300ms"]);
+    let (mut program, mut lines) = watch(&world, &["10", "20", "--count", "1", "--timeout", "3s"]);
     assert_eq!(next(&mut lines, 2).len(), 2);
     let pin = client.pin(10..20).unwrap();
     assert_eq!(client.put(15, value("b")), Ok(Outcome::Applied));
-    thread::sleep(Duration::from_millis(1500));
+    thread::sleep(Duration::from_secs(4));
     assert!(program.try_wait().unwrap().is_none(), "the watch continues");
     drop(pin);
     assert_eq!(next(&mut lines, 2), ["# change 1, rows 1", "15=b"]);

@@ -231,8 +231,7 @@ impl Client {
         keys: impl RangeBounds<u64>,
         rows: &mut Vec<Row>,
     ) -> Result<bool, Error> {
-        rows.clear();
-        Ok(self.joined.scan(&keys_of(&keys)?, rows)?)
+        self.joined.scan(&keys_of(&keys)?, rows)
     }
 
     /// The same, and `visit` gets each row, in key order. It returns whether the cache covers the

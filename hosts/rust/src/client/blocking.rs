@@ -13,11 +13,17 @@ use std::task::{Context, Poll, Wake, Waker};
 use std::time::Instant;
 
 impl Calls<'_> {
-    /// Waits on this thread until the future of a call is ready, which it is by the deadline.
+    /// Waits on this thread until the future of a call is ready, which it is by the deadline. Most
+    /// are ready when they are first polled, and need no waker.
     pub fn block<T>(&self, future: impl Future<Output = T>) -> T {
+        let mut future = pin!(future);
+        let mut no_context = Context::from_waker(Waker::noop());
+        if let Poll::Ready(answer) = future.as_mut().poll(&mut no_context) {
+            return answer;
+        }
         let woken = Arc::new(Woken::default());
         let waker = Waker::from(Arc::clone(&woken));
-        let (mut context, mut future) = (Context::from_waker(&waker), pin!(future));
+        let mut context = Context::from_waker(&waker);
         loop {
             if let Poll::Ready(answer) = future.as_mut().poll(&mut context) {
                 return answer;

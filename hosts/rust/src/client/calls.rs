@@ -232,6 +232,9 @@ impl<'c> Calls<'c> {
         if keys.is_empty() {
             return Ok(());
         }
+        if self.joined.only().is_some() {
+            return Ok(self.answer(self.ask(0, |state| state.forget(keys))).await?);
+        }
         self.ask_all(&self.joined.parts(&keys)?, State::forget).await.map(drop)
     }
 

@@ -56,6 +56,7 @@ impl Joined {
     }
 
     /// The client of the only server, if there is no map.
+    #[inline]
     pub fn only(&self) -> Option<&ShardClient> {
         self.map.is_none().then_some(&self.first)
     }
@@ -110,11 +111,16 @@ impl Joined {
     }
 
     /// Whether the caches know the range at one moment. If so the rows are there.
-    pub fn scan(&self, keys: &Range<u64>, rows: &mut Vec<Row>) -> Result<bool, ErrorKind> {
+    #[inline]
+    pub fn scan(&self, keys: &Range<u64>, rows: &mut Vec<Row>) -> Result<bool, Error> {
         match self.only() {
             Some(only) => Ok(only.scan(keys, rows)),
-            None => Ok(self.is_known(&self.parts(keys)?, rows)),
+            None => self.scan_parts(keys, rows),
         }
+    }
+
+    fn scan_parts(&self, keys: &Range<u64>, rows: &mut Vec<Row>) -> Result<bool, Error> {
+        Ok(self.is_known(&self.parts(keys)?, rows))
     }
 
     /// Whether the caches know all parts at one moment. If so the rows are there.
