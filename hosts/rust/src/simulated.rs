@@ -4,7 +4,7 @@ mod client;
 mod server;
 
 pub use client::{Before, Begin, Cached, Call, Client};
-pub use server::{Said, Server, Start};
+pub use server::{Next, Said, Server, Start};
 
 pub use crate::client::jobs::{Held, Purpose};
 
