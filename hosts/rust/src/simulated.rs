@@ -2,7 +2,7 @@
 //! the disks. Its clients are those of [`crate::sans_io`]. Nothing here is a part of the interface.
 mod server;
 
-pub use server::{Said, Server, Start};
+pub use server::{Next, Said, Server, Start};
 
 use crate::lease::terms::Answer;
 use crate::lease::terms::Sign;

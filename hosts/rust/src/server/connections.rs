@@ -68,14 +68,14 @@ pub(crate) struct Closed {
     pub connection: Connection,
 }
 
-/// What the next connection in its turn has.
-pub(crate) enum Turn {
+/// What the next connection has, when it is its turn.
+pub(crate) enum Found {
     /// No connection has anything.
     Nobody,
     /// This one has no frame now, or is closed.
     Nothing,
     /// This one has to be read: by `Connections::fill`, and then by `Connections::has_read`.
-    Read(u64),
+    Unread(u64),
     /// This one begins a long frame with this head, which has to be admitted or broken off.
     Long(u64, [u8; HEAD]),
     /// This one has a frame, the next of these. They go back by `Connections::put_back`.
@@ -140,15 +140,15 @@ impl Connections {
 
     /// What the next connection has. Each gives one frame or is read once, and then the others have
     /// their turns.
-    pub fn turn(&mut self) -> Turn {
-        let Some(number) = self.ready.pop_front() else { return Turn::Nobody };
-        let Some(peer) = self.open.get_mut(&number) else { return Turn::Nothing };
+    pub fn look(&mut self) -> Found {
+        let Some(number) = self.ready.pop_front() else { return Found::Nobody };
+        let Some(peer) = self.open.get_mut(&number) else { return Found::Nothing };
         peer.is_in_ready = false;
         if !peer.connection.is_ready() {
-            return Turn::Nothing;
+            return Found::Nothing;
         }
         if peer.connection.has_to_read() {
-            return Turn::Read(number);
+            return Found::Unread(number);
         }
         let looked = peer.connection.look();
         self.looked(number, looked)
@@ -162,42 +162,42 @@ impl Connections {
 
     /// Takes what a read of this connection came to, at a moment after it. It answers what the
     /// connection has.
-    pub fn has_read(&mut self, number: u64, came: io::Result<usize>, now: Now) -> Turn {
+    pub fn has_read(&mut self, number: u64, came: io::Result<usize>, now: Now) -> Found {
         self.now = now;
-        let Some(peer) = self.open.get_mut(&number) else { return Turn::Nothing };
+        let Some(peer) = self.open.get_mut(&number) else { return Found::Nothing };
         let looked = peer.connection.has_read(came, now.monotonic);
         self.looked(number, looked)
     }
 
-    fn looked(&mut self, number: u64, looked: Looked) -> Turn {
+    fn looked(&mut self, number: u64, looked: Looked) -> Found {
         self.meet(number);
         match looked {
             Looked::Frame => self.frame(number),
-            Looked::Long(head) => Turn::Long(number, head),
+            Looked::Long(head) => Found::Long(number, head),
             Looked::NoFrame => {
                 // A hand-shake answers what came.
                 self.to_write.push_back(number);
                 self.line_up(number);
-                Turn::Nothing
+                Found::Nothing
             }
             Looked::Ended => {
                 self.close(number, CloseReason::Ended);
-                Turn::Nothing
+                Found::Nothing
             }
             Looked::TooLong => {
                 self.close(number, CloseReason::FrameTooLong);
-                Turn::Nothing
+                Found::Nothing
             }
             Looked::NotShaken(error) => {
                 self.close_for(number, CloseReason::HandshakeFailed, &error);
-                Turn::Nothing
+                Found::Nothing
             }
         }
     }
 
-    fn frame(&mut self, number: u64) -> Turn {
+    fn frame(&mut self, number: u64) -> Found {
         let peer = self.open.get_mut(&number);
-        peer.map_or(Turn::Nothing, |peer| Turn::Frame(number, peer.connection.take_incoming()))
+        peer.map_or(Found::Nothing, |peer| Found::Frame(number, peer.connection.take_incoming()))
     }
 
     /// Gives the connection back what it had, without the frame that was judged.

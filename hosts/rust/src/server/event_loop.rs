@@ -1,5 +1,6 @@
 //! What a server decides, without its store, its sockets and a clock: it judges what has come,
-//! states what has to be committed, and only then what leaves. [`thread`] is the shell around it.
+//! states what has to be committed, and only then what leaves. [`turn`] has the order of that, and
+//! [`thread`] is the shell around it.
 use crate::lease::clocks::Now;
 use crate::lease::of_server::LeaseTable;
 use crate::log::event_log::EventLog;
@@ -11,7 +12,7 @@ use crate::model::refusal::{Refusal, STREAM_VERSION};
 use crate::model::shard_bounds::ShardBounds;
 use crate::proved::server_handle::ServerHandle;
 use crate::server::close_reason::CloseReason;
-use crate::server::connections::{Connections, Turn};
+use crate::server::connections::{Connections, Found};
 use crate::server::error::ServeError;
 use crate::server::held_back::HeldBack;
 use crate::server::routing::{Sender, sender};
@@ -43,15 +44,14 @@ const LAST_TURNS: Duration = Duration::from_millis(100);
 /// How old what others see of a server may be while it is busy.
 const SHOWN_FOR: Duration = Duration::from_millis(5);
 
-/// What a server decides. It makes turns, by four kinds of methods:
+/// What a server decides. It makes turns, as [`turn::Turn`] has them, by four kinds of methods:
 ///
-/// - A. What comes: [`EventLoop::hear_next`] judges what the connection has whose turn it is, or
-///   names one that has to be read first, for [`EventLoop::take`].
+/// - A. What comes: [`EventLoop::take`].
 /// - B. What time brings: [`EventLoop::nudge`].
 /// - C. Commits: [`EventLoop::take_commit`] returns what has to be committed before anything more is
 ///   judged, and [`EventLoop::committed`] takes it back.
-/// - D. What is to be done next: [`EventLoop::send`] gives the connections what waited for the commit,
-///   [`EventLoop::goes_on`] returns whether to make another turn, and
+/// - D. What is to be done next: [`EventLoop::send`] gives the connections what waited for the
+///   commit, [`EventLoop::goes_on`] returns whether to make another turn, and
 ///   [`EventLoop::longest_wait`] how long that one waits if nothing comes.
 ///
 /// A turn makes them in this order.
@@ -72,6 +72,10 @@ pub(crate) struct EventLoop {
     shown: Instant,
     /// There were turns since it was shown.
     is_stale: bool,
+    /// The server's phase has changed since it was shown.
+    has_news: bool,
+    /// When it counts next what clients hold; at once if it has counted nothing yet.
+    counts_from: Option<Instant>,
     nudged: Instant,
     /// A release was judged since a push left last.
     was_released: bool,
@@ -101,17 +105,6 @@ pub(crate) struct Started {
     pub log: EventLog,
 }
 
-/// What the next connection had.
-#[derive(Clone, Copy, Debug, PartialEq, Eq)]
-pub(crate) enum Heard {
-    /// No connection has anything.
-    Nobody,
-    /// It was judged, or it had nothing after all.
-    Judged,
-    /// It has to be read first.
-    Unread(u64),
-}
-
 /// Whether a push has left.
 #[derive(Clone, Copy, Debug, PartialEq, Eq)]
 enum Pushed {
@@ -136,6 +129,8 @@ impl EventLoop {
             turned: now,
             shown: now,
             is_stale: false,
+            has_news: false,
+            counts_from: None,
             nudged: now,
             was_released: false,
             asked_store: now,
@@ -195,23 +190,15 @@ impl EventLoop {
     pub fn end_turn(&mut self, began: Now, now: Now) {
         self.turned = now.monotonic;
         self.timings.turned(began.monotonic, self.turned);
-    }
-
-    /// Judges what the connection has whose turn it is.
-    pub fn hear_next(&mut self) -> Result<Heard, ServeError> {
-        match self.connections.turn() {
-            Turn::Nobody => Ok(Heard::Nobody),
-            Turn::Read(connection) => Ok(Heard::Unread(connection)),
-            turn => self.take(turn).map(|()| Heard::Judged),
-        }
+        self.see_phase();
     }
 
     /// Judges what a connection has.
-    pub fn take(&mut self, turn: Turn) -> Result<(), ServeError> {
-        match turn {
-            Turn::Nobody | Turn::Nothing | Turn::Read(_) => {}
-            Turn::Long(connection, head) => self.judge_long(connection, &head)?,
-            Turn::Frame(connection, mut incoming) => {
+    pub fn take(&mut self, found: Found) -> Result<(), ServeError> {
+        match found {
+            Found::Nobody | Found::Nothing | Found::Unread(_) => {}
+            Found::Long(connection, head) => self.judge_long(connection, &head)?,
+            Found::Frame(connection, mut incoming) => {
                 if let Ok(Some(frame)) = incoming.next() {
                     self.hear(connection, frame, self.connections.now())?;
                 }
@@ -348,7 +335,7 @@ impl EventLoop {
     }
 
     /// Sends again what clients may have missed, closes dead connections and evicts, if that is
-    /// due. It answers whether it was.
+    /// due. Returns whether it was.
     pub fn nudge(&mut self, now: Now) -> Result<bool, ServeError> {
         if now.monotonic.saturating_duration_since(self.nudged) < NUDGE {
             return Ok(false);
@@ -426,6 +413,7 @@ impl EventLoop {
 
 pub(crate) mod commits;
 pub(crate) mod thread;
+pub(crate) mod turn;
 
 mod admission;
 mod clients;

@@ -5,7 +5,7 @@ use crate::lease::clocks::Now;
 use crate::net::poller::{Poller, Ready, Watched};
 use crate::net::readiness::Readiness;
 use crate::net::stream::{Accepted, Listener, Stream};
-use crate::server::connections::{Closed, Connections, Turn};
+use crate::server::connections::{Closed, Connections, Found};
 use crate::server::listening::Listening;
 use crate::wire::frames::GULP;
 use mio::Waker;
@@ -91,8 +91,8 @@ impl Sockets {
     }
 
     /// Reads once from this connection, and returns what it has then.
-    pub fn read(&mut self, connections: &mut Connections, number: u64) -> Turn {
-        let Some(socket) = self.open.get_mut(&number) else { return Turn::Nothing };
+    pub fn read(&mut self, connections: &mut Connections, number: u64) -> Found {
+        let Some(socket) = self.open.get_mut(&number) else { return Found::Nothing };
         let came = connections.fill(number, &mut socket.stream);
         connections.has_read(number, came, Now::read())
     }

@@ -9,9 +9,11 @@ use crate::model::room::Room;
 use crate::net::address::Address;
 use crate::net::readiness::Readiness;
 use crate::net::stream::PeerAddress;
+use crate::server::connections::{Connections, Found};
 use crate::server::error::ServeError;
+use crate::server::event_loop::EventLoop;
 use crate::server::event_loop::commits::Commit;
-use crate::server::event_loop::{EventLoop, Heard};
+use crate::server::event_loop::turn::{Environment, Step, Turn};
 use crate::server::opening::{Decided, Opened};
 use crate::server::shown::timings::Timings;
 use crate::store::Store;
@@ -20,9 +22,6 @@ use std::fmt;
 use std::io::{self, ErrorKind, Read};
 use std::sync::Arc;
 use std::time::Duration;
-
-/// The most messages that are judged in a turn.
-const MAX_AT_ONCE: usize = 256;
 
 /// The bytes that have come on a connection and were not read.
 #[derive(Debug, Default)]
@@ -52,18 +51,18 @@ pub struct Start {
 /// A server. Each call is made at a time by its machine's clock.
 pub struct Server {
     events: EventLoop,
-    unread: BTreeMap<u64, Unread>,
-    turn: Turn,
+    around: Around,
+    /// The turn that has begun, if one has.
+    turn: Option<Turn>,
     /// The commit that is under way.
     commit: Option<Commit>,
 }
 
-/// The turn that is made, or was made last.
-#[derive(Clone, Copy, Debug)]
-struct Turn {
-    was_to_end: bool,
-    began: Now,
-    judged: usize,
+/// What is around a server.
+struct Around {
+    now: Now,
+    unread: BTreeMap<u64, Unread>,
+    said: Vec<Said>,
 }
 
 /// What leaves of a server on one connection.
@@ -75,6 +74,44 @@ pub struct Said {
     pub bytes: Vec<u8>,
     /// Whether the server closes the connection after them.
     pub closes: bool,
+}
+
+/// What a server needs next.
+#[derive(Clone, Debug, PartialEq, Eq)]
+pub enum Next {
+    /// [`Server::turn`], after this time or when something comes.
+    Turn(Duration),
+    /// The store has to make these changes, and then [`Server::committed`].
+    Commit(Vec<Change>),
+    /// Nothing: it has ended.
+    Nothing,
+}
+
+impl Environment for Around {
+    fn now(&self) -> Now {
+        self.now
+    }
+
+    fn read(&mut self, connections: &mut Connections, number: u64) -> Found {
+        let mut ended = Unread { has_ended: true, ..Unread::default() };
+        let unread = self.unread.get_mut(&number).unwrap_or(&mut ended);
+        let came = connections.fill(number, unread);
+        connections.has_read(number, came, self.now)
+    }
+
+    fn settle(&mut self, connections: &mut Connections) {
+        while let Some(connection) = connections.next_to_write() {
+            let mut bytes = Vec::new();
+            connections.write(connection, &mut bytes);
+            if !bytes.is_empty() {
+                self.said.push(Said { connection, bytes, closes: false });
+            }
+        }
+        while let Some(closed) = connections.next_closed() {
+            self.unread.remove(&closed.number);
+            self.said.push(Said { connection: closed.number, bytes: Vec::new(), closes: true });
+        }
+    }
 }
 
 impl Server {
@@ -95,13 +132,14 @@ impl Server {
         let timings = Arc::new(Timings::new());
         let began = Now::simulated(time);
         let Opened { events, .. } = decided.open(store, &address, timings, || began)?;
-        let turn = Turn { was_to_end: false, began, judged: 0 };
-        Ok(Server { events, unread: BTreeMap::new(), turn, commit: None })
+        let around = Around { now: began, unread: BTreeMap::new(), said: Vec::new() };
+        Ok(Server { events, around, turn: None, commit: None })
     }
 
     fn at(&mut self, time: Duration) -> Now {
         let now = Now::simulated(time);
         self.events.connections().set_now(now);
+        self.around.now = now;
         now
     }
 
@@ -112,14 +150,14 @@ impl Server {
         let of_client = |number: u8| number.to_string().parse().ok();
         let entry = Entry::Known(client.and_then(of_client).unwrap_or(Identity::everybody()));
         let number = self.events.connections().enter(entry, PeerAddress::Gone);
-        self.unread.insert(number, Unread::default());
+        self.around.unread.insert(number, Unread::default());
         number
     }
 
     /// Bytes have come on a connection.
     pub fn deliver(&mut self, connection: u64, bytes: &[u8], time: Duration) {
         self.at(time);
-        let Some(unread) = self.unread.get_mut(&connection) else { return };
+        let Some(unread) = self.around.unread.get_mut(&connection) else { return };
         unread.bytes.extend(bytes);
         let readiness = Readiness { reads: true, is_last: unread.has_ended, writes: false };
         self.events.connections().is_ready(connection, readiness);
@@ -127,7 +165,7 @@ impl Server {
 
     /// The other side has ended a connection.
     pub fn hang_up(&mut self, connection: u64, time: Duration) {
-        if let Some(unread) = self.unread.get_mut(&connection) {
+        if let Some(unread) = self.around.unread.get_mut(&connection) {
             unread.has_ended = true;
         }
         self.deliver(connection, &[], time);
@@ -145,44 +183,17 @@ impl Server {
         self.commit.is_some()
     }
 
-    /// Judges what has come, and what time brings. Returns the changes of the commit that begins
-    /// now, if one does.
+    /// Begins a turn, or continues the one whose commit waits for writers.
     ///
     /// # Errors
     ///
     /// The server has failed.
-    pub fn turn(&mut self, time: Duration) -> Result<Option<Vec<Change>>, ServeError> {
+    pub fn turn(&mut self, time: Duration) -> Result<Next, ServeError> {
         let now = self.at(time);
-        self.turn = Turn { was_to_end: self.events.is_to_end(), began: now, judged: 0 };
-        while self.turn.judged < MAX_AT_ONCE && self.hear_next(now)? {
-            self.turn.judged += 1;
-        }
-        if self.events.nudge(now)? {
-            self.events.count_next();
-        }
-        self.events.see_phase();
-        let commit = self.events.take_commit(now);
-        let changes = commit.as_ref().map(|commit| commit.changes().to_vec());
-        self.commit = commit;
-        Ok(changes)
-    }
-
-    /// Hears the connection whose turn it is, and answers whether there was one.
-    fn hear_next(&mut self, now: Now) -> Result<bool, ServeError> {
-        match self.events.hear_next()? {
-            Heard::Nobody => return Ok(false),
-            Heard::Judged => {}
-            Heard::Unread(connection) => self.read(connection, now)?,
-        }
-        Ok(true)
-    }
-
-    fn read(&mut self, connection: u64, now: Now) -> Result<(), ServeError> {
-        let mut ended = Unread { has_ended: true, ..Unread::default() };
-        let unread = self.unread.get_mut(&connection).unwrap_or(&mut ended);
-        let came = self.events.connections().fill(connection, unread);
-        let turn = self.events.connections().has_read(connection, came, now);
-        self.events.take(turn)
+        let begun = self.turn.take();
+        let mut turn = begun.unwrap_or_else(|| Turn::new(self.events.is_to_end(), now));
+        let step = turn.judge(&mut self.events, &mut self.around)?;
+        Ok(self.next(turn, step))
     }
 
     /// The store has made the commit that was under way.
@@ -190,54 +201,41 @@ impl Server {
     /// # Errors
     ///
     /// The server has failed.
-    pub fn committed(&mut self, time: Duration) -> Result<(), ServeError> {
-        let now = self.at(time);
-        self.commit.take().map_or(Ok(()), |commit| self.events.committed(commit, now))
+    pub fn committed(&mut self, time: Duration) -> Result<Next, ServeError> {
+        self.at(time);
+        let Some((turn, commit)) = self.turn.take().zip(self.commit.take()) else {
+            return Ok(Next::Turn(Duration::ZERO));
+        };
+        let step = turn.committed(commit, &mut self.events, &mut self.around)?;
+        Ok(self.next(turn, step))
     }
 
-    /// What leaves: nothing that rests on what is not committed.
-    ///
-    /// # Errors
-    ///
-    /// The server has failed.
-    pub fn send(&mut self, time: Duration) -> Result<Vec<Said>, ServeError> {
-        let now = self.at(time);
-        self.events.send(now)?;
-        self.events.end_turn(now, now);
-        let mut said = Vec::new();
-        while let Some(connection) = self.events.connections().next_to_write() {
-            let mut bytes = Vec::new();
-            self.events.connections().write(connection, &mut bytes);
-            if !bytes.is_empty() {
-                said.push(Said { connection, bytes, closes: false });
+    fn next(&mut self, turn: Turn, step: Step) -> Next {
+        match step {
+            Step::Gather(rest) => {
+                self.turn = Some(turn);
+                Next::Turn(rest)
             }
+            Step::Commit(commit) => {
+                self.turn = Some(turn);
+                Next::Commit(self.commit.insert(commit).changes().to_vec())
+            }
+            Step::End { goes_on: true } if self.events.connections().are_busy() => {
+                Next::Turn(Duration::ZERO)
+            }
+            Step::End { goes_on: true } => Next::Turn(self.events.longest_wait()),
+            Step::End { goes_on: false } => Next::Nothing,
         }
-        while let Some(closed) = self.events.connections().next_closed() {
-            self.unread.remove(&closed.number);
-            said.push(Said { connection: closed.number, bytes: Vec::new(), closes: true });
-        }
-        Ok(said)
     }
 
-    /// Whether it makes another turn after the one whose messages have left.
-    #[must_use]
-    pub fn goes_on(&self) -> bool {
-        let Turn { was_to_end, began, judged } = self.turn;
-        self.events.goes_on(was_to_end, began, judged)
+    /// What has left since it was asked last: nothing that rests on what is not committed.
+    pub fn take_said(&mut self) -> Vec<Said> {
+        std::mem::take(&mut self.around.said)
     }
 
     /// Why it has ended, if nobody has asked it to. It is reported once.
     pub fn take_failure(&mut self) -> Option<ServeError> {
         self.events.take_failure()
-    }
-
-    /// How soon the next turn is due: at once if something was not heard yet.
-    #[must_use]
-    pub fn due_in(&mut self) -> Duration {
-        if self.events.connections().are_busy() {
-            return Duration::ZERO;
-        }
-        self.events.longest_wait()
     }
 }
 

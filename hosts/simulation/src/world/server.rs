@@ -5,7 +5,7 @@ use crate::network::Side;
 use crate::record::Node;
 use crate::timer::Timer;
 use crate::weather::{self, Terms};
-use krl::simulated::{FrameKind, Said, Server, Start};
+use krl::simulated::{FrameKind, Next, Said, Server, Start};
 use krl::{Leases, Room, ServeError};
 use std::collections::BTreeMap;
 use std::time::Duration;
@@ -103,14 +103,8 @@ impl World {
         let serving = self.sites[site].serving.as_mut().filter(|it| it.start == start);
         let Some(serving) = serving.filter(|it| !it.server.is_committing()) else { return };
         self.happened += 1;
-        match serving.server.turn(time) {
-            Ok(None) => self.send(site),
-            Ok(Some(changes)) => {
-                self.judge_incarnations(site, &changes);
-                self.ask_store(start, &changes);
-            }
-            Err(error) => self.fail(site, &error),
-        }
+        let next = serving.server.turn(time);
+        self.goes_on(site, next);
     }
 
     /// The store has answered.
@@ -124,29 +118,30 @@ impl World {
             Stored::Deposed => return self.end_server(site, "another server has its store"),
         }
         self.happened += 1;
-        match serving.server.committed(time) {
-            Ok(()) => self.send(site),
-            Err(error) => self.fail(site, &error),
-        }
+        let next = serving.server.committed(time);
+        self.goes_on(site, next);
     }
 
-    fn send(&mut self, site: usize) {
-        let time = self.sites[site].clock.at(self.now);
-        let Some(serving) = &mut self.sites[site].serving else { return };
-        let said = match serving.server.send(time) {
-            Ok(said) => said,
+    /// A server has judged or committed. What it sends then leaves, and it does what is next.
+    fn goes_on(&mut self, site: usize, next: Result<Next, ServeError>) {
+        let next = match next {
+            Ok(next) => next,
             Err(error) => return self.fail(site, &error),
         };
-        for said in &said {
-            self.says(site, said);
-        }
         let clock = self.sites[site].clock;
         let Some(serving) = &mut self.sites[site].serving else { return };
-        if serving.server.goes_on() {
-            let due = clock.takes(serving.server.due_in());
-            return self.turn_in(site, due);
+        let start = serving.start;
+        for said in &serving.server.take_said() {
+            self.says(site, said);
         }
-        self.end_in_order(site);
+        match next {
+            Next::Turn(soon) => self.turn_in(site, clock.takes(soon)),
+            Next::Commit(changes) => {
+                self.judge_incarnations(site, &changes);
+                self.ask_store(start, &changes);
+            }
+            Next::Nothing => self.end_in_order(site),
+        }
     }
 
     /// A server has ended by itself, or since it was asked to.

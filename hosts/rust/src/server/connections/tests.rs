@@ -33,13 +33,13 @@ impl Rig {
     }
 
     /// What the next connection has, which is read if that is due.
-    fn turn(&mut self) -> Turn {
-        let turn = match self.connections.turn() {
-            Turn::Read(number) => self.sockets.read(&mut self.connections, number),
-            turn => turn,
+    fn look(&mut self) -> Found {
+        let found = match self.connections.look() {
+            Found::Unread(number) => self.sockets.read(&mut self.connections, number),
+            found => found,
         };
         self.settle();
-        turn
+        found
     }
 
     fn settle(&mut self) {
@@ -99,11 +99,11 @@ fn frame(message: &[u8]) -> Vec<u8> {
 fn hear(connections: &mut Rig) -> Option<(u64, Vec<u8>)> {
     let end = Instant::now() + Duration::from_millis(300);
     while Instant::now() < end {
-        match connections.turn() {
-            Turn::Nobody => drop(connections.wait(Duration::from_millis(20)).unwrap()),
-            Turn::Nothing | Turn::Read(_) => {}
-            Turn::Long(number, _) => connections.admit_long(number, 3),
-            Turn::Frame(number, mut incoming) => {
+        match connections.look() {
+            Found::Nobody => drop(connections.wait(Duration::from_millis(20)).unwrap()),
+            Found::Nothing | Found::Unread(_) => {}
+            Found::Long(number, _) => connections.admit_long(number, 3),
+            Found::Frame(number, mut incoming) => {
                 let heard = incoming.next().unwrap().unwrap().to_vec();
                 connections.put_back(number, incoming);
                 return Some((number, heard));
@@ -170,7 +170,7 @@ fn a_frame_that_comes_in_pieces_is_heard_when_it_is_whole() {
     for byte in first {
         stream.write_all(&[*byte]).unwrap();
         connections.wait(SOON).unwrap();
-        assert!(matches!(connections.turn(), Turn::Nothing));
+        assert!(matches!(connections.look(), Found::Nothing));
     }
     stream.write_all(&[*last]).unwrap();
     assert_eq!(hear(&mut connections), Some((number, b"in pieces".to_vec())));
@@ -198,8 +198,8 @@ fn a_client_has_one_long_frame_on_its_way() {
         let (mut stream, number) = peer(connections, at);
         stream.write_all(&half).unwrap();
         loop {
-            match connections.turn() {
-                Turn::Long(found, head) => {
+            match connections.look() {
+                Found::Long(found, head) => {
                     assert_eq!((found, head), (number, [1; HEAD]));
                     connections.admit_long(number, 3);
                     connections.settle();
@@ -307,7 +307,7 @@ fn nothing_that_is_done_with_a_connection_waits_for_its_peer() {
     let (told, ended) = channel();
     thread::spawn(move || {
         connections.is_ready(number, Readiness { reads: true, is_last: false, writes: true });
-        assert!(matches!(connections.turn(), Turn::Nothing));
+        assert!(matches!(connections.look(), Found::Nothing));
         stuff(&mut connections, number);
         told.send(())
     });

@@ -32,14 +32,15 @@ impl CommitGroup {
         self.time = took.min(self.time + took.saturating_sub(self.time) / FOLLOWS_IN);
     }
 
-    /// Whether the commit of these changes waits for more, if it has waited this long: for a client
-    /// that has written by one of the last two commits, if one of these had several writers. So a
-    /// client that is the only writer never waits, nor do several that write now and then.
-    pub fn waits(&self, changes: &[Change], waited: Duration) -> bool {
+    /// How long the commit of these changes waits for more at most: for a client that has written
+    /// by one of the last two commits, if one of these had several writers. So a client that is the
+    /// only writer never waits, nor do several that write now and then.
+    pub fn patience(&self, changes: &[Change]) -> Duration {
         let (writers, expected) = (writers(changes), self.last.or(self.before));
         let had_several = self.last.count() > 1 || self.before.count() > 1;
         let is_complete = expected.or(writers) == writers;
-        had_several && !is_complete && writers.count() > 0 && waited < self.time / PART
+        let waits = had_several && !is_complete && writers.count() > 0;
+        if waits { self.time / PART } else { Duration::ZERO }
     }
 }
 
@@ -80,27 +81,28 @@ mod tests {
     #[test]
     fn a_commit_waits_for_those_that_wrote_with_others_just_before() {
         let group = after(&[&[1, 2, 3], &[4]]);
-        assert!(group.waits(&writes(&[1]), Duration::ZERO));
-        assert!(group.waits(&writes(&[1, 2, 3]), 30 * US));
-        assert!(!group.waits(&writes(&[1, 2, 3, 4]), Duration::ZERO), "all have written");
-        assert!(!group.waits(&writes(&[4, 3, 2, 1, 9]), Duration::ZERO), "and one more");
-        assert!(!group.waits(&[], Duration::ZERO), "there is nothing to commit");
-        assert!(!group.waits(&[Change::Left { client: 1 }], Duration::ZERO));
+        let waits = |changes: &[Change]| !group.patience(changes).is_zero();
+        assert!(waits(&writes(&[1])) && waits(&writes(&[1, 2, 3])));
+        assert!(!waits(&writes(&[1, 2, 3, 4])), "all have written");
+        assert!(!waits(&writes(&[4, 3, 2, 1, 9])), "and one more");
+        assert!(!waits(&[]), "there is nothing to commit");
+        assert!(!waits(&[Change::Left { client: 1 }]));
     }
 
     #[test]
     fn a_commit_waits_for_half_of_its_time_at_most() {
         let mut group = after(&[&[1, 2], &[3]]);
-        assert!(group.waits(&writes(&[1]), 45 * US) && !group.waits(&writes(&[1]), 51 * US));
+        let patience = group.patience(&writes(&[1]));
+        assert!((45 * US..51 * US).contains(&patience), "{patience:?}");
         // A commit that the disk held up is not a measure.
         group.committed(&writes(&[1, 2]), 50_000 * US);
-        assert!(!group.waits(&writes(&[1]), 2_000 * US));
+        assert!(group.patience(&writes(&[1])) < 2_000 * US);
     }
 
     #[test]
     fn one_writer_and_several_that_write_now_and_then_never_wait() {
         for commits in [&[&[1][..], &[1]][..], &[&[1], &[2]], &[&[1, 2], &[1], &[1]]] {
-            assert!(!after(commits).waits(&writes(&[1]), Duration::ZERO), "{commits:?}");
+            assert!(after(commits).patience(&writes(&[1])).is_zero(), "{commits:?}");
         }
     }
 }

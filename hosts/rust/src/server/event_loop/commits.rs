@@ -46,10 +46,9 @@ impl Commit {
 }
 
 impl EventLoop {
-    /// Whether what is to be committed waits for writers that are about to write again, if it has
-    /// waited this long.
-    pub fn waits_for_writers(&self, waited: Duration) -> bool {
-        self.group.waits(&self.gathered.changes, waited)
+    /// How long what is to be committed waits at most for writers that are about to write again.
+    pub(super) fn waits_for_writers(&self) -> Duration {
+        self.group.patience(&self.gathered.changes)
     }
 
     /// Begins a commit, unless nothing has to be committed: then the host frames may leave. If a

@@ -4,7 +4,14 @@ use crate::lease::clocks::Now;
 use crate::model::change::{Change, Outcome, Write};
 use crate::model::lock::HeldSlot;
 use crate::server::lock_search::{Page, Search};
-use std::time::Duration;
+use std::time::{Duration, Instant};
+
+/// How long a turn counts what clients hold.
+const COUNTS: Duration = Duration::from_millis(2);
+
+/// Counting takes one part in this many of the loop's time: to count one client takes as long as to
+/// go through the whole table.
+const COUNT_SHARE: u32 = 20;
 
 impl EventLoop {
     /// Who holds and who waits: a page of what is searched, or less if it is late.
@@ -33,9 +40,21 @@ impl EventLoop {
         }
     }
 
-    /// Counts how much one client holds, of those for which that may have changed. It answers
-    /// whether there was one.
-    pub fn count_next(&mut self) -> bool {
+    /// Counts how much the clients hold for which that may have changed: for one at least, and for
+    /// more as long as that takes little time.
+    pub(super) fn count_held(&mut self, now: impl Fn() -> Instant) {
+        let began = now();
+        if self.counts_from.is_some_and(|from| began < from) {
+            return;
+        }
+        while self.count_next() && now() - began < COUNTS {}
+        let ended = now();
+        self.counts_from = Some(ended + (ended - began) * (COUNT_SHARE - 1));
+    }
+
+    /// Counts how much one client holds, of those for which that may have changed. Returns whether
+    /// there was one.
+    pub(super) fn count_next(&mut self) -> bool {
         let Some(client) = self.watch.next_to_count() else { return false };
         if let Ok(slots) = self.server.held(client) {
             self.watch.counted(client, slots);

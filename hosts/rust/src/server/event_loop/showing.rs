@@ -26,23 +26,23 @@ impl EventLoop {
     }
 
     /// Sees whether the server serves, and until it does, whose reports are missing. One that
-    /// serves continues to serve. It answers whether that may be news.
-    pub fn see_phase(&mut self) -> bool {
+    /// serves continues to serve.
+    pub(super) fn see_phase(&mut self) {
         if self.status.is_serving {
-            return false;
+            return;
         }
+        self.has_news = true;
         self.status.is_serving = self.server.is_serving();
         // If there is no memory for it, it is shown as it was.
         if let Ok(missing) = self.server.missing() {
             self.status.missing = missing;
         }
         self.log.phase(self.status.is_serving, &self.status.missing);
-        true
     }
 
-    pub fn show_if_due(&mut self, is_news: bool, shown: &Mutex<Status>) {
+    pub fn show_if_due(&mut self, shown: &Mutex<Status>) {
         let age = self.turned.saturating_duration_since(self.shown);
-        self.is_stale = !is_news && age < SHOWN_FOR;
+        self.is_stale = !std::mem::take(&mut self.has_news) && age < SHOWN_FOR;
         if !self.is_stale {
             self.shown = self.turned;
             self.show(shown);

@@ -1,6 +1,7 @@
 mod waiting;
 
-use super::thread::{MAX_AT_ONCE, ServerThread};
+use super::thread::ServerThread;
+use super::turn::MAX_AT_ONCE;
 use super::*;
 use crate::access::Access;
 use crate::lease::boot_clock::Moment;
@@ -203,7 +204,7 @@ fn a_loop_that_was_busy_shows_itself_and_sleeps() {
     let mut turns = 0;
     while shown.lock().unwrap().taken < 2 {
         assert!(serving.turn().unwrap());
-        serving.events.show_if_due(false, &shown);
+        serving.events.show_if_due(&shown);
         turns += 1;
         assert!(turns < 20, "a status that is not shown is shown when it is due");
     }
@@ -219,10 +220,10 @@ fn a_server_that_begins_to_serve_says_so_at_once() {
     serving.events.shown = Instant::now() + Duration::from_secs(60);
     peer.write_all(&HELLO).unwrap();
     assert!(serving.turn().unwrap());
-    let is_news = serving.events.see_phase();
-    serving.events.show_if_due(is_news, &shown);
+    serving.events.show_if_due(&shown);
     assert!(shown.lock().unwrap().is_serving);
-    assert!(!serving.events.see_phase(), "it is told once");
+    assert!(serving.turn().unwrap());
+    assert!(!serving.events.has_news, "it is shown once");
 }
 
 /// The first sign of an incarnation of client 50, in its frame.
