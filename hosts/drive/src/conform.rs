@@ -71,7 +71,7 @@ fn keys(start: &str, stop: &str) -> Result<Range<u64>, ParseIntError> {
 
 fn tell(told: Told) {
     let line = told.unwrap_or_else(|refused| {
-        let text = format!("{refused:?}");
+        let text = format!("{:?}", refused.kind);
         let name = text.split('(').next().unwrap_or_default();
         format!("{{\"error\": \"{name}\"}}")
     });
