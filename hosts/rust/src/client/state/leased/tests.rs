@@ -87,7 +87,7 @@ fn a_server_without_signs_grants_for_ever_who_has_no_terms() {
     state.go_without_terms().unwrap();
     assert_eq!((state.life.speech, state.lease_left()), (Speech::Free, None));
     pass(&mut state, NANOSECOND);
-    assert_eq!(state.greet().unwrap().length, FOR_EVER, "the next server is told so");
+    assert_eq!(state.greet().unwrap().length, FOR_EVER, "the next server learns it");
     // Terms that end are lived by, whatever another server says.
     lease_for(&mut state, LONG);
     pass(&mut state, NANOSECOND);
@@ -180,7 +180,7 @@ fn signs_ride_on_messages_and_go_alone_when_they_must() {
     state.tick();
     assert_eq!(signs(&mut state), 0, "too early, with messages");
     pass(&mut state, NANOSECOND);
-    assert_eq!(signs(&mut state), 0, "too early, alone");
+    assert_eq!(signs(&mut state), 0, "too early, by itself");
     state.tick();
     assert_eq!(signs(&mut state), 1);
     pass(&mut state, GOES_NOT_ALONE);
