@@ -10,6 +10,9 @@ use crate::model::snapshot::Snapshot;
 use crate::proved::ffi;
 use std::ptr;
 
+/// The frames that wait after a call seldom have more bytes.
+const FRAMES: usize = 256;
+
 /// A handle. It stays in its place: the library's caller may not copy it.
 pub(crate) struct Handle(Box<ffi::Handle>);
 
@@ -49,6 +52,7 @@ impl Handle {
     /// message.
     pub fn take(&mut self, frames: &mut Vec<u8>) -> Result<(), Code> {
         let old = frames.len();
+        frames.resize(old + FRAMES, 0);
         let taken = self.take_behind(old, frames);
         frames.truncate(old + taken.unwrap_or(0));
         taken.map(drop)
