@@ -9,6 +9,9 @@ use krl_wire::{has_counts, spell_to_client, spell_to_server};
 use std::alloc::{AllocError, Global};
 use std::marker::Model;
 
+// A room for the frames of one or two messages, which most calls send.
+const ROOM: usize = 192;
+
 /// Frames, in the order in which they are sent: for each message its length, in eight bytes, the
 /// lowest first, and then the message.
 #[derive(Drop)]
@@ -54,7 +57,7 @@ fn put_told(alloc: Global, out: &mut Vec<u8>, message: &ToClient) -> Result<(), 
 fn frames_said(alloc: Global, messages: &[ToServer]) -> Result<Vec<u8>, AllocError>
     ensures { IfOk result (λ frames. frames.items ≡ said_frames messages.now) }
 {
-    let mut out = Vec::new(alloc);
+    let mut out = Vec::with_capacity(alloc, ROOM)?;
     for message in messages {
         put_said(alloc, &mut out, message)?;
     }
@@ -64,7 +67,7 @@ fn frames_said(alloc: Global, messages: &[ToServer]) -> Result<Vec<u8>, AllocErr
 fn frames_told(alloc: Global, messages: &[ToClient]) -> Result<Vec<u8>, AllocError>
     ensures { IfOk result (λ frames. frames.items ≡ told_frames messages.now) }
 {
-    let mut out = Vec::new(alloc);
+    let mut out = Vec::with_capacity(alloc, ROOM)?;
     for message in messages {
         put_told(alloc, &mut out, message)?;
     }

@@ -8,6 +8,9 @@ use krl_messages::{Outcome, PushBody, ToClient, ToClientBody};
 use krl_modes::{Mode, Span};
 use std::alloc::{AllocError, Global};
 
+// A room for each message but a grant of many holdings, so that none of them is moved while it is spelled.
+const ROOM: usize = 96;
+
 fn outcome_tag(outcome: Outcome) -> u8
     ensures { result ≡ spelling.outcome_tag outcome }
 {
@@ -109,7 +112,7 @@ fn put_to_client(out: &mut Vec<u8>, message: &ToClient) -> Result<(), AllocError
 pub fn spell_to_client(alloc: Global, message: &ToClient) -> Result<Vec<u8>, AllocError>
     ensures { IfOk result (λ bytes. bytes.items ≡ spelling.to_client message.now) }
 {
-    let mut out = Vec::new(alloc);
+    let mut out = Vec::with_capacity(alloc, ROOM)?;
     put_to_client(&mut out, message)?;
     Ok(out)
 }

@@ -17,6 +17,9 @@ use std::alloc::{AllocError, Global};
 // One past the greatest count of four bytes.
 const PAST_COUNTS: usize = 4294967296;
 
+// A room for each message but a long report, so that none of them is moved while it is spelled.
+const ROOM: usize = 96;
+
 fn range_tag(part: RangePart) -> u8
     ensures { result ≡ spelling.range_tag part }
 {
@@ -229,7 +232,7 @@ pub fn spell_to_server(alloc: Global, message: &ToServer) -> Result<Vec<u8>, All
     requires { HasCounts message.now.body }
     ensures { IfOk result (λ bytes. bytes.items ≡ spelling.to_server message.now) }
 {
-    let mut out = Vec::new(alloc);
+    let mut out = Vec::with_capacity(alloc, ROOM)?;
     put_to_server(&mut out, message)?;
     Ok(out)
 }
