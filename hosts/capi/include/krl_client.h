@@ -377,6 +377,15 @@ KRLC_NODISCARD uint32_t krlc_cached_into(krlc_client *client, uint64_t lo, uint6
  * there is no row; or KRLC_MISS. Errors: KRLC_MISUSE, KRLC_BAD_KEY, KRLC_FORKED. */
 KRLC_NODISCARD uint32_t krlc_cached_row(krlc_client *client, uint64_t key, krlc_row *row);
 
+/* The tenure of a range that is not empty: KRLC_OK, or KRLC_MISS if the cache does not have the whole range. If two
+ * calls return the same tenure of a range, its rows were the same at each moment from the first call to the second: the
+ * client has held the range without a break, and has written nothing there. A program that keeps what it has loaded
+ * elsewhere while the rows stayed as they were takes the tenure, loads, and uses what it has loaded as long as the
+ * tenure is the same. A new tenure may also be due to the loss of another range, if the client has lost thousands of
+ * keys. Tenures of different clients or ranges are not compared. It sends nothing, and does not wait for other reads.
+ * Errors: KRLC_MISUSE, KRLC_FORKED, KRLC_BAD_RANGE; the sentence is left out. */
+KRLC_NODISCARD uint32_t krlc_tenure(krlc_client *client, uint64_t lo, uint64_t hi, uint64_t *tenure);
+
 /* Reads from the cache if that has the range; otherwise locks what it lacks, and waits. Errors: KRLC_BAD_RANGE,
  * KRLC_TIMED_OUT, KRLC_UNSERVED, KRLC_TURNED_AWAY, KRLC_OTHER_SHARD, KRLC_STORE_WENT_BACK, KRLC_OUT_OF_MEMORY,
  * KRLC_STOPPED, KRLC_LEFT. */

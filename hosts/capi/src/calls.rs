@@ -267,6 +267,25 @@ pub unsafe extern "C" fn krlc_cached_row(client: *mut Client, key: u64, row: *mu
 }
 
 #[unsafe(no_mangle)]
+pub unsafe extern "C" fn krlc_tenure(
+    client: *mut Client,
+    lo: u64,
+    hi: u64,
+    tenure: *mut u64,
+) -> u32 {
+    let find = || {
+        // SAFETY: the caller frees the client after this call.
+        let joined = unsafe { own(client) }?;
+        let Some(found) = joined.client().tenure(range(lo, hi)?)? else { return Ok(Code::Miss) };
+        // SAFETY: the caller vouches for the room.
+        unsafe { put_out("a tenure", tenure, found.into()) }?;
+        Ok(Code::Ok)
+    };
+    // SAFETY: there is no room for an error.
+    unsafe { answer(ptr::null_mut(), find) }
+}
+
+#[unsafe(no_mangle)]
 pub unsafe extern "C" fn krlc_read(
     client: *mut Client,
     lo: u64,

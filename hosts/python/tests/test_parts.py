@@ -57,10 +57,10 @@ class HeaderTest(unittest.TestCase):
         self.assertGreater(len(named), 25)
         for name, types in named.items():
             self.assertEqual(types, declared[name], name)
-        # What Python needs no call for: it has names, rooms and timeouts of its own, and makes each
-        # write as one of several.
+        # What Python has no call for: it has names, rooms and timeouts of its own, makes each write
+        # as one of several, and has no tenures.
         writes = {"insert", "put", "set", "delete"}
-        without = {"cached_into", "code_name", "set_timeout", *writes}
+        without = {"cached_into", "code_name", "set_timeout", "tenure", *writes}
         without |= {f"pin_{write}" for write in writes}
         self.assertEqual(declared.keys() - named, without)
 

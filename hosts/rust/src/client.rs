@@ -25,6 +25,7 @@ pub(crate) mod shard_client;
 pub(crate) mod silence;
 pub(crate) mod state;
 pub(crate) mod status;
+mod tenure;
 pub(crate) mod timeout;
 pub(crate) mod wakes;
 mod writer;

@@ -87,6 +87,7 @@ pub use net::servers::Servers;
 pub use net::stream::{Listener, PeerAddress};
 #[cfg(feature = "tls")]
 pub use net::tls::{Certificate, TlsConfig, TlsError};
+pub use proved::losses::Tenure;
 pub use proved::partition::Part;
 pub use server::Server;
 pub use server::builder::ServerBuilder;

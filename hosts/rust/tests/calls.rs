@@ -3,6 +3,7 @@ use krl::{
     Address, Client, ErrorKind, JoinErrorKind, Leases, Listener, LockFileError, MemoryStore,
     Outcome, Row, Server, Servers, Unsent, Value, evict,
 };
+use std::ops::Range;
 use std::os::unix::net::UnixListener;
 use std::path::{Path, PathBuf};
 use std::thread;
@@ -317,6 +318,28 @@ fn a_pin_keeps_others_waiting() {
         assert_eq!(put.join().unwrap(), Ok(Outcome::Applied));
     });
     assert_eq!(reader.read(0..11), Ok(vec![row(10, "b")]));
+}
+
+#[test]
+fn a_tenure_lasts_as_long_as_the_range_stays_as_it_is() {
+    let (folder, server) = (Folder::new("tenure"), server("127.0.0.1:0"));
+    let (reader, writer) = (folder.join(&server, 0), folder.join(&server, 1));
+    assert_eq!(reader.tenure(10..20), Ok(None));
+    reader.read(10..20).unwrap();
+    let first = reader.tenure(10..20).unwrap();
+    assert!(first.is_some());
+    reader.read(30..40).unwrap();
+    assert_eq!(reader.tenure(10..20), Ok(first));
+    assert_eq!(writer.insert(15, value("one")), Ok(Outcome::Applied));
+    assert_eq!(reader.tenure(10..20), Ok(None));
+    reader.read(10..20).unwrap();
+    let next = reader.tenure(10..20).unwrap();
+    assert!(next.is_some() && next != first);
+    for bad in [Range { start: 20, end: 10 }, 10..10] {
+        assert_eq!(reader.tenure(bad), Err(ErrorKind::BadRange.into()));
+    }
+    reader.leave().unwrap();
+    assert_eq!(reader.tenure(10..20), Ok(None));
 }
 
 #[test]

@@ -121,6 +121,25 @@ static void changes(krlc_client *client, krlc_client *other, krlc_rows *rows) {
     WANT(are(rows, 1, (uint64_t[]){150}, (const char *[]){"next"}));
 }
 
+static void tenures(krlc_client *client, krlc_client *other, krlc_rows *rows) {
+    uint64_t first = 0, next = 0, last = 0;
+    EXPECT(KRLC_OK, krlc_read(client, 10, 20, rows, 0, &error));
+    EXPECT(KRLC_OK, krlc_tenure(client, 10, 20, &first));
+    EXPECT(KRLC_OK, krlc_tenure(client, 10, 20, &next));
+    WANT(first == next);
+    EXPECT(KRLC_OK, krlc_put(other, 15, "five", 4, 0, &error));
+    EXPECT(KRLC_MISS, krlc_tenure(client, 10, 20, &next));
+    EXPECT(KRLC_OK, krlc_read(client, 10, 20, rows, 0, &error));
+    EXPECT(KRLC_OK, krlc_tenure(client, 10, 20, &next));
+    WANT(next != first);
+    EXPECT(KRLC_OK, krlc_put(client, 15, "five", 4, 0, &error));
+    EXPECT(KRLC_OK, krlc_tenure(client, 10, 20, &last));
+    WANT(last != next && last != first);
+    EXPECT(KRLC_BAD_RANGE, krlc_tenure(client, 20, 10, &last));
+    EXPECT(KRLC_BAD_RANGE, krlc_tenure(client, 10, 10, &last));
+    EXPECT(KRLC_MISUSE, krlc_tenure(client, 10, 20, NULL));
+}
+
 static void pins(krlc_client *client, krlc_rows *rows) {
     krlc_pin *pin = NULL, *second = NULL;
     EXPECT(KRLC_OK, krlc_pin_for_update(client, 10, 20, rows, &pin, 0, &error));
@@ -218,6 +237,7 @@ int main(int argument_count, char **arguments) {
     several(client, rows);
     reads(client, rows);
     changes(client, other, rows);
+    tenures(client, other, rows);
     pins(client, rows);
     shows(client, &world);
     waits(client, other, rows);

@@ -24,6 +24,8 @@ static void null_pointers(krlc_client *client, krlc_rows *rows) {
     EXPECT(KRLC_MISUSE, krlc_cached(NULL, 1, 2, rows));
     EXPECT(KRLC_MISUSE, krlc_cached_into(NULL, 1, 2, &row, 1, &count));
     EXPECT(KRLC_MISUSE, krlc_cached_row(NULL, 1, &row));
+    uint64_t tenure = 0;
+    EXPECT(KRLC_MISUSE, krlc_tenure(NULL, 1, 2, &tenure));
     EXPECT(KRLC_MISUSE, krlc_read(NULL, 1, 2, rows, 0, NULL));
     EXPECT(KRLC_MISUSE, krlc_wait_for_change(NULL, 1, 2, NULL, 0, 1, &error));
     EXPECT(KRLC_MISUSE, krlc_forget(NULL, 1, 2, 0, &error));

@@ -5,6 +5,7 @@ use crate::client::state::State;
 use crate::client::timeout::Timeout;
 use crate::model::error::{Error, ErrorKind};
 use crate::model::row::{END, Row};
+use crate::proved::losses::Tenure;
 use crate::proved::partition::Part;
 use crate::shards::map::ShardMap;
 use crate::shards::one_moment::{self, Known};
@@ -121,6 +122,15 @@ impl Joined {
 
     fn scan_parts(&self, keys: &Range<u64>, rows: &mut Vec<Row>) -> Result<bool, Error> {
         Ok(self.is_known(&self.parts(keys)?, rows))
+    }
+
+    /// The tenure of a range that is not empty, if the caches cover it.
+    pub fn tenure(&self, keys: &Range<u64>, room: &mut Vec<Row>) -> Result<Option<Tenure>, Error> {
+        if let Some(only) = self.only() {
+            return Ok(only.tenure(keys, room));
+        }
+        let parts = self.parts(keys)?;
+        Ok(parts.iter().map(|part| self.client(part.shard).tenure(&part.keys, room)).sum())
     }
 
     /// Whether the caches know all parts at one moment. If so the rows are there.

@@ -6,6 +6,7 @@ use crate::model::error::ErrorKind;
 use crate::model::row::Row;
 use crate::net::poller::Poller;
 use crate::proved::client_handle::Scan;
+use crate::proved::losses::Tenure;
 use std::io;
 use std::ops::Range;
 use std::sync::{Arc, Mutex, MutexGuard, PoisonError};
@@ -44,6 +45,11 @@ impl ShardClient {
     pub fn scan(&self, keys: &Range<u64>, rows: &mut Vec<Row>) -> bool {
         rows.clear();
         keys.is_empty() || self.link.cache().scan(keys, rows, Moment::now) == Ok(Scan::Rows)
+    }
+
+    /// The tenure of a range that is not empty, if the client holds it.
+    pub fn tenure(&self, keys: &Range<u64>, room: &mut Vec<Row>) -> Option<Tenure> {
+        self.link.cache().tenure(keys, room, Moment::now).ok().flatten()
     }
 
     /// Leaves, and waits until the deadline for the server to keep that. Then its thread has ended,

@@ -9,7 +9,9 @@ use crate::model::lock::Mode;
 use crate::model::row::Row;
 use crate::proved::ffi;
 use crate::proved::gate::{Owner, Reader, Reading};
+use crate::proved::losses::{Losses, Tenure};
 use crate::proved::server_handle::{Handle, code, done};
+use crate::wire::message::Message;
 use std::io;
 use std::mem;
 use std::ops::Range;
@@ -57,10 +59,11 @@ pub(crate) struct ClientHandle {
     is_kept: bool,
 }
 
-/// What an incarnation knows, and the end of its lease.
+/// What an incarnation knows, and the end of its lease; and what all of them have lost.
 struct Incarnation {
     handle: Handle,
     end: Arc<End>,
+    losses: Losses,
 }
 
 /// What a client knows, for threads that only read it.
@@ -80,6 +83,20 @@ impl Cache {
         clock: impl FnOnce() -> io::Result<Moment>,
     ) -> Result<Scan, Code> {
         self.0.read(|incarnation| incarnation.scan(keys, rows, clock))
+    }
+
+    /// The tenure of a range that is not empty, if the client holds it: both at one moment. It uses
+    /// the room for rows.
+    pub fn tenure(
+        &self,
+        keys: &Range<u64>,
+        room: &mut Vec<Row>,
+        clock: impl FnOnce() -> io::Result<Moment>,
+    ) -> Result<Option<Tenure>, Code> {
+        self.0.read(|incarnation| {
+            let is_held = incarnation.scan(keys, room, clock)? == Scan::Rows;
+            Ok(is_held.then(|| incarnation.losses.tenure(keys)))
+        })
     }
 
     /// Keeps the cache as it is, as long as the answer lives: the client takes no message and no
@@ -155,13 +172,14 @@ impl ClientHandle {
     }
 
     fn of(handle: Handle, lease: Lease) -> ClientHandle {
-        let incarnation = Incarnation { handle, end: lease.end() };
+        let incarnation = Incarnation { handle, end: lease.end(), losses: Losses::default() };
         ClientHandle { handle: Owner::new(incarnation), lease, has_spoken: true, is_kept: false }
     }
 
-    /// Becomes another client. What was cached from this one is cached from the other one.
+    /// Becomes another client, and has lost all. What was cached from this one is cached from the
+    /// other one.
     pub fn replace(&mut self, mut other: ClientHandle) {
-        other.handle.change(|other| self.handle.change(|handle| mem::swap(handle, other)));
+        other.handle.change(|other| self.handle.change(|this| this.become_other(other)));
         self.lease = other.lease;
         self.is_kept = other.is_kept;
         self.has_spoken = true;
@@ -185,10 +203,32 @@ impl ClientHandle {
         done(self.handle.change(|it| call(it.handle.raw())))
     }
 
+    /// Makes a call that takes what the client holds of these keys, or a part of it, or shows a write
+    /// of its own there. Readers learn of it at the moment at which they no longer find what it was.
+    fn call_and_lose(
+        &mut self,
+        keys: &Range<u64>,
+        call: impl FnOnce(*mut ffi::Handle) -> ffi::Reply,
+    ) -> Result<(), Code> {
+        self.has_spoken = true;
+        let reply = self.handle.change(|it| {
+            it.losses.note(keys);
+            call(it.handle.raw())
+        });
+        done(reply).map(drop)
+    }
+
+    /// Nothing but a callback takes anything from a client: a push has at least what the client
+    /// holds, and a new epoch leaves it all. The answer to a write shows the written row.
     pub fn step(&mut self, message: &[u8]) -> Result<(), Code> {
         let (at, length) = (message.as_ptr(), message.len());
         // SAFETY: as for any handle, and that many bytes of the message are there to be read.
-        self.call(|handle| unsafe { ffi::krl_client_step(handle, at, length) }).map(drop)
+        let step = |handle| unsafe { ffi::krl_client_step(handle, at, length) };
+        let message = Message::read(message);
+        match message.called_back().or_else(|| message.answered_slot()) {
+            Some(keys) => self.call_and_lose(&keys, step),
+            None => self.call(step).map(drop),
+        }
     }
 
     pub fn tick(&mut self) -> Result<(), Code> {
@@ -258,17 +298,18 @@ impl ClientHandle {
     }
 
     pub fn forget(&mut self, keys: &Range<u64>) -> Result<(), Code> {
-        // SAFETY: `call` gives the handle to this call only.
-        self.call(|handle| unsafe { ffi::krl_client_forget(handle, keys.start, keys.end) })
-            .map(drop)
+        let Range { start, end } = *keys;
+        // SAFETY: `call_and_lose` gives the handle to this call only.
+        self.call_and_lose(keys, |handle| unsafe { ffi::krl_client_forget(handle, start, end) })
     }
 
     /// Gives back what the client holds of the keys above this mode.
     pub fn lower(&mut self, keys: &Range<u64>, keep: Mode) -> Result<(), Code> {
         let Range { start, end } = *keys;
-        // SAFETY: `call` gives the handle to this call only.
-        self.call(|handle| unsafe { ffi::krl_client_lower(handle, start, end, keep as u32) })
-            .map(drop)
+        // SAFETY: `call_and_lose` gives the handle to this call only.
+        self.call_and_lose(keys, |handle| unsafe {
+            ffi::krl_client_lower(handle, start, end, keep as u32)
+        })
     }
 
     pub fn pin(&mut self, keys: &Range<u64>) -> Result<u64, Code> {
@@ -363,6 +404,13 @@ impl ClientHandle {
 }
 
 impl Incarnation {
+    /// The losses stay with this one: readers compare their numbers over all incarnations.
+    fn become_other(&mut self, other: &mut Incarnation) {
+        mem::swap(self, other);
+        mem::swap(&mut self.losses, &mut other.losses);
+        self.losses.note_all();
+    }
+
     fn scan(
         &self,
         keys: &Range<u64>,
@@ -460,6 +508,8 @@ fn count(reply: ffi::Reply) -> Result<usize, Code> {
 
 #[cfg(test)]
 mod figures;
+#[cfg(test)]
+mod tenures;
 #[cfg(test)]
 mod tests;
 #[cfg(test)]

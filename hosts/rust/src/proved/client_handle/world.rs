@@ -63,7 +63,8 @@ impl<S: Scanned> World<S> {
         world
     }
 
-    fn read_all(&mut self) {
+    /// The scanned client reads all rows that it does not know.
+    pub fn read_all(&mut self) {
         let mut rows = Vec::new();
         while let Scan::Miss(point) =
             self.scanned.change(|client| client.scan(&ALL, &mut rows, Now::read())).unwrap()
@@ -133,7 +134,12 @@ impl<S: Scanned> World<S> {
     pub fn give_last_back(&mut self) {
         self.other.forget(&LAST).unwrap();
         self.settle();
-        self.scanned.change(|client| client.lock(LAST, Mode::RangeSS)).unwrap();
+        self.lock_last(Mode::RangeSS);
+    }
+
+    /// The scanned client is granted the last row in this mode.
+    pub fn lock_last(&mut self, mode: Mode) {
+        self.scanned.change(|client| client.lock(LAST, mode)).unwrap();
         self.settle();
     }
 }
