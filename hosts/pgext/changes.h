@@ -1,0 +1,14 @@
+/*-------------------------------------------------------------------------
+ *
+ * changes.h
+ *	  What a transaction changes.
+ *
+ *-------------------------------------------------------------------------
+ */
+#ifndef KRL_CHANGES_H
+#define KRL_CHANGES_H
+
+extern void krl_changes_init(void);
+extern void krl_note_all(void);
+
+#endif							/* KRL_CHANGES_H */

@@ -1,0 +1,217 @@
+\echo Use "CREATE EXTENSION krl" to load this file. \quit
+
+-- The stripes that no table has had: those of a table are never used for another one.
+CREATE TABLE krl.free_stripes (first integer NOT NULL);
+INSERT INTO krl.free_stripes VALUES (0);
+
+CREATE TABLE krl.cached (
+    relation regclass PRIMARY KEY,
+    key_columns name[] NOT NULL,
+    first integer NOT NULL UNIQUE,
+    stripes integer NOT NULL CHECK (stripes > 0),
+    by_remainder boolean NOT NULL
+);
+COMMENT ON TABLE krl.cached IS 'the tables that are cached';
+COMMENT ON COLUMN krl.cached.first IS 'the key of krl of the first stripe';
+COMMENT ON COLUMN krl.cached.by_remainder IS
+    'whether the stripe of a key is its remainder by the number of stripes, and not krl.stripe';
+
+GRANT USAGE ON SCHEMA krl TO PUBLIC;
+GRANT SELECT ON krl.cached TO PUBLIC;
+SELECT pg_catalog.pg_extension_config_dump('krl.free_stripes', '');
+SELECT pg_catalog.pg_extension_config_dump('krl.cached', '');
+
+CREATE FUNCTION krl.changed() RETURNS trigger
+    LANGUAGE C AS 'MODULE_PATHNAME', 'krl_changed';
+REVOKE ALL ON FUNCTION krl.changed() FROM PUBLIC;
+COMMENT ON FUNCTION krl.changed() IS
+    'notes which stripes the transaction changes: the trigger of cached tables';
+
+CREATE FUNCTION krl.quiet(nonce bigint, relation regclass, first integer, stripes integer[])
+    RETURNS boolean LANGUAGE C STRICT VOLATILE AS 'MODULE_PATHNAME', 'krl_quiet';
+COMMENT ON FUNCTION krl.quiet(bigint, regclass, integer, integer[]) IS
+    'whether who holds these stripes in krl, and the mark with this nonce, may keep rows selected after this';
+
+CREATE FUNCTION krl.stripe(stripes integer, VARIADIC key text[]) RETURNS integer
+    LANGUAGE C STRICT IMMUTABLE PARALLEL SAFE AS 'MODULE_PATHNAME', 'krl_stripe';
+COMMENT ON FUNCTION krl.stripe(integer, text[]) IS
+    'the stripe of a key of several columns, or of one that is no integer';
+
+CREATE FUNCTION krl.servers() RETURNS text
+    LANGUAGE sql STABLE AS $$ SELECT pg_catalog.current_setting('krl.servers') $$;
+COMMENT ON FUNCTION krl.servers() IS 'the addresses of krl''s servers, as readers join them';
+
+CREATE FUNCTION krl.nonce() RETURNS bigint
+    LANGUAGE C STRICT VOLATILE AS 'MODULE_PATHNAME', 'krl_nonce';
+REVOKE ALL ON FUNCTION krl.nonce() FROM PUBLIC;
+COMMENT ON FUNCTION krl.nonce() IS
+    'the value of krl''s mark since this start, or 0 until it has it; readers read the mark';
+
+CREATE FUNCTION krl.make(first integer, stripes integer) RETURNS void
+    LANGUAGE C STRICT VOLATILE AS 'MODULE_PATHNAME', 'krl_make';
+REVOKE ALL ON FUNCTION krl.make(integer, integer) FROM PUBLIC;
+COMMENT ON FUNCTION krl.make(integer, integer) IS 'makes rows of krl for these stripes';
+
+CREATE FUNCTION krl.worker(number integer, OUT is_ready boolean, OUT fault text, OUT recalls bigint,
+    OUT spans bigint, OUT failures bigint, OUT milliseconds double precision)
+    RETURNS record LANGUAGE C STRICT VOLATILE AS 'MODULE_PATHNAME', 'krl_worker';
+
+CREATE VIEW krl.workers AS
+    SELECT number, worker.*
+    FROM pg_catalog.generate_series(0, pg_catalog.current_setting('krl.workers')::integer - 1)
+        AS number, LATERAL krl.worker(number) AS worker;
+COMMENT ON VIEW krl.workers IS 'what each worker has done since the server started';
+GRANT SELECT ON krl.workers TO pg_monitor;
+REVOKE ALL ON FUNCTION krl.worker(integer) FROM PUBLIC;
+GRANT EXECUTE ON FUNCTION krl.worker(integer) TO pg_monitor;
+
+CREATE FUNCTION krl.skipped() RETURNS bigint
+    LANGUAGE C STRICT VOLATILE AS 'MODULE_PATHNAME', 'krl_skipped';
+COMMENT ON FUNCTION krl.skipped() IS
+    'how many stripes were changed of which nobody had kept anything';
+
+CREATE FUNCTION krl.suspend(krl_server_is_stopped boolean) RETURNS void
+    LANGUAGE C STRICT VOLATILE AS 'MODULE_PATHNAME', 'krl_suspend';
+REVOKE ALL ON FUNCTION krl.suspend(boolean) FROM PUBLIC;
+COMMENT ON FUNCTION krl.suspend(boolean) IS
+    'waits until the leases of all readers have ended; then transactions commit without krl, until krl.resume';
+
+CREATE FUNCTION krl.resume() RETURNS void
+    LANGUAGE C STRICT VOLATILE AS 'MODULE_PATHNAME', 'krl_resume';
+REVOKE ALL ON FUNCTION krl.resume() FROM PUBLIC;
+COMMENT ON FUNCTION krl.resume() IS 'transactions wait for krl again, and readers keep rows';
+
+-- The columns of the primary key, in their order, or null if there is none.
+CREATE FUNCTION krl.primary_key(relation regclass) RETURNS name[]
+    LANGUAGE sql STABLE SET search_path = pg_catalog AS $$
+    SELECT array_agg(attname ORDER BY place)
+    FROM pg_index, unnest(indkey::smallint[]) WITH ORDINALITY AS part (attnum, place)
+        JOIN pg_attribute USING (attnum)
+    WHERE indrelid = relation AND indisprimary AND attrelid = relation
+$$;
+
+-- Reports why the table cannot be cached by these columns, if it cannot.
+CREATE FUNCTION krl.require_cacheable(relation regclass, key_columns name[]) RETURNS void
+    LANGUAGE plpgsql SET search_path = pg_catalog AS $$
+DECLARE
+    class pg_class := (SELECT class FROM pg_class AS class WHERE oid = relation);
+    name name;
+    attribute pg_attribute;
+BEGIN
+    IF class.relkind NOT IN ('r', 'p') THEN
+        RAISE EXCEPTION 'cannot cache "%": it is not a table', relation
+            USING ERRCODE = 'wrong_object_type';
+    ELSIF class.relpersistence <> 'p' THEN
+        RAISE EXCEPTION 'cannot cache "%": it is a temporary or unlogged table', relation
+            USING ERRCODE = 'wrong_object_type';
+    ELSIF class.relrowsecurity THEN
+        RAISE EXCEPTION 'cannot cache "%": its rows are under row-level security', relation
+            USING ERRCODE = 'feature_not_supported',
+                DETAIL = 'A reader would keep what its role sees, also after a policy has changed.';
+    ELSIF class.relispartition THEN
+        RAISE EXCEPTION 'cannot cache "%": it is a partition', relation
+            USING ERRCODE = 'wrong_object_type', HINT = 'Cache the table that it is a partition of.';
+    ELSIF key_columns IS NULL OR cardinality(key_columns) = 0 THEN
+        RAISE EXCEPTION 'cannot cache "%": it has no primary key', relation
+            USING ERRCODE = 'invalid_table_definition',
+                HINT = 'Name the columns by which readers look for its rows.';
+    END IF;
+    FOREACH name IN ARRAY key_columns LOOP
+        SELECT * INTO attribute FROM pg_attribute
+        WHERE attrelid = relation AND attname = name AND attnum > 0 AND NOT attisdropped;
+        IF NOT FOUND THEN
+            RAISE EXCEPTION 'cannot cache "%": it has no column "%"', relation, name
+                USING ERRCODE = 'undefined_column';
+        ELSIF attribute.atttypid NOT IN ('smallint'::regtype, 'integer'::regtype, 'bigint'::regtype,
+            'text'::regtype, 'varchar'::regtype, 'uuid'::regtype) THEN
+            RAISE EXCEPTION 'cannot cache "%" by column "%" of type %', relation, name,
+                format_type(attribute.atttypid, attribute.atttypmod)
+                USING ERRCODE = 'datatype_mismatch',
+                    HINT = 'Key columns are of type smallint, integer, bigint, text, varchar or uuid.';
+        ELSIF NOT coalesce((SELECT collisdeterministic FROM pg_collation
+            WHERE oid = attribute.attcollation), true) THEN
+            RAISE EXCEPTION 'cannot cache "%" by column "%": its collation is nondeterministic',
+                relation, name USING ERRCODE = 'datatype_mismatch';
+        END IF;
+    END LOOP;
+END $$;
+
+-- The trigger of TRUNCATE is not one that partitions have from their table.
+CREATE FUNCTION krl.add_truncate_triggers(relation regclass, arguments text) RETURNS void
+    LANGUAGE plpgsql SET search_path = pg_catalog AS $$
+DECLARE
+    part regclass;
+BEGIN
+    FOR part IN
+        SELECT relation UNION SELECT relid FROM pg_partition_tree(relation)
+        EXCEPT SELECT tgrelid FROM pg_trigger WHERE tgname = 'krl_truncated'
+    LOOP
+        EXECUTE format('CREATE TRIGGER krl_truncated AFTER TRUNCATE ON %s
+            FOR EACH STATEMENT EXECUTE FUNCTION krl.changed(%s)', part, arguments);
+        EXECUTE format('ALTER TABLE %s ENABLE ALWAYS TRIGGER krl_truncated', part);
+    END LOOP;
+END $$;
+
+CREATE FUNCTION krl.cache(relation regclass, key_columns name[] DEFAULT NULL,
+    stripes integer DEFAULT 4096) RETURNS void
+    LANGUAGE plpgsql SET search_path = pg_catalog AS $$
+DECLARE
+    columns name[] := coalesce(key_columns, krl.primary_key(relation));
+    entry krl.cached;
+BEGIN
+    PERFORM krl.require_cacheable(relation, columns);
+    SELECT * INTO entry FROM krl.cached WHERE cached.relation = cache.relation;
+    IF NOT FOUND THEN
+        IF stripes < 1 THEN
+            RAISE EXCEPTION 'a table has one stripe or more, and not %', stripes
+                USING ERRCODE = 'invalid_parameter_value';
+        END IF;
+        entry := (relation, columns, 0, stripes, cardinality(columns) = 1
+            AND (SELECT atttypid IN ('smallint'::regtype, 'integer'::regtype, 'bigint'::regtype)
+                FROM pg_attribute WHERE attrelid = relation AND attname = columns[1]));
+        UPDATE krl.free_stripes SET first = first + cache.stripes
+        RETURNING first - cache.stripes INTO entry.first;
+        PERFORM krl.make(entry.first, stripes);
+        INSERT INTO krl.cached SELECT entry.*;
+    END IF;
+    PERFORM krl.add_triggers(entry);
+END $$;
+REVOKE ALL ON FUNCTION krl.cache(regclass, name[], integer) FROM PUBLIC;
+COMMENT ON FUNCTION krl.cache(regclass, name[], integer) IS
+    'lets readers keep rows of the table; called again, also those of partitions that are new';
+
+-- The triggers of a table and of all its partitions, if it lacks them.
+CREATE FUNCTION krl.add_triggers(cached krl.cached) RETURNS void
+    LANGUAGE plpgsql SET search_path = pg_catalog AS $$
+DECLARE
+    arguments text := (SELECT string_agg(quote_literal(word), ', ') FROM unnest(
+        ARRAY[cached.first::text, cached.stripes::text,
+            CASE WHEN cached.by_remainder THEN 'remainder' ELSE 'hash' END]
+        || cached.key_columns::text[]) AS word);
+BEGIN
+    IF NOT EXISTS (SELECT FROM pg_trigger
+        WHERE tgrelid = cached.relation AND tgname = 'krl_changed') THEN
+        EXECUTE format('CREATE TRIGGER krl_changed AFTER INSERT OR UPDATE OR DELETE ON %s
+            FOR EACH ROW EXECUTE FUNCTION krl.changed(%s)', cached.relation, arguments);
+    END IF;
+    EXECUTE format('ALTER TABLE %s ENABLE ALWAYS TRIGGER krl_changed', cached.relation);
+    PERFORM krl.add_truncate_triggers(cached.relation, arguments);
+END $$;
+
+CREATE FUNCTION krl.uncache(relation regclass) RETURNS void
+    LANGUAGE plpgsql SET search_path = pg_catalog AS $$
+DECLARE
+    part regclass;
+BEGIN
+    DELETE FROM krl.cached WHERE cached.relation = uncache.relation;
+    IF NOT FOUND THEN
+        RAISE EXCEPTION 'table "%" is not cached', relation
+            USING ERRCODE = 'object_not_in_prerequisite_state';
+    END IF;
+    EXECUTE format('DROP TRIGGER IF EXISTS krl_changed ON %s', relation);
+    FOR part IN SELECT relation UNION SELECT relid FROM pg_partition_tree(relation) LOOP
+        EXECUTE format('DROP TRIGGER IF EXISTS krl_truncated ON %s', part);
+    END LOOP;
+END $$;
+REVOKE ALL ON FUNCTION krl.uncache(regclass) FROM PUBLIC;
+COMMENT ON FUNCTION krl.uncache(regclass) IS 'ends the caching of the table';

@@ -1,0 +1,179 @@
+/*-------------------------------------------------------------------------
+ *
+ * krl_pg.h
+ *	  What the files of the extension share.
+ *
+ * A transaction notes which rows of cached tables it changes (changes.c).
+ * Before it commits it gives notice of them (notice.c) and has them taken
+ * back from all caches (ask.c) by background workers, which are clients of
+ * krl (worker.c).  A reader that holds rows in krl asks whether somebody has
+ * given notice of them (sql.c), and keeps what it selects after that only if
+ * nobody has.  PROTOCOL.md has the argument that no cache is stale.
+ *
+ *-------------------------------------------------------------------------
+ */
+#ifndef KRL_PG_H
+#define KRL_PG_H
+
+#include "datatype/timestamp.h"
+#include "port/atomics.h"
+#include "storage/spin.h"
+
+#include "krl_client.h"
+
+#define KRL_MAX_WORKERS 8
+
+/* One request has so many spans at most. */
+#define KRL_MAX_SPANS 64
+
+#define KRL_FAULT_LENGTH 256
+
+/*
+ * Keys of krl.  The stripes of all tables lie below krl_stripes, those of one
+ * table after those of another.  The mark is a row that each reader holds with
+ * each stripe: whoever takes the mark takes everything.  The row before it
+ * names the store.
+ */
+#define KRL_MARK (UINT64CONST(1) << 40)
+#define KRL_STORE_KEY (KRL_MARK - 1)
+
+/* The most stripes of all tables together. */
+#define KRL_MAX_STRIPES (1 << 20)
+
+/* The keys from lo on below hi. */
+typedef struct KrlSpan
+{
+	uint64		lo;
+	uint64		hi;
+} KrlSpan;
+
+typedef enum KrlRequestKind
+{
+	KRL_RECALL,					/* take the keys back from all caches */
+	KRL_MAKE_ROWS				/* make a row for each key that has none */
+} KrlRequestKind;
+
+/*
+ * A backend has one request at each worker.  The backend changes FREE to
+ * WAITS, and DONE or FAILED to FREE; the worker changes WAITS to RUNS, and
+ * that to DONE or FAILED.  A backend that was canceled may take a request that
+ * WAITS back.
+ */
+typedef enum KrlRequestState
+{
+	KRL_REQUEST_FREE,
+	KRL_REQUEST_WAITS,
+	KRL_REQUEST_RUNS,
+	KRL_REQUEST_DONE,
+	KRL_REQUEST_FAILED
+} KrlRequestState;
+
+typedef struct KrlRequest
+{
+	pg_atomic_uint32 state;		/* a KrlRequestState */
+	KrlRequestKind kind;
+	int			timeout;		/* in milliseconds */
+	int			nspans;
+	KrlSpan		spans[KRL_MAX_SPANS];
+	char		fault[KRL_FAULT_LENGTH];
+} KrlRequest;
+
+typedef struct KrlWorker
+{
+	pg_atomic_uint32 procno;	/* KRL_NO_PROCESS if it does not run */
+	pg_atomic_uint32 ready_in;	/* the joining in which it is ready, or KRL_NOT_READY */
+	slock_t		mutex;			/* protects fault */
+	char		fault[KRL_FAULT_LENGTH];	/* why it is not ready */
+	pg_atomic_uint64 recalls;
+	pg_atomic_uint64 spans;
+	pg_atomic_uint64 failures;
+	pg_atomic_uint64 microseconds;	/* that its recalls took */
+} KrlWorker;
+
+#define KRL_NO_PROCESS PG_UINT32_MAX
+#define KRL_NOT_READY PG_UINT32_MAX
+
+typedef struct KrlShared
+{
+	/* The value of krl's mark since this start, or 0 until it has it. */
+	pg_atomic_uint64 nonce;
+
+	/* Readers keep nothing: krl's server is stopped, or is about to be. */
+	pg_atomic_uint32 is_closed;
+
+	/* Transactions commit without krl. */
+	pg_atomic_uint32 is_suspended;
+
+	/*
+	 * Greater each time that the workers should leave krl's server and join
+	 * again.  A worker is ready in the joining of now.
+	 */
+	pg_atomic_uint32 joining;
+
+	/* How many stripes were changed of which nobody had kept anything. */
+	pg_atomic_uint64 skipped;
+
+	int			nbackends;
+	KrlWorker	workers[KRL_MAX_WORKERS];
+
+	/*
+	 * For each stripe twice how often it was taken back, and one more if a
+	 * reader may have kept a row of it since then.  The requests of all
+	 * backends at each worker follow.
+	 */
+	pg_atomic_uint32 kept[FLEXIBLE_ARRAY_MEMBER];
+} KrlShared;
+
+/* krl.c: the settings */
+extern char *krl_servers;
+extern char *krl_table_name;
+extern char *krl_tls_authority;
+extern char *krl_tls_certificate;
+extern char *krl_tls_key;
+extern int	krl_workers;
+extern int	krl_first_client;
+extern int	krl_stripes;
+extern int	krl_timeout;
+extern int	krl_lease;
+extern int	krl_recall_limit;
+extern bool krl_keep_locks;
+extern char *krl_lock_directory_path(void);
+
+/* shared.c */
+extern KrlShared *krl_shared;
+extern void krl_shared_init(void);
+extern void krl_require_shared(void);
+extern KrlRequest *krl_request_of(int worker, uint32 procno);
+extern uint32 krl_my_procno(void);
+extern void krl_set_latch(uint32 procno);
+extern bool krl_is_ready(KrlWorker *worker);
+extern void krl_join_again(void);
+extern bool krl_is_kept(uint64 stripe);
+extern uint32 krl_note_kept(uint64 stripe);
+extern uint32 krl_kept_count(uint64 stripe);
+extern void krl_note_recalled(uint64 stripe);
+
+/* notice.c */
+extern void krl_give_notice(uint64 key);
+extern bool krl_has_notice(uint64 key);
+extern void krl_lock_operators(void);
+
+/* ask.c */
+extern void krl_wait(long milliseconds);
+extern void krl_recall(const uint64 *keys, int nkeys);
+extern void krl_make_rows(uint64 first, uint64 nrows);
+
+/* store.c */
+extern bool krl_store_is_own(krlc_client *client, int worker, krlc_error *error);
+extern void krl_store_note_rows(uint64 end);
+extern bool krl_store_is_suspended(void);
+extern void krl_store_suspend(void);
+extern void krl_store_resume(void);
+
+/* worker.c */
+extern void krl_workers_init(void);
+extern uint32 krl_insert_rows(krlc_client *client, KrlSpan span, TimestampTz end,
+							  krlc_error *error);
+PGDLLEXPORT void krl_worker_main(Datum number);
+
+#endif							/* KRL_PG_H */

@@ -1,0 +1,208 @@
+/*-------------------------------------------------------------------------
+ *
+ * shared.c
+ *	  The shared memory of the extension.
+ *
+ *-------------------------------------------------------------------------
+ */
+#include "postgres.h"
+
+#include "miscadmin.h"
+#include "postmaster/autovacuum.h"
+#include "replication/walsender.h"
+#include "storage/ipc.h"
+#include "storage/latch.h"
+#include "storage/lwlock.h"
+#include "storage/proc.h"
+#include "storage/shmem.h"
+
+#include "krl_pg.h"
+
+KrlShared  *krl_shared = NULL;
+
+#if PG_VERSION_NUM >= 150000
+static shmem_request_hook_type next_shmem_request = NULL;
+#endif
+static shmem_startup_hook_type next_shmem_startup = NULL;
+
+/* As MaxBackends, which PostgreSQL 14 does not know before it has loaded the libraries. */
+static int
+max_backends(void)
+{
+#if PG_VERSION_NUM >= 150000
+	return MaxBackends;
+#else
+	return MaxConnections + autovacuum_max_workers + 1 + max_worker_processes + max_wal_senders;
+#endif
+}
+
+static Size
+requests_offset(void)
+{
+	return MAXALIGN(add_size(offsetof(KrlShared, kept),
+							 mul_size(sizeof(pg_atomic_uint32), krl_stripes)));
+}
+
+static Size
+shared_size(void)
+{
+	Size		nrequests = mul_size(max_backends(), krl_workers);
+
+	return add_size(requests_offset(), mul_size(sizeof(KrlRequest), nrequests));
+}
+
+static void
+request_shared(void)
+{
+#if PG_VERSION_NUM >= 150000
+	if (next_shmem_request)
+		next_shmem_request();
+#endif
+	RequestAddinShmemSpace(shared_size());
+}
+
+static void
+init_worker(KrlWorker *worker)
+{
+	pg_atomic_init_u32(&worker->procno, KRL_NO_PROCESS);
+	pg_atomic_init_u32(&worker->ready_in, KRL_NOT_READY);
+	SpinLockInit(&worker->mutex);
+	strlcpy(worker->fault, "it has not started", sizeof(worker->fault));
+	pg_atomic_init_u64(&worker->recalls, 0);
+	pg_atomic_init_u64(&worker->spans, 0);
+	pg_atomic_init_u64(&worker->failures, 0);
+	pg_atomic_init_u64(&worker->microseconds, 0);
+}
+
+static void
+init_shared(void)
+{
+	bool		is_suspended = krl_store_is_suspended();
+
+	memset(krl_shared, 0, shared_size());
+	krl_shared->nbackends = max_backends();
+	pg_atomic_init_u64(&krl_shared->nonce, 0);
+	pg_atomic_init_u32(&krl_shared->joining, 0);
+	pg_atomic_init_u64(&krl_shared->skipped, 0);
+	pg_atomic_init_u32(&krl_shared->is_closed, is_suspended);
+	pg_atomic_init_u32(&krl_shared->is_suspended, is_suspended);
+	for (int worker = 0; worker < KRL_MAX_WORKERS; worker++)
+		init_worker(&krl_shared->workers[worker]);
+	for (int stripe = 0; stripe < krl_stripes; stripe++)
+		pg_atomic_init_u32(&krl_shared->kept[stripe], 0);
+	for (int worker = 0; worker < krl_workers; worker++)
+		for (int procno = 0; procno < krl_shared->nbackends; procno++)
+			pg_atomic_init_u32(&krl_request_of(worker, procno)->state, KRL_REQUEST_FREE);
+}
+
+static void
+start_shared(void)
+{
+	bool		found;
+
+	if (next_shmem_startup)
+		next_shmem_startup();
+	LWLockAcquire(AddinShmemInitLock, LW_EXCLUSIVE);
+	krl_shared = ShmemInitStruct("krl", shared_size(), &found);
+	if (!found)
+		init_shared();
+	LWLockRelease(AddinShmemInitLock);
+}
+
+void
+krl_shared_init(void)
+{
+#if PG_VERSION_NUM >= 150000
+	next_shmem_request = shmem_request_hook;
+	shmem_request_hook = request_shared;
+#else
+	request_shared();
+#endif
+	next_shmem_startup = shmem_startup_hook;
+	shmem_startup_hook = start_shared;
+}
+
+/* Reports an error unless the library was loaded as the server started. */
+void
+krl_require_shared(void)
+{
+	if (!krl_shared)
+		ereport(ERROR,
+				(errcode(ERRCODE_OBJECT_NOT_IN_PREREQUISITE_STATE),
+				 errmsg("krl must be loaded via shared_preload_libraries")));
+}
+
+KrlRequest *
+krl_request_of(int worker, uint32 procno)
+{
+	KrlRequest *requests = (KrlRequest *) ((char *) krl_shared + requests_offset());
+
+	Assert(worker < krl_workers && procno < (uint32) krl_shared->nbackends);
+	return &requests[(Size) worker * krl_shared->nbackends + procno];
+}
+
+uint32
+krl_my_procno(void)
+{
+#if PG_VERSION_NUM >= 170000
+	return MyProcNumber;
+#else
+	return MyProc->pgprocno;
+#endif
+}
+
+/* Wakes a process, if there is one. */
+void
+krl_set_latch(uint32 procno)
+{
+	if (procno != KRL_NO_PROCESS)
+		SetLatch(&ProcGlobal->allProcs[procno].procLatch);
+}
+
+/* Whether the worker has joined krl's server, and takes keys back. */
+bool
+krl_is_ready(KrlWorker *worker)
+{
+	return pg_atomic_read_u32(&worker->ready_in) == pg_atomic_read_u32(&krl_shared->joining);
+}
+
+/* Has each worker leave krl's server and join the one that it finds then. */
+void
+krl_join_again(void)
+{
+	pg_atomic_write_u64(&krl_shared->nonce, 0);
+	pg_atomic_fetch_add_u32(&krl_shared->joining, 1);
+	for (int worker = 0; worker < krl_workers; worker++)
+		krl_set_latch(pg_atomic_read_u32(&krl_shared->workers[worker].procno));
+}
+
+/* Whether a reader may have kept a row of the stripe since it was taken back last. */
+bool
+krl_is_kept(uint64 stripe)
+{
+	return pg_atomic_read_u32(&krl_shared->kept[stripe]) & 1;
+}
+
+/* A reader is about to keep a row of the stripe.  Returns the count from then on. */
+uint32
+krl_note_kept(uint64 stripe)
+{
+	return pg_atomic_fetch_or_u32(&krl_shared->kept[stripe], 1) | 1;
+}
+
+uint32
+krl_kept_count(uint64 stripe)
+{
+	return pg_atomic_read_u32(&krl_shared->kept[stripe]);
+}
+
+/* The stripe was taken back from all caches. */
+void
+krl_note_recalled(uint64 stripe)
+{
+	pg_atomic_uint32 *kept = &krl_shared->kept[stripe];
+	uint32		old = pg_atomic_read_u32(kept);
+
+	while (!pg_atomic_compare_exchange_u32(kept, &old, (old | 1) + 1))
+		;
+}

@@ -1,0 +1,331 @@
+/*-------------------------------------------------------------------------
+ *
+ * sql.c
+ *	  The functions of readers and of operators.
+ *
+ *-------------------------------------------------------------------------
+ */
+#include "postgres.h"
+
+#include "access/htup_details.h"
+#include "access/relation.h"
+#include "access/xlog.h"
+#include "catalog/pg_inherits.h"
+#include "catalog/pg_type.h"
+#include "commands/trigger.h"
+#include "fmgr.h"
+#include "funcapi.h"
+#include "miscadmin.h"
+#include "utils/acl.h"
+#include "utils/array.h"
+#include "utils/builtins.h"
+#include "utils/lsyscache.h"
+#include "utils/rel.h"
+#include "utils/timestamp.h"
+
+#include "stripes.h"
+
+/* Clocks of two machines differ in rate by a quarter at most. */
+#define DRIFT_DIVISOR 4
+
+/* The stripes that a reader wants to keep rows of. */
+typedef struct Wanted
+{
+	uint64		first;			/* of the table */
+	int			count;
+	Datum	   *stripes;		/* of the table, from 0 on */
+} Wanted;
+
+static const Trigger *
+enabled_trigger(Relation relation, const char *name)
+{
+	for (int i = 0; relation->trigdesc && i < relation->trigdesc->numtriggers; i++)
+	{
+		const Trigger *trigger = &relation->trigdesc->triggers[i];
+
+		if (trigger->tgenabled == TRIGGER_FIRES_ALWAYS && strcmp(trigger->tgname, name) == 0)
+			return trigger;
+	}
+	return NULL;
+}
+
+/* Rows of a foreign table change elsewhere, and row-level security shows each role others. */
+static bool
+is_plain(Relation relation)
+{
+	char		kind = relation->rd_rel->relkind;
+
+	return (kind == RELKIND_RELATION || kind == RELKIND_PARTITIONED_TABLE) &&
+		!relation->rd_rel->relrowsecurity;
+}
+
+/* Whether each change of the relation is noted, and all its readers see the same rows. */
+static bool
+is_guarded(Oid oid, uint64 first)
+{
+	Relation	relation = try_relation_open(oid, AccessShareLock);
+	const Trigger *trigger;
+	bool		result = false;
+
+	if (!relation)
+		return false;
+	trigger = enabled_trigger(relation, KRL_ROW_TRIGGER);
+	if (trigger && enabled_trigger(relation, KRL_TRUNCATE_TRIGGER) && is_plain(relation))
+	{
+		KrlStripes	stripes;
+
+		krl_read_stripes(trigger, &stripes);
+		result = stripes.first == first;
+	}
+	relation_close(relation, AccessShareLock);
+	return result;
+}
+
+/* The same of the table, and of its partitions and the tables that inherit from it. */
+static bool
+is_table_guarded(Oid table, uint64 first)
+{
+	List	   *relations = list_make1_oid(table);
+	ListCell   *cell;
+
+	if (has_subclass(table))
+		relations = find_all_inheritors(table, AccessShareLock, NULL);
+	foreach(cell, relations)
+		if (!is_guarded(lfirst_oid(cell), first))
+			return false;
+	return true;
+}
+
+static void
+require_select(Oid table)
+{
+	AclResult	result = pg_class_aclcheck(table, GetUserId(), ACL_SELECT);
+
+	if (result != ACLCHECK_OK)
+		aclcheck_error(result, get_relkind_objtype(get_rel_relkind(table)), get_rel_name(table));
+}
+
+static Wanted
+read_wanted(int32 first, ArrayType *array)
+{
+	Wanted		wanted = {.first = first};
+	bool	   *nulls;
+
+	deconstruct_array(array, INT4OID, sizeof(int32), true, TYPALIGN_INT,
+					  &wanted.stripes, &nulls, &wanted.count);
+	for (int i = 0; i < wanted.count; i++)
+	{
+		int32		stripe = nulls[i] ? -1 : DatumGetInt32(wanted.stripes[i]);
+
+		if (first < 0 || stripe < 0 || stripe >= krl_stripes - first)
+			ereport(ERROR,
+					(errcode(ERRCODE_INVALID_PARAMETER_VALUE),
+					 errmsg("there is no stripe %d of a table whose first is %d", stripe, first),
+					 errdetail("krl.stripes is %d.", krl_stripes)));
+	}
+	return wanted;
+}
+
+static uint64
+wanted_stripe(const Wanted *wanted, int i)
+{
+	return wanted->first + (uint64) DatumGetInt32(wanted->stripes[i]);
+}
+
+/*
+ * Whether no transaction that may still commit has given notice of one of the
+ * stripes.  They count as kept from before the look at the notices.  If one was
+ * taken back after that, the next writer may have found that it is not kept.
+ */
+static bool
+are_quiet(const Wanted *wanted)
+{
+	uint32	   *counts = palloc(sizeof(uint32) * Max(wanted->count, 1));
+
+	for (int i = 0; i < wanted->count; i++)
+		counts[i] = krl_note_kept(wanted_stripe(wanted, i));
+	pg_memory_barrier();
+	if (krl_has_notice(KRL_MARK))
+		return false;
+	for (int i = 0; i < wanted->count; i++)
+		if (krl_has_notice(wanted_stripe(wanted, i)))
+			return false;
+	pg_memory_barrier();
+	for (int i = 0; i < wanted->count; i++)
+		if (krl_kept_count(wanted_stripe(wanted, i)) != counts[i])
+			return false;
+	return true;
+}
+
+/* Whether readers may keep rows that they hold by a mark of this nonce. */
+static bool
+is_open(uint64 nonce)
+{
+	return krl_shared && !RecoveryInProgress() &&
+		!pg_atomic_read_u32(&krl_shared->is_closed) &&
+		nonce != 0 && nonce == pg_atomic_read_u64(&krl_shared->nonce);
+}
+
+PG_FUNCTION_INFO_V1(krl_quiet);
+
+/* krl.quiet(nonce bigint, relation regclass, first integer, stripes integer[]) */
+Datum
+krl_quiet(PG_FUNCTION_ARGS)
+{
+	uint64		nonce = (uint64) PG_GETARG_INT64(0);
+	Oid			table = PG_GETARG_OID(1);
+	Wanted		wanted = read_wanted(PG_GETARG_INT32(2), PG_GETARG_ARRAYTYPE_P(3));
+
+	require_select(table);
+	/* The triggers are looked at after the notices too: who drops one gives notice first. */
+	PG_RETURN_BOOL(is_open(nonce) && is_table_guarded(table, wanted.first) &&
+				   are_quiet(&wanted) && is_table_guarded(table, wanted.first));
+}
+
+PG_FUNCTION_INFO_V1(krl_nonce);
+
+/* krl.nonce() */
+Datum
+krl_nonce(PG_FUNCTION_ARGS)
+{
+	krl_require_shared();
+	PG_RETURN_INT64((int64) pg_atomic_read_u64(&krl_shared->nonce));
+}
+
+PG_FUNCTION_INFO_V1(krl_make);
+
+/* krl.make(first integer, stripes integer) */
+Datum
+krl_make(PG_FUNCTION_ARGS)
+{
+	int32		first = PG_GETARG_INT32(0);
+	int32		count = PG_GETARG_INT32(1);
+
+	krl_require_shared();
+	if (first < 0 || count < 1 || count > krl_stripes - first)
+		ereport(ERROR,
+				(errcode(ERRCODE_CONFIGURATION_LIMIT_EXCEEDED),
+				 errmsg("%d stripes after %d are more than krl.stripes, which is %d",
+						count, first, krl_stripes),
+				 errhint("Set krl.stripes to more, and restart the server; or cache the table with "
+						 "fewer stripes.")));
+	krl_make_rows(first, count);
+	krl_store_note_rows((uint64) first + count);
+	PG_RETURN_VOID();
+}
+
+PG_FUNCTION_INFO_V1(krl_worker);
+
+/* krl.worker(number integer, ..) */
+Datum
+krl_worker(PG_FUNCTION_ARGS)
+{
+	int32		number = PG_GETARG_INT32(0);
+	KrlWorker  *worker;
+	TupleDesc	desc;
+	char		fault[KRL_FAULT_LENGTH];
+	Datum		values[6];
+	bool		nulls[6] = {false};
+
+	krl_require_shared();
+	if (number < 0 || number >= krl_workers)
+		PG_RETURN_NULL();
+	if (get_call_result_type(fcinfo, NULL, &desc) != TYPEFUNC_COMPOSITE)
+		elog(ERROR, "return type must be a row type");
+	worker = &krl_shared->workers[number];
+	SpinLockAcquire(&worker->mutex);
+	strlcpy(fault, worker->fault, sizeof(fault));
+	SpinLockRelease(&worker->mutex);
+	values[0] = BoolGetDatum(krl_is_ready(worker));
+	values[1] = CStringGetTextDatum(fault);
+	nulls[1] = fault[0] == '\0';
+	values[2] = Int64GetDatum((int64) pg_atomic_read_u64(&worker->recalls));
+	values[3] = Int64GetDatum((int64) pg_atomic_read_u64(&worker->spans));
+	values[4] = Int64GetDatum((int64) pg_atomic_read_u64(&worker->failures));
+	values[5] = Float8GetDatum(pg_atomic_read_u64(&worker->microseconds) / 1000.0);
+	PG_RETURN_DATUM(HeapTupleGetDatum(heap_form_tuple(BlessTupleDesc(desc), values, nulls)));
+}
+
+PG_FUNCTION_INFO_V1(krl_skipped);
+
+/* krl.skipped() */
+Datum
+krl_skipped(PG_FUNCTION_ARGS)
+{
+	krl_require_shared();
+	PG_RETURN_INT64((int64) pg_atomic_read_u64(&krl_shared->skipped));
+}
+
+/* By the end of this call the lease of each reader has ended. */
+static void
+await_leases(void)
+{
+	TimestampTz end = TimestampTzPlusMilliseconds(GetCurrentTimestamp(),
+												  krl_lease + krl_lease / DRIFT_DIVISOR + 100);
+	long		left;
+
+	while ((left = TimestampDifferenceMilliseconds(GetCurrentTimestamp(), end)) > 0)
+		krl_wait(left);
+}
+
+PG_FUNCTION_INFO_V1(krl_suspend);
+
+/* krl.suspend(krl_server_is_stopped boolean) */
+Datum
+krl_suspend(PG_FUNCTION_ARGS)
+{
+	krl_require_shared();
+	if (!PG_GETARG_BOOL(0))
+		ereport(ERROR,
+				(errcode(ERRCODE_OBJECT_NOT_IN_PREREQUISITE_STATE),
+				 errmsg("krl's server must be stopped before the cluster commits without it"),
+				 errhint("Stop it for good, and call krl.suspend(true).")));
+	krl_lock_operators();
+	if (pg_atomic_read_u32(&krl_shared->is_suspended))
+		PG_RETURN_VOID();
+	pg_atomic_write_u32(&krl_shared->is_closed, true);
+	PG_TRY();
+	{
+		await_leases();
+		krl_store_suspend();
+	}
+	PG_CATCH();
+	{
+		/* Transactions still wait for krl, so readers may keep rows again. */
+		pg_atomic_write_u32(&krl_shared->is_closed, false);
+		PG_RE_THROW();
+	}
+	PG_END_TRY();
+	pg_atomic_write_u32(&krl_shared->is_suspended, true);
+	krl_join_again();
+	PG_RETURN_VOID();
+}
+
+PG_FUNCTION_INFO_V1(krl_resume);
+
+/* krl.resume() */
+Datum
+krl_resume(PG_FUNCTION_ARGS)
+{
+	uint64		mark = KRL_MARK;
+
+	krl_require_shared();
+	krl_lock_operators();
+	if (!pg_atomic_read_u32(&krl_shared->is_suspended))
+		PG_RETURN_VOID();
+	/* First transactions wait for krl, then all is taken back, and then readers keep rows again. */
+	pg_atomic_write_u32(&krl_shared->is_suspended, false);
+	PG_TRY();
+	{
+		krl_recall(&mark, 1);
+		krl_store_resume();
+	}
+	PG_CATCH();
+	{
+		pg_atomic_write_u32(&krl_shared->is_suspended, true);
+		PG_RE_THROW();
+	}
+	PG_END_TRY();
+	pg_atomic_write_u32(&krl_shared->is_closed, false);
+	PG_RETURN_VOID();
+}

@@ -1,0 +1,89 @@
+-- Which tables can be cached, and what they have then.
+\set SHOW_CONTEXT never
+CREATE EXTENSION krl;
+-- Waits until each worker has joined krl's server, and the mark has their nonce.
+CREATE FUNCTION await_workers() RETURNS void LANGUAGE plpgsql AS $$
+BEGIN
+    WHILE krl.nonce() = 0 OR EXISTS (SELECT FROM krl.workers WHERE NOT is_ready) LOOP
+        IF clock_timestamp() > now() + interval '10 minutes' THEN
+            RAISE EXCEPTION 'the workers are not ready';
+        END IF;
+        PERFORM pg_sleep(0.02);
+    END LOOP;
+END $$;
+-- Waits until each worker is not ready for this reason.
+CREATE FUNCTION await_fault(why text) RETURNS void LANGUAGE plpgsql AS $$
+BEGIN
+    WHILE EXISTS (SELECT FROM krl.workers WHERE is_ready OR fault IS DISTINCT FROM why) LOOP
+        IF clock_timestamp() > now() + interval '10 minutes' THEN
+            RAISE EXCEPTION 'the workers are ready, or not for this reason: %',
+                (SELECT string_agg(fault, ', ') FROM krl.workers);
+        END IF;
+        PERFORM pg_sleep(0.02);
+    END LOOP;
+END $$;
+SELECT await_workers();
+SELECT number, is_ready, fault FROM krl.workers;
+
+CREATE TABLE item (id bigint PRIMARY KEY, n bigint NOT NULL DEFAULT 0);
+SELECT krl.cache('item', stripes => 64);
+-- A second call changes nothing.
+SELECT krl.cache('item');
+CREATE TABLE place (country text, code uuid, name text, PRIMARY KEY (country, code));
+SELECT krl.cache('place', stripes => 16);
+CREATE TABLE note (author text, body text);
+SELECT krl.cache('note', '{author}', 16);
+SELECT relation, key_columns, first, stripes, by_remainder FROM krl.cached ORDER BY first;
+SELECT tgrelid::regclass AS relation, tgname, tgenabled, tgtype FROM pg_trigger
+    WHERE tgname LIKE 'krl%' ORDER BY 1, 2;
+
+-- Stripes of keys that are no integers.
+SELECT krl.stripe(16, 'a', 'b') = krl.stripe(16, 'a', 'b') AS same,
+    krl.stripe(1000000, 'a', 'b') <> krl.stripe(1000000, 'ab', '') AS other;
+SELECT krl.stripe(16, 'a', NULL);
+SELECT krl.stripe(0, 'a');
+SELECT krl.stripe(16);
+
+-- What cannot be cached.
+CREATE TABLE keyless (id bigint);
+SELECT krl.cache('keyless');
+SELECT krl.cache('keyless', '{identity}');
+SELECT krl.cache('keyless', '{}');
+CREATE TABLE inexact (id double precision PRIMARY KEY);
+SELECT krl.cache('inexact');
+CREATE TABLE dated (id timestamptz PRIMARY KEY);
+SELECT krl.cache('dated');
+CREATE COLLATION caseless (provider = icu, locale = 'und-u-ks-level2', deterministic = false);
+CREATE TABLE collated (id text COLLATE caseless PRIMARY KEY);
+SELECT krl.cache('collated');
+CREATE TEMP TABLE temporary (id bigint PRIMARY KEY);
+SELECT krl.cache('temporary');
+CREATE UNLOGGED TABLE unlogged (id bigint PRIMARY KEY);
+SELECT krl.cache('unlogged');
+CREATE VIEW looked_at AS SELECT * FROM item;
+SELECT krl.cache('looked_at', '{id}');
+DROP VIEW looked_at;
+CREATE TABLE guarded (id bigint PRIMARY KEY);
+ALTER TABLE guarded ENABLE ROW LEVEL SECURITY;
+SELECT krl.cache('guarded');
+SELECT krl.cache('keyless', '{id}', 0);
+SELECT krl.cache('keyless', '{id}', 2000);
+SELECT krl.uncache('keyless');
+
+-- Partitions.
+CREATE TABLE part (id bigint PRIMARY KEY, n bigint) PARTITION BY RANGE (id);
+CREATE TABLE part0 PARTITION OF part FOR VALUES FROM (0) TO (10);
+SELECT krl.cache('part0');
+SELECT krl.cache('part', stripes => 16);
+SELECT tgrelid::regclass AS relation, tgname, tgenabled FROM pg_trigger
+    WHERE tgname LIKE 'krl%' AND tgrelid::regclass::text LIKE 'part%' ORDER BY 1, 2;
+
+-- The stripes of a table are never used again.
+SELECT krl.uncache('note');
+SELECT tgname FROM pg_trigger WHERE tgrelid = 'note'::regclass;
+SELECT krl.cache('note', '{author}', 16);
+SELECT first FROM krl.cached WHERE relation = 'note'::regclass;
+
+-- The triggers of cached tables need the extension.
+\set VERBOSITY terse
+DROP EXTENSION krl;

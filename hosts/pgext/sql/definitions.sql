@@ -1,0 +1,80 @@
+-- What changes the definition of a cached table takes everything back.
+\set SHOW_CONTEXT never
+SET client_min_messages = warning;
+TRUNCATE item CASCADE;
+SELECT FROM since();
+
+-- As long as a trigger does not fire always, readers keep nothing.
+ALTER TABLE item DISABLE TRIGGER ALL;
+SELECT * FROM since();
+SELECT quiet('item', 1);
+ALTER TABLE item ENABLE TRIGGER ALL;
+SELECT quiet('item', 1);
+ALTER TABLE item ENABLE ALWAYS TRIGGER krl_changed;
+SELECT quiet('item', 1);
+ALTER TABLE item ENABLE ALWAYS TRIGGER krl_truncated;
+SELECT quiet('item', 1);
+SELECT FROM since();
+
+ALTER TABLE item ADD COLUMN color text DEFAULT 'red';
+SELECT * FROM since();
+ALTER TABLE item ALTER COLUMN n TYPE numeric USING n + 1;
+SELECT * FROM since();
+ALTER TABLE item RENAME TO thing;
+SELECT * FROM since();
+ALTER TABLE thing RENAME TO item;
+SELECT FROM since();
+CREATE RULE nothing AS ON UPDATE TO item DO ALSO NOTHING;
+SELECT * FROM since();
+CLUSTER item USING item_pkey;
+SELECT * FROM since();
+
+-- Row-level security.
+ALTER TABLE item ENABLE ROW LEVEL SECURITY;
+SELECT * FROM since();
+SELECT quiet('item', 1);
+ALTER TABLE item DISABLE ROW LEVEL SECURITY;
+SELECT quiet('item', 1);
+SELECT FROM since();
+
+-- Partitions: a new one has no trigger of TRUNCATE before the next krl.cache.
+CREATE TABLE part1 (id bigint PRIMARY KEY, n bigint);
+INSERT INTO part1 VALUES (15, 0);
+SELECT quiet('part', 15);
+ALTER TABLE part ATTACH PARTITION part1 FOR VALUES FROM (10) TO (20);
+SELECT * FROM since();
+SELECT quiet('part', 15);
+SELECT krl.cache('part');
+SELECT quiet('part', 15);
+SELECT FROM since();
+TRUNCATE part1;
+SELECT * FROM since();
+ALTER TABLE part DETACH PARTITION part1 CONCURRENTLY;
+ALTER TABLE part DETACH PARTITION part1;
+SELECT * FROM since();
+SELECT quiet('part', 15);
+
+-- Tables that inherit.
+CREATE TABLE child () INHERITS (item);
+SELECT * FROM since();
+SELECT quiet('item', 1);
+ALTER TABLE child NO INHERIT item;
+SELECT * FROM since();
+SELECT quiet('item', 1);
+SELECT FROM since();
+
+-- A key that is no integer any more is refused until the table is cached again.
+ALTER TABLE item ALTER COLUMN id TYPE text;
+INSERT INTO item (id, n) VALUES ('a', 1);
+SELECT krl.uncache('item');
+SELECT krl.cache('item', stripes => 64);
+INSERT INTO item (id, n) VALUES ('a', 1);
+SELECT FROM since();
+
+-- Other tables are left alone.
+CREATE TABLE other (id bigint PRIMARY KEY REFERENCES parent);
+ALTER TABLE other ADD COLUMN n bigint;
+DROP TABLE other;
+SELECT * FROM since();
+DROP TABLE note;
+SELECT * FROM since();

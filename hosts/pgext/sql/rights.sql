@@ -1,0 +1,49 @@
+-- Who may do what.
+\set SHOW_CONTEXT never
+SET client_min_messages = warning;
+CREATE ROLE reader;
+SET ROLE reader;
+SELECT relation, stripes FROM krl.cached WHERE relation = 'part'::regclass;
+SELECT krl.servers() LIKE 'unix:%' AS has_servers;
+SELECT krl.quiet(1, 'part', 0, '{0}');
+SELECT krl.quiet(1, 'part', 0, '{1000000}');
+SELECT krl.cache('part');
+SELECT krl.uncache('part');
+SELECT krl.make(0, 1);
+SELECT krl.suspend(true);
+SELECT krl.resume();
+SELECT krl.nonce();
+SELECT * FROM krl.workers;
+CREATE TEMP TABLE own (id bigint);
+CREATE TRIGGER krl_changed AFTER INSERT ON own FOR EACH ROW EXECUTE FUNCTION krl.changed('0', '1', 'hash', 'id');
+RESET ROLE;
+
+-- SELECT on the table is the right to keep its rows.
+GRANT SELECT ON part TO reader;
+SELECT krl.nonce() AS nonce, first FROM krl.cached WHERE relation = 'part'::regclass \gset
+SET ROLE reader;
+SELECT krl.quiet(:nonce, 'part', :first, '{0}');
+-- Another start of the database, and other stripes.
+SELECT krl.quiet(:nonce + 1, 'part', :first, '{0}');
+SELECT krl.quiet(0, 'part', :first, '{0}');
+SELECT krl.quiet(:nonce, 'part', :first + 1, '{0}');
+SELECT krl.quiet(:nonce, 'part', :first, '{0,NULL}');
+SELECT krl.quiet(:nonce, 'part', -1, '{0}');
+RESET ROLE;
+
+-- Who loses the right keeps nothing any longer.
+SELECT FROM since();
+GRANT SELECT ON part TO PUBLIC;
+SELECT * FROM since();
+REVOKE SELECT ON part FROM PUBLIC, reader;
+SELECT * FROM since();
+SET ROLE reader;
+SELECT krl.quiet(:nonce, 'part', :first, '{0}');
+RESET ROLE;
+
+-- Tables that are not cached.
+SELECT krl.quiet(:nonce, 'parent', :first, '{0}');
+SELECT krl.quiet(:nonce, 4000000000::oid, :first, '{0}');
+
+-- Lock files that a base backup would copy.
+ALTER SYSTEM SET krl.lock_directory = 'krl';

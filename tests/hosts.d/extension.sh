@@ -1,0 +1,10 @@
+# shellcheck shell=sh disable=SC2154
+# Part of tests/hosts: the extension for PostgreSQL.
+
+part_extension() {
+    if ! has pg_config make python3 || [ ! -f "$(pg_config --pgxs)" ]; then
+        not_run 'there are no header files of PostgreSQL: the extension for it'
+    fi
+    need_programs
+    expect 0 'the extension for PostgreSQL' "$top/hosts/pgext/check" "$programs" --wrong
+}
