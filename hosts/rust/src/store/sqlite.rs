@@ -1,6 +1,7 @@
 //! A store over SQLite.
 pub(crate) mod checksum;
 pub(crate) mod copy;
+mod joined;
 mod journal;
 mod merged;
 mod progress;
@@ -21,7 +22,7 @@ use crate::store::sqlite::progress::Known;
 use crate::store::sqlite::transaction::WriteTransaction;
 use crate::store::sqlite::version::Found;
 use crate::store::{Store, StoreError};
-use rusqlite::{Connection, OptionalExtension, Row as SqlRow, params};
+use rusqlite::{Connection, OpenFlags, OptionalExtension, Row as SqlRow, params};
 use std::path::Path;
 use std::time::Duration;
 
@@ -40,6 +41,16 @@ pub struct SqliteStore {
     known: Known,
     /// The journal, once this value has committed something after it was loaded.
     journal: Option<Journal>,
+}
+
+/// How a store writes what a commit adds to the log of SQLite.
+#[derive(Clone, Copy, Debug, Default, PartialEq, Eq)]
+pub enum LogWrites {
+    /// By one call of the system for up to 64 KiB.
+    #[default]
+    Joined,
+    /// By two calls for each page, as SQLite does by itself.
+    Single,
 }
 
 /// How long it waits for another process that has the file open.
@@ -110,7 +121,17 @@ impl SqliteStore {
     /// not know; if it was not opened since it was made, and differs from what was written then; if
     /// SQLite can't read, make or write it.
     pub fn open(path: impl AsRef<Path>) -> Result<SqliteStore, StoreError> {
-        SqliteStore::open_by(path.as_ref(), "EXCLUSIVE")
+        SqliteStore::open_with(path, LogWrites::default())
+    }
+
+    /// Opens the file as [`SqliteStore::open`] does, and writes the log of SQLite in this way. The
+    /// file is the same in each.
+    ///
+    /// # Errors
+    ///
+    /// Those of [`SqliteStore::open`].
+    pub fn open_with(path: impl AsRef<Path>, writes: LogWrites) -> Result<SqliteStore, StoreError> {
+        SqliteStore::open_by(path.as_ref(), "EXCLUSIVE", writes)
     }
 
     /// Takes the rows of this key and of all greater ones away, all or none: they are in another
@@ -163,10 +184,10 @@ impl SqliteStore {
         Ok(transaction)
     }
 
-    fn open_by(path: &Path, locking: &str) -> Result<SqliteStore, StoreError> {
+    fn open_by(path: &Path, locking: &str, writes: LogWrites) -> Result<SqliteStore, StoreError> {
         // SQLite makes one as it looks.
         let had_log = copy::beside(path, "-wal").exists();
-        let connection = Connection::open(path)?;
+        let connection = connect(path, writes)?;
         connection.busy_timeout(TIMEOUT)?;
         connection.pragma_update(None, "locking_mode", locking)?;
         // A file that is not a store is left as it is.
@@ -190,6 +211,13 @@ impl SqliteStore {
         take_checksum(&connection)?;
         let known = Known::read(&connection)?;
         Ok(SqliteStore { connection, known, journal: None })
+    }
+}
+
+fn connect(path: &Path, writes: LogWrites) -> Result<Connection, StoreError> {
+    match joined::name().filter(|_| writes == LogWrites::Joined) {
+        Some(layer) => Ok(Connection::open_with_flags_and_vfs(path, OpenFlags::default(), layer)?),
+        None => Ok(Connection::open(path)?),
     }
 }
 
@@ -267,7 +295,9 @@ fn write_through(
     changes: &[Change],
 ) -> Result<(Option<Mark>, Option<Journal>), StoreError> {
     let mut merged = journal::take_all(transaction)?;
-    changes.iter().for_each(|change| merged.add(change));
+    for change in changes {
+        merged.add(change);
+    }
     merged.write(transaction)?;
     let last = progress::count(transaction, last, changes)?;
     Ok((last, last.map(|mark| Journal::empty(mark.commits + 1))))

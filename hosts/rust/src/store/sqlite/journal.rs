@@ -75,7 +75,9 @@ impl Journal {
     ) -> Result<Journal, StoreError> {
         run(transaction, ADD, params![signed(number)?, batch::to_bytes(changes)?])?;
         self.fold_some(transaction, changes.len())?;
-        changes.iter().for_each(|change| self.gathered.add(change));
+        for change in changes {
+            self.gathered.add(change);
+        }
         self.changes += changes.len();
         let is_folded = self.folding.is_empty() && self.folded.is_empty();
         if is_folded && self.changes >= GATHERED_CHANGES {

@@ -96,7 +96,7 @@ fn a_batch_of_any_kind_is_counted_once_and_an_earlier_start_keeps_its_count() {
 fn an_older_store_goes_on_to_count_where_it_was() {
     let folder = std::env::temp_dir().join(format!("krl-older-counts-{}", std::process::id()));
     std::fs::create_dir_all(&folder).unwrap();
-    let of_records = format!("{} UPDATE record SET commits = 3 + 4 * (client = 2);", COUNTS);
+    let of_records = format!("{COUNTS} UPDATE record SET commits = 3 + 4 * (client = 2);");
     for (version, older) in [(4, "UPDATE start SET commits = 7;"), (5, &of_records)] {
         let file = folder.join(format!("{version}.db"));
         let mut store = SqliteStore::open(&file).unwrap();
@@ -157,7 +157,8 @@ fn a_value_commits_nothing_behind_another_one() {
     let folder = std::env::temp_dir().join(format!("krl-behind-{}", std::process::id()));
     std::fs::create_dir_all(&folder).unwrap();
     // Without the file's lock two values may have it open.
-    let open = |name: &str| SqliteStore::open_by(&folder.join(name), "NORMAL").unwrap();
+    let open =
+        |name: &str| SqliteStore::open_by(&folder.join(name), "NORMAL", LogWrites::Single).unwrap();
     store_tests::deposes_an_older_value(|| open("deposed.db"));
     store_tests::tells_two_starts_apart(|| open("starts.db"));
     std::fs::remove_dir_all(&folder).unwrap();

@@ -1,9 +1,9 @@
 use super::*;
 use crate::model::change::{Outcome, Write};
 use crate::store::Store;
-use crate::store::sqlite::SqliteStore;
 use crate::store::sqlite::copy::tests::Folder;
-use crate::store::store_tests::{REGISTER, changes, judged, put, row, without_first_start};
+use crate::store::sqlite::{LogWrites, SqliteStore};
+use crate::store::store_tests::{self, REGISTER, changes, judged, put, row, without_first_start};
 
 fn count(store: &SqliteStore, table: &str) -> u64 {
     let count = format!("SELECT count(*) FROM {table}");
@@ -20,8 +20,10 @@ struct Checked {
 impl Checked {
     /// A store on which a server has just started.
     fn started(folder: &Folder) -> Checked {
-        let mut store = SqliteStore::open(folder.0.join("table.db")).unwrap();
-        // These tests commit often, and end no machine.
+        // These tests commit often, and end no machine. Without syncs, joined writes would stay in
+        // memory.
+        let file = folder.0.join("table.db");
+        let mut store = SqliteStore::open_with(file, LogWrites::Single).unwrap();
         store.connection.pragma_update(None, "synchronous", "OFF").unwrap();
         store.commit(&[Change::Started { epoch: 1 }, REGISTER]).unwrap();
         let expected = store.snapshot().unwrap();
@@ -30,7 +32,7 @@ impl Checked {
 
     fn commit(&mut self, batch: &[Change]) {
         self.store.commit(batch).unwrap();
-        batch.iter().for_each(|change| self.expected.apply(change));
+        store_tests::apply(&mut self.expected, batch);
         self.commits += 1;
     }
 
