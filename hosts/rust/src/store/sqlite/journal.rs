@@ -34,9 +34,10 @@ const CLEAR: &str = "DELETE FROM journal";
 /// or of neighbors. A start reads at most some two times as many, in a few milliseconds.
 const GATHERED_CHANGES: usize = 4096;
 
-/// A commit folds so many rows at least, and twice as many as it has changes: so a fold ends before
-/// the next one is due. If each is in a page of its own, 64 take less than half a millisecond.
-const FOLDED_ROWS: usize = 64;
+/// A commit folds so many rows more than it has changes: so a fold ends before the next one is due.
+/// If each is in a page of its own, 64 take some 0.7 milliseconds of processor time, and their share
+/// of the copy of the log into the file.
+const FOLDED_ROWS: usize = 32;
 
 /// A commit removes so many folded batches at most.
 const REMOVED_BATCHES: u64 = 256;
@@ -94,7 +95,7 @@ impl Journal {
         changes: usize,
     ) -> Result<(), StoreError> {
         if !self.folding.is_empty() {
-            return self.folding.take_part(FOLDED_ROWS.max(2 * changes)).write(transaction);
+            return self.folding.take_part(FOLDED_ROWS + changes).write(transaction);
         }
         if self.folded.is_empty() {
             return Ok(());
