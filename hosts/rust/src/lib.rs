@@ -108,11 +108,11 @@ pub use shards::map_file::BadMapFile;
 #[cfg(feature = "fence")]
 pub use store::fence;
 #[cfg(feature = "sqlite")]
-pub use store::sqlite::SqliteStore;
-#[cfg(feature = "sqlite")]
 pub use store::sqlite::checksum::{Checksum, CutOff};
 #[cfg(feature = "sqlite")]
 pub use store::sqlite::copy::StoreFile;
+#[cfg(feature = "sqlite")]
+pub use store::sqlite::{LogWrites, SqliteStore};
 #[cfg(feature = "store-tests")]
 pub use store::store_tests;
 pub use store::{MemoryStore, Store, StoreError};

@@ -1,29 +1,34 @@
 //! A store over SQLite.
 pub(crate) mod checksum;
 pub(crate) mod copy;
+mod joined;
+mod journal;
+mod merged;
 mod progress;
 mod transaction;
 mod version;
 
-use crate::model::change::{Change, Outcome, Record, Write};
-
+use crate::model::change::{Change, Outcome, Record};
 use crate::model::client_set::ClientSet;
-use crate::model::history::History;
+use crate::model::history::{History, Mark};
 use crate::model::lease_record::LeaseRecord;
 use crate::model::room::Room;
 use crate::model::row::{Row, Value};
 use crate::model::snapshot::Snapshot;
 use crate::store::sqlite::checksum::Checksum;
+use crate::store::sqlite::journal::Journal;
+use crate::store::sqlite::merged::Merged;
 use crate::store::sqlite::progress::Known;
 use crate::store::sqlite::transaction::WriteTransaction;
 use crate::store::sqlite::version::Found;
 use crate::store::{Store, StoreError};
-use rusqlite::{Connection, OptionalExtension, Row as SqlRow, params};
+use rusqlite::{Connection, OpenFlags, OptionalExtension, Row as SqlRow, params};
 use std::path::Path;
 use std::time::Duration;
 
 /// A store in one file of SQLite, in WAL mode with synchronous=FULL: `commit` returns once the
-/// changes are on the disk. A write's row and its client's record change in one transaction.
+/// changes are on the disk. Each batch of changes is one transaction: it is added to a journal, and
+/// comes from there into the tables with later batches.
 ///
 /// One process at a time has the file open, by a lock of the file. **The file has to be on a disk
 /// that keeps locks**: a disk of this machine does, and some network file systems do not. There two
@@ -34,6 +39,18 @@ pub struct SqliteStore {
     connection: Connection,
     /// The state of the file after what this value has loaded and committed.
     known: Known,
+    /// The journal, once this value has committed something after it was loaded.
+    journal: Option<Journal>,
+}
+
+/// How a store writes what a commit adds to the log of SQLite.
+#[derive(Clone, Copy, Debug, Default, PartialEq, Eq)]
+pub enum LogWrites {
+    /// By one call of the system for up to 64 KiB.
+    #[default]
+    Joined,
+    /// By two calls for each page, as SQLite does by itself.
+    Single,
 }
 
 /// How long it waits for another process that has the file open.
@@ -43,9 +60,8 @@ const TIMEOUT: Duration = Duration::from_millis(200);
 /// seconds.
 const LONGEST_WAIT: Duration = Duration::from_secs(60);
 
-/// The page size of new stores, in bytes. A commit writes each page that it changes whole, and a
-/// write changes two: one of rows and one of records. SQLite's own 4,096 bytes take a commit a
-/// tenth longer, and 512 save next to nothing more.
+/// The page size of new stores, in bytes. A commit writes each page that it changes whole. SQLite's
+/// own 4,096 bytes take a commit a tenth longer, and 512 save next to nothing more.
 const PAGE_SIZE: i64 = 1024;
 
 /// How many pages the log may have before they are copied into the file. SQLite finds the pages of
@@ -58,26 +74,25 @@ const TABLES: &str = "
     CREATE TABLE IF NOT EXISTS entry (key INTEGER PRIMARY KEY, value BLOB NOT NULL);
     CREATE TABLE IF NOT EXISTS record (
         place INTEGER PRIMARY KEY, client INTEGER NOT NULL UNIQUE, incarnation INTEGER NOT NULL,
-        last INTEGER NOT NULL, outcome INTEGER NOT NULL, has_left INTEGER NOT NULL,
-        commits INTEGER NOT NULL DEFAULT 0);
+        last INTEGER NOT NULL, outcome INTEGER NOT NULL, has_left INTEGER NOT NULL);
     CREATE TABLE IF NOT EXISTS start (
         place INTEGER PRIMARY KEY, bits BLOB NOT NULL UNIQUE, commits INTEGER NOT NULL);
     CREATE TABLE IF NOT EXISTS lease (
         id INTEGER PRIMARY KEY CHECK (id = 0), longest INTEGER NOT NULL, unleased INTEGER NOT NULL);
     CREATE TABLE IF NOT EXISTS room (
         id INTEGER PRIMARY KEY CHECK (id = 0), most_rows INTEGER NOT NULL);
+    CREATE TABLE IF NOT EXISTS journal (batch INTEGER PRIMARY KEY, changes BLOB NOT NULL);
     INSERT OR IGNORE INTO epoch VALUES (0, 0);
     INSERT OR IGNORE INTO lease VALUES (0, 0, -1);";
 
 const EPOCH: &str = "UPDATE epoch SET epoch = ?1 WHERE id = 0";
 
 // A record that is there keeps its place: the records are in order of first registration.
-const REGISTER: &str = "INSERT INTO record (client, incarnation, last, outcome, has_left, commits)
-    VALUES (?1, ?2, 0, 0, 0, ?3)
-    ON CONFLICT (client) DO UPDATE
-    SET incarnation = ?2, last = 0, outcome = 0, has_left = 0, commits = ?3";
-const LEAVE: &str = "UPDATE record SET has_left = 1, commits = ?2 WHERE client = ?1";
-const JUDGE: &str = "UPDATE record SET last = ?2, outcome = ?3, commits = ?4 WHERE client = ?1";
+const REGISTER: &str = "INSERT INTO record (client, incarnation, last, outcome, has_left)
+    VALUES (?1, ?2, 0, 0, 0)
+    ON CONFLICT (client) DO UPDATE SET incarnation = ?2, last = 0, outcome = 0, has_left = 0";
+const LEAVE: &str = "UPDATE record SET has_left = 1 WHERE client = ?1";
+const JUDGE: &str = "UPDATE record SET last = ?2, outcome = ?3 WHERE client = ?1";
 // The first start of the store of which this one is a copy. It has no commits here: to a client
 // that has seen some, the copy is an older store.
 const FIRST_START: &str = "INSERT INTO start (bits, commits) VALUES (?1, 0)";
@@ -106,7 +121,17 @@ impl SqliteStore {
     /// not know; if it was not opened since it was made, and differs from what was written then; if
     /// SQLite can't read, make or write it.
     pub fn open(path: impl AsRef<Path>) -> Result<SqliteStore, StoreError> {
-        SqliteStore::open_by(path.as_ref(), "EXCLUSIVE")
+        SqliteStore::open_with(path, LogWrites::default())
+    }
+
+    /// Opens the file as [`SqliteStore::open`] does, and writes the log of SQLite in this way. The
+    /// file is the same in each.
+    ///
+    /// # Errors
+    ///
+    /// Those of [`SqliteStore::open`].
+    pub fn open_with(path: impl AsRef<Path>, writes: LogWrites) -> Result<SqliteStore, StoreError> {
+        SqliteStore::open_by(path.as_ref(), "EXCLUSIVE", writes)
     }
 
     /// Takes the rows of this key and of all greater ones away, all or none: they are in another
@@ -118,11 +143,10 @@ impl SqliteStore {
     /// `Deposed` if somebody else has changed the store since it was loaded; `Failed` if SQLite
     /// can't write it.
     pub fn cut_off(&mut self, key: u64, upper: &Snapshot) -> Result<(), StoreError> {
-        let transaction = self.begin()?;
-        run(&transaction, DELETE_FROM, params![signed(key)?])?;
-        checksum::write_cut(&transaction, upper)?;
-        self.known = finish(transaction, self.known, &[])?;
-        Ok(())
+        self.change_tables(|transaction| {
+            run(transaction, DELETE_FROM, params![signed(key)?])?;
+            checksum::write_cut(transaction, upper)
+        })
     }
 
     /// Writes these rows, each in place of the one of its key if there is one, all or none. No
@@ -134,9 +158,22 @@ impl SqliteStore {
     /// `Deposed` if somebody else has changed the store since it was loaded; `Failed` if SQLite
     /// can't write it.
     pub fn write_rows(&mut self, rows: impl IntoIterator<Item = Row>) -> Result<(), StoreError> {
+        let rows: Merged = rows.into_iter().collect();
+        self.change_tables(|transaction| rows.write(transaction))
+    }
+
+    /// Commits what no batch of a server does, after all that the journal has.
+    fn change_tables(
+        &mut self,
+        change: impl FnOnce(&WriteTransaction<'_>) -> Result<(), StoreError>,
+    ) -> Result<(), StoreError> {
+        self.journal = None;
         let transaction = self.begin()?;
-        rows.into_iter().try_for_each(|row| commit_write(&transaction, &Write::Put(row)))?;
-        self.known = finish(transaction, self.known, &[])?;
+        journal::take_all(&transaction)?.write(&transaction)?;
+        change(&transaction)?;
+        let last = progress::count(&transaction, self.known.last, &[])?;
+        transaction.commit()?;
+        self.known.last = last;
         Ok(())
     }
 
@@ -147,10 +184,10 @@ impl SqliteStore {
         Ok(transaction)
     }
 
-    fn open_by(path: &Path, locking: &str) -> Result<SqliteStore, StoreError> {
+    fn open_by(path: &Path, locking: &str, writes: LogWrites) -> Result<SqliteStore, StoreError> {
         // SQLite makes one as it looks.
         let had_log = copy::beside(path, "-wal").exists();
-        let connection = Connection::open(path)?;
+        let connection = connect(path, writes)?;
         connection.busy_timeout(TIMEOUT)?;
         connection.pragma_update(None, "locking_mode", locking)?;
         // A file that is not a store is left as it is.
@@ -173,7 +210,14 @@ impl SqliteStore {
         }
         take_checksum(&connection)?;
         let known = Known::read(&connection)?;
-        Ok(SqliteStore { connection, known })
+        Ok(SqliteStore { connection, known, journal: None })
+    }
+}
+
+fn connect(path: &Path, writes: LogWrites) -> Result<Connection, StoreError> {
+    match joined::name().filter(|_| writes == LogWrites::Joined) {
+        Some(layer) => Ok(Connection::open_with_flags_and_vfs(path, OpenFlags::default(), layer)?),
+        None => Ok(Connection::open(path)?),
     }
 }
 
@@ -205,18 +249,28 @@ fn limit_log(connection: &Connection) -> Result<(), StoreError> {
 
 impl Store for SqliteStore {
     fn load(&mut self) -> Result<Snapshot, StoreError> {
+        self.journal = None;
         let transaction = self.connection.transaction()?;
         self.known = Known::read(&transaction)?;
         load(&transaction)
     }
 
     fn commit(&mut self, changes: &[Change]) -> Result<(), StoreError> {
-        let transaction = self.begin()?;
         if changes.is_empty() {
-            return Ok(());
+            return self.begin().map(drop);
         }
-        progress::begin(&transaction, self.known.last, changes)?;
-        self.known = finish(transaction, self.known, changes)?;
+        // After a batch that is not committed, the next one reads what the file has.
+        let journal = self.journal.take();
+        let transaction = self.begin()?;
+        let (last, journal) = match (self.known.last, journal) {
+            (Some(mark), Some(journal)) if Journal::takes(changes) => {
+                let mark = Mark { commits: mark.commits + 1, ..mark };
+                (Some(mark), Some(journal.add(&transaction, changes, mark.commits)?))
+            }
+            (last, _) => write_through(&transaction, last, changes)?,
+        };
+        transaction.commit()?;
+        (self.known.last, self.journal) = (last, journal);
         Ok(())
     }
 
@@ -233,18 +287,20 @@ impl Store for SqliteStore {
     }
 }
 
-/// Commits the changes as one batch, and answers how far the store has come by it.
-fn finish(
-    transaction: WriteTransaction<'_>,
-    known: Known,
+/// Writes all that the journal has to the tables, and then the batch. Returns how far the store
+/// has come with it, and the journal, which is empty.
+fn write_through(
+    transaction: &WriteTransaction<'_>,
+    last: Option<Mark>,
     changes: &[Change],
-) -> Result<Known, StoreError> {
-    let number = progress::next_number(known.last, changes);
-    let batch = signed(number)?;
-    changes.iter().try_for_each(|change| commit_one(&transaction, change, batch))?;
-    let last = progress::finish(&transaction, known.last, changes, number)?;
-    transaction.commit()?;
-    Ok(Known { last, ..known })
+) -> Result<(Option<Mark>, Option<Journal>), StoreError> {
+    let mut merged = journal::take_all(transaction)?;
+    for change in changes {
+        merged.add(change);
+    }
+    merged.write(transaction)?;
+    let last = progress::count(transaction, last, changes)?;
+    Ok((last, last.map(|mark| Journal::empty(mark.commits + 1))))
 }
 
 /// Refuses what rests on another state of the store than this one. The marks are compared only if
@@ -264,7 +320,7 @@ fn is_own(transaction: &WriteTransaction<'_>, known: Known) -> Result<(), StoreE
 pub(crate) fn prepare(connection: &Connection) -> Result<(), StoreError> {
     let transaction = WriteTransaction::begin(connection)?;
     transaction.execute_batch(TABLES)?;
-    progress::add_commits(&transaction)?;
+    progress::count_in_start(&transaction)?;
     version::mark(&transaction)?;
     transaction.commit()
 }
@@ -289,6 +345,7 @@ pub(crate) fn load(connection: &Connection) -> Result<Snapshot, StoreError> {
     snapshot.leases = lease_record(connection)?;
     snapshot.room = kept_room(connection)?;
     snapshot.first_start = first_start(connection)?;
+    journal::apply(connection, &mut snapshot)?;
     Ok(snapshot)
 }
 
@@ -335,73 +392,12 @@ fn lease_record(connection: &Connection) -> Result<LeaseRecord, StoreError> {
 /// Gives a file that has the tables of a store and no more all of the snapshot.
 pub(crate) fn save(connection: &Connection, snapshot: &Snapshot) -> Result<(), StoreError> {
     let transaction = WriteTransaction::begin(connection)?;
-    let keep = |change: &Change| commit_one(&transaction, change, NOT_COUNTED);
-    keep(&Change::Started { epoch: snapshot.epoch })?;
+    Merged::from(snapshot).write(&transaction)?;
     if let Some(first_start) = snapshot.first_start {
         run(&transaction, FIRST_START, params![first_start.to_le_bytes()])?;
     }
-    for (key, value) in &snapshot.rows {
-        commit_write(&transaction, &Write::Insert(Row { key: *key, value: *value }))?;
-    }
-    for record in &snapshot.records {
-        save_record(&transaction, record)?;
-    }
-    keep(&Change::Leased(snapshot.leases))?;
-    if let Some(room) = snapshot.room {
-        keep(&Change::Room(room))?;
-    }
     checksum::write(&transaction, snapshot)?;
     transaction.commit()
-}
-
-/// What is written before a server has started is of no batch.
-const NOT_COUNTED: i64 = 0;
-
-fn save_record(transaction: &WriteTransaction<'_>, record: &Record) -> Result<(), StoreError> {
-    let Record { client, incarnation, last, left } = *record;
-    run(transaction, REGISTER, params![client, signed(incarnation)?, NOT_COUNTED])?;
-    if let Some((number, outcome)) = last {
-        let judged = params![client, signed(number)?, outcome.tag(), NOT_COUNTED];
-        run(transaction, JUDGE, judged)?;
-    }
-    if left { run(transaction, LEAVE, params![client, NOT_COUNTED]) } else { Ok(()) }
-}
-
-/// Makes one change of the batch of this number.
-fn commit_one(
-    transaction: &WriteTransaction<'_>,
-    change: &Change,
-    batch: i64,
-) -> Result<(), StoreError> {
-    match change {
-        Change::Started { epoch } => run(transaction, EPOCH, params![signed(*epoch)?]),
-        Change::Registered { client, incarnation } => {
-            run(transaction, REGISTER, params![client, signed(*incarnation)?, batch])
-        }
-        Change::Left { client } => run(transaction, LEAVE, params![client, batch]),
-        Change::Judged { client, number, write, outcome } => {
-            let judged = params![client, signed(*number)?, outcome.tag(), batch];
-            run(transaction, JUDGE, judged)?;
-            match outcome {
-                Outcome::Applied => commit_write(transaction, write),
-                _ => Ok(()),
-            }
-        }
-        Change::Leased(LeaseRecord { longest, unleased }) => {
-            let unleased = unleased.bits().cast_signed();
-            run(transaction, LEASE, params![signed(*longest)?, unleased])
-        }
-        Change::Room(room) => run(transaction, ROOM, params![signed(room.rows() as u64)?]),
-    }
-}
-
-fn commit_write(transaction: &WriteTransaction<'_>, write: &Write) -> Result<(), StoreError> {
-    match write {
-        Write::Insert(Row { key, value }) | Write::Put(Row { key, value }) => {
-            run(transaction, PUT, params![signed(*key)?, value.as_bytes()])
-        }
-        Write::Delete(key) => run(transaction, DELETE, params![signed(*key)?]),
-    }
 }
 
 fn run(

@@ -273,7 +273,7 @@ pub(crate) mod tests {
         assert_eq!(file.metadata().unwrap().permissions().mode() & 0o777, 0o600);
         let (checksum, cut_off) = (Checksum::Matches, None);
         let expected =
-            StoreFile { version: 5, page_size: 1024, snapshot: snapshot(), checksum, cut_off };
+            StoreFile { version: 6, page_size: 1024, snapshot: snapshot(), checksum, cut_off };
         assert_eq!(SqliteStore::read(&file).unwrap(), expected);
         assert_eq!(folder.names(), ["copy.db"]);
         assert_eq!(SqliteStore::open(&file).unwrap().load().unwrap(), snapshot());
@@ -425,6 +425,9 @@ pub(crate) mod tests {
         }
     }
 
+    /// What the records of version 5 have and no others.
+    pub const COUNTS: &str = "ALTER TABLE record ADD COLUMN commits INTEGER NOT NULL DEFAULT 0;";
+
     #[test]
     fn an_older_store_is_read_as_it_is_and_raised_when_it_is_opened() {
         let folder = Folder::new("older");
@@ -434,12 +437,14 @@ pub(crate) mod tests {
             (2, "DROP TABLE lease;", snapshot().first_start),
             (3, "UPDATE lease SET longest = 0, unleased = -1;", snapshot().first_start),
             (4, "UPDATE lease SET longest = 0, unleased = -1;", snapshot().first_start),
+            (5, "UPDATE lease SET longest = 0, unleased = -1;", snapshot().first_start),
         ] {
             let file = folder.0.join(format!("{version}.db"));
             SqliteStore::create(&file, &snapshot()).unwrap();
             let room = if version < 4 { "DROP TABLE room;" } else { "DELETE FROM room;" };
+            let counts = if version < 5 { "" } else { COUNTS };
             let older = format!(
-                "DROP TABLE checksum; ALTER TABLE record DROP COLUMN commits; {room} {marks}
+                "DROP TABLE checksum; DROP TABLE journal; {counts} {room} {marks}
                 PRAGMA user_version = {version};"
             );
             let leases = LeaseRecord::UNKNOWN;
@@ -469,11 +474,11 @@ pub(crate) mod tests {
         let folder = Folder::new("newer");
         let file = folder.0.join("new.db");
         SqliteStore::create(&file, &snapshot()).unwrap();
-        Connection::open(&file).unwrap().execute_batch("PRAGMA user_version = 6").unwrap();
+        Connection::open(&file).unwrap().execute_batch("PRAGMA user_version = 7").unwrap();
         let before = std::fs::read(&file).unwrap();
         for refused in [SqliteStore::read(&file).map(drop), SqliteStore::open(&file).map(drop)] {
             let refused = refused.unwrap_err().to_string();
-            assert!(refused.contains("version 6, and"), "{refused}");
+            assert!(refused.contains("version 7, and"), "{refused}");
         }
         assert_eq!(std::fs::read(&file).unwrap(), before);
         assert_eq!(folder.names(), ["new.db"]);

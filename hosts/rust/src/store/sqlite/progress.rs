@@ -1,9 +1,8 @@
 //! How far a store over SQLite has come.
 //!
-//! Each batch counts one more commit of the last start. It writes that number into the records that
-//! it changes anyway, so counting touches no further page: one more page costs a commit a tenth of
-//! its time. Only a batch that changes no record writes the number next to the start. The greatest
-//! of these numbers is how far the store has come.
+//! Each batch counts one more commit of the last start. The number of a batch in the journal counts
+//! by itself. Any other batch writes its number next to the start. The greatest of these numbers is
+//! how far the store has come.
 use super::transaction::WriteTransaction;
 use super::{positive, run, signed};
 use crate::model::change::Change;
@@ -11,18 +10,19 @@ use crate::model::history::{History, Mark};
 use crate::store::StoreError;
 use rusqlite::{Connection, Row as SqlRow, params};
 
-/// A column of records, which those of stores before version 5 lack.
-pub(super) const COMMITS: &str = "ALTER TABLE record ADD COLUMN commits INTEGER NOT NULL DEFAULT 0";
-const HAS_COMMITS: &str = "SELECT count(*) FROM pragma_table_info('record') WHERE name = 'commits'";
-
-const LAST: &str =
-    "SELECT bits, max(commits, (SELECT coalesce(max(commits), 0) FROM record)) FROM start
-    ORDER BY place DESC LIMIT 1";
+const LAST: &str = "SELECT bits, max(commits, (SELECT coalesce(max(batch), 0) FROM journal))
+    FROM start ORDER BY place DESC LIMIT 1";
 const STARTS: &str = "SELECT bits, commits FROM start ORDER BY place";
 
 const COUNT: &str = "UPDATE start SET commits = ?1 WHERE place = (SELECT max(place) FROM start)";
-const FORGET_COUNTS: &str = "UPDATE record SET commits = 0";
-const START: &str = "INSERT INTO start (bits, commits) VALUES (randomblob(16), 0)";
+const START: &str = "INSERT INTO start (bits, commits) VALUES (randomblob(16), 1)";
+
+// In stores of version 5 the records count commits as well.
+const HAS_COMMITS: &str = "SELECT count(*) FROM pragma_table_info('record') WHERE name = 'commits'";
+const COUNT_IN_START: &str = "
+    UPDATE start SET commits = max(commits, (SELECT coalesce(max(commits), 0) FROM record))
+    WHERE place = (SELECT max(place) FROM start);
+    ALTER TABLE record DROP COLUMN commits;";
 
 // It changes with each commit of another connection, and with none of this one.
 const DATA_VERSION: &str = "PRAGMA data_version";
@@ -50,56 +50,25 @@ pub(super) fn data_version(connection: &Connection) -> Result<i64, StoreError> {
     Ok(connection.prepare_cached(DATA_VERSION)?.query_row([], |row| row.get(0))?)
 }
 
-/// The number of a batch after so much: the commits of its start, with it.
-pub(super) fn next_number(last: Option<Mark>, changes: &[Change]) -> u64 {
-    match last {
-        Some(mark) if !has_start(changes) => mark.commits + 1,
-        _ => 1,
-    }
-}
-
-/// Makes room for what a batch counts: if a server starts by it, then from 0.
-pub(super) fn begin(
+/// Counts a batch that is not in the journal, which is empty. Returns how far the store has come
+/// with it: if a server starts by it, then by one commit of that start.
+pub(super) fn count(
     transaction: &WriteTransaction<'_>,
     last: Option<Mark>,
     changes: &[Change],
-) -> Result<(), StoreError> {
-    if !has_start(changes) {
-        return Ok(());
-    }
-    if let Some(mark) = last {
-        run(transaction, COUNT, params![signed(mark.commits)?])?;
-    }
-    run(transaction, FORGET_COUNTS, &[])?;
-    run(transaction, START, &[])
-}
-
-/// Counts a batch of this number, unless a record has the number by now. It answers how far the
-/// store has come with it.
-pub(super) fn finish(
-    transaction: &WriteTransaction<'_>,
-    last: Option<Mark>,
-    changes: &[Change],
-    number: u64,
 ) -> Result<Option<Mark>, StoreError> {
-    if !changes.iter().any(writes_a_record) {
-        run(transaction, COUNT, params![signed(number)?])?;
-    }
-    match last {
-        Some(mark) if !has_start(changes) => Ok(Some(Mark { commits: number, ..mark })),
-        _ => last_mark(transaction),
-    }
+    let starts = changes.iter().any(|change| matches!(change, Change::Started { .. }));
+    let Some(mark) = last else {
+        return if starts { start(transaction) } else { Ok(None) };
+    };
+    let commits = mark.commits + u64::from(!starts);
+    run(transaction, COUNT, params![signed(commits)?])?;
+    if starts { start(transaction) } else { Ok(Some(Mark { commits, ..mark })) }
 }
 
-fn has_start(changes: &[Change]) -> bool {
-    changes.iter().any(|change| matches!(change, Change::Started { .. }))
-}
-
-fn writes_a_record(change: &Change) -> bool {
-    match change {
-        Change::Registered { .. } | Change::Left { .. } | Change::Judged { .. } => true,
-        Change::Started { .. } | Change::Leased(_) | Change::Room(_) => false,
-    }
+fn start(transaction: &WriteTransaction<'_>) -> Result<Option<Mark>, StoreError> {
+    run(transaction, START, &[])?;
+    last_mark(transaction)
 }
 
 /// How far the store has come, unless no server has started on it.
@@ -126,11 +95,11 @@ fn mark_of(row: &SqlRow<'_>) -> Result<Mark, StoreError> {
     Ok(Mark { start: u128::from_le_bytes(row.get(0)?), commits: positive(row.get(1)?)? })
 }
 
-/// Gives the records of a store of an older version the column that they lack.
-pub(super) fn add_commits(transaction: &WriteTransaction<'_>) -> Result<(), StoreError> {
+/// Moves the count of a store of version 5 from its records to its last start.
+pub(super) fn count_in_start(transaction: &WriteTransaction<'_>) -> Result<(), StoreError> {
     let columns: i64 = transaction.query_row(HAS_COMMITS, [], |row| row.get(0))?;
-    if columns == 0 {
-        transaction.execute_batch(COMMITS)?;
+    if columns > 0 {
+        transaction.execute_batch(COUNT_IN_START)?;
     }
     Ok(())
 }

@@ -1,5 +1,6 @@
+use super::copy::tests::COUNTS;
 use super::*;
-use crate::model::history::Mark;
+use crate::model::change::Write;
 use crate::store::store_tests::{self, changes, row};
 
 /// What the store has, but for its first start, which it draws.
@@ -82,13 +83,8 @@ fn a_batch_of_any_kind_is_counted_once_and_an_earlier_start_keeps_its_count() {
         marks.push(mark);
     }
     assert_eq!(marks.iter().map(|mark| mark.commits).collect::<Vec<_>>(), [1, 2, 3, 4]);
-    // The records count from 0 again, and nothing of the first start is forgotten.
+    // The count begins again, and nothing of the first start is forgotten.
     store.commit(&[Change::Started { epoch: 2 }]).unwrap();
-    let counted: u64 = store
-        .connection
-        .query_row("SELECT max(commits) FROM record", [], |row| row.get(0))
-        .unwrap();
-    assert_eq!(counted, 0);
     let history = store.history().unwrap().unwrap();
     assert!(marks.iter().all(|mark| history.has(*mark)));
     assert!(!history.has(Mark { commits: 5, ..marks[0] }));
@@ -97,31 +93,29 @@ fn a_batch_of_any_kind_is_counted_once_and_an_earlier_start_keeps_its_count() {
 }
 
 #[test]
-fn a_store_of_version_4_goes_on_to_count_where_it_was() {
-    let folder = std::env::temp_dir().join(format!("krl-version-4-{}", std::process::id()));
+fn an_older_store_goes_on_to_count_where_it_was() {
+    let folder = std::env::temp_dir().join(format!("krl-older-counts-{}", std::process::id()));
     std::fs::create_dir_all(&folder).unwrap();
-    let file = folder.join("table.db");
-    let mut store = SqliteStore::open(&file).unwrap();
-    store.commit(&changes()[..1]).unwrap();
-    let started = store.history().unwrap().unwrap().mark().unwrap();
-    store
-        .connection
-        .execute_batch(
-            "UPDATE start SET commits = 7; ALTER TABLE record DROP COLUMN commits;
-            PRAGMA user_version = 4;",
-        )
-        .unwrap();
-    drop(store);
-    let mut store = SqliteStore::open(&file).unwrap();
-    let mark = |store: &mut SqliteStore| store.history().unwrap().unwrap().mark().unwrap();
-    assert_eq!(mark(&mut store), Mark { commits: 7, ..started });
-    store.commit(&changes()[1..2]).unwrap();
-    assert_eq!(mark(&mut store), Mark { commits: 8, ..started });
+    let of_records = format!("{COUNTS} UPDATE record SET commits = 3 + 4 * (client = 2);");
+    for (version, older) in [(4, "UPDATE start SET commits = 7;"), (5, &of_records)] {
+        let file = folder.join(format!("{version}.db"));
+        let mut store = SqliteStore::open(&file).unwrap();
+        store.commit(&changes()[..3]).unwrap();
+        let started = store.history().unwrap().unwrap().mark().unwrap();
+        let older = format!("DROP TABLE journal; {older} PRAGMA user_version = {version};");
+        store.connection.execute_batch(&older).unwrap();
+        drop(store);
+        let mut store = SqliteStore::open(&file).unwrap();
+        let mark = |store: &mut SqliteStore| store.history().unwrap().unwrap().mark().unwrap();
+        assert_eq!(mark(&mut store), Mark { commits: 7, ..started }, "version {version}");
+        store.commit(&changes()[1..2]).unwrap();
+        assert_eq!(mark(&mut store), Mark { commits: 8, ..started }, "version {version}");
+    }
     std::fs::remove_dir_all(&folder).unwrap();
 }
 
 #[test]
-fn a_write_changes_two_pages_of_a_new_store() {
+fn a_batch_changes_one_page_of_a_new_store_while_that_has_room() {
     let folder = std::env::temp_dir().join(format!("krl-pages-{}", std::process::id()));
     std::fs::create_dir_all(&folder).unwrap();
     let file = folder.join("table.db");
@@ -130,12 +124,14 @@ fn a_write_changes_two_pages_of_a_new_store() {
     store.commit(&changes()[..4]).unwrap();
     let log = copy::beside(&file, "-wal");
     let length = || log.metadata().unwrap().len();
-    let before = length();
-    let write = Write::Put(row(10, b"more"));
-    let judged = Change::Judged { client: 9, number: 2, write, outcome: Outcome::Applied };
-    store.commit(&[judged]).unwrap();
-    // In front of each page the log has a header of 24 bytes.
-    assert_eq!(length() - before, 2 * (24 + PAGE_SIZE.cast_unsigned()));
+    for number in 2..6 {
+        let before = length();
+        let write = Write::Put(row(10 + number, b"more"));
+        let judged = Change::Judged { client: 9, number, write, outcome: Outcome::Applied };
+        store.commit(&[judged; 3]).unwrap();
+        // In front of each page the log has a header of 24 bytes.
+        assert_eq!(length() - before, 24 + PAGE_SIZE.cast_unsigned());
+    }
     std::fs::remove_dir_all(&folder).unwrap();
 }
 
@@ -161,7 +157,8 @@ fn a_value_commits_nothing_behind_another_one() {
     let folder = std::env::temp_dir().join(format!("krl-behind-{}", std::process::id()));
     std::fs::create_dir_all(&folder).unwrap();
     // Without the file's lock two values may have it open.
-    let open = |name: &str| SqliteStore::open_by(&folder.join(name), "NORMAL").unwrap();
+    let open =
+        |name: &str| SqliteStore::open_by(&folder.join(name), "NORMAL", LogWrites::Single).unwrap();
     store_tests::deposes_an_older_value(|| open("deposed.db"));
     store_tests::tells_two_starts_apart(|| open("starts.db"));
     std::fs::remove_dir_all(&folder).unwrap();
