@@ -304,7 +304,7 @@ impl Host {
         self.state().client.sent(count);
     }
 
-    /// The connection has ended, or was not made. It answers when to make the next one.
+    /// The connection has ended, or was not made. Returns when to make the next one.
     pub fn disconnected(&self, now: u64) -> Result<u64, Fault> {
         self.drive(|state| {
             let now = state.at(now);
@@ -314,7 +314,7 @@ impl Host {
         })
     }
 
-    /// Begins a call, and answers its number.
+    /// Begins a call, and returns its number.
     pub fn ask(
         &self,
         now: u64,

@@ -28,7 +28,7 @@ enum Told {
     Quit,
 }
 
-/// Runs the lines of standard input, and answers the exit status.
+/// Runs the lines of standard input, and returns the exit status.
 pub fn run(run: &mut Run<'_>) -> Result<u8, Failure> {
     if io::stdin().is_terminal() { run_prompt(run) } else { run_lines(io::stdin().lock(), run) }
 }

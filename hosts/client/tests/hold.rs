@@ -84,7 +84,7 @@ fn a_held_range_takes_no_new_rows_and_its_neighbours_do() {
     assert_eq!(program.wait().unwrap().code(), Some(143));
 }
 
-/// Runs holders at once, and answers the most commands that ran at the same time.
+/// Runs holders at once, and returns the most commands that ran at the same time.
 fn most_at_once(world: &World, words: &[&str]) -> usize {
     let log = world.folder.join("log");
     std::fs::write(&log, "").unwrap();

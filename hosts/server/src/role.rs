@@ -29,7 +29,7 @@ impl Role {
         *self.lock() = State::Serves { monitor, since: SystemTime::now() };
     }
 
-    /// Another server serves. It answers whether that is news.
+    /// Another server serves. Returns whether that is news.
     pub fn stands_by(&self, leader: &str) -> bool {
         let mut state = self.lock();
         let is_known = matches!(&*state, State::StandsBy { leader: known } if known == leader);

@@ -40,7 +40,7 @@ pub fn run(
     }
 }
 
-/// Reports who serves, once, or why nobody knows, now and then; and answers whether to continue.
+/// Reports who serves, once, or why nobody knows, now and then; and returns whether to continue.
 fn hear(standing: Standing<'_>, role: &Role, signal: &Signal, unanswered: &mut Unanswered) -> bool {
     match standing {
         Standing::StandsBy(leader) if role.stands_by(leader) => serve::stands_by(leader),

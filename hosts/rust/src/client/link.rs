@@ -268,8 +268,8 @@ impl Link {
         watches
     }
 
-    /// Takes what has come on the connection, and continues with what the client was asked. It
-    /// answers when that is due again if nothing comes: the thread sleeps until then.
+    /// Takes what has come on the connection, and continues with what the client was asked. Returns
+    /// when that is due again if nothing comes: the thread sleeps until then.
     fn go_on(&self, ready: impl Iterator<Item = Ready>) -> io::Result<Instant> {
         let is_due = self.go_on_reading(ready);
         self.wakes.wake_all();

@@ -154,13 +154,13 @@ impl Connections {
         self.looked(number, looked)
     }
 
-    /// Reads once from the socket of this connection. It answers how many bytes came.
+    /// Reads once from the socket of this connection. Returns how many bytes came.
     pub fn fill(&mut self, number: u64, stream: &mut impl Read) -> io::Result<usize> {
         let peer = self.open.get_mut(&number);
         peer.map_or(Err(io::ErrorKind::NotConnected.into()), |peer| peer.connection.fill(stream))
     }
 
-    /// Takes what a read of this connection came to, at a moment after it. It answers what the
+    /// Takes what a read of this connection came to, at a moment after it. Returns what the
     /// connection has.
     pub fn has_read(&mut self, number: u64, came: io::Result<usize>, now: Now) -> Found {
         self.now = now;
@@ -358,8 +358,8 @@ impl Connections {
         self.closed.pop_front()
     }
 
-    /// Writes what the peer takes, and closes the connection if that fails or was the last. It
-    /// answers for what the socket has to be watched then, if it is still open.
+    /// Writes what the peer takes, and closes the connection if that fails or was the last. Returns
+    /// for what the socket has to be watched then, if it is still open.
     pub fn write(&mut self, number: u64, stream: &mut impl Write) -> Option<Watched> {
         let peer = self.open.get_mut(&number)?;
         let is_lost = peer.connection.write(stream, self.now.monotonic).is_err();

@@ -81,7 +81,7 @@ impl HeldRun {
         HeldSlot { lo, hi, client, mode }
     }
 
-    /// Takes the next run into this one if they are neighbors, and answers whether they are.
+    /// Takes the next run into this one if they are neighbors, and returns whether they are.
     pub(crate) fn join(&mut self, next: &HeldRun) -> bool {
         let is_next = (self.client, self.mode, self.hi) == (next.client, next.mode, next.lo);
         if is_next {

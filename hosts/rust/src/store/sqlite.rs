@@ -233,7 +233,7 @@ impl Store for SqliteStore {
     }
 }
 
-/// Commits the changes as one batch, and answers how far the store has come by it.
+/// Commits the changes as one batch, and returns how far the store has come by it.
 fn finish(
     transaction: WriteTransaction<'_>,
     known: Known,

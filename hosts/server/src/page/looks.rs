@@ -286,7 +286,7 @@ impl View {
 }
 
 /// Puts the runs in order, and leaves out those after the first `most`, and all that begin where
-/// the first of these does. It answers where those begin, if there are any.
+/// the first of these does. Returns where those begin, if there are any.
 fn cut(runs: &mut Vec<HeldRun>, most: usize) -> Option<u64> {
     runs.sort_unstable();
     let next = runs.get(most)?.lo;

@@ -82,7 +82,7 @@ impl World {
         while self.round() {}
     }
 
-    /// Hands over what each client says, and then what the server says. It answers whether anybody
+    /// Hands over what each client says, and then what the server says. Returns whether anybody
     /// has said anything.
     pub fn round(&mut self) -> bool {
         let said: Vec<_> = (0..self.clients.len()).flat_map(|client| self.said(client)).collect();

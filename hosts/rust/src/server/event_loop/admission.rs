@@ -47,7 +47,7 @@ impl KeptRequests {
 
 impl EventLoop {
     /// Keeps a message that came on a connection, if it is a new request for a lock and has to wait.
-    /// It answers whether it has.
+    /// Returns whether it has.
     pub(super) fn keeps(&mut self, connection: u64, message: Message<'_>, now: Now) -> bool {
         let Some(client) = message.client().filter(|_| message.kind() == Kind::Lock) else {
             return false;
@@ -61,7 +61,7 @@ impl EventLoop {
         has_to_wait
     }
 
-    /// Takes requests that were kept, until many wait again. It answers whether there were any. A
+    /// Takes requests that were kept, until many wait again. Returns whether there were any. A
     /// request of an earlier connection of its client is lost.
     pub(super) fn take_kept(&mut self, now: Now) -> Result<bool, ServeError> {
         let mut is_any = false;

@@ -36,7 +36,7 @@ impl EventLoop {
     }
 
     /// Lets the connection in if its client takes the server for what it serves, and otherwise ends
-    /// it. It answers which.
+    /// it. Returns which.
     fn compare(&mut self, connection: u64, expected: Option<ShardBounds>) -> bool {
         match shard_fence::compare(expected, self.shard) {
             Ok(()) => {

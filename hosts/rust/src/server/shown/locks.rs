@@ -74,7 +74,7 @@ pub(crate) fn page(requests: &Requests, search: Search) -> Result<Page, LocksErr
 }
 
 /// Puts the slots in order, and leaves out those after the first `most`, and all holders of the
-/// first of these. It answers where those begin, if there are any.
+/// first of these. Returns where those begin, if there are any.
 fn cut(held: &mut Vec<HeldSlot>, most: usize) -> Option<u64> {
     held.sort_unstable();
     let next = held.get(most)?.lo;

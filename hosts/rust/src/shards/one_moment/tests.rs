@@ -50,7 +50,7 @@ fn is_so_soon(is_so: impl Fn() -> bool) -> bool {
     true
 }
 
-/// Scans both rows. Between the two scans the grant comes, if nothing keeps it back. It answers the
+/// Scans both rows. Between the two scans the grant comes, if nothing keeps it back. Returns the
 /// rows, if both are known.
 fn scan_with_a_grant_between(shards: &mut Shards, number: u64) -> Option<Vec<Row>> {
     let [left, right] = shards.caches();

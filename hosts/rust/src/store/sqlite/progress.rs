@@ -74,7 +74,7 @@ pub(super) fn begin(
     run(transaction, START, &[])
 }
 
-/// Counts a batch of this number, unless a record has the number by now. It answers how far the
+/// Counts a batch of this number, unless a record has the number by now. Returns how far the
 /// store has come with it.
 pub(super) fn finish(
     transaction: &WriteTransaction<'_>,

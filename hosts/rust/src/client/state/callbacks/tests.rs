@@ -34,7 +34,7 @@ fn world() -> World {
 }
 
 /// One round trip. After each message a client continues as far as it comes, and the hasty one does
-/// this. It answers what the hasty client has said, by its kinds.
+/// this. Returns what the hasty client has said, by its kinds.
 fn trip(world: &mut World, mut hasten: impl FnMut(&mut World)) -> Vec<u8> {
     // What the patient client asks for comes before what the hasty one asks for.
     let [patient, hasty] = [PATIENT, HASTY].map(|client| world.said(client));

@@ -68,7 +68,7 @@ impl World {
         while self.hear_clients() | self.tell_clients() {}
     }
 
-    /// The server takes what each client sends. It answers whether one has sent anything.
+    /// The server takes what each client sends. Returns whether one has sent anything.
     fn hear_clients(&mut self) -> bool {
         let mut has_heard = false;
         for (state, connection) in self.clients.iter_mut().zip(&self.connections) {
@@ -80,7 +80,7 @@ impl World {
         has_heard
     }
 
-    /// The clients take what the server sends. It answers whether it has sent anything.
+    /// The clients take what the server sends. Returns whether it has sent anything.
     fn tell_clients(&mut self) -> bool {
         if let Some(commit) = self.events.take_commit(self.now) {
             self.events.committed(commit, self.now).unwrap();
