@@ -94,7 +94,7 @@ fn what_is_no_range_is_refused() {
 }
 
 #[test]
-fn a_server_that_has_ended_tells_nothing() {
+fn a_server_that_has_ended_shows_nothing() {
     let listener = Listener::bind(&"127.0.0.1:0".parse().unwrap()).unwrap();
     let server = Server::start(listener, MemoryStore::default()).unwrap();
     let monitor = server.monitor();

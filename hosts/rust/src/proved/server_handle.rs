@@ -49,14 +49,14 @@ impl Handle {
     /// message.
     pub fn take(&mut self, frames: &mut Vec<u8>) -> Result<(), Code> {
         let old = frames.len();
-        let taken = self.take_behind(old, frames);
+        let taken = self.append_taken(old, frames);
         frames.truncate(old + taken.unwrap_or(0));
         taken.map(drop)
     }
 
     /// Takes the same into the room after the old bytes, and returns how long it is. The room grows
     /// as it has to.
-    fn take_behind(&mut self, old: usize, frames: &mut Vec<u8>) -> Result<usize, Code> {
+    fn append_taken(&mut self, old: usize, frames: &mut Vec<u8>) -> Result<usize, Code> {
         loop {
             let room = &mut frames[old..];
             // SAFETY: as for any handle, and there is so much room to be written to.
@@ -223,7 +223,7 @@ impl ServerHandle {
     /// Takes what waits to be sent, as frames, into the front of `room`, and returns how many bytes
     /// they have. The room grows as it has to, and is used again.
     pub fn take(&mut self, room: &mut Vec<u8>) -> Result<usize, Code> {
-        self.handle.take_behind(0, room)
+        self.handle.append_taken(0, room)
     }
 }
 

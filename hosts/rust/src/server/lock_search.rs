@@ -191,7 +191,7 @@ mod tests {
     }
 
     #[test]
-    fn a_search_tells_what_meets_its_points() {
+    fn a_search_finds_what_meets_its_points() {
         let mut whole = search(15..31, 100);
         let held = whole.page(next_held, || false);
         let expected = [run(1, 10, 20, 1), run(1, 20, 30, 1), run(1, 30, 40, 1), run(3, 20, 30, 1)];

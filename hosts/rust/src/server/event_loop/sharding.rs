@@ -20,7 +20,8 @@ impl EventLoop {
         match *frame {
             Incoming::Host(Some(FromClient::Shard(expected))) => {
                 if self.compare(connection, Some(expected)) {
-                    self.connections.tell(connection, &FromServer::Shard(expected).frame());
+                    self.connections
+                        .send_after_commit(connection, &FromServer::Shard(expected).frame());
                 }
                 false
             }

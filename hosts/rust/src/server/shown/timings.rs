@@ -202,7 +202,7 @@ impl Open {
     }
 
     /// A message of the client was taken.
-    pub fn heard(&mut self, client: u8, message: Message<'_>, now: Instant, timings: &Timings) {
+    pub fn received(&mut self, client: u8, message: Message<'_>, now: Instant, timings: &Timings) {
         let place = usize::from(client);
         match (message.kind(), message.request()) {
             // Only a request that is new begins: a client repeats one that is not answered, and a
@@ -246,7 +246,7 @@ impl Open {
     }
 
     /// A message to the client leaves.
-    pub fn said(&mut self, client: u8, message: Message<'_>, now: Instant, timings: &Timings) {
+    pub fn sent(&mut self, client: u8, message: Message<'_>, now: Instant, timings: &Timings) {
         let place = usize::from(client);
         match (message.kind(), message.request()) {
             (Kind::Grant, Some(request)) => {
@@ -304,13 +304,13 @@ mod tests {
     #[test]
     fn a_request_lasts_from_its_first_message_to_its_grant() {
         let (timings, mut open, start) = (Timings::new(), Open::new(), Instant::now());
-        open.heard(3, Message::read(&lock(3, 5)), start, &timings);
-        open.heard(3, Message::read(&lock(3, 5)), start + MS, &timings);
-        open.said(3, Message::read(&grant(3, 4)), start + 2 * MS, &timings);
-        open.said(4, Message::read(&grant(4, 5)), start + 2 * MS, &timings);
+        open.received(3, Message::read(&lock(3, 5)), start, &timings);
+        open.received(3, Message::read(&lock(3, 5)), start + MS, &timings);
+        open.sent(3, Message::read(&grant(3, 4)), start + 2 * MS, &timings);
+        open.sent(4, Message::read(&grant(4, 5)), start + 2 * MS, &timings);
         assert_eq!(timings.read().grants.count, 0);
-        open.said(3, Message::read(&grant(3, 5)), start + 7 * MS, &timings);
-        open.said(3, Message::read(&grant(3, 5)), start + 9 * MS, &timings);
+        open.sent(3, Message::read(&grant(3, 5)), start + 7 * MS, &timings);
+        open.sent(3, Message::read(&grant(3, 5)), start + 9 * MS, &timings);
         let grants = timings.read().grants;
         assert_eq!((grants.count, grants.sum), (1, 7_000));
     }
@@ -319,43 +319,43 @@ mod tests {
     fn requests_that_have_waited_for_long_are_not_counted() {
         let (timings, mut open, start) = (Timings::new(), Open::new(), Instant::now());
         assert_eq!((open.count_waiting(start, 9 * MS), open.youth_left(start, 9 * MS)), (0, None));
-        open.heard(3, Message::read(&lock(3, 5)), start, &timings);
-        open.heard(4, Message::read(&lock(4, 5)), start + 2 * MS, &timings);
+        open.received(3, Message::read(&lock(3, 5)), start, &timings);
+        open.received(4, Message::read(&lock(4, 5)), start + 2 * MS, &timings);
         let counted = |open: &Open, after: u32| {
             let now = start + after * MS;
             (open.count_waiting(now, 9 * MS), open.youth_left(now, 9 * MS))
         };
         assert_eq!(counted(&open, 8), (2, Some(MS)));
         assert_eq!(counted(&open, 9), (1, Some(2 * MS)));
-        open.said(4, Message::read(&grant(4, 5)), start + 10 * MS, &timings);
+        open.sent(4, Message::read(&grant(4, 5)), start + 10 * MS, &timings);
         assert_eq!(counted(&open, 10), (0, None));
     }
 
     #[test]
     fn a_late_repeat_of_a_request_is_no_new_one() {
         let (timings, mut open, start) = (Timings::new(), Open::new(), Instant::now());
-        open.heard(3, Message::read(&lock(3, 5)), start, &timings);
-        open.said(3, Message::read(&grant(3, 5)), start + MS, &timings);
-        open.heard(3, Message::read(&lock(3, 5)), start + 2 * MS, &timings);
-        open.said(3, Message::read(&grant(3, 5)), start + 9 * MS, &timings);
+        open.received(3, Message::read(&lock(3, 5)), start, &timings);
+        open.sent(3, Message::read(&grant(3, 5)), start + MS, &timings);
+        open.received(3, Message::read(&lock(3, 5)), start + 2 * MS, &timings);
+        open.sent(3, Message::read(&grant(3, 5)), start + 9 * MS, &timings);
         assert_eq!(timings.read().grants.count, 1);
         // Another incarnation counts its requests again.
-        open.heard(3, Message::read(&hello(3)), start, &timings);
-        open.heard(3, Message::read(&lock(3, 5)), start, &timings);
-        open.said(3, Message::read(&grant(3, 5)), start + MS, &timings);
+        open.received(3, Message::read(&hello(3)), start, &timings);
+        open.received(3, Message::read(&lock(3, 5)), start, &timings);
+        open.sent(3, Message::read(&grant(3, 5)), start + MS, &timings);
         assert_eq!(timings.read().grants.count, 2);
     }
 
     #[test]
     fn a_callback_lasts_until_the_next_release() {
         let (timings, mut open, start) = (Timings::new(), Open::new(), Instant::now());
-        open.heard(3, Message::read(&release(3)), start, &timings);
-        open.said(3, Message::read(&callback(3)), start, &timings);
-        open.said(3, Message::read(&callback(3)), start + 3 * MS, &timings);
-        open.heard(4, Message::read(&release(4)), start + 4 * MS, &timings);
+        open.received(3, Message::read(&release(3)), start, &timings);
+        open.sent(3, Message::read(&callback(3)), start, &timings);
+        open.sent(3, Message::read(&callback(3)), start + 3 * MS, &timings);
+        open.received(4, Message::read(&release(4)), start + 4 * MS, &timings);
         assert_eq!(timings.read().releases.count, 0);
-        open.heard(3, Message::read(&release(3)), start + 5 * MS, &timings);
-        open.heard(3, Message::read(&release(3)), start + 6 * MS, &timings);
+        open.received(3, Message::read(&release(3)), start + 5 * MS, &timings);
+        open.received(3, Message::read(&release(3)), start + 6 * MS, &timings);
         let releases = timings.read().releases;
         assert_eq!((releases.count, releases.sum), (1, 5_000));
     }

@@ -79,7 +79,7 @@ fn a_grant_between_two_scans_makes_no_rows_of_two_moments() {
 }
 
 #[test]
-fn rows_come_behind_one_another_if_all_are_known() {
+fn rows_come_in_order_if_all_are_known() {
     let mut shards = Shards::new();
     let [left, right] = shards.caches();
     let known = [Known { cache: &left, keys: LEFT }, Known { cache: &right, keys: RIGHT }];

@@ -37,7 +37,7 @@ fn connect(events: &mut EventLoop, now: Now) -> u64 {
     let connection = events.connections().enter(entry, PeerAddress::Gone);
     let hello = FromClient::Hello(None).frame();
     let (hello, _) = split(&hello).next().unwrap();
-    events.hear(connection, hello, now).unwrap();
+    events.receive(connection, hello, now).unwrap();
     connection
 }
 
@@ -65,42 +65,42 @@ impl World {
 
     /// Hands messages over until nobody sends anything.
     fn settle(&mut self) {
-        while self.hear_clients() | self.tell_clients() {}
+        while self.deliver_to_server() | self.deliver_to_clients() {}
     }
 
     /// The server takes what each client sends. Returns whether one has sent anything.
-    fn hear_clients(&mut self) -> bool {
-        let mut has_heard = false;
+    fn deliver_to_server(&mut self) -> bool {
+        let mut is_any = false;
         for (state, connection) in self.clients.iter_mut().zip(&self.connections) {
             for message in messages(|frames| state.take(frames)) {
-                self.events.hear(*connection, &message, self.now).unwrap();
-                has_heard = true;
+                self.events.receive(*connection, &message, self.now).unwrap();
+                is_any = true;
             }
         }
-        has_heard
+        is_any
     }
 
     /// The clients take what the server sends. Returns whether it has sent anything.
-    fn tell_clients(&mut self) -> bool {
+    fn deliver_to_clients(&mut self) -> bool {
         if let Some(commit) = self.events.take_commit(self.now) {
             self.events.committed(commit, self.now).unwrap();
         }
         self.events.send(self.now).unwrap();
-        let mut has_told = false;
+        let mut is_any = false;
         while let Some(connection) = self.events.connections().next_to_write() {
             let mut bytes = Vec::new();
             self.events.connections().write(connection, &mut bytes);
-            self.tell(connection, &bytes);
-            has_told |= !bytes.is_empty();
+            self.deliver(connection, &bytes);
+            is_any |= !bytes.is_empty();
         }
-        has_told
+        is_any
     }
 
-    fn tell(&mut self, connection: u64, bytes: &[u8]) {
+    fn deliver(&mut self, connection: u64, bytes: &[u8]) {
         let place = self.connections.iter().position(|it| *it == connection).unwrap();
         let state = &mut self.clients[place];
         for (message, _) in split(bytes).filter(|(message, _)| !host_frame::is_of_host(message)) {
-            state.hear(message).unwrap();
+            state.receive(message).unwrap();
         }
         state.advance(Asking::Allowed);
     }
@@ -174,7 +174,7 @@ fn a_request_that_has_waited_for_long_keeps_no_other_one_back() {
     assert_eq!(soon(&world), Some(Duration::ZERO));
     // One that comes now is taken after those that are kept.
     let other = world.clients[0].read(20..21);
-    world.hear_clients();
+    world.deliver_to_server();
     assert_eq!(world.events.open.waiting().count(), MOST);
     world.settle();
     assert_eq!(world.events.open.waiting().count(), reads.len());
@@ -192,7 +192,7 @@ fn a_request_of_an_earlier_connection_is_not_taken() {
     world.clients[last].tick();
     for message in messages(|frames| world.clients[last].take(frames)) {
         if Message::read(&message).kind() != Kind::Lock {
-            world.events.hear(world.connections[last], &message, world.now).unwrap();
+            world.events.receive(world.connections[last], &message, world.now).unwrap();
         }
     }
     world.unpin(0, pin);
