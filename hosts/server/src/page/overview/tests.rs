@@ -98,7 +98,7 @@ fn a_recovery_names_who_is_missing_and_its_end() {
 }
 
 #[test]
-fn an_old_look_is_told_and_so_is_none() {
+fn an_old_look_is_reported_and_so_is_none() {
     let (status, held) = (serving(), held());
     let old = Held { age: Some(Duration::from_secs(9)), ..Held::default() };
     let page = overview(&status, &old).html();
