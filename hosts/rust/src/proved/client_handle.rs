@@ -9,7 +9,7 @@ use crate::model::lock::Mode;
 use crate::model::row::Row;
 use crate::proved::ffi;
 use crate::proved::gate::{Owner, Reader, Reading};
-use crate::proved::server_handle::{Handle, code, done};
+use crate::proved::handle::{Handle, code, done};
 use std::io;
 use std::mem;
 use std::ops::Range;

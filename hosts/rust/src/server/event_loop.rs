@@ -18,7 +18,7 @@ use crate::server::held_back::HeldBack;
 use crate::server::routing::{Sender, sender};
 use crate::server::shown::client_status::LastReceived;
 use crate::server::shown::status::Status;
-use crate::server::shown::timings::{Open, Timings};
+use crate::server::shown::timings::Timings;
 use crate::server::shown::watch::Watch;
 use crate::wire::frames;
 use crate::wire::host_frame::FromClient;
@@ -27,6 +27,7 @@ use crate::wire::message::{Head, Kind, Message};
 use admission::KeptRequests;
 use commit_group::CommitGroup;
 use commits::Gathered;
+use requests::OpenRequests;
 use std::mem;
 use std::sync::Arc;
 use std::time::{Duration, Instant};
@@ -87,7 +88,7 @@ pub(crate) struct EventLoop {
     /// Why it is to end, if nobody has asked it to.
     failure: Option<ServeError>,
     timings: Arc<Timings>,
-    open: Open,
+    requests: OpenRequests,
     log: EventLog,
     frames: Vec<u8>,
     kept_requests: KeptRequests,
@@ -138,7 +139,7 @@ impl EventLoop {
             until: None,
             failure: None,
             timings,
-            open: Open::new(),
+            requests: OpenRequests::new(),
             log,
             frames: Vec::new(),
             kept_requests: KeptRequests::default(),
@@ -302,7 +303,7 @@ impl EventLoop {
         match (sender(record.as_ref(), incarnation), kind) {
             (Sender::Registered, _) => {
                 let now = self.connections.now().monotonic;
-                self.open.received(client, message, now, &self.timings);
+                self.requests.received(client, message, now, &self.timings);
                 if kind.may_change_holdings() {
                     self.watch.may_change(client);
                 }
@@ -377,7 +378,7 @@ impl EventLoop {
     /// that another client waits for, it would do so after the next message that acts. A client
     /// need not acknowledge the grant by a message of its own, so that message may come late.
     fn call_back_for_waiters(&mut self) {
-        for client in self.open.waiting() {
+        for client in self.requests.waiting() {
             // A nudge for which there is no memory is a message that is lost.
             let _ = self.server.nudge(client);
         }
@@ -400,7 +401,7 @@ impl EventLoop {
             if self.held_back.holds(client, message, now.monotonic) {
                 continue;
             }
-            self.open.sent(client, message, now.monotonic, &self.timings);
+            self.requests.sent(client, message, now.monotonic, &self.timings);
             if is_push {
                 pushed = Pushed::Some;
                 self.watch.may_change(client);
@@ -425,6 +426,7 @@ mod leases;
 mod long_frames;
 mod looks;
 mod notices;
+mod requests;
 mod sharding;
 mod showing;
 #[cfg(test)]

@@ -14,7 +14,7 @@ use crate::model::reach::Reach;
 use crate::model::room::Room;
 use crate::model::snapshot::Snapshot;
 use crate::net::address::Address;
-use crate::server::requests::Requests;
+use crate::server::questions::Questions;
 use crate::server::sockets::Sockets;
 use crate::store::{MemoryStore, Store, StoreError};
 use crate::wire::host_frame::FromServer;
@@ -92,7 +92,7 @@ fn event_loop_over<S: Store>(
     let store = store_of(store, &peer);
     let (sockets, waker) = Sockets::new(listener.into(), Access::new()).unwrap();
     let connections = Connections::new(4, Room::default(), Now::read());
-    let (_, asked) = Requests::new(waker);
+    let (_, asked) = Questions::new(waker);
     let log = EventLog::started(epoch, &Address::Unix("nowhere".into()), 0, &[]);
     let now = Moment::now().unwrap();
     let terms = Leases::of(Duration::from_millis(LEASE)).unwrap().with_drift(0).unwrap();

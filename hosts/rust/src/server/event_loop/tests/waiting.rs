@@ -156,11 +156,11 @@ fn have_read(reads: &[Asked<Vec<Row>>]) -> bool {
 #[test]
 fn while_many_wait_other_requests_are_taken_one_after_the_other() {
     let (mut world, pin, reads) = crowd();
-    assert_eq!(world.events.open.waiting().count(), MOST);
+    assert_eq!(world.events.requests.waiting().count(), MOST);
     // What one of those asks again that are kept is no further request.
     world.clients[MOST + 1].tick();
     world.settle();
-    assert_eq!(world.events.open.waiting().count(), MOST);
+    assert_eq!(world.events.requests.waiting().count(), MOST);
     world.unpin(0, pin);
     assert!(have_read(&reads));
 }
@@ -175,9 +175,9 @@ fn a_request_that_has_waited_for_long_keeps_no_other_one_back() {
     // One that comes now is taken after those that are kept.
     let other = world.clients[0].read(20..21);
     world.deliver_to_server();
-    assert_eq!(world.events.open.waiting().count(), MOST);
+    assert_eq!(world.events.requests.waiting().count(), MOST);
     world.settle();
-    assert_eq!(world.events.open.waiting().count(), reads.len());
+    assert_eq!(world.events.requests.waiting().count(), reads.len());
     assert_eq!(other.answer.try_recv(), Ok(Ok(Vec::new())));
     assert_eq!(soon(&world), None);
     world.unpin(0, pin);
@@ -211,9 +211,9 @@ fn a_client_that_has_left_waits_for_nothing() {
     let held = world.ask(0, |state| state.hold(10..11, Purpose::Write));
     let Held { pin, .. } = held.answer.try_recv().unwrap().unwrap();
     let _reading = world.ask(1, |state| state.read(10..11));
-    assert_eq!(world.events.open.waiting().count(), 1);
+    assert_eq!(world.events.requests.waiting().count(), 1);
     let _left = world.ask(1, State::leave);
     world.unpin(0, pin);
     assert!(world.events.server.record(1).unwrap().unwrap().left);
-    assert_eq!(world.events.open.waiting().count(), 0, "it has left");
+    assert_eq!(world.events.requests.waiting().count(), 0, "it has left");
 }
