@@ -1,5 +1,6 @@
 //! Who holds what, as a monitor learns it while the server runs.
-use krl::{Client, END, HeldRun, HeldSearch, HeldSlot, Listener, Locks, LocksError, MemoryStore};
+use krl::operate::{HeldRun, HeldSearch, Locks, LocksError};
+use krl::{Client, END, HeldSlot, Listener, MemoryStore};
 use krl::{Mode, Outcome, Row, Server, Value};
 use std::path::PathBuf;
 use std::sync::atomic::{AtomicBool, Ordering};

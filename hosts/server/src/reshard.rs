@@ -5,7 +5,8 @@ use crate::cause;
 use crate::next_map::{MergeMap, NextMap, SplitMap};
 use crate::output;
 use crate::owner::Owner;
-use krl::{Checksum, END, Snapshot, SqliteStore, Store, StoreFile};
+use krl::operate::{Checksum, StoreFile};
+use krl::{END, Snapshot, SqliteStore, Store};
 use std::error::Error;
 use std::path::Path;
 

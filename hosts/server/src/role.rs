@@ -1,5 +1,6 @@
 //! What a process does just now: it starts, stands by, or serves.
-use krl::{Liveness, Monitor};
+use krl::Monitor;
+use krl::operate::Liveness;
 use std::fmt;
 use std::sync::{Arc, Mutex, MutexGuard, PoisonError};
 use std::time::{SystemTime, UNIX_EPOCH};

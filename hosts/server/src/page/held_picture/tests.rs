@@ -1,5 +1,6 @@
 use super::*;
-use krl::{ClientConnection, ClientStatus, END, LeaseLeft, Mode, PeerAddress};
+use krl::operate::{ClientConnection, ClientStatus};
+use krl::{END, LeaseLeft, Mode, PeerAddress};
 
 fn client(client: u8, silent: u64) -> ClientStatus {
     let peer = PeerAddress::Tcp("10.0.0.5:41234".parse().unwrap());

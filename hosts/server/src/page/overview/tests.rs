@@ -1,5 +1,6 @@
 use super::*;
-use krl::{ClientStatus, Counts, Mode, Wait};
+use krl::operate::{ClientStatus, Counts};
+use krl::{Mode, Wait};
 
 fn client(client: u8, lease: LeaseLeft) -> ClientStatus {
     ClientStatus::new(client, lease)
@@ -111,7 +112,7 @@ fn an_old_look_is_reported_and_so_is_none() {
 
 #[test]
 fn a_part_has_links_to_its_parts_and_to_the_whole() {
-    let run = |at: u64| krl::HeldRun::new(3, at..at + 1, Mode::X, 1);
+    let run = |at: u64| krl::operate::HeldRun::new(3, at..at + 1, Mode::X, 1);
     let runs = (0..100).map(|at| run((1 << 60) + at)).collect();
     let held = Held { runs, next: Some(1 << 61), ..held() };
     let status = serving();
