@@ -312,7 +312,7 @@ impl EventLoop {
             // The frame leaves after the change is on the disk. It shows the client that it need
             // not send Bye again.
             (Sender::Left, Kind::Bye) => {
-                self.connections.send_after_commit(connection, &frames::EMPTY)
+                self.connections.send_after_commit(connection, &frames::EMPTY);
             }
             (Sender::Left, _) => {}
             (Sender::Stranger, _) => {
