@@ -109,7 +109,7 @@ static bool registers(krl_handle *server, uint64_t number) {
     return stepped.reply.code == KRL_DONE;
 }
 
-/* Takes what may leave, and answers how many bytes that was. Nothing may leave afterwards; nothing waits, if `all`. */
+/* Takes what may leave, and returns how many bytes that was. Nothing may leave afterwards; nothing waits, if `all`. */
 static uint64_t take_some(krl_handle *server, bool all) {
     static uint8_t bytes[4096];
     uint64_t length = ready(server);

@@ -40,7 +40,7 @@ static krl_reply step(krl_handle *to, const uint8_t *message, uint64_t length)
     return to == &server ? krl_server_step(to, message, length).reply : krl_client_step(to, message, length);
 }
 
-/* Hands over all that `from` has to send, and answers how many bytes that was. */
+/* Hands over all that `from` has to send, and returns how many bytes that was. */
 static uint64_t hand_over(krl_handle *from, krl_handle *to)
 {
     /* No disk is measured here: what was reported counts as kept. */

@@ -166,7 +166,7 @@ static void to_nobody(const uint8_t *message, size_t length)
     (void)message, (void)length;
 }
 
-/* Takes a client's sign, whose lease has so far this length. It answers the length that the server grants, or 0 to an
+/* Takes a client's sign, whose lease has so far this length. Returns the length that the server grants, or 0 to an
  * incarnation that has ended. */
 static uint64_t hear_sign(int number, uint64_t incarnation, uint64_t length)
 {
@@ -180,7 +180,7 @@ static uint64_t hear_sign(int number, uint64_t incarnation, uint64_t length)
     return terms.length;
 }
 
-/* Sends a sign, and takes the terms that answer it. It answers whether there were some. */
+/* Sends a sign, and takes the terms that answer it. Returns whether there were some. */
 static bool say_sign(int number)
 {
     client *of = &clients[number];
@@ -221,7 +221,7 @@ static void evict_silent(void)
     }
 }
 
-/* Takes the messages of `from`, and hands each to `deliver`. It returns how many there were. */
+/* Takes the messages of `from`, and hands each to `deliver`. Returns how many there were. */
 static int hand_over(krl_handle *from, void (*deliver)(const uint8_t *, size_t))
 {
     static uint8_t room[ROOM];

@@ -31,7 +31,7 @@ pub trait Method {
     /// Reads the rows of these keys, all of which there are.
     fn read(&mut self, keys: Range<u64>, rows: &mut Vec<Counted>) -> Done;
 
-    /// Changes a row, and answers how often it has been changed then.
+    /// Changes a row, and returns how often it has been changed then.
     fn write(&mut self, key: u64) -> Found<u64>;
 
     /// How long each part of a write took, if that is known.

@@ -180,7 +180,7 @@ impl<'a> Client<'a> {
         self.write(place * self.clients + self.number)
     }
 
-    /// Reads rows, and answers how many of them are stale.
+    /// Reads rows, and returns how many of them are stale.
     fn read(&mut self) -> Found<u64> {
         let lo = self.random.below(KEYS - ROWS_OF_A_READ);
         let keys = lo..lo + ROWS_OF_A_READ;

@@ -70,7 +70,7 @@ impl<B> Bodies<B> {
         Finder { bodies: self, locked: None }
     }
 
-    /// Keeps a committed body of this size, which was read in this filling. It answers whether the
+    /// Keeps a committed body of this size, which was read in this filling. Returns whether the
     /// one before had another version, or there was none.
     pub fn keep(&self, stored: Stored<B>, size: usize, filling: u64) -> bool {
         let Stored { key, version, body } = stored;

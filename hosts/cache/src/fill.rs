@@ -56,7 +56,7 @@ fn compare(
 }
 
 impl<O: Origin> Cache<O> {
-    /// Makes krl's versions those of the database, and answers how many rows the table has. It is
+    /// Makes krl's versions those of the database, and returns how many rows the table has. It is
     /// an operator's call: before the first start, after either side was restored, and after the
     /// table was changed without the cache. From its beginning until its end no process answers a
     /// read, and the table cannot be changed. What is in the memory of any process from before is

@@ -149,7 +149,7 @@ impl<O: Origin> Cache<O> {
         })
     }
 
-    /// Scans krl's rows of the range, and finds their bodies. It answers also what was loaded while
+    /// Scans krl's rows of the range, and finds their bodies. Also returns what was loaded while
     /// krl was asked.
     ///
     /// A body counts only if it was in memory **before** the scan. Then its version was committed
@@ -267,7 +267,7 @@ impl<O: Origin> Cache<O> {
         Ok(())
     }
 
-    /// Loads bodies from the database, and answers the keys of which it has another version, or no
+    /// Loads bodies from the database, and returns the keys of which it has another version, or no
     /// row.
     fn load(
         &self,

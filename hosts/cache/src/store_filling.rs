@@ -52,7 +52,7 @@ impl<'t, O: Origin> StoreFilling<'t, O> {
     }
 
     /// Makes this filling the table's current one, if nobody has changed the table since it was
-    /// locked, and answers how many rows it has.
+    /// locked, and returns how many rows it has.
     ///
     /// # Errors
     ///

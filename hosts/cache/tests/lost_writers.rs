@@ -98,7 +98,7 @@ fn a_writer_of_one_row_that_dies_has_changed_nothing_or_everything() {
 }
 
 #[test]
-fn a_commit_that_the_database_lost_is_told_as_not_done() {
+fn a_commit_that_the_database_lost_is_reported_as_not_done() {
     let site = Site::new();
     let table = site.table.clone();
     let builder = site.builder(0).on_step(move |step| {

@@ -73,7 +73,7 @@ fn sealed(authority: &Authority) -> Option<(Database, PostgresAddress)> {
 }
 
 #[test]
-fn a_cache_speaks_by_tls_to_krl_and_to_the_database() {
+fn a_cache_uses_tls_to_krl_and_to_the_database() {
     let Some(authority) = Authority::make() else { return };
     let Some((database, address)) = sealed(&authority) else { return };
     let sql = database.connect();

@@ -83,7 +83,7 @@ static void has_written(void *context, const krlh_answer *answer) {
 
 /* The loop of the host. */
 
-/* Sends what the client has to send. It returns false if the connection has ended. */
+/* Sends what the client has to send. Returns false if the connection has ended. */
 static bool send_all(int socket) {
     size_t length;
     const void *bytes = krlh_output(client, moment(), &length);

@@ -97,7 +97,7 @@ typedef enum krlh_purpose { KRLH_FOR_READ = 0, KRLH_FOR_UPDATE = 1, KRLH_FOR_WRI
  * KRLC_LOCK_FILE_TAKEN, KRLC_OUT_OF_MEMORY. Then `client` is null. */
 KRLC_NODISCARD uint32_t krlh_open(const krlh_options *options, uint64_t now, krlh_client **client, krlc_error *error);
 
-/* Frees a client, and answers what waits by KRLC_LEFT. A client that has not left keeps its locks at the server until
+/* Frees a client, and returns what waits by KRLC_LEFT. A client that has not left keeps its locks at the server until
  * its lease ends, or until the next client of its number joins. A null pointer and a freed client change nothing. */
 void krlh_free(krlh_client *client);
 
@@ -128,7 +128,7 @@ const void *krlh_output(krlh_client *client, uint64_t now, size_t *length);
 /* So many bytes of that were sent. */
 void krlh_sent(krlh_client *client, size_t length);
 
-/* The connection has ended, or was not made. It returns the moment at which to make the next one. */
+/* The connection has ended, or was not made. Returns the moment at which to make the next one. */
 uint64_t krlh_disconnected(krlh_client *client, uint64_t now);
 
 /* Calls. Each begins something: `call`, which may be null, receives its number. Errors, by which nothing begins:

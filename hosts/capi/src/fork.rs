@@ -37,7 +37,7 @@ impl Process {
     }
 }
 
-/// Has forks counted from now on. It answers whether they are.
+/// Has forks counted from now on. Returns whether they are.
 pub fn watch() -> bool {
     static WATCH: Once = Once::new();
     static IS_WATCHED: AtomicU32 = AtomicU32::new(0);

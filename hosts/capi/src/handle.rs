@@ -178,7 +178,7 @@ mod tests {
     use super::*;
 
     #[test]
-    fn a_freed_handle_is_told_until_many_more_are_freed() {
+    fn a_freed_handle_is_reported_until_many_more_are_freed() {
         static NUMBERS: Kind<u64> = Kind::new("number");
         let first = NUMBERS.open(7).unwrap();
         // SAFETY: this test makes one call after the other.

@@ -127,26 +127,26 @@ impl From<Held> for Answered {
     }
 }
 
-fn told<T: Into<Answered>>(answer: Result<T, Error>) -> Answered {
+fn answer_of<T: Into<Answered>>(answer: Result<T, Error>) -> Answered {
     answer.map_or_else(Answered::refused, T::into)
 }
 
 impl Asked {
     fn answer(&self) -> Option<Answered> {
         match self {
-            Asked::Done(call) => call.answer().map(told),
-            Asked::Read(call) => call.answer().map(told),
-            Asked::Written(call) => call.answer().map(told),
-            Asked::Held(call) => call.answer().map(told),
+            Asked::Done(call) => call.answer().map(answer_of),
+            Asked::Read(call) => call.answer().map(answer_of),
+            Asked::Written(call) => call.answer().map(answer_of),
+            Asked::Held(call) => call.answer().map(answer_of),
         }
     }
 
     fn give_up(&self, client: &mut Client, now: Duration) -> Answered {
         match self {
-            Asked::Done(call) => told(client.give_up(now, call)),
-            Asked::Read(call) => told(client.give_up(now, call)),
-            Asked::Written(call) => told(client.give_up(now, call)),
-            Asked::Held(call) => told(client.give_up(now, call)),
+            Asked::Done(call) => answer_of(client.give_up(now, call)),
+            Asked::Read(call) => answer_of(client.give_up(now, call)),
+            Asked::Written(call) => answer_of(client.give_up(now, call)),
+            Asked::Held(call) => answer_of(client.give_up(now, call)),
         }
     }
 }
@@ -304,7 +304,7 @@ impl Host {
         self.state().client.sent(count);
     }
 
-    /// The connection has ended, or was not made. It answers when to make the next one.
+    /// The connection has ended, or was not made. Returns when to make the next one.
     pub fn disconnected(&self, now: u64) -> Result<u64, Fault> {
         self.drive(|state| {
             let now = state.at(now);
@@ -314,7 +314,7 @@ impl Host {
         })
     }
 
-    /// Begins a call, and answers its number.
+    /// Begins a call, and returns its number.
     pub fn ask(
         &self,
         now: u64,

@@ -189,7 +189,7 @@ const MEMORY: &[&str] = &["-fsanitize=address,undefined", "-fno-sanitize-recover
 const THREADS: &[&str] = &["-fsanitize=thread"];
 
 #[test]
-fn each_call_answers_as_the_header_says() {
+fn each_call_answers_as_the_header_states() {
     World::new("calls").runs("cc", "tests/programs/calls.c", &[]);
 }
 

@@ -7,7 +7,7 @@ use crate::arguments::{BenchWords, Options};
 use crate::failure::Failure;
 use crate::session::Session;
 use crate::signals::{FAREWELL, Signals, Taken};
-use crate::waiting::tell_at_terminal;
+use crate::waiting::note_at_terminal;
 use krl::{Client, END, Outcome};
 use rand::SeedableRng;
 use rand::rngs::StdRng;
@@ -78,15 +78,15 @@ fn measure_all(
     let maker = maker.ok_or_else(|| Failure::Usage("a benchmark needs a client".into()))?;
     refuse_rows(maker, keys)?;
     let mut made = keys.start..keys.start;
-    tell_at_terminal(&format!("makes {} rows", words.keys));
+    note_at_terminal(&format!("makes {} rows", words.keys));
     let measured = make_rows(maker, keys, words.value_size, &mut made, signals).and_then(|()| {
-        tell_at_terminal(&format!("measures for {} s", words.warm_up + words.seconds));
+        note_at_terminal(&format!("measures for {} s", words.warm_up + words.seconds));
         measure(sessions, keys, words, signals)
     });
     if signals.is_ended() {
         maker.set_timeout(FAREWELL.min(maker.timeout()));
     }
-    tell_at_terminal("deletes the rows");
+    note_at_terminal("deletes the rows");
     let deleted = delete_rows(maker, made);
     let measured = measured?;
     deleted?;

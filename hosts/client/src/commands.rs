@@ -15,7 +15,7 @@ pub struct Context<'c> {
 }
 
 impl Context<'_> {
-    /// Runs a command, and answers the exit status if nothing failed.
+    /// Runs a command, and returns the exit status if nothing failed.
     pub fn run(&self, command: &ClientCommand) -> Result<u8, Failure> {
         match command {
             ClientCommand::Get { key } => self.get(words::key(key)?)?,

@@ -5,7 +5,7 @@ use crate::output;
 use clap::CommandFactory;
 use clap_complete::Shell;
 
-/// Prints the script of a shell, and answers the exit status.
+/// Prints the script of a shell, and returns the exit status.
 pub fn print(shell: Shell) -> Result<u8, Failure> {
     let mut script = Vec::new();
     clap_complete::generate(shell, &mut Arguments::command(), "krl-client", &mut script);

@@ -49,10 +49,10 @@ impl Failure {
 
     /// Reports on standard error what failed. If nobody reads the output any more, that is not
     /// reported.
-    pub fn tell(&self) {
+    pub fn report(&self) {
         match self {
             Failure::Output(error) if error.kind() == io::ErrorKind::BrokenPipe => {}
-            failure => output::tell(&failure.to_string()),
+            failure => output::print_note(&failure.to_string()),
         }
     }
 }
@@ -222,7 +222,7 @@ mod tests {
     use super::*;
 
     #[test]
-    fn a_cause_is_told_once() {
+    fn a_cause_is_reported_once() {
         let told = krl::ShardMap::from_file("/nowhere/map.toml").map_err(|error| sentence(&error));
         let told = told.unwrap_err();
         assert_eq!(told.matches("No such file").count(), 1, "{told}");
@@ -254,7 +254,7 @@ mod tests {
     }
 
     #[test]
-    fn each_reason_has_its_status_and_a_write_is_told_if_it_may_be_applied() {
+    fn each_reason_has_its_status_and_a_write_that_may_be_applied_is_reported() {
         let full = Refusal::Full { connections: 256 };
         for (refused, status) in [
             (ErrorKind::TimedOut, 3),

@@ -15,7 +15,7 @@ use std::process::{Child, Command, ExitStatus};
 /// The variable by which the command knows the incarnation of the client that holds the range.
 const INCARNATION: &str = "KRL_INCARNATION";
 
-/// Pins the range, runs the command, and answers its exit status. It fails if the range was not
+/// Pins the range, runs the command, and returns its exit status. It fails if the range was not
 /// pinned until the command had ended.
 pub fn hold(
     context: &Context<'_>,

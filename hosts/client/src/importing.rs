@@ -47,7 +47,7 @@ pub fn import(options: &Options, words: &ImportWords, signals: &Signals) -> Resu
     Ok(0)
 }
 
-/// Each client writes a part of the lines, whose keys lie next to each other. It answers how many
+/// Each client writes a part of the lines, whose keys lie next to each other. Returns how many
 /// rows were written and how many the table kept.
 fn write_all(
     sessions: &[Session],
@@ -95,7 +95,7 @@ impl Imported {
     }
 }
 
-/// Writes a row. It answers whether the table has changed by it.
+/// Writes a row. Returns whether the table has changed by it.
 fn write(session: &Session, row: &Row, existing: Existing) -> Result<bool, Failure> {
     let outcome = match existing {
         Existing::Replace => session.client.set(row.key, row.value),

@@ -36,7 +36,7 @@ const USAGE: i32 = 2;
 fn main() -> ExitCode {
     let arguments = Arguments::read().unwrap_or_else(|error| misunderstood(&error));
     let ended = run(&arguments).unwrap_or_else(|failure| {
-        failure.tell();
+        failure.report();
         failure.status()
     });
     ExitCode::from(ended)
@@ -48,7 +48,7 @@ fn misunderstood(error: &clap::Error) -> ! {
     // If nobody takes it, the exit status is enough.
     let _ = error.print();
     if let Some(suggestion) = suggestion {
-        output::tell(&suggestion);
+        output::print_note(&suggestion);
     }
     std::process::exit(if error.use_stderr() { USAGE } else { 0 })
 }

@@ -89,7 +89,7 @@ pub fn rows(count: usize) -> String {
 }
 
 /// Shows the user a sentence, on standard error. If nobody takes it, the exit status is enough.
-pub fn tell(sentence: &str) {
+pub fn print_note(sentence: &str) {
     let _ = writeln!(io::stderr(), "krl-client: {sentence}");
 }
 

@@ -24,10 +24,10 @@ fn ping_one(context: &Context<'_>, station: &Station<'_>) -> Result<(), Failure>
     let (shard, joined) = (station.shard.map_or(0, usize::from), client.status());
     let status = joined.iter().find(|status| status.shard == shard);
     let epoch = status.map_or(Err(ErrorKind::Stopped.into()), |status| status.epoch)?;
-    tell(context, station, took, epoch)
+    print_answer(context, station, took, epoch)
 }
 
-fn tell(
+fn print_answer(
     context: &Context<'_>,
     station: &Station<'_>,
     took: Duration,

@@ -22,13 +22,13 @@ const LONGEST_LINE: usize = 4096;
 pub type Run<'r> = dyn FnMut(&Command) -> Result<u8, Failure> + 'r;
 
 /// What a line is.
-enum Told {
+enum Entered {
     Nothing,
     Command(Box<Command>),
     Quit,
 }
 
-/// Runs the lines of standard input, and answers the exit status.
+/// Runs the lines of standard input, and returns the exit status.
 pub fn run(run: &mut Run<'_>) -> Result<u8, Failure> {
     if io::stdin().is_terminal() { run_prompt(run) } else { run_lines(io::stdin().lock(), run) }
 }
@@ -38,19 +38,19 @@ fn run_lines(mut lines: impl BufRead, run: &mut Run<'_>) -> Result<u8, Failure> 
     for place in 1.. {
         let Some(line) = read_line(&mut lines, place)? else { break };
         let status = match parse(&line) {
-            Ok(Told::Nothing) => 0,
-            Ok(Told::Quit) => return Ok(0),
-            Ok(Told::Command(command)) => run(&command).unwrap_or_else(|failure| {
-                failure.tell();
+            Ok(Entered::Nothing) => 0,
+            Ok(Entered::Quit) => return Ok(0),
+            Ok(Entered::Command(command)) => run(&command).unwrap_or_else(|failure| {
+                failure.report();
                 failure.status()
             }),
             Err(failure) => {
-                failure.tell();
+                failure.report();
                 failure.status()
             }
         };
         if status != 0 {
-            output::tell(&format!("line {place} ended with status {status}: {line}"));
+            output::print_note(&format!("line {place} ended with status {status}: {line}"));
             return Ok(status);
         }
     }
@@ -60,18 +60,23 @@ fn run_lines(mut lines: impl BufRead, run: &mut Run<'_>) -> Result<u8, Failure> 
 /// The next line without its end, or `None` if there is none. No more of it is read than a line may
 /// have.
 fn read_line(lines: &mut impl BufRead, place: u64) -> Result<Option<String>, Failure> {
-    let told = |why: &dyn Display| Failure::Usage(format!("line {place}: {why}"));
+    let bad_line = |why: &dyn Display| Failure::Usage(format!("line {place}: {why}"));
     let mut line = Vec::new();
     // One byte more, and the end of the line.
     let longest = LONGEST_LINE as u64 + 2;
-    if lines.by_ref().take(longest).read_until(b'\n', &mut line).map_err(|error| told(&error))? == 0
+    if lines
+        .by_ref()
+        .take(longest)
+        .read_until(b'\n', &mut line)
+        .map_err(|error| bad_line(&error))?
+        == 0
     {
         return Ok(None);
     }
     let line = line.strip_suffix(b"\n").unwrap_or(&line);
     let line = line.strip_suffix(b"\r").unwrap_or(line);
-    refuse_long(line.len()).map_err(|failure| told(&failure))?;
-    String::from_utf8(line.into()).map(Some).map_err(|error| told(&error))
+    refuse_long(line.len()).map_err(|failure| bad_line(&failure))?;
+    String::from_utf8(line.into()).map(Some).map_err(|error| bad_line(&error))
 }
 
 /// Refuses a line of this many bytes if it is too long.
@@ -101,25 +106,25 @@ fn run_prompt(run: &mut Run<'_>) -> Result<u8, Failure> {
         };
         editor.add_history_entry(&line);
         match parse(&line) {
-            Ok(Told::Nothing) => {}
-            Ok(Told::Quit) => break Ok(0),
-            Ok(Told::Command(command)) => tell(run(&command)),
-            Err(failure) => failure.tell(),
+            Ok(Entered::Nothing) => {}
+            Ok(Entered::Quit) => break Ok(0),
+            Ok(Entered::Command(command)) => report(run(&command)),
+            Err(failure) => failure.report(),
         }
     };
     if let Some(history) = &history
         && let Err(error) = editor.save_history(history)
     {
-        output::tell(&format!("the history can't be saved: {error}"));
+        output::print_note(&format!("the history can't be saved: {error}"));
     }
     ended
 }
 
-fn tell(ended: Result<u8, Failure>) {
+fn report(ended: Result<u8, Failure>) {
     match ended {
         Ok(0) => {}
-        Ok(status) => output::tell(&format!("the command ended with status {status}")),
-        Err(failure) => failure.tell(),
+        Ok(status) => output::print_note(&format!("the command ended with status {status}")),
+        Err(failure) => failure.report(),
     }
 }
 
@@ -128,19 +133,21 @@ fn history() -> Option<PathBuf> {
 }
 
 /// The words of a line are those of a shell: quotes keep spaces.
-fn parse(line: &str) -> Result<Told, Failure> {
+fn parse(line: &str) -> Result<Entered, Failure> {
     refuse_long(line.len())?;
     let words = shlex::split(line)
         .ok_or_else(|| Failure::Usage(format!("a quote is not closed: {line}")))?;
     if words.is_empty() {
-        return Ok(Told::Nothing);
+        return Ok(Entered::Nothing);
     }
     match Line::try_parse_from(words) {
-        Ok(Line { command: LineCommand::Command(command) }) => Ok(Told::Command(Box::new(command))),
-        Ok(Line { command: LineCommand::Quit }) => Ok(Told::Quit),
+        Ok(Line { command: LineCommand::Command(command) }) => {
+            Ok(Entered::Command(Box::new(command)))
+        }
+        Ok(Line { command: LineCommand::Quit }) => Ok(Entered::Quit),
         Err(help) if !help.use_stderr() => {
             help.print()?;
-            Ok(Told::Nothing)
+            Ok(Entered::Nothing)
         }
         Err(error) => {
             let text = error.to_string();
@@ -197,13 +204,13 @@ mod tests {
     fn a_long_line_is_refused_and_not_read_to_its_end() {
         let line = |length: usize| format!("get 5{}", " ".repeat(length - 5));
         assert_eq!(run_text(&line(LONGEST_LINE)), (0, 1));
-        let told = |lines: &mut dyn BufRead| {
+        let bad_line = |lines: &mut dyn BufRead| {
             let ended = run_lines(lines, &mut |_| Ok(0)).unwrap_err();
             (ended.status(), ended.to_string())
         };
         let expected = "line 1: the line is longer than 4096 bytes: no command is that long";
         let expected = (2, expected.to_string());
-        assert_eq!(told(&mut line(LONGEST_LINE + 1).as_bytes()), expected);
-        assert_eq!(told(&mut io::BufReader::new(Endless(0))), expected);
+        assert_eq!(bad_line(&mut line(LONGEST_LINE + 1).as_bytes()), expected);
+        assert_eq!(bad_line(&mut io::BufReader::new(Endless(0))), expected);
     }
 }

@@ -1,9 +1,9 @@
 //! A client that has joined: its number, its lock file, and how it leaves.
 use crate::arguments::Options;
 use crate::failure::Failure;
-use crate::output::tell;
+use crate::output::print_note;
 use crate::place::Place;
-use crate::waiting::told_if_long;
+use crate::waiting::with_note_if_long;
 use krl::{Client, ClientBuilder, JoinError, JoinErrorKind, LockFileError, Refusal};
 use std::collections::VecDeque;
 use std::env;
@@ -34,7 +34,7 @@ impl Session {
                 Some(map) => format!("waiting for the servers of {}", map.display()),
             }
         };
-        let mut sessions = told_if_long(waits_for, || Session::join_some(options, keys, 1))?;
+        let mut sessions = with_note_if_long(waits_for, || Session::join_some(options, keys, 1))?;
         sessions.pop().ok_or_else(|| none_is_free(options))
     }
 
@@ -81,20 +81,20 @@ impl Session {
 
     /// The same for several at once.
     pub fn leave_all(sessions: Vec<Session>, timeout: Duration) {
-        let unheard: Vec<String> = thread::scope(|scope| {
+        let unanswered: Vec<String> = thread::scope(|scope| {
             let leave = |session: Session| {
-                let is_unheard = session.client.within(timeout).leave().is_err();
-                is_unheard.then(|| session.client.number().to_string())
+                let is_unanswered = session.client.within(timeout).leave().is_err();
+                is_unanswered.then(|| session.client.number().to_string())
             };
             let leaving = sessions.into_iter().map(|it| scope.spawn(move || leave(it)));
             let leaving: Vec<_> = leaving.collect();
             leaving.into_iter().filter_map(|left| left.join().ok().flatten()).collect()
         });
-        if !unheard.is_empty() {
-            tell(&format!(
+        if !unanswered.is_empty() {
+            print_note(&format!(
                 "the server did not learn that client {} left: others may wait for what it held \
                  until a client of its number joins again",
-                unheard.join(", ")
+                unanswered.join(", ")
             ));
         }
     }

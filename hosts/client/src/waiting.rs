@@ -1,5 +1,5 @@
 //! What a user at a terminal learns while the program waits.
-use crate::output::tell;
+use crate::output::print_note;
 use std::io::{self, IsTerminal};
 use std::sync::mpsc::{RecvTimeoutError, channel};
 use std::thread;
@@ -9,7 +9,10 @@ use std::time::Duration;
 const LONG: Duration = Duration::from_secs(1);
 
 /// Does something. If that takes long, a user at a terminal learns what it waits for.
-pub fn told_if_long<T>(waits_for: impl FnOnce() -> String + Send, does: impl FnOnce() -> T) -> T {
+pub fn with_note_if_long<T>(
+    waits_for: impl FnOnce() -> String + Send,
+    does: impl FnOnce() -> T,
+) -> T {
     if !io::stderr().is_terminal() {
         return does();
     }
@@ -17,7 +20,7 @@ pub fn told_if_long<T>(waits_for: impl FnOnce() -> String + Send, does: impl FnO
     thread::scope(|scope| {
         scope.spawn(move || {
             if ended.recv_timeout(LONG) == Err(RecvTimeoutError::Timeout) {
-                tell(&waits_for());
+                print_note(&waits_for());
             }
         });
         let done = does();
@@ -27,8 +30,8 @@ pub fn told_if_long<T>(waits_for: impl FnOnce() -> String + Send, does: impl FnO
 }
 
 /// Shows a user at a terminal what the program does now.
-pub fn tell_at_terminal(what: &str) {
+pub fn note_at_terminal(what: &str) {
     if io::stderr().is_terminal() {
-        tell(what);
+        print_note(what);
     }
 }

@@ -24,7 +24,7 @@ const WORDS: [&str; 13] = [
 ];
 
 #[test]
-fn a_benchmark_tells_calls_rates_and_quantiles() {
+fn a_benchmark_prints_calls_rates_and_quantiles() {
     let world = World::new("bench");
     let words = [&WORDS[..], &["--skew", "zipf:0.9", "--json"]].concat();
     let said: serde_json::Value = serde_json::from_str(&world.prints(&words)).unwrap();

@@ -97,7 +97,7 @@ fn answers_as_json() {
 }
 
 #[test]
-fn ping_tells_the_server_and_the_epoch() {
+fn ping_prints_the_server_and_the_epoch() {
     let world = World::new("ping");
     let said = world.prints(&["ping"]);
     let head = format!("{} answered in ", world.server.address());
@@ -153,7 +153,7 @@ fn an_option_that_a_variable_sets_is_not_shown_as_missing() {
 }
 
 #[test]
-fn help_says_the_statuses_and_the_forms() {
+fn help_lists_the_statuses_and_the_forms() {
     let world = World::new("help");
     let help = world.prints(&["--help"]);
     for word in ["Exit status:", "hex:cafe", "KEY=VALUE", "56", "KRL_SERVER", "Examples:"] {
@@ -247,7 +247,7 @@ fn the_greatest_free_number_is_taken() {
 }
 
 #[test]
-fn a_number_that_another_user_has_is_told_and_the_next_one_is_tried() {
+fn a_number_that_another_user_has_is_reported_and_the_next_one_is_tried() {
     let world = World::leased("users", 4 * LONG);
     let mut hold = world.spawn(&["hold", "10", "20", "--", "sleep", "60"]);
     world.wait_until_held(63);

@@ -84,7 +84,7 @@ fn a_held_range_takes_no_new_rows_and_its_neighbours_do() {
     assert_eq!(program.wait().unwrap().code(), Some(143));
 }
 
-/// Runs holders at once, and answers the most commands that ran at the same time.
+/// Runs holders at once, and returns the most commands that ran at the same time.
 fn most_at_once(world: &World, words: &[&str]) -> usize {
     let log = world.folder.join("log");
     std::fs::write(&log, "").unwrap();
@@ -117,7 +117,7 @@ fn one_at_a_time_holds_a_range_for_update() {
 
 /// The command stops the program that holds the range for it, until the server has evicted that.
 #[test]
-fn a_range_that_is_lost_while_the_command_runs_is_told() {
+fn a_range_that_is_lost_while_the_command_runs_is_reported() {
     let world = World::leased("lost", Duration::from_secs(2));
     let [started, ends] = ["started", "ends"].map(|name| world.folder.join(name));
     let script = format!(

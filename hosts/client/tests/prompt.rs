@@ -112,7 +112,7 @@ fn commands_are_typed_one_by_one() {
 }
 
 #[test]
-fn a_user_is_told_for_what_the_program_waits() {
+fn a_user_learns_for_what_the_program_waits() {
     let world = World::new("waits-at-a-terminal");
     // A socket that takes connections and sends nothing.
     let silent = TcpListener::bind("127.0.0.1:0").unwrap();

@@ -182,7 +182,7 @@ fn a_lock_file_of_a_wrong_clock_is_named() {
 }
 
 #[test]
-fn another_map_is_refused_and_says_what_to_do() {
+fn another_map_is_refused_and_the_message_gives_the_remedy() {
     let shards = Shards::new("other");
     let old = shards.world.folder.join("old.toml");
     let text = std::fs::read_to_string(&shards.map).unwrap();

@@ -101,7 +101,7 @@ fn a_watch_over_tls_sees_the_change_of_another_client() {
 }
 
 #[test]
-fn a_certificate_of_another_number_is_told_in_a_sentence() {
+fn a_certificate_of_another_number_is_reported_in_a_sentence() {
     let certified = Certified::new("tls-other");
     let words = [&certified.four.words()[..], &["--number", "3", "get", "15"]].concat();
     let Ended { status, out, errors } = certified.world.run(&words);
@@ -122,7 +122,7 @@ fn an_operator_has_no_right_to_rows() {
 }
 
 #[test]
-fn a_client_without_a_certificate_is_told_what_it_needs() {
+fn a_client_without_a_certificate_learns_what_it_needs() {
     let certified = Certified::new("tls-none");
     let Ended { status, out, errors } = certified.world.run(&["--number", "3", "get", "15"]);
     assert_eq!((status, out.as_str()), (4, ""), "{errors}");

@@ -131,7 +131,7 @@ fn rows_that_are_there_are_refused_kept_or_replaced() {
 }
 
 #[test]
-fn a_bad_file_is_told_and_nothing_is_written() {
+fn a_bad_file_is_reported_and_nothing_is_written() {
     let world = World::new("bad-file");
     for (text, told) in [
         ("1,a\nx,b\n", "line 2: 'x' is no key"),

@@ -139,7 +139,7 @@ fn crowd(at: &Address, folder: &Path) -> Done {
     Ok(())
 }
 
-/// This many clients put values to rows of their own. It answers how many writes were applied.
+/// This many clients put values to rows of their own. Returns how many writes were applied.
 fn write_all(at: &Address, folder: &Path, writers: u8) -> Result<u64, Box<dyn Error>> {
     let clients: Result<Vec<_>, _> = (0..writers).map(|number| join(at, number, folder)).collect();
     let clients = clients?;

@@ -242,7 +242,7 @@ impl Drive {
         let mut noted = notes::noted(&self.folder)?;
         let last = self.read_everything()?;
         noted.reads.extend(last);
-        let verdict = check(&self.history()?, &noted.told, &noted.reads);
+        let verdict = check(&self.history()?, &noted.transactions, &noted.reads);
         for shown in &verdict.shown {
             eprintln!("{}", shown.chars().take(600).collect::<String>());
         }

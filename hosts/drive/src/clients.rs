@@ -211,7 +211,7 @@ impl Clients {
         found.ok_or("no such client")?.1.signal(signal)
     }
 
-    /// Lets the clients end. It answers how many hung or failed.
+    /// Lets the clients end. Returns how many hung or failed.
     pub fn end(&mut self) -> Result<u64, Box<dyn Error>> {
         std::fs::write(end_file(&self.folder), "")?;
         let (end, mut hung) = (Instant::now() + ENDING, 0);

@@ -9,7 +9,7 @@ use std::ops::Range;
 use std::time::Duration;
 
 /// What is printed of a call.
-type Told = Result<String, krl::Error>;
+type Printed = Result<String, krl::Error>;
 
 /// Joins, and does what the lines of standard input ask until it is to leave.
 pub fn run(address: &str, number: &str, lock_file: &str, seconds: &str) -> Found {
@@ -19,7 +19,7 @@ pub fn run(address: &str, number: &str, lock_file: &str, seconds: &str) -> Found
     let client = builder.timeout(timeout).join()?;
     print("{\"epoch\": null}");
     if answer_lines(&client)? {
-        tell(client.leave().map(|()| "{}".into()));
+        print_answer(client.leave().map(|()| "{}".into()));
     }
     Ok(true)
 }
@@ -33,15 +33,15 @@ fn answer_lines(client: &Client) -> Result<bool, Box<dyn Error>> {
         match *words {
             ["leave"] => return Ok(true),
             ["pin", start, stop] => {
-                tell(
+                print_answer(
                     client.pin(keys(start, stop)?).map(|pin| pins.push(pin)).map(|()| "{}".into()),
                 );
             }
             ["unpin"] => {
                 drop(pins.pop());
-                tell(Ok("{}".into()));
+                print_answer(Ok("{}".into()));
             }
-            _ => tell(answer(client, &words)?),
+            _ => print_answer(answer(client, &words)?),
         }
     }
     Ok(false)
@@ -53,10 +53,10 @@ fn words_of(line: &str) -> impl Iterator<Item = &str> {
     within.split(',').map(|word| word.trim().trim_matches('"'))
 }
 
-fn answer(client: &Client, words: &[&str]) -> Result<Told, Box<dyn Error>> {
+fn answer(client: &Client, words: &[&str]) -> Result<Printed, Box<dyn Error>> {
     Ok(match *words {
-        ["read", start, stop] => client.read(keys(start, stop)?).map(|rows| told(Some(rows))),
-        ["cached", start, stop] => client.cached(keys(start, stop)?).map(told),
+        ["read", start, stop] => client.read(keys(start, stop)?).map(|rows| spell_rows(Some(rows))),
+        ["cached", start, stop] => client.cached(keys(start, stop)?).map(spell_rows),
         ["insert", key, value] => client.insert(key.parse()?, value_of(value)?).map(outcome),
         ["put", key, value] => client.put(key.parse()?, value_of(value)?).map(outcome),
         ["delete", key] => client.delete(key.parse()?).map(outcome),
@@ -69,8 +69,8 @@ fn keys(start: &str, stop: &str) -> Result<Range<u64>, ParseIntError> {
     Ok(start.parse()?..stop.parse()?)
 }
 
-fn tell(told: Told) {
-    let line = told.unwrap_or_else(|refused| {
+fn print_answer(answer: Printed) {
+    let line = answer.unwrap_or_else(|refused| {
         let text = format!("{:?}", refused.kind);
         let name = text.split('(').next().unwrap_or_default();
         format!("{{\"error\": \"{name}\"}}")
@@ -83,7 +83,7 @@ fn print(line: &str) {
     let _ = writeln!(std::io::stdout(), "{line}");
 }
 
-fn told(rows: Option<Vec<Row>>) -> String {
+fn spell_rows(rows: Option<Vec<Row>>) -> String {
     let Some(rows) = rows else { return "{\"rows\": null}".into() };
     let rows: Vec<String> = rows.iter().map(row).collect();
     format!("{{\"rows\": [{}]}}", rows.join(", "))

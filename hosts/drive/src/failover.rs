@@ -42,7 +42,7 @@ const ASKED_AGAIN: Duration = Duration::from_millis(1600);
 const ASKED: Duration = Duration::from_secs(10);
 
 /// A fault, when it began, and when another server served.
-struct Told {
+struct NotedFault {
     fault: Fault,
     from: u64,
     to: u64,
@@ -53,7 +53,7 @@ type Done = Result<(), Box<dyn Error>>;
 struct Drive {
     folder: PathBuf,
     servers: StandBys,
-    told: Vec<Told>,
+    noted: Vec<NotedFault>,
 }
 
 /// Drives servers of this program for this many rounds. `faults` names the faults that take turns.
@@ -68,20 +68,20 @@ pub fn run(
     std::fs::create_dir_all(folder)?;
     let servers = StandBys::start(folder, (program, leases), site)?;
     let mut clients = Clients::start(folder, servers.addresses())?;
-    let mut drive = Drive { folder: folder.to_path_buf(), servers, told: Vec::new() };
+    let mut drive = Drive { folder: folder.to_path_buf(), servers, noted: Vec::new() };
     let rounds_of_faults = faults.into_iter().cycle().take(rounds);
     // If no server serves any more, what was read until then is compared all the same.
     let failed = drive.break_all(rounds_of_faults, &mut clients).err();
     let hung = clients.end()?;
-    report(folder, &drive.told)?;
-    let down: Vec<(u64, u64)> = drive.told.iter().map(|told| (told.from, told.to)).collect();
+    report(folder, &drive.noted)?;
+    let down: Vec<(u64, u64)> = drive.noted.iter().map(|noted| (noted.from, noted.to)).collect();
     let mut store = EtcdStore::open(&drive.servers.cluster.address(), &Credentials::default())?;
     let tally = clients.compare(&store.load()?, &down)?;
     println!(
         "{} faults of servers {} and {} kills of clients: {} ranges read, {} keys in them \
          compared, {} of them while no server served; {} writes answered; {} wrong, {hung} \
          processes hung",
-        drive.told.len(),
+        drive.noted.len(),
         drive.servers.site,
         clients.killed(),
         tally.reads,
@@ -143,14 +143,14 @@ impl Drive {
             Fault::Node => {
                 let from = now();
                 self.servers.cluster.kill_node(round, PAUSE)?;
-                self.tell(fault, from, from);
+                self.note(fault, from, from);
                 Ok(())
             }
         }
     }
 
-    fn tell(&mut self, fault: Fault, from: u64, to: u64) {
-        self.told.push(Told { fault, from, to });
+    fn note(&mut self, fault: Fault, from: u64, to: u64) {
+        self.noted.push(NotedFault { fault, from, to });
     }
 
     /// Kills a server, waits until another one serves, and starts it again.
@@ -158,7 +158,7 @@ impl Drive {
         self.servers.server(place).kill()?;
         let from = now();
         self.servers.wait_for_another(place)?;
-        self.tell(fault, from, now());
+        self.note(fault, from, now());
         Ok(self.servers.start_again(place)?)
     }
 
@@ -167,7 +167,7 @@ impl Drive {
         self.servers.server(old).signal("-STOP")?;
         let from = now();
         let new = self.servers.wait_for_another(old)?;
-        self.tell(fault, from, now());
+        self.note(fault, from, now());
         thread::sleep(FROZEN);
         self.servers.server(old).signal("-CONT")?;
         Ok(new)
@@ -187,7 +187,7 @@ impl Drive {
         let from = now();
         part(machines, old)?;
         self.servers.wait_for_another(old)?;
-        self.tell(fault, from, now());
+        self.note(fault, from, now());
         thread::sleep(FROZEN);
         heal(machines, old)
     }
@@ -197,7 +197,7 @@ impl Drive {
         let from = now();
         self.servers.relay(old).hold(Holds::Everything);
         self.servers.wait_for_another(old)?;
-        self.tell(fault, from, now());
+        self.note(fault, from, now());
         thread::sleep(FROZEN);
         self.servers.relay(old).let_go();
         Ok(())
@@ -227,7 +227,7 @@ impl Drive {
         self.servers.relay(second).let_go();
         self.servers.server(first).signal("-STOP")?;
         self.servers.wait_for(|place| place == second)?;
-        self.tell(fault, from, now());
+        self.note(fault, from, now());
         self.servers.relay(first).let_go();
         thread::sleep(BESIDE);
         self.servers.server(first).signal("-CONT")?;
@@ -247,10 +247,10 @@ impl Drive {
 
 /// Prints of each fault when another server served, and when the first write was answered that was
 /// begun after it; and of all faults of a kind the middle and the worst.
-fn report(folder: &Path, told: &[Told]) -> Done {
+fn report(folder: &Path, noted: &[NotedFault]) -> Done {
     let answers = answers(folder)?;
     let mut kinds: BTreeMap<Fault, [Vec<u64>; 2]> = BTreeMap::new();
-    for Told { fault, from, to } in told {
+    for NotedFault { fault, from, to } in noted {
         let millis = |at: u64| at.saturating_sub(*from) / 1_000_000;
         let [others, firsts] = kinds.entry(*fault).or_default();
         let other = millis(*to);

@@ -57,7 +57,7 @@ fn fill(client: &Client, ranges: u64) -> Result<(), Box<dyn Error>> {
     Ok(())
 }
 
-/// Freezes the server after a first read, and answers how long the second one takes.
+/// Freezes the server after a first read, and returns how long the second one takes.
 fn freeze(
     servers: &mut StandBys,
     reader: &Client,

@@ -120,7 +120,7 @@ impl Run {
         }
     }
 
-    /// The patient client writes now and then. It answers how long each write took.
+    /// The patient client writes now and then. Returns how long each write took.
     fn write_at_times(&self, client: &Client, key: u64) -> Result<Vec<Duration>, Box<dyn Error>> {
         let mut waits = Vec::new();
         while !self.is_over() {
@@ -180,7 +180,7 @@ pub fn run(folder: &Path) -> Found {
     Ok(true)
 }
 
-/// Prints what was measured, and answers whether the patient client waited for few round trips.
+/// Prints what was measured, and returns whether the patient client waited for few round trips.
 fn is_bounded(habit: Habit, measured: &Measured, messages: u64, trip: Duration) -> bool {
     let Measured { granted, waits, stall } = measured;
     let in_trips = |wait: Duration| wait.as_secs_f64() / trip.as_secs_f64();

@@ -165,7 +165,7 @@ fn wait_for_server(at: SocketAddr) -> Result<(), Box<dyn Error>> {
 }
 
 impl Drive {
-    /// Kills the server once in each round, and a client in two of five. It answers when no server
+    /// Kills the server once in each round, and a client in two of five. Returns when no server
     /// ran.
     fn kill_for(&mut self, rounds: u64) -> Result<Vec<(u64, u64)>, Box<dyn Error>> {
         let mut down = Vec::new();

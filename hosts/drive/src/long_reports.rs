@@ -65,7 +65,7 @@ fn waits_for(order: Order, lock_file: &Path) -> Result<Duration, Box<dyn Error>>
     let reader = Client::join(at, READER, lock_file)?;
     let report = report(server.status().epoch, order);
     let begun = Instant::now();
-    let _reporter = say(at, &report)?;
+    let _reporter = send_alone(at, &report)?;
     let rows = reader.read(0..8)?;
     let waited = begun.elapsed();
     // What a server shows follows a little later.
@@ -92,7 +92,7 @@ fn full_table() -> Snapshot {
 }
 
 /// Sends one message on a connection of its own, after its host's Hello. The connection stays open.
-fn say(at: SocketAddr, message: &[u8]) -> Result<TcpStream, Box<dyn Error>> {
+fn send_alone(at: SocketAddr, message: &[u8]) -> Result<TcpStream, Box<dyn Error>> {
     let mut stream = TcpStream::connect(at)?;
     stream.write_all(&HOST_HELLO)?;
     stream.write_all(&(message.len() as u64).to_le_bytes())?;

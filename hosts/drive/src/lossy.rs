@@ -115,8 +115,8 @@ fn pass(mut from: impl Read, mut to: impl Write, mut draws: Draws) {
             }
             _ => frame,
         };
-        let behind = held.take().unwrap_or_default();
-        if to.write_all(&[frames, behind].concat()).is_err() {
+        let later = held.take().unwrap_or_default();
+        if to.write_all(&[frames, later].concat()).is_err() {
             break;
         }
     }

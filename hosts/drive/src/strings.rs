@@ -180,8 +180,8 @@ impl Table {
     /// Hands messages over until nobody has one to send.
     fn settle(&mut self, up: &mut Vec<Vec<u8>>, down: &mut Vec<Vec<u8>>) {
         loop {
-            let said = take(&mut self.client);
-            for message in &said {
+            let sent = take(&mut self.client);
+            for message in &sent {
                 // SAFETY: the handle and what it is given live longer than the call.
                 unsafe {
                     ffi::krl_server_step(&raw mut self.server, message.as_ptr(), message.len())
@@ -194,10 +194,10 @@ impl Table {
                     ffi::krl_client_step(&raw mut self.client, message.as_ptr(), message.len())
                 };
             }
-            if said.is_empty() && answers.is_empty() {
+            if sent.is_empty() && answers.is_empty() {
                 return;
             }
-            up.extend(said);
+            up.extend(sent);
             down.extend(answers);
         }
     }
@@ -265,10 +265,10 @@ fn take(handle: &mut ffi::Handle) -> Vec<Vec<u8>> {
     let reply = unsafe { ffi::krl_take(handle, frames.as_mut_ptr(), length) };
     assert_eq!(reply.code, DONE, "what waits is taken");
     let (mut messages, mut rest) = (Vec::new(), &frames[..]);
-    while let Some((length, behind)) = rest.split_first_chunk() {
-        let (message, behind) = behind.split_at(length_of(u64::from_le_bytes(*length)));
+    while let Some((length, after)) = rest.split_first_chunk() {
+        let (message, after) = after.split_at(length_of(u64::from_le_bytes(*length)));
         messages.push(message.to_vec());
-        rest = behind;
+        rest = after;
     }
     messages
 }

@@ -69,7 +69,7 @@ impl Buckets {
         number_of(mix(key, self.salt), self.count())
     }
 
-    /// Makes the write, and answers which bucket it changes.
+    /// Makes the write, and returns which bucket it changes.
     pub fn write(&mut self, write: Write) -> usize {
         let number = self.number_of(write.key());
         let rows = &mut self.buckets[number];
@@ -85,7 +85,7 @@ impl Buckets {
         self.count() - (self.count() + 1).next_power_of_two() / 2
     }
 
-    /// Adds a bucket, with the rows that are its own from now on. It answers whether there are any.
+    /// Adds a bucket, with the rows that are its own from now on. Returns whether there are any.
     pub fn add(&mut self) -> bool {
         let (from, number, salt) = (self.splits_next(), self.count(), self.salt);
         let is_moved = |key: u64| number_of(mix(key, salt), number + 1) == number;

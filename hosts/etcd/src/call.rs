@@ -144,7 +144,7 @@ impl Etcd {
             Ok(answer) => serde_json::from_reader(answer.into_reader().take(LONGEST_ANSWER))
                 .map_err(|error| unknown(error.to_string())),
             Err(ureq::Error::Status(status, answer)) => {
-                let (code, why) = told(&read_body(answer));
+                let (code, why) = read_error(&read_body(answer));
                 let is_final = code.is_some_and(means_that_nothing_was_done);
                 if is_final && !explain::passes_by_itself(&why) {
                     Err(Failure::Refused(explain::refusal(&why, &self.given)).into())
@@ -172,7 +172,7 @@ fn read_body(answer: ureq::Response) -> String {
 }
 
 /// What an answer that is an error holds: a status of gRPC, and why.
-fn told(text: &str) -> (Option<u64>, String) {
+fn read_error(text: &str) -> (Option<u64>, String) {
     let json: Json = serde_json::from_str(text).unwrap_or_default();
     let why = json["message"].as_str().or(json["error"].as_str()).unwrap_or(text.trim());
     (json["code"].as_u64(), why.to_string())
@@ -223,15 +223,16 @@ mod tests {
     use super::*;
 
     #[test]
-    fn only_some_statuses_say_that_nothing_was_done() {
-        let (code, why) = told(r#"{"error":"mvcc: x","code":11,"message":"mvcc: compacted"}"#);
+    fn only_some_statuses_mean_that_nothing_was_done() {
+        let (code, why) =
+            read_error(r#"{"error":"mvcc: x","code":11,"message":"mvcc: compacted"}"#);
         assert_eq!((code, why.as_str()), (Some(11), "mvcc: compacted"));
         assert!(means_that_nothing_was_done(11));
         // Cancelled, Unknown, DeadlineExceeded, Aborted, Internal, Unavailable, DataLoss.
         for code in [1, 2, 4, 10, 13, 14, 15] {
             assert!(!means_that_nothing_was_done(code), "{code}");
         }
-        assert_eq!(told("no JSON\n"), (None, "no JSON".to_string()));
+        assert_eq!(read_error("no JSON\n"), (None, "no JSON".to_string()));
     }
 
     #[test]
@@ -245,7 +246,7 @@ mod tests {
     }
 
     #[test]
-    fn credentials_that_are_none_are_told() {
+    fn credentials_that_are_none_are_reported() {
         let address = "etcds://127.0.0.1:9/x".parse().unwrap();
         let authority = Some("/nowhere/ca.pem".into());
         let credentials = Credentials { authority, ..Credentials::default() };

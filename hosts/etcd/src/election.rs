@@ -109,7 +109,7 @@ impl Election {
         Ok(None)
     }
 
-    /// Takes the place if nobody has it, and answers the lease then. A server that only looks
+    /// Takes the place if nobody has it, and returns the lease then. A server that only looks
     /// writes nothing: a transaction would be written to the log of each node, also where it
     /// changes nothing.
     fn try_once(

@@ -105,7 +105,7 @@ mod tests {
     }
 
     #[test]
-    fn what_etcd_refuses_is_told_as_what_is_wrong() {
+    fn what_etcd_refuses_is_reported_as_what_is_wrong() {
         let krl = given(Some("krl"));
         let failed = "etcdserver: authentication failed, invalid user ID or password";
         assert_eq!(refusal(failed, &krl), "the user krl or the password is wrong");

@@ -40,7 +40,7 @@ fn value_of(address: &EtcdAddress) -> Option<u64> {
 }
 
 #[test]
-fn a_change_that_comes_behind_its_own_repetition_is_not_made() {
+fn a_change_that_comes_after_its_own_repetition_is_not_made() {
     let Some(cluster) = Cluster::start() else { return };
     let (relay, address) = relayed(&cluster, "repeated");
     let mut store = loaded(&address);
@@ -56,7 +56,7 @@ fn a_change_that_comes_behind_its_own_repetition_is_not_made() {
 }
 
 #[test]
-fn a_change_that_comes_behind_another_start_is_not_made() {
+fn a_change_that_comes_after_another_start_is_not_made() {
     let Some(cluster) = Cluster::start() else { return };
     let (relay, address) = relayed(&cluster, "behind");
     let mut old = loaded(&address).with_commit_timeout(Duration::from_millis(1500));

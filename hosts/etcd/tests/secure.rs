@@ -55,7 +55,7 @@ fn a_cluster_that_wants_certificates_gets_one() {
 }
 
 #[test]
-fn a_node_without_tls_is_told() {
+fn a_node_without_tls_is_reported() {
     let Some(cluster) = Cluster::start() else { return };
     let secure = EtcdAddress { is_secure: true, ..cluster.address("plain") };
     let reason = Election::leader(&secure, &Credentials::default()).unwrap_err().to_string();

@@ -148,7 +148,7 @@ fn split(text: &str) -> Result<(String, Given), BadPostgresAddress> {
 }
 
 impl Given {
-    /// Takes a parameter if it is of TLS, and answers whether it is.
+    /// Takes a parameter if it is of TLS, and returns whether it is.
     fn take(&mut self, parameter: &str) -> Result<bool, BadPostgresAddress> {
         let Some((name, value)) = form_urlencoded::parse(parameter.as_bytes()).next() else {
             return Err(BadPostgresAddress::Other("a parameter is empty".to_string()));

@@ -79,7 +79,7 @@ impl Link {
         })
     }
 
-    /// Commits what the batch sets, and `next` as the head, if the head is `last`. It answers the
+    /// Commits what the batch sets, and `next` as the head, if the head is `last`. Returns the
     /// head as it stands then.
     pub fn commit(
         &mut self,

@@ -75,7 +75,7 @@ impl PostgresStore {
     }
 
     /// Connects to the database, and tries again until it answers. Each time that it does not,
-    /// `goes_on` gets the reason, and answers whether to try again. False if it is not to continue.
+    /// `goes_on` gets the reason, and returns whether to try again. False if it is not to continue.
     ///
     /// # Errors
     ///

@@ -50,7 +50,7 @@ fn of_two_commits_that_wait_for_the_head_one_is_made() {
 }
 
 #[test]
-fn a_commit_that_comes_behind_another_start_is_not_made() {
+fn a_commit_that_comes_after_another_start_is_not_made() {
     let Some(database) = Database::start() else { return };
     let mut old = loaded(&database.address()).with_commit_timeout(Duration::from_millis(300));
     old.commit(&BEGIN).unwrap();
@@ -79,7 +79,7 @@ fn a_commit_whose_answer_got_lost_is_found_to_be_made() {
 }
 
 #[test]
-fn a_commit_whose_answer_got_lost_is_told_as_unknown_if_the_database_is_gone() {
+fn a_commit_whose_answer_got_lost_is_reported_as_unknown_if_the_database_is_gone() {
     let Some(mut database) = Database::start() else { return };
     let relay = DeafRelay::start(database.at());
     let store = loaded(&address_at(relay.address()));

@@ -52,7 +52,7 @@ fn a_database_is_reached_by_tls_and_its_certificate_is_checked() {
 }
 
 #[test]
-fn what_can_not_be_used_is_told() {
+fn what_cannot_be_used_is_reported() {
     let Some(database) = Database::start() else { return };
     let error = load(&address(&database, "127.0.0.1", "sslmode=require")).unwrap_err();
     assert!(error.contains("server does not support TLS"), "{error}");

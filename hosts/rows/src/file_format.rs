@@ -27,7 +27,7 @@ mod tests {
     use super::*;
 
     #[test]
-    fn the_ending_of_a_name_tells_the_format() {
+    fn the_ending_of_a_name_gives_the_format() {
         for (name, format) in [
             ("rows.csv", FileFormat::Csv),
             ("rows", FileFormat::Csv),

@@ -280,7 +280,7 @@ mod tests {
     }
 
     #[test]
-    fn a_bad_row_is_told_with_its_line_and_ends_the_file() {
+    fn a_bad_row_is_reported_with_its_line_and_ends_the_file() {
         let one = "key,value\n1,one\n";
         for (row, told) in [
             ("2\n3,a", "line 3: it has 1 columns, and two are expected: key,value"),
@@ -314,7 +314,7 @@ mod tests {
     }
 
     #[test]
-    fn a_file_that_cannot_be_read_to_its_end_is_told_with_the_line() {
+    fn a_file_that_cannot_be_read_to_its_end_is_reported_with_the_line() {
         let (_, why) = read(b"key,value\n1,\"a\n2,b\n", FileFormat::Csv);
         let told = "line 2 can't be read: it opens a quote that is never closed";
         assert_eq!(why.unwrap(), told);

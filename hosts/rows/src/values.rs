@@ -185,7 +185,7 @@ mod tests {
     }
 
     #[test]
-    fn bad_words_are_told() {
+    fn bad_words_are_reported() {
         let fails = |form: ValueForm, word: &str| form.read(word).unwrap_err().to_string();
         assert!(fails(ValueForm::Text, "hex:abc").contains("even number of hexadecimal digits"));
         assert!(fails(ValueForm::Text, "hex:+1").contains("'hex:+1' is no value"));

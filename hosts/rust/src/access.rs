@@ -130,7 +130,7 @@ mod tests {
     use super::*;
 
     #[test]
-    fn the_own_user_and_root_say_all_and_others_what_is_written() {
+    fn the_own_user_and_root_may_send_all_and_others_what_is_listed() {
         let three: Identity = "3".parse().unwrap();
         let access = Access::new().user(1001, three);
         assert_eq!(access.of_user(1001, 1000), three);

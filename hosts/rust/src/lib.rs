@@ -1,12 +1,22 @@
-//! A key-range lock server over a network and a store, and clients that answer reads from their
-//! caches.
+//! Clients that answer reads of ranges of keys from their caches, and never with stale rows; and
+//! the key-range lock server that keeps the rows, over a store.
+//!
+//! | You want to | Start at |
+//! | --- | --- |
+//! | read and write rows, and keep what was read | [`Client::join`], [`ClientBuilder`] |
+//! | do the same in tasks of an executor | [`AsyncClient`] |
+//! | change several rows at one moment, or hold a range | [`Client::write_all`], [`Client::pin`] |
+//! | learn when a range changes | [`Client::changes`] |
+//! | use several servers, each with a part of the keys | [`ShardMap`] |
+//! | run a server | [`Server::start`], [`ServerBuilder`], [`Listener`] |
+//! | decide who may connect, and for which clients | [`Access`], [`Identity`] |
+//! | bring a store of your own | [`Store`] |
+//! | see what a server does, and who holds a range | [`Server::monitor`], [`operate`] |
+//! | back up, check and cut a store's file | [`operate`] |
 //!
 //! The protocol's rules are the library's, `krl_embed`, whose functions are proved. This crate is
 //! the host around it: it has the sockets, the threads and the disk. Nothing of it is proved.
 //! `docs/EMBEDDING.md` describes what a host has to do.
-//!
-//! In the source, start at `client` or `server`. Both stand on `proved`, the library of the rules,
-//! and send what `wire` spells over `net`.
 //!
 //! ```no_run
 //! use krl::{Client, Outcome, Server, SqliteStore, Value};
@@ -27,7 +37,7 @@
 //!
 //! | Feature | What it adds |
 //! | --- | --- |
-//! | `sqlite`, by default | the store over SQLite: `SqliteStore` and `StoreFile` |
+//! | `sqlite`, by default | the store over SQLite: `SqliteStore` and `operate::StoreFile` |
 //! | `tracing`, by default | events for a log |
 //! | `spans` | a span of `tracing` around each call of a client that blocks |
 //! | `tls` | connections by TLS, over OpenSSL: `TlsConfig` |
@@ -42,6 +52,7 @@ mod lease;
 mod log;
 mod model;
 mod net;
+pub mod operate;
 mod proved;
 #[cfg(feature = "sans-io")]
 #[doc(hidden)]
@@ -93,24 +104,14 @@ pub use server::Server;
 pub use server::builder::ServerBuilder;
 pub use server::close_reason::ClosedConnections;
 pub use server::error::ServeError;
-pub use server::lock_search::HeldRun;
-pub use server::shown::client_status::{ClientConnection, ClientStatus};
-pub use server::shown::held_search::{HeldPage, HeldSearch};
-pub use server::shown::liveness::Liveness;
-pub use server::shown::locks::{Locks, LocksError};
 pub use server::shown::monitor::{Monitor, SnapshotError};
 pub use server::shown::status::Status;
-pub use server::shown::timings::{Counts, Measured};
 pub use server::shown::watch::{HeldSlots, Wait};
 pub use shards::map::{BadShardMap, Shard, ShardMap};
 #[cfg(feature = "map-file")]
 pub use shards::map_file::BadMapFile;
 #[cfg(feature = "fence")]
 pub use store::fence;
-#[cfg(feature = "sqlite")]
-pub use store::sqlite::checksum::{Checksum, CutOff};
-#[cfg(feature = "sqlite")]
-pub use store::sqlite::copy::StoreFile;
 #[cfg(feature = "sqlite")]
 pub use store::sqlite::{LogWrites, SqliteStore};
 #[cfg(feature = "store-tests")]

@@ -140,7 +140,7 @@ impl<N: Incarnations> Client<N> {
         now: Duration,
     ) -> Result<Client<N>, Error> {
         let (number, current) = (incarnations.number(), incarnations.current());
-        let handle = ClientHandle::open_behind(number, current, incarnations.older())?;
+        let handle = ClientHandle::open_after(number, current, incarnations.older())?;
         let state = State::new(handle, Now::of_host(now));
         let session = Session::new(unnamed(servers, shard), state, seed);
         let (frames, output) = (Frames::to_client(), Vec::new());
@@ -210,8 +210,8 @@ impl<N: Incarnations> Client<N> {
     }
 
     /// Whether it needs a greater incarnation, which it takes with its next connection.
-    pub fn has_to_begin_anew(&mut self, now: Duration) -> bool {
-        self.at(now).has_to_begin_anew()
+    pub fn has_to_begin_again(&mut self, now: Duration) -> bool {
+        self.at(now).has_to_begin_again()
     }
 
     /// Bytes have come, cut anywhere.

@@ -10,7 +10,7 @@ mod held_back;
 pub(crate) mod listening;
 pub(crate) mod lock_search;
 pub(crate) mod opening;
-pub(crate) mod requests;
+pub(crate) mod questions;
 pub(crate) mod room_at_start;
 pub(crate) mod routing;
 pub(crate) mod shown;
@@ -21,7 +21,7 @@ use crate::model::reach::Reach;
 use crate::model::room::Room;
 use crate::net::address::Address;
 use crate::server::error::ServeError;
-use crate::server::requests::Requests;
+use crate::server::questions::Questions;
 use crate::server::shown::monitor::Monitor;
 use crate::server::shown::status::Status;
 use crate::server::shown::timings::Timings;
@@ -36,7 +36,7 @@ pub struct Server {
     address: Address,
     room: Room,
     reach: Reach,
-    requests: Requests,
+    questions: Questions,
     status: Arc<Mutex<Status>>,
     timings: Arc<Timings>,
     longest_store_wait: Duration,
@@ -77,7 +77,7 @@ impl Server {
         Monitor {
             status: Arc::clone(&self.status),
             timings: Arc::clone(&self.timings),
-            requests: self.requests.clone(),
+            questions: self.questions.clone(),
             longest_store_wait: self.longest_store_wait,
         }
     }
@@ -112,7 +112,7 @@ impl Server {
     }
 
     fn ask_to_stop(&self) {
-        self.requests.stop();
+        self.questions.stop();
     }
 
     /// Waits until the server has ended, and its address is free.

@@ -2,7 +2,7 @@
 //! the disks. Its clients are those of [`crate::sans_io`]. Nothing here is a part of the interface.
 mod server;
 
-pub use server::{Next, Said, Server, Start};
+pub use server::{Next, Sent, Server, Start};
 
 use crate::lease::terms::Answer;
 use crate::lease::terms::Sign;
@@ -64,8 +64,8 @@ pub fn describe(frame: &[u8]) -> String {
     if let Some(FromClient::Hello(seen)) = FromClient::read(frame) {
         return seen.map_or("Host".into(), |seen| format!("Host, seen {:?}", seen.mark));
     }
-    if let Some(said) = FromServer::read(frame) {
-        return format!("{said:?}");
+    if let Some(sent) = FromServer::read(frame) {
+        return format!("{sent:?}");
     }
     let numbers = frame.get(AFTER_HEAD..).unwrap_or_default().chunks_exact(8).take(SHOWN);
     let numbers = numbers.filter_map(|bytes| bytes.try_into().ok().map(u64::from_le_bytes));

@@ -79,7 +79,7 @@ fn bad_answers_alone_reject_nobody() {
 }
 
 #[test]
-fn who_joins_another_program_is_told_so_at_once() {
+fn a_client_that_joins_another_program_learns_it_at_once() {
     let setup = Setup::new("bad-program");
     let listener = Listener::bind(&"127.0.0.1:0".parse().unwrap()).unwrap();
     let server = Server::builder(listener, MemoryStore::default()).start().unwrap();
@@ -132,7 +132,7 @@ fn expire(setup: &Setup, certificate: &Path, key: &Path) {
 }
 
 #[test]
-fn who_is_rejected_hears_it_soon_but_for_a_write_that_was_sent() {
+fn a_rejected_client_learns_it_soon_but_for_a_write_that_was_sent() {
     let setup = Setup::new("bad-rights");
     let server = serve(&setup);
     let relay = Relay::to(at(&server));

@@ -42,7 +42,7 @@ fn a_bad_key_is_refused_before_any_write() {
 }
 
 #[test]
-fn an_error_tells_what_became_of_each_write() {
+fn an_error_reports_the_fate_of_each_write() {
     let world = World::new("error");
     let (first, second) = (world.join(0), world.join(1));
     // The gap after the pinned range ends at the second row.

@@ -75,7 +75,7 @@ fn each_call(server: &Server, folder: &Folder) {
 }
 
 #[test]
-fn cached_rows_are_visited_behind_the_scan() {
+fn cached_rows_are_visited_after_the_scan() {
     let folder = Folder::new("visits");
     let server = server("127.0.0.1:0");
     let (first, second) = (folder.join(&server, 0), folder.join(&server, 1));

@@ -65,7 +65,7 @@ impl Lines {
 }
 
 #[test]
-fn a_server_tells_what_happens_once() {
+fn a_server_reports_each_event_once() {
     let lines = Lines::default();
     tracing::subscriber::set_global_default(lines.clone()).unwrap();
     let folder = std::env::temp_dir().join(format!("krl-events-{}", std::process::id()));

@@ -95,7 +95,7 @@ fn a_client_of_the_same_shard_is_served_and_every_other_one_is_refused() {
 }
 
 #[test]
-fn the_library_hears_nothing_before_the_shard_was_said() {
+fn the_library_receives_nothing_before_the_shard_was_sent() {
     let server = server(Some("0..9@3"));
     let refused = {
         let numbers: Vec<u8> = [0_u64, 9, 3].into_iter().flat_map(u64::to_le_bytes).collect();
@@ -107,22 +107,22 @@ fn the_library_hears_nothing_before_the_shard_was_said() {
     };
     for speech in [frame(HELLO, 3, 1, &[]), sign] {
         let mut peer = Peer::new(&server);
-        peer.say(&HOST_HELLO);
-        peer.say(&speech);
-        assert_eq!(peer.hear(LONG), [&HOST_ANSWER[..], &refused].concat());
+        peer.send(&HOST_HELLO);
+        peer.send(&speech);
+        assert_eq!(peer.receive(LONG), [&HOST_ANSWER[..], &refused].concat());
     }
     // A Shard that names none is refused, also by a server of all keys.
     let whole = self::server(None);
     let all_keys = [&[27, 0, 0, 0, 0, 0, 0, 0, 0, 17, 7][..], &[0; 24]].concat();
     for (server, refused) in [(&server, &refused), (&whole, &all_keys)] {
         let mut peer = Peer::new(server);
-        peer.say(&HOST_HELLO);
-        peer.say(&[&[26, 0, 0, 0, 0, 0, 0, 0, 0, 2][..], &[0; 24]].concat());
-        assert_eq!(peer.hear(LONG), [&HOST_ANSWER[..], refused].concat());
+        peer.send(&HOST_HELLO);
+        peer.send(&[&[26, 0, 0, 0, 0, 0, 0, 0, 0, 2][..], &[0; 24]].concat());
+        assert_eq!(peer.receive(LONG), [&HOST_ANSWER[..], refused].concat());
     }
     let mut silent = Peer::new(&server);
-    silent.say(&frame(HELLO, 3, 1, &[]));
-    assert_eq!(silent.hear(LONG), [], "its host takes no host frames");
+    silent.send(&frame(HELLO, 3, 1, &[]));
+    assert_eq!(silent.receive(LONG), [], "its host takes no host frames");
     assert_eq!(server.status().taken, 0);
     assert!(server.monitor().snapshot().unwrap().records.is_empty());
 }
@@ -162,7 +162,7 @@ fn heed_no_shard(mut stream: TcpStream, tell: &Sender<Vec<u8>>) {
 }
 
 #[test]
-fn a_client_says_nothing_of_the_library_to_a_server_that_confirms_no_shard() {
+fn a_client_sends_nothing_of_the_library_to_a_server_that_confirms_no_shard() {
     let folder = Folder::new("heedless");
     let (address, said) = heedless_server();
     let servers = krl::Servers::from(address).of_shard(bounds("0..9@3"));
@@ -176,7 +176,7 @@ fn a_client_says_nothing_of_the_library_to_a_server_that_confirms_no_shard() {
 }
 
 #[test]
-fn who_has_an_old_map_behind_a_split_writes_to_no_side_of_it() {
+fn a_client_with_an_old_map_writes_to_no_side_of_a_split() {
     let folder = Folder::new("split");
     let one = server(Some("0..@1"));
     let old_map = map(1, &[(0, &one)]);

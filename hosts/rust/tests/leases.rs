@@ -115,7 +115,7 @@ fn a_client_that_is_cut_off_stops_before_another_goes_on() {
 }
 
 #[test]
-fn a_write_that_was_on_its_way_is_told_as_such() {
+fn a_write_that_was_on_its_way_is_reported_as_such() {
     let (folder, server) = (Folder::new("write"), server(T));
     let network = Network::to(server.address());
     let client = folder.join(&network.address(), 0);
@@ -131,7 +131,7 @@ fn a_write_that_was_on_its_way_is_told_as_such() {
 }
 
 #[test]
-fn a_read_that_waits_goes_on_behind_the_end() {
+fn a_read_that_waits_continues_after_the_end() {
     let (folder, server) = (Folder::new("waits"), server(T));
     let network = Network::to(server.address());
     let client = folder.join(&network.address(), 0);
@@ -233,9 +233,9 @@ fn who_joined_without_a_lease_is_left_to_an_operator() {
 fn a_host_that_sends_no_signs_is_served_and_left_to_an_operator() {
     let (folder, server) = (Folder::new("older"), server(T));
     let mut older = Peer::new(&server);
-    older.say(&HOST_HELLO);
-    older.say(&frame(HELLO, 50, 1, &[]));
-    assert!(!older.hear_messages(T / 2).is_empty(), "it is answered");
+    older.send(&HOST_HELLO);
+    older.send(&frame(HELLO, 50, 1, &[]));
+    assert!(!older.receive_messages(T / 2).is_empty(), "it is answered");
     thread::sleep(3 * T);
     let status = server.status();
     assert_eq!((status.evicted, &status.unleased[..]), (0, &[50][..]), "{status}");
@@ -298,7 +298,7 @@ fn a_process_that_starts_again_on_its_machine_waits_for_nothing() {
 }
 
 #[test]
-fn a_client_that_leaves_behind_the_end_of_its_lease_has_left() {
+fn a_client_that_leaves_after_the_end_of_its_lease_has_left() {
     let (folder, server) = (Folder::new("leaves"), server(T));
     let network = Network::to(server.address());
     let client = folder.join(&network.address(), 0);

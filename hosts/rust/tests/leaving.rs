@@ -117,7 +117,7 @@ fn one_that_has_left_stays_so_for_all_its_clones() {
 }
 
 #[test]
-fn threads_that_leave_at_once_are_all_told_that_it_is_done() {
+fn threads_that_leave_at_once_all_learn_that_it_is_done() {
     let world = World::new("at-once");
     let client = world.join(1);
     assert_eq!(client.insert(1, Value::from(5)), Ok(Outcome::Applied));

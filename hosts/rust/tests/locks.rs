@@ -1,5 +1,6 @@
 //! Who holds what, as a monitor learns it while the server runs.
-use krl::{Client, END, HeldRun, HeldSearch, HeldSlot, Listener, Locks, LocksError, MemoryStore};
+use krl::operate::{HeldRun, HeldSearch, Locks, LocksError};
+use krl::{Client, END, HeldSlot, Listener, MemoryStore};
 use krl::{Mode, Outcome, Row, Server, Value};
 use std::path::PathBuf;
 use std::sync::atomic::{AtomicBool, Ordering};
@@ -94,7 +95,7 @@ fn what_is_no_range_is_refused() {
 }
 
 #[test]
-fn a_server_that_has_ended_tells_nothing() {
+fn a_server_that_has_ended_shows_nothing() {
     let listener = Listener::bind(&"127.0.0.1:0".parse().unwrap()).unwrap();
     let server = Server::start(listener, MemoryStore::default()).unwrap();
     let monitor = server.monitor();

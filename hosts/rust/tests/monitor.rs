@@ -1,7 +1,6 @@
 //! What a monitor sees of a server: its turns, its measurements and its store.
-use krl::{
-    Change, Client, Listener, Liveness, MemoryStore, Outcome, Server, Snapshot, SnapshotError,
-};
+use krl::operate::Liveness;
+use krl::{Change, Client, Listener, MemoryStore, Outcome, Server, Snapshot, SnapshotError};
 use krl::{Store, StoreError, Value};
 use std::path::PathBuf;
 use std::sync::Arc;

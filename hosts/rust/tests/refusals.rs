@@ -46,13 +46,13 @@ fn refused(reason: u8, numbers: [u64; 2]) -> Vec<u8> {
 }
 
 /// What a peer receives that sends these frames after its host's Hello.
-fn heard(server: &Server, said: &[Vec<u8>]) -> Vec<u8> {
+fn answer_to(server: &Server, said: &[Vec<u8>]) -> Vec<u8> {
     let mut peer = Peer::new(server);
-    peer.say(&HOST_HELLO);
+    peer.send(&HOST_HELLO);
     for frame in said {
-        peer.say(frame);
+        peer.send(frame);
     }
-    let heard = peer.hear(SHORT);
+    let heard = peer.receive(SHORT);
     assert_eq!(
         heard.get(..HOST_ANSWER.len()),
         Some(&HOST_ANSWER[..]),
@@ -70,9 +70,9 @@ fn of_version(version: u8) -> Vec<u8> {
 #[test]
 fn a_message_of_another_version() {
     let server = server(MemoryStore::default());
-    assert_eq!(heard(&server, &[of_version(2)]), refused(0, [3, 0]));
+    assert_eq!(answer_to(&server, &[of_version(2)]), refused(0, [3, 0]));
     let no_message = [1, 0, 0, 0, 0, 0, 0, 0, 1].to_vec();
-    assert_eq!(heard(&server, &[no_message]), [], "its version is the right one");
+    assert_eq!(answer_to(&server, &[no_message]), [], "its version is the right one");
 }
 
 /// A host that names no version, or another one, is refused before anything of its client is
@@ -87,9 +87,9 @@ fn a_host_of_another_version() {
     ];
     for hello in hellos {
         let mut peer = Peer::new(&server);
-        peer.say(&[hello, &frame(HELLO, 3, 1, &[])].concat());
+        peer.send(&[hello, &frame(HELLO, 3, 1, &[])].concat());
         let begun = Instant::now();
-        assert_eq!(peer.hear(LONG), refused(0, [3, 0]), "{hello:?}");
+        assert_eq!(peer.receive(LONG), refused(0, [3, 0]), "{hello:?}");
         assert!(begun.elapsed() < LONG, "the connection ends");
     }
     assert_eq!(server.status().taken, 0, "the library hears nothing");
@@ -140,22 +140,22 @@ fn a_server_of_another_version() {
 #[test]
 fn a_number_that_no_client_has() {
     let server = server(MemoryStore::default());
-    assert_eq!(heard(&server, &[frame(HELLO, 64, 1, &[])]), refused(1, [64, 0]));
+    assert_eq!(answer_to(&server, &[frame(HELLO, 64, 1, &[])]), refused(1, [64, 0]));
 }
 
 #[test]
-fn each_reason_is_told_once_a_second() {
+fn each_reason_is_sent_once_a_second() {
     let server = server(store(&[]));
     let said: Vec<_> = (0..50).map(|turn| frame(HELLO, 64 + turn % 2, 1, &[])).collect();
-    assert_eq!(heard(&server, &said), refused(1, [64, 0]));
+    assert_eq!(answer_to(&server, &said), refused(1, [64, 0]));
 }
 
 #[test]
 fn a_peer_whose_host_sends_no_hello_is_of_another_version() {
     let server = server(store(&[3, 7]));
     let mut peer = Peer::new(&server);
-    peer.say(&frame(HELLO, 3, 16, &[]));
-    assert_eq!(peer.hear(SHORT), refused(0, [3, 0]));
+    peer.send(&frame(HELLO, 3, 16, &[]));
+    assert_eq!(peer.receive(SHORT), refused(0, [3, 0]));
     assert_eq!(server.status().taken, 0);
 }
 

@@ -296,9 +296,9 @@ fn nothing_is_taken_of_a_connection_whose_host_has_seen_more() {
     let listener = std::net::TcpListener::bind("127.0.0.1:0").unwrap();
     let server = Server::start(listener, MemoryStore::default()).unwrap();
     let mut peer = Peer::new(&server);
-    peer.say(&[host_hello(5, 1), frame(HELLO, 3, 1, &[])].concat());
+    peer.send(&[host_hello(5, 1), frame(HELLO, 3, 1, &[])].concat());
     let begun = Instant::now();
-    assert_eq!(peer.hear(Duration::from_secs(10)), WENT_BACK);
+    assert_eq!(peer.receive(Duration::from_secs(10)), WENT_BACK);
     assert!(begun.elapsed() < Duration::from_secs(5), "the connection ends");
     assert!(wait_until(|| server.status().store_alarms == 1), "{}", server.status());
     assert_eq!(server.status().taken, 0, "the library's Hello is lost");
@@ -316,9 +316,9 @@ fn nothing_is_taken_of_a_connection_whose_host_has_seen_another_store() {
     let body = [&[0, 0][..], &[5; 16], &1u64.to_le_bytes(), &[7; 16], &[3]].concat();
     let seen = [&(body.len() as u64).to_le_bytes()[..], &body].concat();
     let mut peer = Peer::new(&server);
-    peer.say(&[seen, frame(HELLO, 3, 1, &[])].concat());
+    peer.send(&[seen, frame(HELLO, 3, 1, &[])].concat());
     let begun = Instant::now();
-    assert_eq!(peer.hear(Duration::from_secs(10)), [&OTHER_STORE[..], &[0; 16]].concat());
+    assert_eq!(peer.receive(Duration::from_secs(10)), [&OTHER_STORE[..], &[0; 16]].concat());
     assert!(begun.elapsed() < Duration::from_secs(5), "the connection ends");
     assert_eq!(server.status().taken, 0, "the library's Hello is lost");
     // A client that has seen no store is served after it.

@@ -21,7 +21,7 @@ fn server() -> Server {
 /// A connection whose host has sent its Hello.
 fn stranger_of(server: &Server) -> Peer {
     let mut stranger = Peer::new(server);
-    stranger.say(&HOST_HELLO);
+    stranger.send(&HOST_HELLO);
     stranger
 }
 
@@ -38,22 +38,22 @@ fn a_forged_bye_of_an_older_incarnation_is_not_answered() {
     for turn in 0..5 {
         client.read(0..20).unwrap();
         // After it nothing comes from the client before it is called back.
-        stranger.say(&frame(BYE, 3, incarnation(&lock) - 1, &[]));
+        stranger.send(&frame(BYE, 3, incarnation(&lock) - 1, &[]));
         thread::sleep(Duration::from_millis(10));
         assert!(writer.insert(turn, Value::from(1)).is_ok());
     }
-    assert_eq!(stranger.hear_messages(QUIET), NOTHING, "it takes none of the client's messages");
+    assert_eq!(stranger.receive_messages(QUIET), NOTHING, "it takes none of the client's messages");
     client.leave().unwrap();
     writer.leave().unwrap();
     std::fs::remove_file(other).unwrap();
     // The client that has left may send its Bye again, and is answered.
-    stranger.say(&frame(BYE, 3, incarnation(&lock), &[]));
-    assert_eq!(stranger.hear_messages(QUIET), [Vec::new()]);
+    stranger.send(&frame(BYE, 3, incarnation(&lock), &[]));
+    assert_eq!(stranger.receive_messages(QUIET), [Vec::new()]);
     std::fs::remove_file(lock).unwrap();
 }
 
 #[test]
-fn an_incarnation_that_never_said_hello_takes_no_route() {
+fn an_incarnation_that_never_sent_hello_takes_no_route() {
     let (server, lock, other) = (server(), lock_file("future"), lock_file("caller"));
     let client = Client::join(server.address().clone(), 3, &lock).unwrap();
     let writer = Client::join(server.address().clone(), 4, &other).unwrap();
@@ -61,13 +61,13 @@ fn an_incarnation_that_never_said_hello_takes_no_route() {
     for (turn, incarnation) in [0, 1, u64::MAX].into_iter().enumerate() {
         client.read(0..20).unwrap();
         // After it nothing comes from the client before it is called back.
-        stranger.say(&frame(ACK, 3, incarnation, &[1, 1]));
-        stranger.say(&frame(BYE, 3, incarnation, &[]));
+        stranger.send(&frame(ACK, 3, incarnation, &[1, 1]));
+        stranger.send(&frame(BYE, 3, incarnation, &[]));
         thread::sleep(Duration::from_millis(10));
         assert_eq!(writer.insert(turn as u64, Value::from(1)), Ok(Outcome::Applied));
     }
     assert_eq!(client.insert(10, Value::from(1)), Ok(Outcome::Applied));
-    assert_eq!(stranger.hear_messages(QUIET), NOTHING);
+    assert_eq!(stranger.receive_messages(QUIET), NOTHING);
     client.leave().unwrap();
     writer.leave().unwrap();
     for file in [lock, other] {
@@ -81,14 +81,18 @@ fn an_incarnation_that_never_said_hello_takes_no_route() {
 fn a_zombie_takes_nothing_of_its_successor() {
     let (server, lock, other) = (server(), lock_file("heir"), lock_file("other"));
     let mut zombie = stranger_of(&server);
-    zombie.say(&frame(HELLO, 3, 1, &[]));
-    assert_ne!(zombie.hear_messages(QUIET), NOTHING, "it is the client, until its successor joins");
+    zombie.send(&frame(HELLO, 3, 1, &[]));
+    assert_ne!(
+        zombie.receive_messages(QUIET),
+        NOTHING,
+        "it is the client, until its successor joins"
+    );
     let heir = Client::join(server.address().clone(), 3, &lock).unwrap();
     let writer = Client::join(server.address().clone(), 4, &other).unwrap();
-    zombie.hear(QUIET);
+    zombie.receive(QUIET);
     for turn in 0..20 {
-        zombie.say(&frame(HELLO, 3, 1, &[]));
-        zombie.say(&frame(ACK, 3, 1, &[1, turn]));
+        zombie.send(&frame(HELLO, 3, 1, &[]));
+        zombie.send(&frame(ACK, 3, 1, &[1, turn]));
         let begun = Instant::now();
         // There is a row from the first turn on.
         let judged = (writer.put(10, Value::from(turn)), writer.insert(10, Value::from(turn)));
@@ -100,7 +104,7 @@ fn a_zombie_takes_nothing_of_its_successor() {
         assert_eq!(heir.read(0..20).unwrap().len(), 1);
         assert!(begun.elapsed() < Duration::from_secs(5), "{:?}", begun.elapsed());
     }
-    assert_eq!(zombie.hear_messages(QUIET), NOTHING);
+    assert_eq!(zombie.receive_messages(QUIET), NOTHING);
     heir.leave().unwrap();
     writer.leave().unwrap();
     for file in [lock, other] {

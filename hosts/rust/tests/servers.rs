@@ -92,14 +92,14 @@ fn fails(name: &str, fail: fn() -> StoreError) -> (String, ServeError) {
 }
 
 #[test]
-fn a_server_whose_store_fails_says_so() {
+fn a_server_whose_store_fails_reports_it() {
     let (shown, error) = fails("fails", || StoreError::says("the disk is gone"));
     assert_eq!(shown, "the store failed: the disk is gone");
     assert!(matches!(error, ServeError::Store(_)), "{error:?}");
 }
 
 #[test]
-fn a_server_that_panics_says_so() {
+fn a_server_that_panics_reports_it() {
     let (shown, error) = fails("panics", || panic!("the test's"));
     assert_eq!(shown, "a thread of the server panicked");
     assert!(matches!(error, ServeError::Panicked), "{error:?}");
@@ -146,7 +146,7 @@ impl Store for Behind {
 /// A client that has seen more than an older server has makes that server ask who has the store. It
 /// ends then, and raises no alarm: the store did not go back.
 #[test]
-fn a_server_behind_another_one_ends_and_raises_no_alarm() {
+fn a_server_after_which_another_one_started_ends_and_raises_no_alarm() {
     let lock = lock_file("behind");
     let address = krl::Address::Unix(lock.with_extension("socket"));
     let serve = |start, is_deposed| {
@@ -168,7 +168,7 @@ fn a_server_behind_another_one_ends_and_raises_no_alarm() {
 
 /// A server asks now and then who has the store, though no client asks anything of it.
 #[test]
-fn an_idle_server_behind_another_one_ends() {
+fn an_idle_server_after_which_another_one_started_ends() {
     let store = Behind { store: MemoryStore::default(), start: 1, is_deposed: true };
     let server = Server::start(listener(), store).unwrap();
     assert!(wait_until(|| !server.is_running()));

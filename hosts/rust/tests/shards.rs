@@ -107,7 +107,7 @@ fn a_delete_of_the_last_key_of_a_shard_stays_in_the_shard() {
 }
 
 #[test]
-fn errors_tell_the_shard() {
+fn errors_name_the_shard() {
     let mut world = World::new("errors");
     world.insert_rows([10, 300]);
     let client = world.join(1);
@@ -295,7 +295,7 @@ fn a_call_waits_for_a_time_of_its_own() {
 /// A client that waits for a point has pinned nothing from there on: so no client that has that
 /// point waits for this one.
 #[test]
-fn a_client_that_waits_keeps_nothing_that_comes_behind() {
+fn a_client_that_waits_keeps_nothing_that_comes_after() {
     let world = World::new("waits");
     world.insert_rows([10, 300]);
     for calls in [

@@ -105,7 +105,7 @@ fn a_server_that_takes_nothing_holds_no_call_beyond_its_timeout() {
 }
 
 #[test]
-fn an_incarnation_is_in_the_lock_file_before_it_is_said() {
+fn an_incarnation_is_in_the_lock_file_before_it_is_sent() {
     let listener = TcpListener::bind("127.0.0.1:0").unwrap();
     let (address, lock) = (listener.local_addr().unwrap(), lock_file("kept"));
     let client = Client::builder(address, 5, &lock);

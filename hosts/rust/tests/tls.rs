@@ -18,7 +18,7 @@ use std::time::{Duration, Instant};
 const AT_ONCE: Duration = Duration::from_secs(4);
 
 #[test]
-fn a_client_says_its_own_numbers_and_no_other() {
+fn a_client_sends_its_own_numbers_and_no_other() {
     let setup = Setup::new("numbers");
     let server = serve(&setup);
     let three = setup.config(&["krl:client:3"]);
@@ -53,7 +53,7 @@ fn a_client_of_a_map_shows_its_certificate_to_each_server() {
 }
 
 #[test]
-fn who_is_not_certified_is_turned_away_at_once_and_says_nothing() {
+fn a_peer_without_a_certificate_is_rejected_at_once_and_sends_nothing() {
     let (setup, theirs) = (Setup::new("who"), Setup::new("who-else"));
     let server = serve(&setup);
     let strangers = [
@@ -80,7 +80,7 @@ fn who_is_not_certified_is_turned_away_at_once_and_says_nothing() {
 }
 
 #[test]
-fn a_client_speaks_to_no_server_but_its_own() {
+fn a_client_sends_to_no_server_but_its_own() {
     let (setup, theirs) = (Setup::new("server"), Setup::new("server-else"));
     let six = setup.config(&["krl:client:6"]);
     let impostors = [
@@ -160,7 +160,7 @@ fn credulous(setup: &Setup, names: Option<&[&str]>) -> SslConnectorBuilder {
 }
 
 /// What a peer receives that sends this by TLS, if its hand-shake succeeds.
-fn heard_by_tls(connector: SslConnectorBuilder, at: SocketAddr, said: &[u8]) -> Vec<u8> {
+fn received_by_tls(connector: SslConnectorBuilder, at: SocketAddr, said: &[u8]) -> Vec<u8> {
     let stream = TcpStream::connect(at).unwrap();
     stream.set_read_timeout(Some(AT_ONCE)).unwrap();
     let mut heard = Vec::new();
@@ -179,10 +179,10 @@ fn tls_of_another_kind_and_what_is_no_tls_are_refused() {
     let host_hello = [3, 0, 0, 0, 0, 0, 0, 0, 0, 0, 3];
     let hello = [18, 0, 0, 0, 0, 0, 0, 0, 1, 0, 3, 0, 0, 0, 0, 0, 0, 0, 1, 0, 0, 0, 0, 0, 0, 0];
     let hello = [&host_hello[..], &hello].concat();
-    assert!(heard_by_tls(credulous(&setup, None), at, &hello).is_empty(), "no certificate");
+    assert!(received_by_tls(credulous(&setup, None), at, &hello).is_empty(), "no certificate");
     let mut old = credulous(&setup, Some(&["krl:client:3"]));
     old.set_max_proto_version(Some(SslVersion::TLS1_2)).unwrap();
-    assert!(heard_by_tls(old, at, &hello).is_empty(), "TLS 1.2");
+    assert!(received_by_tls(old, at, &hello).is_empty(), "TLS 1.2");
     let mut stream = TcpStream::connect(at).unwrap();
     stream.set_read_timeout(Some(AT_ONCE)).unwrap();
     stream.write_all(&hello).unwrap();
@@ -296,7 +296,7 @@ fn idle_strangers_keep_nobody_out() {
 }
 
 #[test]
-fn who_says_a_byte_now_and_then_is_turned_away_by_the_deadline() {
+fn a_peer_that_sends_a_byte_now_and_then_is_rejected_by_the_deadline() {
     let setup = Setup::new("slow");
     let server = serve(&setup);
     // The head of a record of a hand-shake, whose rest never comes.
@@ -376,7 +376,7 @@ fn a_server_listens_by_plain_tcp_on_the_loopback_alone() {
 }
 
 #[test]
-fn the_own_user_speaks_for_any_client_over_a_unix_socket() {
+fn the_own_user_sends_for_any_client_over_a_unix_socket() {
     let setup = Setup::new("unix");
     let listener = Listener::bind(&Address::Unix(setup.folder.join("socket"))).unwrap();
     let access = Access::new().user(65534, "3".parse::<Identity>().unwrap());

@@ -5,7 +5,8 @@ use crate::http::{self, StatusPort};
 use crate::locks;
 use crate::pages::{self, WAIT};
 use hyper::StatusCode;
-use krl::{ClientStatus, LeaseLeft, Status, Wait};
+use krl::operate::ClientStatus;
+use krl::{LeaseLeft, Status, Wait};
 use serde_json::{Value, json};
 use std::error::Error;
 use std::time::Duration;
@@ -162,7 +163,8 @@ fn line(row: &[String; HEADS.len()], widths: &[usize; HEADS.len()]) -> String {
 #[cfg(test)]
 mod tests {
     use super::*;
-    use krl::{ClientConnection, HeldSlots, Mode, PeerAddress};
+    use krl::operate::ClientConnection;
+    use krl::{HeldSlots, Mode, PeerAddress};
 
     fn seconds(seconds: f64) -> Duration {
         Duration::from_secs_f64(seconds)

@@ -2,7 +2,8 @@
 use crate::cause;
 use crate::output;
 use crate::owner;
-use krl::{Row, SqliteStore, StoreFile};
+use krl::operate::StoreFile;
+use krl::{Row, SqliteStore};
 use krl_rows::{FileFormat, RowWriter, ValueForm};
 use std::error::Error;
 use std::path::Path;

@@ -92,7 +92,7 @@ mod tests {
     }
 
     #[test]
-    fn a_wait_is_told_as_it_becomes_long_and_when_it_has_ended() {
+    fn a_wait_is_logged_as_it_becomes_long_and_when_it_has_ended() {
         let mut waits = LongWaits::default();
         assert_eq!(waits.look(&[wait(7, 9)]), []);
         assert_eq!(waits.look(&[wait(7, 10), wait(8, 1)]), [News::IsLong(wait(7, 10))]);

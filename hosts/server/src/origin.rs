@@ -45,7 +45,7 @@ fn without_port(host: &str) -> &str {
 mod tests {
     use super::*;
 
-    fn told(host: &str, origin: Option<&str>, asker: Asker) -> Option<String> {
+    fn refusal_of(host: &str, origin: Option<&str>, asker: Asker) -> Option<String> {
         let mut headers = HeaderMap::new();
         headers.insert(HOST, host.parse().unwrap());
         if let Some(origin) = origin {
@@ -67,7 +67,7 @@ mod tests {
             "db1:7401",
             "10.0.0.5:80",
         ] {
-            assert_eq!(told(host, None, anybody), None, "{host}");
+            assert_eq!(refusal_of(host, None, anybody), None, "{host}");
         }
         for host in [
             "evil.example",
@@ -80,9 +80,9 @@ mod tests {
             "[evil]",
             "::1:evil",
         ] {
-            assert!(told(host, None, anybody).is_some(), "{host}");
+            assert!(refusal_of(host, None, anybody).is_some(), "{host}");
         }
-        assert_eq!(told("evil.example", None, Asker::Operator), None, "it has a certificate");
+        assert_eq!(refusal_of("evil.example", None, Asker::Operator), None, "it has a certificate");
         assert_eq!(refusal(&HeaderMap::new(), anybody, None), None, "no browser names no host");
     }
 
@@ -90,7 +90,7 @@ mod tests {
     fn a_request_of_a_web_page_is_refused() {
         for asker in [Asker::Operator, Asker::Unknown(Ipv6Addr::LOCALHOST.into())] {
             for origin in ["http://127.0.0.1:7401", "null"] {
-                assert!(told("127.0.0.1:7401", Some(origin), asker).is_some(), "{origin}");
+                assert!(refusal_of("127.0.0.1:7401", Some(origin), asker).is_some(), "{origin}");
             }
         }
     }

@@ -15,9 +15,8 @@ use crate::role::{Role, State};
 use crate::visitors::Visit;
 use hyper::header::{ACCEPT, ALLOW, CONTENT_TYPE};
 use hyper::{Body, Method, Request, Response, StatusCode};
-use krl::{
-    Certificate, HeldSlots, Identity, Liveness, Monitor, ShardBounds, Status, TlsConfig, Wait,
-};
+use krl::operate::Liveness;
+use krl::{Certificate, HeldSlots, Identity, Monitor, ShardBounds, Status, TlsConfig, Wait};
 use serde_json::json;
 use std::collections::BTreeMap;
 use std::error::Error;

@@ -3,7 +3,8 @@
 //! A server counts from its start. Samples of its counts, which are taken outside its loop, show
 //! how much of that is new.
 use crate::role::State;
-use krl::{Counts, Measured, Monitor, Status};
+use krl::operate::{Counts, Measured};
+use krl::{Monitor, Status};
 use serde_json::{Value, json};
 use std::collections::VecDeque;
 use std::sync::{Arc, Mutex, MutexGuard, PoisonError};

@@ -33,7 +33,7 @@ fn reload(tls: Option<&TlsConfig>) {
         return;
     };
     match tls.reload() {
-        Ok(()) => tell(tls, "the certificates are read again"),
+        Ok(()) => log_certificate(tls, "the certificates are read again"),
         Err(error) => {
             REFUSED.fetch_add(1, Ordering::Relaxed);
             let why = crate::sentence(&error);
@@ -43,7 +43,7 @@ fn reload(tls: Option<&TlsConfig>) {
 }
 
 /// Logs which certificate is shown from now on.
-pub fn tell(tls: &TlsConfig, what: &str) {
+pub fn log_certificate(tls: &TlsConfig, what: &str) {
     let Certificate { subject, names, expires_at, .. } = tls.certificate();
     tracing::info!(subject, names = names.join(","), expires = expires_at, "{what}");
 }

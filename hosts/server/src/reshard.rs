@@ -5,7 +5,8 @@ use crate::cause;
 use crate::next_map::{MergeMap, NextMap, SplitMap};
 use crate::output;
 use crate::owner::Owner;
-use krl::{Checksum, END, Snapshot, SqliteStore, Store, StoreFile};
+use krl::operate::{Checksum, StoreFile};
+use krl::{END, Snapshot, SqliteStore, Store};
 use std::error::Error;
 use std::path::Path;
 
@@ -46,7 +47,7 @@ pub fn split(store: &Path, at: u64, new: &Path, is_empty_allowed: bool, map: &Sp
         new.display(),
         upper.epoch
     );
-    tell(&done, next.as_ref())
+    print_done_with_map(&done, next.as_ref())
 }
 
 /// The store as it was before a split that was killed after it had moved the rows, if the new store
@@ -74,11 +75,11 @@ pub fn merge(lower: &Path, upper: &Path, new: &Path, map: &MergeMap) -> Done {
     judge(new, &whole)?;
     create(new, &whole)?;
     let (rows, epoch) = (whole.rows.len(), whole.epoch);
-    tell(&format!("{}: {rows} rows, epoch {epoch}\n", new.display()), next.as_ref())
+    print_done_with_map(&format!("{}: {rows} rows, epoch {epoch}\n", new.display()), next.as_ref())
 }
 
 /// Writes the next map, if there is one, and only then prints what was done.
-fn tell(done: &str, next: Option<&NextMap>) -> Done {
+fn print_done_with_map(done: &str, next: Option<&NextMap>) -> Done {
     let written = next.map_or(Ok(String::new()), NextMap::write);
     let map = written.as_deref().unwrap_or_default();
     output::print_done(&format!("{done}{map}"))?;

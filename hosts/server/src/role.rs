@@ -1,5 +1,6 @@
 //! What a process does just now: it starts, stands by, or serves.
-use krl::{Liveness, Monitor};
+use krl::Monitor;
+use krl::operate::Liveness;
 use std::fmt;
 use std::sync::{Arc, Mutex, MutexGuard, PoisonError};
 use std::time::{SystemTime, UNIX_EPOCH};
@@ -29,7 +30,7 @@ impl Role {
         *self.lock() = State::Serves { monitor, since: SystemTime::now() };
     }
 
-    /// Another server serves. It answers whether that is news.
+    /// Another server serves. Returns whether that is news.
     pub fn stands_by(&self, leader: &str) -> bool {
         let mut state = self.lock();
         let is_known = matches!(&*state, State::StandsBy { leader: known } if known == leader);

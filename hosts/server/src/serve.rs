@@ -71,7 +71,7 @@ fn run(settings: &Settings) -> Result<(), Box<dyn Error>> {
     let tls = settings.access.tls()?;
     let access = settings.access.access(tls.as_ref());
     if let Some(tls) = &tls {
-        reload::tell(tls, "the server shows this certificate");
+        reload::log_certificate(tls, "the server shows this certificate");
     }
     reload::start(tls.clone())?;
     watchdog::start(role.clone())?;
@@ -125,7 +125,7 @@ fn serve_database(
     let mut store = PostgresStore::open(address, stand_by::user().as_ref())?;
     let mut unanswered = Unanswered::default();
     let answers = store.reach(|why| {
-        unanswered.tell(why);
+        unanswered.log(why);
         signal.name().is_none()
     })?;
     if answers {
@@ -139,7 +139,7 @@ fn serve_database(
 pub struct Unanswered(Seldom);
 
 impl Unanswered {
-    pub fn tell(&mut self, why: &str) {
+    pub fn log(&mut self, why: &str) {
         if let Some(passed_over) = self.0.lets(Instant::now()) {
             tracing::warn!(%why, passed_over, "the store does not answer");
         }
@@ -202,7 +202,7 @@ pub fn ready(settings: &Settings, server: &Server, role: &Role) {
         shard = settings.shard.map(tracing::field::display),
         "ready"
     );
-    tell(&[NotifyState::Ready, NotifyState::Status(&format!("serves at {}", server.address()))]);
+    notify(&[NotifyState::Ready, NotifyState::Status(&format!("serves at {}", server.address()))]);
 }
 
 /// Reports to the log and the service manager that another server serves, which clients reach at
@@ -211,7 +211,7 @@ pub fn ready(settings: &Settings, server: &Server, role: &Role) {
 pub fn stands_by(leader: &str) {
     tracing::info!(%leader, "stands by");
     let status = format!("stands by: the server at {leader} serves");
-    tell(&[NotifyState::Ready, NotifyState::Status(&status)]);
+    notify(&[NotifyState::Ready, NotifyState::Status(&status)]);
 }
 
 /// A server had started, and has failed. The log has reported why.
@@ -248,14 +248,14 @@ pub fn until_it_ends(
         }
     }
     if signal.name().is_some() {
-        tell(&[NotifyState::Stopping]);
+        notify(&[NotifyState::Stopping]);
     }
     server.stop().map_err(HasFailed)?;
     Ok(ended)
 }
 
 /// Notifies the service manager, if there is one.
-fn tell(state: &[NotifyState]) {
+fn notify(state: &[NotifyState]) {
     if let Err(error) = sd_notify::notify(false, state) {
         tracing::warn!(%error, "the service manager was not notified");
     }

@@ -23,8 +23,9 @@ pub fn run(
         Election::new(address.clone(), credentials.clone(), &advertised.to_string(), lease)?;
     let mut unanswered = Unanswered::default();
     loop {
-        let mut hears = |standing: Standing<'_>| hear(standing, role, signal, &mut unanswered);
-        let Some(term) = election.campaign(&mut hears)? else { return Ok(()) };
+        let mut goes_on =
+            |standing: Standing<'_>| report_standing(standing, role, signal, &mut unanswered);
+        let Some(term) = election.campaign(&mut goes_on)? else { return Ok(()) };
         let mut store = EtcdStore::open(address, &credentials)?.with_commit_timeout(lease);
         store.concerns().iter().for_each(|concern| tracing::warn!("{concern}"));
         let ended = serve_term(settings, store, (access, &term), signal, role);
@@ -40,11 +41,16 @@ pub fn run(
     }
 }
 
-/// Reports who serves, once, or why nobody knows, now and then; and answers whether to continue.
-fn hear(standing: Standing<'_>, role: &Role, signal: &Signal, unanswered: &mut Unanswered) -> bool {
+/// Reports who serves, once, or why nobody knows, now and then; and returns whether to continue.
+fn report_standing(
+    standing: Standing<'_>,
+    role: &Role,
+    signal: &Signal,
+    unanswered: &mut Unanswered,
+) -> bool {
     match standing {
         Standing::StandsBy(leader) if role.stands_by(leader) => serve::stands_by(leader),
-        Standing::Unanswered(why) => unanswered.tell(why),
+        Standing::Unanswered(why) => unanswered.log(why),
         _ => {}
     }
     signal.name().is_none()

@@ -148,7 +148,7 @@ async fn answer_operator(
     let why = match timeout(HANDSHAKE, tls_stream::shake(stream, session)).await {
         Ok(Ok((stream, peer))) => {
             if !peer.is_operator() {
-                tell_refused(address, &format!("{peer} is no operator"), refused);
+                log_refused(address, &format!("{peer} is no operator"), refused);
                 return refuse(stream, peer).await;
             }
             guest.visit.take_place();
@@ -157,13 +157,13 @@ async fn answer_operator(
         Ok(Err(error)) => error.to_string(),
         Err(_) => return,
     };
-    tell_refused(address, &why, refused);
+    log_refused(address, &why, refused);
 }
 
 /// Logs who was refused, now and then.
-fn tell_refused(address: SocketAddr, why: &str, refused: &Mutex<Seldom>) {
-    let told = refused.lock().unwrap_or_else(PoisonError::into_inner).lets(Instant::now());
-    if let Some(passed_over) = told {
+fn log_refused(address: SocketAddr, why: &str, refused: &Mutex<Seldom>) {
+    let due = refused.lock().unwrap_or_else(PoisonError::into_inner).lets(Instant::now());
+    if let Some(passed_over) = due {
         tracing::warn!(peer = %address, %why, passed_over, "the status port refused a connection");
     }
 }

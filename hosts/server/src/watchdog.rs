@@ -1,6 +1,6 @@
 //! The service manager's watchdog: it restarts a service that does not report for too long.
 use crate::role::Role;
-use krl::Liveness;
+use krl::operate::Liveness;
 use sd_notify::NotifyState;
 use std::io;
 use std::thread;

@@ -134,7 +134,7 @@ fn a_part_is_read_again_with_its_scrolling_and_the_keyboard() {
 }
 
 #[test]
-fn a_page_without_its_server_says_so_and_goes_on_to_show_what_was() {
+fn a_page_without_its_server_reports_it_and_still_shows_what_was() {
     let folder = tempfile::tempdir().unwrap();
     let serving = serve(folder.path());
     let Some(mut browser) = show(&serving) else { return };

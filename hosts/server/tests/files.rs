@@ -130,7 +130,7 @@ fn a_store_may_have_more_rows_than_a_server_by_default() {
 }
 
 #[test]
-fn a_damaged_backup_is_told_by_all_that_reads_it() {
+fn a_damaged_backup_is_reported_by_all_that_reads_it() {
     let folder = Folder::new();
     let [store, backup, new] = ["krl.db", "backup.db", "new.db"].map(|name| folder.name(name));
     import(&folder.file("rows.csv", "5,a value that is easy to find\n"), &store, &[]);

@@ -70,7 +70,7 @@ fn two_hold_and_one_waits() {
 }
 
 #[test]
-fn words_that_are_no_question_are_told() {
+fn words_that_are_no_question_are_reported() {
     let folder = tempfile::tempdir().unwrap();
     let serving = serve(folder.path(), 0..3);
     for (words, said) in [
@@ -136,7 +136,7 @@ fn read_times(client: &Client, ends: &AtomicBool) -> Vec<Duration> {
 }
 
 #[test]
-fn a_large_table_is_told_in_pages_and_nobody_waits_for_that() {
+fn a_large_table_is_shown_in_pages_and_nobody_waits_for_that() {
     const ROWS: u64 = 25_000;
     let folder = tempfile::tempdir().unwrap();
     let serving = serve(folder.path(), 0..ROWS);

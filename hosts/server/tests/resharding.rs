@@ -120,7 +120,7 @@ fn two_stores_become_one() {
 }
 
 #[test]
-fn what_can_not_be_cut_is_told() {
+fn what_cannot_be_cut_is_reported() {
     let folder = tempfile::tempdir().unwrap();
     let path = |name: &str| folder.path().join(name).to_str().unwrap().to_string();
     let [none, new] = ["none.db", "new.db"].map(path);

@@ -47,7 +47,7 @@ fn is_told(serving: &Serving) {
 }
 
 #[test]
-fn a_client_that_lives_through_a_restore_drops_its_cache_and_joins_anew() {
+fn a_client_that_lives_through_a_restore_drops_its_cache_and_joins_again() {
     let folder = tempfile::tempdir().unwrap();
     let path = |name: &str| folder.path().join(name).to_str().unwrap().to_string();
     let [old, backup, new] = [path("old.db"), path("backup.db"), path("new.db")];

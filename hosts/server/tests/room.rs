@@ -126,7 +126,7 @@ fn log_of_start(store: &Path, room: &str) -> Vec<String> {
 }
 
 #[test]
-fn a_server_over_a_full_table_tells_so() {
+fn a_server_over_a_full_table_logs_it() {
     let folder = tempfile::tempdir().unwrap();
     let store = folder.path().join("krl.db");
     let serving = serve(&store, "3");
@@ -142,7 +142,7 @@ fn a_server_over_a_full_table_tells_so() {
 }
 
 #[test]
-fn a_server_with_less_room_than_before_serves_and_tells_so() {
+fn a_server_with_less_room_than_before_serves_and_logs_it() {
     let folder = tempfile::tempdir().unwrap();
     let store = folder.path().join("krl.db");
     assert_eq!(shown_to_the_end(Serving::start(&store)).0, 65_536);
@@ -171,7 +171,7 @@ fn a_backup_and_what_is_restored_of_it_keep_the_room() {
 }
 
 #[test]
-fn a_room_for_none_or_too_many_is_told() {
+fn a_room_for_none_or_too_many_is_reported() {
     for room in ["0", "1048577", "many"] {
         let refused = run(&["config", "--room", room]);
         assert_eq!(refused.status.code(), Some(2), "{room}");

@@ -106,7 +106,7 @@ fn a_store_has_one_server() {
 }
 
 #[test]
-fn an_address_that_is_taken_is_told() {
+fn an_address_that_is_taken_is_reported() {
     let folder = tempfile::tempdir().unwrap();
     let serving = Serving::start(&folder.path().join("krl.db"));
     let other = folder.path().join("other.db");
@@ -265,7 +265,7 @@ fn is_moment(file: &Path, least: u64, most: u64) {
 }
 
 #[test]
-fn a_backup_that_can_not_be_is_told() {
+fn a_backup_that_cannot_be_made_is_reported() {
     let folder = tempfile::tempdir().unwrap();
     let serving = Serving::start(&folder.path().join("krl.db"));
     let taken = folder.path().join("taken");
@@ -345,7 +345,7 @@ fn a_restored_backup_is_served_at_once() {
 }
 
 #[test]
-fn a_restore_that_can_not_be_is_told() {
+fn a_restore_that_cannot_be_made_is_reported() {
     let folder = tempfile::tempdir().unwrap();
     let path = |name: &str| folder.path().join(name).to_str().unwrap().to_string();
     let [text, store, new] = [path("text"), path("store.db"), path("new.db")];
@@ -362,7 +362,7 @@ fn a_restore_that_can_not_be_is_told() {
 }
 
 #[test]
-fn what_is_no_store_is_told() {
+fn what_is_no_store_is_reported() {
     let folder = tempfile::tempdir().unwrap();
     let file = folder.path().join("text");
     std::fs::write(&file, "no database").unwrap();
@@ -441,7 +441,7 @@ fn a_store_of_an_unknown_kind_is_a_wrong_word() {
 }
 
 #[test]
-fn a_service_manager_is_told() {
+fn a_service_manager_is_notified() {
     let folder = tempfile::tempdir().unwrap();
     let (store, manager) = (folder.path().join("krl.db"), ServiceManager::new(folder.path()));
     let mut command = program();
@@ -454,7 +454,7 @@ fn a_service_manager_is_told() {
 }
 
 #[test]
-fn a_watchdog_hears_of_a_server_that_is_alive() {
+fn a_watchdog_learns_that_a_server_is_alive() {
     let folder = tempfile::tempdir().unwrap();
     let (store, manager) = (folder.path().join("krl.db"), ServiceManager::new(folder.path()));
     let mut command = program_under_watchdog(Duration::from_secs(2));

@@ -90,7 +90,7 @@ fn a_flag_comes_before_the_environment_and_that_before_the_file() {
 }
 
 #[test]
-fn what_is_printed_is_a_file_that_says_the_same() {
+fn what_is_printed_is_a_file_with_the_same_settings() {
     let folder = tempfile::tempdir().unwrap();
     let words = ["config", "--store", "a \"b\" # c.db", "--log-format", "json", "--status", "off"];
     let printed = text(&run(&words));
@@ -105,7 +105,7 @@ fn what_is_printed_is_a_file_that_says_the_same() {
 }
 
 #[test]
-fn a_bad_value_is_told_with_its_key_and_what_is_expected() {
+fn a_bad_value_is_reported_with_its_key_and_what_is_expected() {
     let folder = tempfile::tempdir().unwrap();
     for (key, value, expected) in [
         ("listen", "here", "an address such as 127.0.0.1:7400"),
@@ -153,7 +153,7 @@ fn each_setting_of_the_installed_file_is_accepted() {
 }
 
 #[test]
-fn a_bad_file_is_told() {
+fn a_bad_file_is_reported() {
     let folder = tempfile::tempdir().unwrap();
     let path = file(folder.path(), "lisen = \"127.0.0.1:1\"\n");
     let words = ["lisen", "expected one of", "listen", "line 1", &path];
@@ -178,7 +178,7 @@ fn the_packaged_file_sets_each_key() {
 }
 
 #[test]
-fn bad_words_are_told() {
+fn bad_words_are_reported() {
     for words in [&[][..], &["serv"], &["serve", "x"], &["serve", "--speed", "3"], &["evict"]] {
         let output = run(words);
         assert_eq!(output.status.code(), Some(2), "{words:?}");

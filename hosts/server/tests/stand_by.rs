@@ -102,7 +102,7 @@ fn a_server_that_stops_in_order_gives_its_place_at_once() {
 
 /// A service manager ends a service that does not report in time that it has started.
 #[test]
-fn a_service_manager_is_told_that_a_server_stands_by() {
+fn a_service_manager_is_notified_that_a_server_stands_by() {
     let Some(cluster) = Cluster::start() else { return };
     let folder = tempfile::tempdir().unwrap();
     let manager = ServiceManager::new(folder.path());
@@ -120,7 +120,7 @@ fn a_service_manager_is_told_that_a_server_stands_by() {
 }
 
 #[test]
-fn a_server_that_wakes_up_behind_another_one_serves_no_more() {
+fn a_server_that_wakes_up_after_another_one_started_serves_no_more() {
     let Some(cluster) = Cluster::start() else { return };
     let folder = tempfile::tempdir().unwrap();
     let first = Serving::start_by(&mut over(&cluster, "wakes"));
@@ -170,7 +170,7 @@ fn moment(event: &serde_json::Value) -> f64 {
 
 /// The cluster is asked ten times a second.
 #[test]
-fn a_store_that_does_not_answer_is_told_once_a_second() {
+fn a_store_that_does_not_answer_is_logged_once_a_second() {
     const DAY: f64 = 24.0 * 3600.0;
     let store = format!("etcd://{}/none", free_address().unwrap());
     let words = ["serve", "--store", &store, "--listen", "127.0.0.1:0", "--status", "off"];

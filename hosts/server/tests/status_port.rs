@@ -56,7 +56,7 @@ fn a_probe_is_answered_next_to_silent_strangers() {
 }
 
 #[test]
-fn a_client_that_takes_the_status_port_for_the_server_is_told_so_at_once() {
+fn a_client_that_takes_the_status_port_for_the_server_learns_it_at_once() {
     let folder = tempfile::tempdir().unwrap();
     let serving = serve(&folder);
     let status: Address = serving.status.parse().unwrap();

@@ -233,7 +233,7 @@ fn a_hangup_has_the_certificates_read_again() {
 }
 
 #[test]
-fn a_server_over_an_older_store_says_so_once_and_ends_with_status_3() {
+fn a_server_over_an_older_store_reports_it_once_and_ends_with_status_3() {
     let setup = Setup::new(&["server", "client-3"]);
     // Nothing else takes a port of this address between two servers.
     let [low, high, ..] = std::process::id().to_le_bytes();
@@ -368,7 +368,7 @@ fn ended_within_a_minute(process: &mut Child) -> Option<ExitStatus> {
 }
 
 #[test]
-fn what_is_dangerous_or_half_said_is_refused() {
+fn what_is_dangerous_or_half_given_is_refused() {
     let setup = Setup::new(&["server"]);
     let shows = setup.shows("server");
     let refused = |words: &[&str], told: &str| {

@@ -244,7 +244,7 @@ impl Judge {
         self.copy = Some((self.table.clone(), self.made.clone()));
     }
 
-    /// The copy is put in the place of the store. It answers what the table was.
+    /// The copy is put in the place of the store. Returns what the table was.
     pub fn put_back(&mut self) -> Option<Left> {
         let (table, made) = self.copy.clone()?;
         let before = std::mem::replace(&mut self.table, table);

@@ -92,7 +92,7 @@ fn main() -> ExitCode {
     }
 }
 
-/// Runs the worlds, and answers whether nothing is wrong.
+/// Runs the worlds, and returns whether nothing is wrong.
 fn run(words: &Words) -> io::Result<bool> {
     let mut out = io::stdout().lock();
     let plan = words.plan()?;

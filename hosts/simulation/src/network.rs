@@ -140,7 +140,7 @@ impl Network {
         }
     }
 
-    /// A side has ended the connection, or has learned that it is over. It answers whether that is
+    /// A side has ended the connection, or has learned that it is over. Returns whether that is
     /// news.
     pub fn end(&mut self, name: u64, side: Side) -> bool {
         let Some(link) = self.links.get_mut(&name) else { return false };

@@ -151,7 +151,7 @@ fn run_one(seed: u64, plan: &Plan, done: &mut Done, out: &mut impl Write) -> io:
     Ok(())
 }
 
-/// Shortens the run of a seed, and prints by which words it is repeated. It answers whether nothing
+/// Shortens the run of a seed, and prints by which words it is repeated. Returns whether nothing
 /// is wrong.
 ///
 /// # Errors

@@ -31,7 +31,7 @@ impl Timer {
         self.due
     }
 
-    /// It is due at this moment. It answers whether an event at that is needed.
+    /// It is due at this moment. Returns whether an event at that is needed.
     pub fn set(&mut self, due: Duration) -> bool {
         self.due = due;
         let is_sooner = due < self.armed;

@@ -386,7 +386,7 @@ impl World {
         let end = self.healed.unwrap_or(self.now) + BOUND;
         while self.judge.wrong.is_empty() && !self.are_all_served() {
             if self.now >= end {
-                self.tell_unserved();
+                self.report_unserved();
                 return;
             }
             self.step();
@@ -408,7 +408,7 @@ impl World {
         self.machines[client].is_served == [true; 2]
     }
 
-    fn tell_unserved(&mut self) {
+    fn report_unserved(&mut self) {
         for client in 0..self.weather.clients {
             if self.is_to_be_served(client) && !self.is_served(client) {
                 let [reads, writes] = self.machines[client].is_served;

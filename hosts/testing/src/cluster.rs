@@ -78,7 +78,7 @@ impl Cluster {
         Some(Cluster { node, folder, endpoint, is_secure, health })
     }
 
-    /// Waits until the node answers. It returns false if the node has ended.
+    /// Waits until the node answers. Returns false if the node has ended.
     fn answers(&mut self) -> bool {
         let end = Instant::now() + Duration::from_secs(60);
         let health = format!("http://{}/health", self.health);

@@ -72,7 +72,7 @@ impl Relay {
         self.gate.lock().holds = holds;
     }
 
-    /// Waits until something is held, and answers whether that came.
+    /// Waits until something is held, and returns whether that came.
     pub fn has_held(&self, timeout: Duration) -> bool {
         let is_free = |state: &mut State| state.held == 0;
         let waited = self.gate.changed.wait_timeout_while(self.gate.lock(), timeout, is_free);

@@ -35,7 +35,7 @@ trait Shop {
     /// The products of these numbers.
     fn shelf(&mut self, numbers: Range<u64>) -> Found<Vec<Sold>>;
 
-    /// Sells a product, and answers how often it was sold then.
+    /// Sells a product, and returns how often it was sold then.
     fn sell(&mut self, number: u64) -> Found<u64>;
 
     /// How many reads needed no message until now, if the way has such reads.

@@ -118,7 +118,7 @@ impl Process {
         Ok(report)
     }
 
-    /// Reads a shelf, and answers whether it shows less than was acknowledged before.
+    /// Reads a shelf, and returns whether it shows less than was acknowledged before.
     fn reads_stale(&mut self, numbers: Range<u64>) -> Found<bool> {
         let least = self.acknowledged.before(numbers.clone())?;
         let products = self.shop.shelf(numbers)?;

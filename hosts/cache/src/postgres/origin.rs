@@ -199,8 +199,8 @@ impl<T: PostgresRow> PostgresOrigin<T> {
         CacheSession::prepare::<T>(session, &self.table, seed)
     }
 
-    /// Asks on a connection that waits, and once more on a new one if that one has ended. It
-    /// answers the connection too: one whose question failed is closed.
+    /// Asks on a connection that waits, and once more on a new one if that one has ended. Also
+    /// returns the connection: one whose question failed is closed.
     fn ask<A>(
         &self,
         ask: impl Fn(&CacheSession) -> Result<A, OriginError>,

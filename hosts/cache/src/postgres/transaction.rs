@@ -47,7 +47,7 @@ impl<'o, T: PostgresRow> PostgresTransaction<'o, T> {
         PostgresTransaction { pool, session, keys, rows, is_sound: true }
     }
 
-    /// Runs a statement of the application, and answers how many rows it has changed. It is for
+    /// Runs a statement of the application, and returns how many rows it has changed. It is for
     /// other tables: a change of the cached one is refused.
     ///
     /// # Errors

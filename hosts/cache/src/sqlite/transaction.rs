@@ -31,7 +31,7 @@ impl<'o, T: SqliteRow> SqliteTransaction<'o, T> {
         Ok(SqliteTransaction { pool, session: Some(session), keys: keys.to_vec(), rows })
     }
 
-    /// Runs a statement of the application, and answers how many rows it has changed. It is for
+    /// Runs a statement of the application, and returns how many rows it has changed. It is for
     /// other tables: a change of the cached one is refused.
     ///
     /// # Errors
@@ -124,7 +124,7 @@ fn is_still_open(error: &Error) -> bool {
     error.sqlite_error_code().is_some_and(|code| refusals.contains(&code))
 }
 
-/// Rolls back, and answers whether no transaction is open any more.
+/// Rolls back, and returns whether no transaction is open any more.
 fn roll_back(session: &Session) -> bool {
     session.guard.close();
     session.connection.is_autocommit() || session.connection.execute_batch("ROLLBACK").is_ok()

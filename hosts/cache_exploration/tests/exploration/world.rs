@@ -86,7 +86,7 @@ pub enum Wrong {
     DeletesFirst,
     /// It takes the database's row for that of krl's version.
     ComparesNoVersion,
-    /// It answers what the database has where krl has another version.
+    /// Returns what the database has where krl has another version.
     RepairsNothing,
     /// It repairs a key without its lock in the database.
     RepairsWithoutLock,

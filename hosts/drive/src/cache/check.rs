@@ -33,7 +33,7 @@ pub enum End {
 
 /// What the process of a transaction knows of it.
 #[derive(Clone, Debug, PartialEq, Eq)]
-pub struct Told {
+pub struct NotedTransaction {
     pub version: String,
     pub from: u64,
     /// When and how it ended, if it was answered.
@@ -171,11 +171,11 @@ struct Order {
 }
 
 /// Compares what was read with the changes, which come in the order in which they were made.
-pub fn check(changes: &[Change], told: &[Told], reads: &[Read]) -> Verdict {
+pub fn check(changes: &[Change], noted: &[NotedTransaction], reads: &[Read]) -> Verdict {
     let mut order = Order::default();
-    let transactions = order.add_transactions(changes, told, reads);
+    let transactions = order.add_transactions(changes, noted, reads);
     order.add_changes(changes, &transactions);
-    order.compare_ends(told, &transactions);
+    order.compare_ends(noted, &transactions);
     for read in reads {
         order.add_read(read);
     }
@@ -189,26 +189,26 @@ impl Order {
     fn add_transactions(
         &mut self,
         changes: &[Change],
-        told: &[Told],
+        noted: &[NotedTransaction],
         reads: &[Read],
     ) -> HashMap<String, usize> {
-        let told: HashMap<&str, &Told> =
-            told.iter().map(|told| (told.version.as_str(), told)).collect();
+        let noted: HashMap<&str, &NotedTransaction> =
+            noted.iter().map(|noted| (noted.version.as_str(), noted)).collect();
         let seen = first_seen(changes, reads);
         let mut transactions = HashMap::new();
         for Change { version, .. } in changes {
             if transactions.contains_key(version) {
                 continue;
             }
-            let told = told.get(version.as_str());
-            let end = told.and_then(|told| told.end);
+            let noted = noted.get(version.as_str());
+            let end = noted.and_then(|noted| noted.end);
             let answered = end.filter(|(_, end)| *end == End::Done).map(|(at, _)| at);
             self.verdict.transactions += 1;
             // What was there before the caches has no report.
-            self.verdict.unanswered += u64::from(told.is_some() && answered.is_none());
-            let to = if told.is_none() { 0 } else { answered.unwrap_or(NEVER) };
+            self.verdict.unanswered += u64::from(noted.is_some() && answered.is_none());
+            let to = if noted.is_none() { 0 } else { answered.unwrap_or(NEVER) };
             let to = to.min(seen.get(version).copied().unwrap_or(NEVER));
-            let from = told.map_or(0, |told| told.from);
+            let from = noted.map_or(0, |noted| noted.from);
             transactions.insert(version.clone(), self.nodes.len());
             self.nodes.push(Node { from, to, name: format!("transaction {version}") });
         }
@@ -237,15 +237,15 @@ impl Order {
         }
     }
 
-    fn compare_ends(&mut self, told: &[Told], transactions: &HashMap<String, usize>) {
-        for told in told {
-            let is_done = transactions.contains_key(&told.version);
-            match told.end {
+    fn compare_ends(&mut self, noted: &[NotedTransaction], transactions: &HashMap<String, usize>) {
+        for noted in noted {
+            let is_done = transactions.contains_key(&noted.version);
+            match noted.end {
                 Some((_, End::Done)) if !is_done => {
-                    self.verdict.wrong("an answered transaction is lost", || told.version.clone());
+                    self.verdict.wrong("an answered transaction is lost", || noted.version.clone());
                 }
                 Some((_, End::NotDone)) if is_done => {
-                    self.verdict.wrong("a failed transaction is done", || told.version.clone());
+                    self.verdict.wrong("a failed transaction is done", || noted.version.clone());
                 }
                 _ => {}
             }
@@ -385,8 +385,8 @@ mod tests {
         Change { key, version: version.to_string(), content, before }
     }
 
-    fn told(version: &str, from: u64, to: u64) -> Told {
-        Told { version: version.to_string(), from, end: Some((to, End::Done)) }
+    fn transaction(version: &str, from: u64, to: u64) -> NotedTransaction {
+        NotedTransaction { version: version.to_string(), from, end: Some((to, End::Done)) }
     }
 
     fn read(from: u64, to: u64, rows: &[(u64, u64)]) -> Read {
@@ -394,18 +394,18 @@ mod tests {
     }
 
     /// The key 1 was written by `a` and `b`, and 2 only by `b`.
-    fn written() -> ([Change; 3], [Told; 2]) {
+    fn written() -> ([Change; 3], [NotedTransaction; 2]) {
         let changes = [
             change(1, "a", None, Some(10)),
             change(1, "b", Some(10), Some(11)),
             change(2, "b", None, Some(20)),
         ];
-        (changes, [told("a", 100, 200), told("b", 300, 400)])
+        (changes, [transaction("a", 100, 200), transaction("b", 300, 400)])
     }
 
     fn wrong(reads: &[Read]) -> Vec<&'static str> {
-        let (changes, told) = written();
-        check(&changes, &told, reads).wrong.into_keys().collect()
+        let (changes, noted) = written();
+        check(&changes, &noted, reads).wrong.into_keys().collect()
     }
 
     #[test]
@@ -417,8 +417,8 @@ mod tests {
             read(315, 500, &[(1, 10)]),
             read(330, 340, &[(1, 11), (2, 20)]),
         ];
-        let (changes, told) = written();
-        let verdict = check(&changes, &told, &reads);
+        let (changes, noted) = written();
+        let verdict = check(&changes, &noted, &reads);
         assert_eq!(verdict.count_wrong(), 0, "{:?}", verdict.shown);
         assert_eq!((verdict.reads, verdict.rows, verdict.transactions), (5, 5, 2));
     }
@@ -452,10 +452,10 @@ mod tests {
     }
 
     #[test]
-    fn what_a_process_was_told_has_to_be_so() {
-        let (changes, mut told) = written();
-        told[1].end = Some((400, End::NotDone));
-        let found = check(&changes, &told, &[]).wrong.into_keys().collect::<Vec<_>>();
+    fn what_a_process_noted_has_to_be_so() {
+        let (changes, mut noted) = written();
+        noted[1].end = Some((400, End::NotDone));
+        let found = check(&changes, &noted, &[]).wrong.into_keys().collect::<Vec<_>>();
         assert_eq!(found, ["a failed transaction is done"]);
         let found = check(&changes[..1], &written().1, &[]).wrong.into_keys().collect::<Vec<_>>();
         assert_eq!(found, ["an answered transaction is lost"]);

@@ -1,5 +1,5 @@
 //! What the threads of workers note of what they did, a line each.
-use super::check::{End, Read, Told};
+use super::check::{End, NotedTransaction, Read};
 use std::collections::BTreeMap;
 use std::error::Error;
 use std::fmt::Write as _;
@@ -13,7 +13,7 @@ pub struct Notes(File);
 /// What all threads have noted.
 #[derive(Debug, Default)]
 pub struct Noted {
-    pub told: Vec<Told>,
+    pub transactions: Vec<NotedTransaction>,
     pub reads: Vec<Read>,
 }
 
@@ -57,24 +57,25 @@ pub fn noted(folder: &Path) -> Result<Noted, Box<dyn Error>> {
 
 impl Noted {
     fn add(&mut self, text: &str) -> Result<(), String> {
-        let mut told: BTreeMap<&str, Told> = BTreeMap::new();
+        let mut transactions: BTreeMap<&str, NotedTransaction> = BTreeMap::new();
         for line in text.lines() {
             let words: Vec<&str> = line.split(' ').collect();
             let bad = || format!("a note that is none: {line}");
             match words[..] {
                 ["B", name, from] => {
                     let from = from.parse().map_err(|_| bad())?;
-                    told.insert(name, Told { version: name.to_string(), from, end: None });
+                    let version = name.to_string();
+                    transactions.insert(name, NotedTransaction { version, from, end: None });
                 }
                 ["E", name, at, end] => {
                     let end = (at.parse().map_err(|_| bad())?, end_of(end).ok_or_else(bad)?);
-                    told.get_mut(name).ok_or_else(bad)?.end = Some(end);
+                    transactions.get_mut(name).ok_or_else(bad)?.end = Some(end);
                 }
                 ["R", ref numbers @ ..] => self.reads.push(read_of(numbers).ok_or_else(bad)?),
                 _ => return Err(bad()),
             }
         }
-        self.told.extend(told.into_values());
+        self.transactions.extend(transactions.into_values());
         Ok(())
     }
 }
@@ -98,8 +99,12 @@ mod tests {
     fn notes_are_read_as_they_were_written() {
         let mut noted = Noted::default();
         noted.add("B a 5\nR 1 2 3 9 4 44 5 55\nE a 7 Unknown\nB b 8\n").unwrap();
-        let told = |version: &str, from, end| Told { version: version.to_string(), from, end };
-        assert_eq!(noted.told, [told("a", 5, Some((7, End::Unknown))), told("b", 8, None)]);
+        let transaction =
+            |version: &str, from, end| NotedTransaction { version: version.to_string(), from, end };
+        assert_eq!(
+            noted.transactions,
+            [transaction("a", 5, Some((7, End::Unknown))), transaction("b", 8, None)]
+        );
         let read = Read { from: 1, to: 2, keys: 3..9, rows: vec![(4, 44), (5, 55)] };
         assert_eq!(noted.reads, [read]);
         assert!(noted.add("E c 7 Done\n").is_err() && noted.add("B a\n").is_err());

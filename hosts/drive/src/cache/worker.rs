@@ -180,7 +180,7 @@ fn name_of(item: &Item) -> String {
     format!("content-{}", item.content)
 }
 
-/// Changes a key: its row is deleted, or gets this content. It answers whether that is a change.
+/// Changes a key: its row is deleted, or gets this content. Returns whether that is a change.
 fn change(
     rows: &mut Work<'_, PostgresOrigin<Item>>,
     key: u64,

@@ -55,10 +55,10 @@ fn an_older_server_is_deposed_for_good() {
 }
 
 #[test]
-fn two_that_start_at_once_are_told_apart() {
+fn two_that_start_at_once_are_distinguished() {
     let Some(cluster) = Cluster::start() else { return };
     let address = cluster.address("at-once");
-    store_tests::tells_two_starts_apart(|| open(&address));
+    store_tests::distinguishes_two_starts(|| open(&address));
 }
 
 /// A store that has forgotten its last transaction, as if that were still to be sent.

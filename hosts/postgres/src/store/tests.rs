@@ -28,9 +28,9 @@ fn an_older_server_is_deposed_for_good() {
 }
 
 #[test]
-fn two_that_start_at_once_are_told_apart() {
+fn two_that_start_at_once_are_distinguished() {
     let Some(database) = Database::start() else { return };
-    store_tests::tells_two_starts_apart(|| open(&database));
+    store_tests::distinguishes_two_starts(|| open(&database));
 }
 
 #[test]
@@ -87,7 +87,7 @@ fn a_commit_is_synced_whatever_the_database_does_else() {
 }
 
 #[test]
-fn a_database_that_is_not_there_is_told() {
+fn a_database_that_is_not_there_is_reported() {
     let Some(database) = Database::start() else { return };
     let address = database.address::<String>().replace("/postgres", "/other").parse().unwrap();
     let error = PostgresStore::open(&address, None).unwrap().load().unwrap_err().to_string();

@@ -96,16 +96,16 @@ impl Identity {
     /// client: such a string is judged.
     ///
     /// A frame of a host without a known meaning may be sent: it is passed over.
-    pub(crate) fn may_say(&self, frame: &Incoming<'_>) -> bool {
+    pub(crate) fn may_send(&self, frame: &Incoming<'_>) -> bool {
         match frame {
-            Incoming::Message(message) => self.may_say_message(message),
+            Incoming::Message(message) => self.may_send_message(message),
             Incoming::Sign(sign) => self.is_operator || self.is_client(sign.client),
             Incoming::Host(_) => *self != Identity::nobody(),
         }
     }
 
     /// The same of a message, or of the head of one.
-    pub(crate) fn may_say_message(&self, message: &Message<'_>) -> bool {
+    pub(crate) fn may_send_message(&self, message: &Message<'_>) -> bool {
         let Some(client) = message.client() else { return *self == Identity::everybody() };
         let is_of_an_end = message.kind().is_of_an_end();
         self.is_client(client) || self.is_operator && is_of_an_end
@@ -229,8 +229,8 @@ mod tests {
         [&[1, kind, client][..], &[0; 15]].concat()
     }
 
-    fn may_say(identity: &Identity, frame: &[u8]) -> bool {
-        identity.may_say(&Incoming::read(frame))
+    fn may_send(identity: &Identity, frame: &[u8]) -> bool {
+        identity.may_send(&Incoming::read(frame))
     }
 
     fn of(names: &[&str], table: Option<&str>) -> Option<Identity> {
@@ -239,13 +239,13 @@ mod tests {
     }
 
     #[test]
-    fn a_client_speaks_for_its_numbers() {
+    fn a_client_may_send_for_its_numbers() {
         let found = of(&["krl:client:3", "https://x", "krl:client:63"], None).unwrap();
         assert_eq!("3,63".parse(), Ok(found));
         assert_eq!(found.to_string(), "3,63");
-        assert!(may_say(&found, &message(4, 3)) && may_say(&found, &message(0, 63)));
-        assert!(!may_say(&found, &message(0, 4)) && !may_say(&found, &message(0, 64)));
-        assert!(!may_say(&found, &[]) && !may_say(&found, &[1, 0, 3]));
+        assert!(may_send(&found, &message(4, 3)) && may_send(&found, &message(0, 63)));
+        assert!(!may_send(&found, &message(0, 4)) && !may_send(&found, &message(0, 64)));
+        assert!(!may_send(&found, &[]) && !may_send(&found, &[1, 0, 3]));
         assert_eq!(found.most_connections(), 8);
     }
 
@@ -253,13 +253,17 @@ mod tests {
     fn an_operator_ends_clients_and_does_no_more() {
         let found = of(&["krl:operator"], None).unwrap();
         for kind in 0..=8 {
-            assert_eq!(may_say(&found, &message(kind, 9)), matches!(kind, 0 | 1 | 2 | 8), "{kind}");
+            assert_eq!(
+                may_send(&found, &message(kind, 9)),
+                matches!(kind, 0 | 1 | 2 | 8),
+                "{kind}"
+            );
         }
         assert_eq!(found.to_string(), "operator");
     }
 
     #[test]
-    fn a_host_speaks_for_its_clients() {
+    fn a_host_may_send_for_its_clients() {
         let hello = FromClient::Hello(None).frame();
         let sign = |client| {
             let (stamp, older) = (Moment::of_nanoseconds(5), Older::Unknown);
@@ -267,19 +271,22 @@ mod tests {
         };
         let three = of(&["krl:client:3"], None).unwrap();
         let operator = of(&["krl:operator"], None).unwrap();
-        assert!(may_say(&three, &hello[8..]) && may_say(&operator, &hello[8..]));
-        assert!(may_say(&three, &sign(3)[8..]) && !may_say(&three, &sign(4)[8..]));
-        assert!(may_say(&operator, &sign(4)[8..]));
-        for said in [&hello[8..], &sign(3)[8..], &message(0, 3)[..]] {
-            assert!(!may_say(&Identity::nobody(), said), "{said:?}");
+        assert!(may_send(&three, &hello[8..]) && may_send(&operator, &hello[8..]));
+        assert!(may_send(&three, &sign(3)[8..]) && !may_send(&three, &sign(4)[8..]));
+        assert!(may_send(&operator, &sign(4)[8..]));
+        for frame in [&hello[8..], &sign(3)[8..], &message(0, 3)[..]] {
+            assert!(!may_send(&Identity::nobody(), frame), "{frame:?}");
         }
     }
 
     #[test]
-    fn only_who_may_say_all_says_what_names_no_client() {
+    fn only_everybody_may_send_what_names_no_client() {
         let three = of(&["krl:client:3"], None).unwrap();
-        for said in [&[][..], &[1], &[1, 0, 3], &[9; 40], &message(0, 64)] {
-            assert!(!may_say(&three, said) && may_say(&Identity::everybody(), said), "{said:?}");
+        for frame in [&[][..], &[1], &[1, 0, 3], &[9; 40], &message(0, 64)] {
+            assert!(
+                !may_send(&three, frame) && may_send(&Identity::everybody(), frame),
+                "{frame:?}"
+            );
         }
     }
 

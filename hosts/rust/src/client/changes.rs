@@ -160,7 +160,7 @@ mod tests {
     }
 
     #[test]
-    fn a_range_that_does_not_change_is_told_in_time() {
+    fn a_range_that_does_not_change_is_reported_in_time() {
         let mut states = changes([Ok(rows(1)), Ok(rows(1))], [UNCHANGED, CHANGED]);
         assert_eq!(states.next_within(Duration::ZERO), Ok(Some(rows(1))));
         assert_eq!(states.next_within(Duration::ZERO), Ok(None));

@@ -35,18 +35,18 @@ impl Shell for Session {
 /// # Errors
 ///
 /// If memory is refused.
-pub(crate) fn begin_anew_if_due(
+pub(crate) fn begin_again_if_due(
     shell: &mut impl Shell,
     incarnations: &mut impl Incarnations,
 ) -> io::Result<()> {
-    if !shell.session().has_to_begin_anew() {
+    if !shell.session().has_to_begin_again() {
         return Ok(());
     }
     incarnations.renew();
     let (number, incarnation) = (incarnations.number(), incarnations.current());
-    let client = ClientHandle::open_behind(number, incarnation, incarnations.older());
-    shell.session().begin_anew(client.map_err(io::Error::other)?);
-    event_log::began_anew(number, incarnation);
+    let client = ClientHandle::open_after(number, incarnation, incarnations.older());
+    shell.session().begin_again(client.map_err(io::Error::other)?);
+    event_log::began_again(number, incarnation);
     Ok(())
 }
 
@@ -59,7 +59,7 @@ pub(crate) fn begin_connection(
     shell: &mut impl Shell,
     incarnations: &mut impl Incarnations,
 ) -> io::Result<Vec<u8>> {
-    begin_anew_if_due(shell, incarnations)?;
+    begin_again_if_due(shell, incarnations)?;
     incarnations.keep()?;
     shell.session().connected()
 }
@@ -107,7 +107,7 @@ mod tests {
     }
 
     fn client() -> (Session, Numbers) {
-        let client = ClientHandle::open_behind(1, 1, Older::Unknown).unwrap();
+        let client = ClientHandle::open_after(1, 1, Older::Unknown).unwrap();
         let session = Session::new("unix:a".parse().unwrap(), State::new(client, Now::read()), 1);
         (session, Numbers { current: 1, kept: 0, disk_is_full: false })
     }

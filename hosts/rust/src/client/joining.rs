@@ -40,8 +40,8 @@ impl Waits {
 #[derive(Clone, Copy, Debug, PartialEq, Eq)]
 pub(crate) enum Errand {
     Work,
-    /// To end an older incarnation of which the operator says that no process is left, by one that
-    /// is greater than this too.
+    /// To end an older incarnation of which the operator states that no process is left, by one
+    /// that is greater than this too.
     Evict {
         above: u64,
     },
@@ -89,7 +89,7 @@ fn start(
         Errand::Work => (incarnation, lock_file.older()),
         Errand::Evict { above } => (lock_file.rise_above(above), Older::Vouched),
     };
-    let handle = ClientHandle::open_behind(number, incarnation, older);
+    let handle = ClientHandle::open_after(number, incarnation, older);
     let handle = handle.map_err(|code| JoinErrorKind::Refused(code.into()))?;
     let state = State::new(handle, Now::read());
     let (link, poller) =

@@ -125,7 +125,7 @@ impl Link {
         session
     }
 
-    /// Makes a call of the session now, and wakes the tasks that were answered. What the client says
+    /// Makes a call of the session now, and wakes the tasks that were answered. What the client sends
     /// leaves later.
     fn with_session<T>(&self, call: impl FnOnce(&mut Session) -> T) -> T {
         let answer = call(&mut self.session());
@@ -133,7 +133,7 @@ impl Link {
         answer
     }
 
-    /// Makes a call of the client now. What it says leaves later.
+    /// Makes a call of the client now. What it sends leaves later.
     pub fn with_state<T>(&self, call: impl FnOnce(&mut State) -> T) -> T {
         self.with_session(|session| call(session.state()))
     }
@@ -224,7 +224,7 @@ impl Link {
 
     /// Connects, and serves the connection until it ends.
     fn connect_and_serve(&self, address: &Address, poller: &mut Poller) -> io::Result<Infallible> {
-        self.with_lock_file(|link, file| engine::begin_anew_if_due(link, file))?;
+        self.with_lock_file(|link, file| engine::begin_again_if_due(link, file))?;
         let carrier = Carrier::connect(address, self.servers.tls(), CONNECT)?;
         let first = self.with_lock_file(|link, file| engine::begin_connection(link, file))?;
         self.writer.open(carrier.try_clone()?, first);
@@ -237,7 +237,7 @@ impl Link {
         ended
     }
 
-    /// Hears what the server says, until the connection ends.
+    /// Takes what the server sends, until the connection ends.
     fn serve(&self, carrier: Carrier, poller: &mut Poller) -> io::Result<Infallible> {
         self.open_reading(carrier, poller)?;
         let mut is_due = self.go_on(std::iter::empty())?;
@@ -268,8 +268,8 @@ impl Link {
         watches
     }
 
-    /// Takes what has come on the connection, and continues with what the client was asked. It
-    /// answers when that is due again if nothing comes: the thread sleeps until then.
+    /// Takes what has come on the connection, and continues with what the client was asked. Returns
+    /// when that is due again if nothing comes: the thread sleeps until then.
     fn go_on(&self, ready: impl Iterator<Item = Ready>) -> io::Result<Instant> {
         let is_due = self.go_on_reading(ready);
         self.wakes.wake_all();
@@ -309,8 +309,8 @@ impl Link {
         }
     }
 
-    /// If a caller waits for what comes, it is told that something has, since it has no other way
-    /// to learn of its answer; and it reads the connection until it leaves.
+    /// If a caller waits for what comes, it is woken, since it has no other way to
+    /// learn of its answer; and it reads the connection until it leaves.
     fn let_caller_read(&self) {
         if matches!(self.turn.try_lock(), Err(TryLockError::WouldBlock)) {
             self.wake();
@@ -331,7 +331,7 @@ impl Link {
     }
 
     /// Takes what has come, if something has; continues with what the client was asked, and writes
-    /// what it says. Returns when that is due again if nothing comes.
+    /// what it sends. Returns when that is due again if nothing comes.
     fn proceed(&self, came: Option<&mut Frames>) -> io::Result<(Written, Instant)> {
         let mut session = self.session();
         if let Some(frames) = came {

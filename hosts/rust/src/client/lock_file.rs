@@ -31,7 +31,7 @@ pub struct LockFile {
 pub enum LockFileError {
     /// Another client of this number has it, in this or another process.
     Taken,
-    /// It says something else than a lock file of this number does.
+    /// It has something else than a lock file of this number has.
     Strange,
     /// The file can't be read or written.
     File(io::Error),
@@ -220,11 +220,11 @@ mod tests {
     }
 
     #[test]
-    fn an_incarnation_that_was_never_said_leaves_no_trace() {
+    fn an_incarnation_that_was_never_sent_leaves_no_trace() {
         let path = path("vain");
-        let (mut said, first) = LockFile::take(&path, 3).unwrap();
-        said.keep().unwrap();
-        drop(said);
+        let (mut first_file, first) = LockFile::take(&path, 3).unwrap();
+        first_file.keep().unwrap();
+        drop(first_file);
         // Two starts that reach no server.
         drop(LockFile::take(&path, 3).unwrap());
         drop(LockFile::take(&path, 3).unwrap());

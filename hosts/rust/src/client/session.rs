@@ -1,5 +1,5 @@
 //! A client and its connection, without a socket, a thread and a clock: what comes goes in, and
-//! what is to be said comes out. [`crate::client::link`] is the shell around it.
+//! what is to be sent comes out. [`crate::client::link`] is the shell around it.
 use crate::client::backoff::Backoff;
 use crate::client::refused_connects::RefusedConnects;
 use crate::client::silence::{Silence, Silent};
@@ -22,8 +22,8 @@ use std::fmt;
 use std::io;
 use std::time::{Duration, Instant};
 
-/// A server that does not serve a client tells why once a second, and when the client connects
-/// again. What it has told before that is so no more.
+/// A server that does not serve a client reports why once a second, and when the client connects
+/// again. An older report no longer holds.
 const HINT: Duration = Duration::from_secs(2);
 
 /// So many connections in a row have to be answered by another program before a client that joins
@@ -33,7 +33,7 @@ const STRANGERS: u32 = 2;
 /// Whether a client that joins gives up at this moment, since the server reports this reason.
 type GivesUp = Box<dyn Fn(Refusal, Instant) -> bool + Send>;
 
-/// A client, its connection to one of its servers, and what it has heard of them.
+/// A client, its connection to one of its servers, and what it has learned of them.
 ///
 /// Each call is made at the moment that [`Session::at`] was given last. There are four kinds of
 /// methods:
@@ -41,8 +41,8 @@ type GivesUp = Box<dyn Fn(Refusal, Instant) -> bool + Send>;
 /// - A. What callers ask: [`Session::join`]; [`Session::state`], for all else; and
 ///   [`Session::give_up`], for what nobody waits for any more.
 /// - B. Connections: [`Session::connected`] begins one, and [`Session::disconnected`] ends it, or
-///   reports that none was made. Before the first, a client that [`Session::has_to_begin_anew`]
-///   does so by [`Session::begin_anew`]. [`crate::client::engine`] has the order.
+///   reports that none was made. Before the first, a client that [`Session::has_to_begin_again`]
+///   does so by [`Session::begin_again`]. [`crate::client::engine`] has the order.
 /// - C. What comes, and what time brings: [`Session::receive`] and [`Session::proceed`]. If one of
 ///   them fails, the connection has to end.
 /// - D. What is to be done next: [`Session::take`] returns what leaves, and [`Session::due_in`] how
@@ -59,7 +59,7 @@ pub(crate) struct Session {
     connection: Option<Connection>,
     /// How the last connection ended, or why none was made, until the server answers on another.
     fault: Option<io::Error>,
-    /// Why the server does not serve the client, as it told last, and when.
+    /// Why the server does not serve the client, as it last reported, and when.
     refusal: Option<(Refusal, Instant)>,
     /// How the last connections ended, as far as one side rejected the other.
     rejections: Rejections,
@@ -70,23 +70,23 @@ pub(crate) struct Session {
     nothing_listens: Option<io::Error>,
     /// How much the client has seen of the server's store.
     seen: Option<Seen>,
-    /// The greatest epoch that a server has said.
+    /// The greatest epoch that a server has sent.
     epoch: u64,
     joining: Option<Joining>,
 }
 
 /// One connection, while it lasts.
 struct Connection {
-    heard: Heard,
+    received: Received,
     silence: Silence,
     fence: Fence,
-    /// What the host says next.
-    said: Vec<u8>,
+    /// What the host sends next.
+    to_send: Vec<u8>,
 }
 
 /// What came on a connection.
 #[derive(Clone, Copy, Debug, Default, PartialEq, Eq)]
-struct Heard {
+struct Received {
     /// A whole frame.
     frame: bool,
     /// A message that the library has accepted.
@@ -146,14 +146,14 @@ impl Session {
 
     /// Whether the client needs a greater incarnation before it connects: it has dropped all, or
     /// its lease has ended.
-    pub fn has_to_begin_anew(&mut self) -> bool {
+    pub fn has_to_begin_again(&mut self) -> bool {
         self.state.end_lease_if_over();
         self.state.is_void()
     }
 
     /// The client continues under the incarnation of this handle.
-    pub fn begin_anew(&mut self, client: ClientHandle) {
-        self.state.begin_anew(client);
+    pub fn begin_again(&mut self, client: ClientHandle) {
+        self.state.begin_again(client);
     }
 
     /// A connection is made, and the client's incarnation is on the disk, so it may be sent. Returns
@@ -168,10 +168,10 @@ impl Session {
         self.state.confirm_incarnation().map_err(io::Error::other)?;
         let sign = self.state.greet()?;
         self.connection = Some(Connection {
-            heard: Heard::default(),
+            received: Received::default(),
             silence: Silence::new(self.now(), self.servers.count()),
             fence: Fence::new(self.servers.shard()),
-            said: Vec::new(),
+            to_send: Vec::new(),
         });
         self.state.tick_soon();
         Ok([self.hello(), sign.frame()].concat())
@@ -180,11 +180,11 @@ impl Session {
     /// The connection has ended, or was not made, for this reason. Returns how long to wait
     /// before the next attempt.
     pub fn disconnected(&mut self, end: io::Error) -> Duration {
-        let heard = self.connection.take().map_or(Heard::default(), |it| it.heard);
+        let received = self.connection.take().map_or(Received::default(), |it| it.received);
         self.state.disconnect();
         let fault = ConnectFault::from(end);
         // A client that has to begin again does so at once.
-        if heard.went_back || heard.message && fault.rejection().is_none() {
+        if received.went_back || received.message && fault.rejection().is_none() {
             self.backoff.reset();
         }
         event_log::disconnected(self.address(), &fault);
@@ -211,13 +211,13 @@ impl Session {
     /// The connection has to end, for this reason.
     pub fn receive(&mut self, frames: &mut Frames) -> io::Result<()> {
         let now = self.now();
-        self.connection()?.silence.heard(now);
+        self.connection()?.silence.note_received(now);
         while let Ok(Some(frame)) = frames.next() {
-            self.connection()?.heard.frame = true;
+            self.connection()?.received.frame = true;
             if host_frame::is_of_host(frame) {
-                self.hear_host(frame)?;
+                self.receive_host_frame(frame)?;
             } else {
-                self.hear_message(Message::read(frame))?;
+                self.receive_message(Message::read(frame))?;
             }
         }
         if frames.is_broken() { Err(self.no_frame()) } else { Ok(()) }
@@ -226,16 +226,16 @@ impl Session {
     /// Why the connection ends when what comes next is no frame.
     fn no_frame(&self) -> io::Error {
         match &self.connection {
-            Some(Connection { heard: Heard { frame: true, .. }, .. }) => {
+            Some(Connection { received: Received { frame: true, .. }, .. }) => {
                 bad_message(Code::BadMessage)
             }
             _ => NoServer(self.address().clone()).into(),
         }
     }
 
-    fn hear_message(&mut self, message: Message<'_>) -> io::Result<()> {
-        self.state.hear(message.bytes()).map_err(bad_message)?;
-        self.connection()?.heard.message = true;
+    fn receive_message(&mut self, message: Message<'_>) -> io::Result<()> {
+        self.state.receive(message.bytes()).map_err(bad_message)?;
+        self.connection()?.received.message = true;
         self.accepted();
         self.compare_epochs(message)
     }
@@ -246,7 +246,7 @@ impl Session {
         self.fault = None;
     }
 
-    /// Leaves a server that is of an older epoch than one that the client has heard, if there are
+    /// Leaves a server that is of an older epoch than one that the client knows, if there are
     /// others: it may continue for ever, and the one that serves waits for the client's report.
     fn compare_epochs(&mut self, message: Message<'_>) -> io::Result<()> {
         let Some(epoch) = message.epoch() else { return Ok(()) };
@@ -259,7 +259,7 @@ impl Session {
         Err(io::Error::other(why))
     }
 
-    /// Continues with the jobs, when all that came is heard; sends again what is not answered; and
+    /// Continues with the jobs, when all that came is taken; sends again what is not answered; and
     /// asks a silent server whether it is there.
     ///
     /// # Errors
@@ -286,7 +286,7 @@ impl Session {
             Silent::No => {}
             Silent::Ask => {
                 let hello = self.hello();
-                self.connection()?.said.extend(hello);
+                self.connection()?.to_send.extend(hello);
             }
             Silent::Leave => {
                 let why = "the server was asked, and is silent";
@@ -296,11 +296,11 @@ impl Session {
         Ok(())
     }
 
-    /// Appends what is to be said. Without a connection it is lost: a tick sends it again.
+    /// Appends what is to be sent. Without a connection it is lost: a tick sends it again.
     pub fn take(&mut self, frames: &mut Vec<u8>) {
         match &mut self.connection {
             Some(connection) => {
-                frames.append(&mut connection.said);
+                frames.append(&mut connection.to_send);
                 self.state.take(frames);
             }
             None => self.state.lose(),
@@ -334,7 +334,7 @@ impl Session {
 
     /// Ends the jobs that can't be done, since the only server there is rejects this side again and
     /// again. A write that was sent may be done already: its answer is awaited until the deadline,
-    /// unless the server has told that it serves another shard.
+    /// unless the server has reported that it serves another shard.
     pub fn end_hopeless(&mut self) {
         if self.servers.are_several() || !self.rejections.are_final() {
             return;
@@ -383,7 +383,7 @@ impl Session {
         }
     }
 
-    /// Why a job has no answer by now, as far as the server has told. Of a write that was sent
+    /// Why a job has no answer by now, as far as the server has reported. Of a write that was sent
     /// nothing more is known.
     fn unanswered(&self, was_sent: WasSent) -> ErrorKind {
         match (self.rejections.last(), was_sent) {
@@ -402,10 +402,10 @@ impl Session {
         self.hint().map_or(ErrorKind::TimedOut, ErrorKind::Unserved)
     }
 
-    /// Why the server does not serve the client, if it has told so just before.
+    /// Why the server does not serve the client, if it has reported that just before.
     fn hint(&self) -> Option<Refusal> {
-        let is_so = |told: Instant| self.now().saturating_duration_since(told) < HINT;
-        self.refusal.filter(|(_, told)| is_so(*told)).map(|(refusal, _)| refusal)
+        let is_so = |since: Instant| self.now().saturating_duration_since(since) < HINT;
+        self.refusal.filter(|(_, since)| is_so(*since)).map(|(refusal, _)| refusal)
     }
 
     /// Why the last connection was rejected, if it was and the server does not take this side now.

@@ -32,7 +32,7 @@ pub(crate) enum Silent {
 #[derive(Clone, Copy, Debug)]
 pub(crate) struct Silence {
     patience: Patience,
-    heard: Instant,
+    last_received: Instant,
     asked: Instant,
 }
 
@@ -41,17 +41,17 @@ impl Silence {
     /// it, or ends the connection.
     pub fn new(now: Instant, servers: usize) -> Silence {
         let patience = if servers > 1 { AMONG_SEVERAL } else { ALONE };
-        Silence { patience, heard: now, asked: now }
+        Silence { patience, last_received: now, asked: now }
     }
 
     /// Something came.
-    pub fn heard(&mut self, now: Instant) {
-        self.heard = now;
+    pub fn note_received(&mut self, now: Instant) {
+        self.last_received = now;
     }
 
     pub fn look(&mut self, now: Instant) -> Silent {
         let Patience { ask, leave } = self.patience;
-        let silent = now.saturating_duration_since(self.heard);
+        let silent = now.saturating_duration_since(self.last_received);
         if silent >= leave {
             Silent::Leave
         } else if silent >= ask && now.saturating_duration_since(self.asked) >= ask {
@@ -72,12 +72,12 @@ mod tests {
         let start = Instant::now();
         let at = |milliseconds| start + Duration::from_millis(milliseconds);
         let mut silence = Silence::new(start, 2);
-        silence.heard(at(5000));
+        silence.note_received(at(5000));
         assert_eq!(silence.look(at(5249)), Silent::No);
         assert_eq!(silence.look(at(5250)), Silent::Ask);
         assert_eq!(silence.look(at(5300)), Silent::No, "it has just been asked");
         assert_eq!(silence.look(at(5500)), Silent::Ask);
-        silence.heard(at(5600));
+        silence.note_received(at(5600));
         assert_eq!(silence.look(at(5700)), Silent::No);
         assert_eq!(silence.look(at(6600)), Silent::Leave);
     }

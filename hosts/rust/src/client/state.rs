@@ -101,11 +101,11 @@ pub(crate) enum WasSent {
 /// - A. What callers ask: [`State::read`], [`State::write`], [`State::hold`], [`State::watch`] and
 ///   others return an [`Asked`], whose answer comes later, or has come already. [`State::abandon`]
 ///   ends one for which nobody waits any more.
-/// - B. What comes from the server: [`State::hear`] takes a message of the library, and
-///   [`State::hear_answer`] what the server's host answers to a sign.
+/// - B. What comes from the server: [`State::receive`] takes a message of the library, and
+///   [`State::receive_answer`] what the server's host answers to a sign.
 /// - C. What time and connections bring: [`State::greet`] and [`State::disconnect`];
 ///   [`State::end_lease_if_over`], [`State::advance`] and [`State::tick_if_due`]; and
-///   [`State::drop_all`] and [`State::begin_anew`], between which the client has no incarnation.
+///   [`State::drop_all`] and [`State::begin_again`], between which the client has no incarnation.
 /// - D. What is to be done next: [`State::take`] returns what leaves, [`State::next_tick`] and
 ///   [`State::longest_sleep`] how long nothing is due, and [`State::wakes`] the tasks to wake.
 ///
@@ -159,7 +159,7 @@ impl State {
         self.now
     }
 
-    /// Waits until the server has said its epoch.
+    /// Waits until the server has sent its epoch.
     pub fn join(&mut self) -> Asked<()> {
         self.add(Job::Join)
     }
@@ -281,7 +281,7 @@ impl State {
     ///
     /// A void client drops what comes: it was meant for the incarnation before. So does one whose
     /// lease has ended.
-    pub fn hear(&mut self, message: &[u8]) -> Result<(), Code> {
+    pub fn receive(&mut self, message: &[u8]) -> Result<(), Code> {
         self.end_lease_if_over();
         if self.is_void() {
             return Ok(());
@@ -351,7 +351,7 @@ impl State {
             }
         }
         self.give_back();
-        self.tell_changes();
+        self.report_changes();
     }
 
     /// The job as far as it has come, unless it has ended or its write is on its way.

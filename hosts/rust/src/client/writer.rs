@@ -65,7 +65,7 @@ impl Writer {
         }
     }
 
-    /// Writes what waits, as far as the connection takes it at once, and says how far it came. If
+    /// Writes what waits, as far as the connection takes it at once, and returns how far it came. If
     /// another thread writes just now, that thread takes it along.
     pub fn write(&self) -> Written {
         loop {
@@ -165,9 +165,9 @@ mod tests {
         writer.write();
         put(&writer, b"three");
         writer.write();
-        let mut heard = [0; 11];
-        theirs.read_exact(&mut heard).unwrap();
-        assert_eq!(&heard, b"onetwothree");
+        let mut received = [0; 11];
+        theirs.read_exact(&mut received).unwrap();
+        assert_eq!(&received, b"onetwothree");
     }
 
     #[test]
@@ -180,14 +180,14 @@ mod tests {
             writer.write();
         }
         assert!(begun.elapsed() < STALL, "{:?}", begun.elapsed());
-        let mut heard = Vec::new();
-        while heard.len() < sent.len() {
+        let mut received = Vec::new();
+        while received.len() < sent.len() {
             let mut bytes = [0; 1 << 14];
             let count = theirs.read(&mut bytes).unwrap();
-            heard.extend_from_slice(&bytes[..count]);
+            received.extend_from_slice(&bytes[..count]);
             writer.write();
         }
-        assert!(heard == sent, "it is another string");
+        assert!(received == sent, "it is another string");
     }
 
     #[test]

@@ -162,7 +162,7 @@ impl Lease {
         Some(Sign { client, incarnation, stamp: now, length: state.length, older })
     }
 
-    /// Takes terms, if they answer a sign of this incarnation on this connection. It answers
+    /// Takes terms, if they answer a sign of this incarnation on this connection. Returns
     /// whether they were taken: from then on the host may send Hello on this connection.
     pub fn take(&mut self, grant: Grant, now: Moment) -> bool {
         if !self.is_answer(grant) {

@@ -124,7 +124,7 @@ impl LeaseTable {
 
     /// Whether a Hello of this incarnation may be handed to the library. One that has to wait is
     /// dropped: it is sent again.
-    pub fn hears(&self, client: u8, incarnation: u64, now: Moment) -> bool {
+    pub fn accepts_hello(&self, client: u8, incarnation: u64, now: Moment) -> bool {
         let Some(known) = self.known.get(usize::from(client)) else { return true };
         known.present.is_none_or(|Present { incarnation: registered, until }| {
             let (over, is_vouched) = self.word_for(known.older_than(incarnation));

@@ -153,7 +153,7 @@ mod tests {
         assert!(Leases::of(LONGEST + Duration::from_nanos(1)).is_err());
         let bad = Leases::of(LONGEST).unwrap().with_drift(101).unwrap_err();
         assert_eq!(bad.to_string(), "a drift of 101 percent: expected 0 to 100");
-        let said = BadLeases::Length(short).to_string();
-        assert_eq!(said, "a lease of 299ms: expected 300 milliseconds to a day");
+        let sentence = BadLeases::Length(short).to_string();
+        assert_eq!(sentence, "a lease of 299ms: expected 300 milliseconds to a day");
     }
 }

@@ -313,7 +313,7 @@ pub(crate) fn store_is_another_one(server: &Address) {
 }
 
 /// A client continues under a greater incarnation.
-pub(crate) fn began_anew(client: u8, incarnation: u64) {
+pub(crate) fn began_again(client: u8, incarnation: u64) {
     tell!(
         info,
         client,

@@ -8,7 +8,7 @@ const PAUSE: Duration = Duration::from_secs(1);
 /// repository, and may change in any release.
 #[derive(Debug, Default)]
 pub struct Seldom {
-    told: Option<Instant>,
+    logged: Option<Instant>,
     passed_over: u64,
 }
 
@@ -16,11 +16,11 @@ impl Seldom {
     /// How many were passed over since the last one that was reported, if this one is to be
     /// reported.
     pub fn lets(&mut self, now: Instant) -> Option<u64> {
-        if self.told.is_some_and(|told| now.saturating_duration_since(told) < PAUSE) {
+        if self.logged.is_some_and(|logged| now.saturating_duration_since(logged) < PAUSE) {
             self.passed_over += 1;
             return None;
         }
-        self.told = Some(now);
+        self.logged = Some(now);
         Some(std::mem::take(&mut self.passed_over))
     }
 }
@@ -30,7 +30,7 @@ mod tests {
     use super::*;
 
     #[test]
-    fn a_repeated_event_is_told_once_a_second_and_counted() {
+    fn a_repeated_event_is_logged_once_a_second_and_counted() {
         let (mut seldom, start) = (Seldom::default(), Instant::now());
         assert_eq!(seldom.lets(start), Some(0));
         for _ in 0..5 {

@@ -178,7 +178,7 @@ mod tests {
         assert_eq!(error.applied().collect::<Vec<_>>(), [0]);
         assert_eq!(error.unknown().collect::<Vec<_>>(), [2]);
         assert_eq!(error.not_made().collect::<Vec<_>>(), [3]);
-        let told = format!("2 of 4 writes were judged: {}", ErrorKind::TimedOut);
-        assert_eq!(error.to_string(), told);
+        let expected = format!("2 of 4 writes were judged: {}", ErrorKind::TimedOut);
+        assert_eq!(error.to_string(), expected);
     }
 }

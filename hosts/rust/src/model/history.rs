@@ -139,7 +139,7 @@ mod tests {
     }
 
     #[test]
-    fn another_store_is_told_from_an_older_copy_by_the_first_start() {
+    fn the_first_start_distinguishes_another_store_from_an_older_copy() {
         let seen = |start, commits, first_start| Seen { mark: mark(start, commits), first_start };
         let store = History::new(vec![mark(7, 5), mark(3, 2)]).unwrap();
         assert_eq!(store.seen(), Some(seen(3, 2, Some(7))));

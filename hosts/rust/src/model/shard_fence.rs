@@ -41,7 +41,7 @@ impl Fence {
     }
 
     /// The server has reported what it serves.
-    pub fn hear(&mut self, served: ShardBounds) -> Result<(), OtherShard> {
+    pub fn note_served(&mut self, served: ShardBounds) -> Result<(), OtherShard> {
         self.served = Some(served);
         self.passes()
     }
@@ -119,26 +119,26 @@ mod tests {
     }
 
     #[test]
-    fn a_client_speaks_when_its_shard_was_confirmed_and_not_before() {
+    fn a_client_sends_once_its_shard_was_confirmed_and_not_before() {
         assert_eq!(Fence::new(None).passes(), Ok(()));
         let mut fence = Fence::new(Some(bounds("0..9@3")));
         assert!(fence.passes().is_err());
-        assert_eq!(fence.hear(bounds("0..9@3")), Ok(()));
+        assert_eq!(fence.note_served(bounds("0..9@3")), Ok(()));
         assert_eq!(fence.passes(), Ok(()));
-        assert!(fence.hear(bounds("0..9@4")).is_err() && fence.passes().is_err());
-        assert!(Fence::new(None).hear(bounds("0..9@3")).is_err());
+        assert!(fence.note_served(bounds("0..9@4")).is_err() && fence.passes().is_err());
+        assert!(Fence::new(None).note_served(bounds("0..9@3")).is_err());
     }
 
     #[test]
-    fn what_to_do_is_told() {
-        let said = |expected: Option<&str>, served: Option<&str>| {
+    fn each_mismatch_is_explained() {
+        let message = |expected: Option<&str>, served: Option<&str>| {
             OtherShard { expected: expected.map(bounds), served: served.map(bounds) }.to_string()
         };
-        let older = said(Some("0..9@3"), Some("0..5@4"));
+        let older = message(Some("0..9@3"), Some("0..5@4"));
         assert!(older.contains("0..9@3, and it serves 0..5@4: the client's map is an older one"));
-        assert!(said(Some("0..9@3"), Some("0..5@3")).contains("that of another shard"));
-        assert!(said(Some("0..9@3"), Some("0..9@2")).contains("started by an older map"));
-        assert!(said(Some("0..9@3"), None).contains("has to be started as that shard's"));
-        assert!(said(None, Some("0..9@3")).contains("the client needs a map"));
+        assert!(message(Some("0..9@3"), Some("0..5@3")).contains("that of another shard"));
+        assert!(message(Some("0..9@3"), Some("0..9@2")).contains("started by an older map"));
+        assert!(message(Some("0..9@3"), None).contains("has to be started as that shard's"));
+        assert!(message(None, Some("0..9@3")).contains("the client needs a map"));
     }
 }

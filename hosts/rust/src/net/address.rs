@@ -186,7 +186,7 @@ mod tests {
     }
 
     #[test]
-    fn another_machine_is_reached_as_it_is_said() {
+    fn another_machine_is_reached_as_its_address_states() {
         for text in ["10.0.0.1:7400", "db1:7400", "0.0.0.0:7400", "[::]:1", "[::ffff:10.0.0.1]:1"] {
             assert_eq!(text.parse::<Address>(), Err(BadAddress::Unsaid), "{text}");
             assert!(format!("tls:{text}").parse::<Address>().unwrap().is_tls());

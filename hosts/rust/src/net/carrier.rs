@@ -66,7 +66,7 @@ impl Carrier {
         self.stream.shut();
     }
 
-    /// Reads once, and puts what came after the frames. It answers how many bytes came: none if
+    /// Reads once, and puts what came after the frames. Returns how many bytes came: none if
     /// the server has ended the connection.
     pub fn fill(&mut self, frames: &mut Frames) -> io::Result<usize> {
         let Some(session) = &self.session else { return frames.fill(&mut self.stream) };

@@ -198,7 +198,7 @@ mod tests {
     }
 
     #[test]
-    fn a_second_poller_is_told_the_same() {
+    fn a_second_poller_reports_the_same() {
         let (poller, waker) = Poller::new().unwrap();
         let (second, longest) = (SecondPoller::of(&poller).unwrap(), Duration::from_secs(30));
         waker.wake().unwrap();

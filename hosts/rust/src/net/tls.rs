@@ -218,7 +218,7 @@ impl TlsSession {
         self.peer
     }
 
-    /// Reads once from the stream, and puts its content after the frames. It answers how many
+    /// Reads once from the stream, and puts its content after the frames. Returns how many
     /// bytes came: none if the other side has ended.
     pub(crate) fn fill(
         &mut self,
@@ -230,7 +230,7 @@ impl TlsSession {
         self.open_into(&sealed[..count], frames)
     }
 
-    /// Takes what came from the socket, and puts its content after the frames. It answers how many
+    /// Takes what came from the socket, and puts its content after the frames. Returns how many
     /// bytes came: none if the other side has ended.
     pub(crate) fn open_into(&mut self, sealed: &[u8], frames: &mut Frames) -> io::Result<usize> {
         let opened = self.open(sealed)?;

@@ -9,8 +9,8 @@ use crate::model::lock::Mode;
 use crate::model::row::Row;
 use crate::proved::ffi;
 use crate::proved::gate::{Owner, Reader, Reading};
+use crate::proved::handle::{Handle, code, done};
 use crate::proved::losses::{Losses, Tenure};
-use crate::proved::server_handle::{Handle, code, done};
 use crate::wire::message::Message;
 use std::io;
 use std::mem;
@@ -117,13 +117,13 @@ impl Cache {
 impl HeldCache<'_> {
     /// Scans the cache, and puts the rows after those that are there. The clock of leases is read
     /// after them.
-    pub fn scan_behind(
+    pub fn scan_after(
         &self,
         keys: &Range<u64>,
         rows: &mut Vec<Row>,
         clock: impl FnOnce() -> io::Result<Moment>,
     ) -> Result<Scan, Code> {
-        self.0.scan_behind(keys, rows, clock)
+        self.0.scan_after(keys, rows, clock)
     }
 }
 
@@ -143,14 +143,14 @@ impl ClientHandle {
     /// One whose host knows nothing of older incarnations, and has kept this one.
     #[cfg(test)]
     pub fn open(number: u8, incarnation: u64) -> Result<ClientHandle, Code> {
-        let mut client = ClientHandle::open_behind(number, incarnation, Older::Unknown)?;
+        let mut client = ClientHandle::open_after(number, incarnation, Older::Unknown)?;
         client.confirm()?;
         Ok(client)
     }
 
     /// One whose host knows this much of older incarnations. It sends nothing before
     /// [`ClientHandle::confirm`].
-    pub fn open_behind(number: u8, incarnation: u64, older: Older) -> Result<ClientHandle, Code> {
+    pub fn open_after(number: u8, incarnation: u64, older: Older) -> Result<ClientHandle, Code> {
         let mut handle = Handle::closed();
         // SAFETY: the handle stays in its place, and `&mut` gives it to this call only.
         done(unsafe { ffi::krl_client_open(handle.raw(), number.into(), incarnation) })?;
@@ -418,18 +418,18 @@ impl Incarnation {
         clock: impl FnOnce() -> io::Result<Moment>,
     ) -> Result<Scan, Code> {
         rows.clear();
-        self.scan_behind(keys, rows, clock)
+        self.scan_after(keys, rows, clock)
     }
 
     /// The rows come after those that are there. The clock is read after them all: rows are handed
     /// over only if the lease holds then.
-    fn scan_behind(
+    fn scan_after(
         &self,
         keys: &Range<u64>,
         rows: &mut Vec<Row>,
         clock: impl FnOnce() -> io::Result<Moment>,
     ) -> Result<Scan, Code> {
-        found_by_lease(|| self.handle.scan_behind(keys, rows), &self.end, clock)
+        found_by_lease(|| self.handle.scan_after(keys, rows), &self.end, clock)
     }
 }
 
@@ -459,7 +459,7 @@ fn found_by_lease(
 /// What a client's handle answers by a reader.
 impl Handle {
     /// The rows come after those that are there.
-    fn scan_behind(&self, keys: &Range<u64>, rows: &mut Vec<Row>) -> Result<Scan, Code> {
+    fn scan_after(&self, keys: &Range<u64>, rows: &mut Vec<Row>) -> Result<Scan, Code> {
         let mut reply = self.scan_once(keys, rows)?;
         if code(reply) == Code::TooShort {
             rows.try_reserve_exact(count(reply)?).map_err(|_| Code::OutOfMemory)?;

@@ -11,7 +11,7 @@ use crate::server::connections::MAX_CONNECTIONS;
 use crate::server::error::ServeError;
 use crate::server::event_loop::thread::ServerThread;
 use crate::server::opening::{Decided, Opened};
-use crate::server::requests::Requests;
+use crate::server::questions::Questions;
 use crate::server::shown::liveness::TimedStore;
 use crate::server::shown::status::Status;
 use crate::server::shown::timings::Timings;
@@ -190,7 +190,7 @@ impl Server {
         let opened = decided.open(&mut store, &address, Arc::clone(&timings), Now::read)?;
         let Opened { events, epoch, room } = opened;
         let (sockets, waker) = Sockets::new(listener, access)?;
-        let (requests, asked) = Requests::new(Arc::clone(&waker));
+        let (questions, asked) = Questions::new(Arc::clone(&waker));
         let status = Arc::new(Mutex::new(Status { epoch, room, reach, ..Status::default() }));
         let shown = Arc::clone(&status);
         let longest_store_wait = store.longest_wait();
@@ -199,7 +199,7 @@ impl Server {
         let thread = thread::Builder::new().name("krl-server".into());
         let thread = thread.spawn(move || serving.run_to_the_end(&shown))?;
         let thread = Some(thread);
-        Ok(Server { address, room, reach, requests, status, timings, longest_store_wait, thread })
+        Ok(Server { address, room, reach, questions, status, timings, longest_store_wait, thread })
     }
 }
 

@@ -12,9 +12,9 @@ use crate::net::tls::TlsSession;
 use crate::server::close_reason::CloseReason;
 use crate::wire::frames::{Frames, HEAD};
 use crate::wire::host_frame::FromServer;
+use host_frames::HostFrames;
 use std::io::{self, ErrorKind, Read, Write};
 use std::time::{Duration, Instant};
-use told::Told;
 
 /// A connection on which nothing comes for this long is closed: clients tick more often.
 const SILENCE: Duration = Duration::from_secs(30);
@@ -64,14 +64,14 @@ pub(crate) enum Looked {
 pub(crate) struct Connection {
     entry: Entry,
     /// A frame has come whole.
-    has_spoken: bool,
+    has_sent_frame: bool,
     incoming: Frames,
     unread: Unread,
-    heard: Instant,
+    received_at: Instant,
     outbox: Outbox,
     batch: Batch,
     /// What leaves before the server's messages, as soon as it may.
-    told: Told,
+    host_frames: HostFrames,
     /// None if the peer has not shown that it takes host frames.
     host: Option<Host>,
     /// Why nothing more is taken from it: then what waits is the last that is written.
@@ -87,13 +87,13 @@ impl Connection {
     pub fn new(entry: Entry, longest: usize, now: Instant) -> Connection {
         Connection {
             entry,
-            has_spoken: false,
+            has_sent_frame: false,
             incoming: Frames::to_server(longest),
             unread: Unread::Nothing,
-            heard: now,
+            received_at: now,
             outbox: Outbox::default(),
             batch: Batch::NotBegun,
-            told: Told::default(),
+            host_frames: HostFrames::default(),
             host: None,
             ends_for: None,
             is_let_in: false,
@@ -126,7 +126,7 @@ impl Connection {
             (true, _) => Looked::TooLong,
             (false, true) => Looked::NoFrame,
             (false, false) => {
-                self.has_spoken = true;
+                self.has_sent_frame = true;
                 Looked::Frame
             }
         }
@@ -137,7 +137,7 @@ impl Connection {
         match self.unread.note(came) {
             Ok(has_come) => {
                 if has_come {
-                    self.heard = now;
+                    self.received_at = now;
                 }
                 self.look()
             }
@@ -158,7 +158,7 @@ impl Connection {
     /// a peer that needs none.
     pub fn known(&self) -> Option<Identity> {
         match &self.entry {
-            Entry::Known(identity) => self.has_spoken.then_some(*identity),
+            Entry::Known(identity) => self.has_sent_frame.then_some(*identity),
             Entry::Unknown(session) => session.peer(),
         }
     }
@@ -263,7 +263,7 @@ impl Connection {
     }
 
     pub fn is_over(&self) -> bool {
-        self.ends_for.is_some() && self.outbox.is_empty() && !self.told.is_waiting()
+        self.ends_for.is_some() && self.outbox.is_empty() && !self.host_frames.is_waiting()
     }
 
     /// Why the connection is closed now, if its peer is silent or takes nothing for too long.
@@ -275,13 +275,13 @@ impl Connection {
     }
 
     /// When something came last.
-    pub fn heard_last(&self) -> Instant {
-        self.heard
+    pub fn last_received(&self) -> Instant {
+        self.received_at
     }
 
     /// How long nothing has come.
     pub fn silent_for(&self, now: Instant) -> Duration {
-        now.saturating_duration_since(self.heard)
+        now.saturating_duration_since(self.received_at)
     }
 
     /// The peer's host takes host frames, and its Hello gets this answer before everything else.
@@ -298,28 +298,28 @@ impl Connection {
     pub fn refuse(&mut self, refusal: Refusal, now: Instant) {
         let Some(host) = &mut self.host else { return };
         if host.refusals[refusal.reason()].lets(now).is_some() {
-            self.told.put(&FromServer::Refused(refusal).frame());
+            self.host_frames.put(&FromServer::Refused(refusal).frame());
         }
     }
 
     /// Takes a frame of the host, which leaves after the next commit.
-    pub fn tell(&mut self, frame: &[u8]) {
-        self.told.put(frame);
+    pub fn send_after_commit(&mut self, frame: &[u8]) {
+        self.host_frames.put(frame);
     }
 
     /// Something of the connection waits for the next commit: a frame of the host, or the end of
     /// the connection. Returns whether nothing did before.
     pub fn waits_for_commit(&mut self) -> bool {
-        self.told.waits()
+        self.host_frames.waits()
     }
 
     /// The commit is made: what waited for it leaves with the next batch.
     pub fn committed(&mut self) {
-        self.told.committed();
+        self.host_frames.committed();
     }
 
     /// Puts a frame of the server into the batch. `seen` is how far the store has come.
-    pub fn say(&mut self, frame: &[u8], seen: Option<Seen>) {
+    pub fn put_message(&mut self, frame: &[u8], seen: Option<Seen>) {
         self.begin_batch(seen);
         if self.batch == Batch::Begun {
             self.put(frame);
@@ -352,14 +352,14 @@ impl Connection {
             }
         }
         if !is_lost {
-            first.append(self.told.free());
+            first.append(self.host_frames.free());
             self.put(&first);
         }
-        self.told.free().clear();
+        self.host_frames.free().clear();
     }
 }
 
-mod told;
+mod host_frames;
 
 #[cfg(test)]
 mod tests;

@@ -25,7 +25,7 @@ pub(crate) const MAX_CONNECTIONS: usize = 256;
 
 /// A client is active on a connection on which something has come within this time: each ticks more
 /// often, several times a second.
-const SPEAKS: Duration = Duration::from_secs(2);
+const ACTIVE_FOR: Duration = Duration::from_secs(2);
 
 /// All open connections, and to which of them each client's messages go.
 pub(crate) struct Connections {
@@ -154,13 +154,13 @@ impl Connections {
         self.looked(number, looked)
     }
 
-    /// Reads once from the socket of this connection. It answers how many bytes came.
+    /// Reads once from the socket of this connection. Returns how many bytes came.
     pub fn fill(&mut self, number: u64, stream: &mut impl Read) -> io::Result<usize> {
         let peer = self.open.get_mut(&number);
         peer.map_or(Err(io::ErrorKind::NotConnected.into()), |peer| peer.connection.fill(stream))
     }
 
-    /// Takes what a read of this connection came to, at a moment after it. It answers what the
+    /// Takes what a read of this connection came to, at a moment after it. Returns what the
     /// connection has.
     pub fn has_read(&mut self, number: u64, came: io::Result<usize>, now: Now) -> Found {
         self.now = now;
@@ -254,9 +254,9 @@ impl Connections {
     }
 
     /// Sends a frame of the host on the connection, after the next commit.
-    pub fn tell(&mut self, number: u64, frame: &[u8]) {
+    pub fn send_after_commit(&mut self, number: u64, frame: &[u8]) {
         if let Some(peer) = self.in_waiting(number) {
-            peer.tell(frame);
+            peer.send_after_commit(frame);
         }
     }
 
@@ -311,12 +311,13 @@ impl Connections {
     }
 
     /// Whether something has come from the client just now, on another connection than this one.
-    pub fn speaks_elsewhere(&self, client: u8, number: u64) -> bool {
+    pub fn is_active_elsewhere(&self, client: u8, number: u64) -> bool {
         let other = self.routes.of(client).filter(|other| *other != number);
         let other = other.and_then(|other| self.open.get(&other));
         other.is_some_and(|peer| {
             // What came while the server was busy has not been read yet.
-            peer.connection.is_ready() || peer.connection.silent_for(self.now.monotonic) < SPEAKS
+            peer.connection.is_ready()
+                || peer.connection.silent_for(self.now.monotonic) < ACTIVE_FOR
         })
     }
 
@@ -333,9 +334,9 @@ impl Connections {
     }
 
     /// When something last came on the client's connection, if it has one.
-    pub fn heard_last(&self, client: u8) -> Option<Instant> {
+    pub fn last_received(&self, client: u8) -> Option<Instant> {
         let peer = self.routes.of(client).and_then(|number| self.open.get(&number))?;
-        Some(peer.connection.heard_last())
+        Some(peer.connection.last_received())
     }
 
     pub fn count(&self) -> usize {
@@ -358,8 +359,8 @@ impl Connections {
         self.closed.pop_front()
     }
 
-    /// Writes what the peer takes, and closes the connection if that fails or was the last. It
-    /// answers for what the socket has to be watched then, if it is still open.
+    /// Writes what the peer takes, and closes the connection if that fails or was the last. Returns
+    /// for what the socket has to be watched then, if it is still open.
     pub fn write(&mut self, number: u64, stream: &mut impl Write) -> Option<Watched> {
         let peer = self.open.get_mut(&number)?;
         let is_lost = peer.connection.write(stream, self.now.monotonic).is_err();
@@ -414,7 +415,7 @@ impl Sending<'_> {
     pub fn put(&mut self, client: u8, frame: &[u8]) {
         let Some(number) = self.connections.routes.of(client) else { return };
         if let Some(connection) = self.connections.in_sending(number) {
-            connection.say(frame, self.seen);
+            connection.put_message(frame, self.seen);
         }
     }
 

@@ -16,9 +16,9 @@ use crate::server::connections::{Connections, Found};
 use crate::server::error::ServeError;
 use crate::server::held_back::HeldBack;
 use crate::server::routing::{Sender, sender};
-use crate::server::shown::client_status::LastHeard;
+use crate::server::shown::client_status::LastReceived;
 use crate::server::shown::status::Status;
-use crate::server::shown::timings::{Open, Timings};
+use crate::server::shown::timings::Timings;
 use crate::server::shown::watch::Watch;
 use crate::wire::frames;
 use crate::wire::host_frame::FromClient;
@@ -27,6 +27,7 @@ use crate::wire::message::{Head, Kind, Message};
 use admission::KeptRequests;
 use commit_group::CommitGroup;
 use commits::Gathered;
+use requests::OpenRequests;
 use std::mem;
 use std::sync::Arc;
 use std::time::{Duration, Instant};
@@ -64,7 +65,7 @@ pub(crate) struct EventLoop {
     /// What the next commit has to make.
     gathered: Gathered,
     watch: Watch,
-    last_heard: LastHeard,
+    last_received: LastReceived,
     status: Status,
     /// When the last turn ended.
     turned: Instant,
@@ -87,7 +88,7 @@ pub(crate) struct EventLoop {
     /// Why it is to end, if nobody has asked it to.
     failure: Option<ServeError>,
     timings: Arc<Timings>,
-    open: Open,
+    requests: OpenRequests,
     log: EventLog,
     frames: Vec<u8>,
     kept_requests: KeptRequests,
@@ -124,7 +125,7 @@ impl EventLoop {
             leases,
             gathered: Gathered::default(),
             watch: Watch::default(),
-            last_heard: LastHeard::new(),
+            last_received: LastReceived::new(),
             status: Status { epoch, ..Status::default() },
             turned: now,
             shown: now,
@@ -138,7 +139,7 @@ impl EventLoop {
             until: None,
             failure: None,
             timings,
-            open: Open::new(),
+            requests: OpenRequests::new(),
             log,
             frames: Vec::new(),
             kept_requests: KeptRequests::default(),
@@ -200,7 +201,7 @@ impl EventLoop {
             Found::Long(connection, head) => self.judge_long(connection, &head)?,
             Found::Frame(connection, mut incoming) => {
                 if let Ok(Some(frame)) = incoming.next() {
-                    self.hear(connection, frame, self.connections.now())?;
+                    self.receive(connection, frame, self.connections.now())?;
                 }
                 self.connections.put_back(connection, incoming);
             }
@@ -209,9 +210,9 @@ impl EventLoop {
     }
 
     /// Takes what came on a connection, and adds what has to be kept.
-    fn hear(&mut self, connection: u64, frame: &[u8], now: Now) -> Result<(), ServeError> {
+    fn receive(&mut self, connection: u64, frame: &[u8], now: Now) -> Result<(), ServeError> {
         let frame = Incoming::read(frame);
-        if !self.connections.identity(connection).may_say(&frame) {
+        if !self.connections.identity(connection).may_send(&frame) {
             self.deny(connection, &frame);
             return Ok(());
         }
@@ -237,7 +238,7 @@ impl EventLoop {
                 self.refuse_other_version(connection);
                 Ok(())
             }
-            Incoming::Sign(sign) => self.hear_sign(connection, sign, now),
+            Incoming::Sign(sign) => self.receive_sign(connection, sign, now),
             Incoming::Host(_) => Ok(()),
         }
     }
@@ -261,7 +262,7 @@ impl EventLoop {
         message: Message<'_>,
         now: Now,
     ) -> Result<Option<Change>, ServeError> {
-        if !self.hears(connection, message.head(), now)? {
+        if !self.accepts_hello(connection, message.head(), now)? {
             return Ok(None);
         }
         let change = match self.server.step(message.bytes()) {
@@ -302,7 +303,7 @@ impl EventLoop {
         match (sender(record.as_ref(), incarnation), kind) {
             (Sender::Registered, _) => {
                 let now = self.connections.now().monotonic;
-                self.open.heard(client, message, now, &self.timings);
+                self.requests.received(client, message, now, &self.timings);
                 if kind.may_change_holdings() {
                     self.watch.may_change(client);
                 }
@@ -310,7 +311,9 @@ impl EventLoop {
             }
             // The frame leaves after the change is on the disk. It shows the client that it need
             // not send Bye again.
-            (Sender::Left, Kind::Bye) => self.connections.tell(connection, &frames::EMPTY),
+            (Sender::Left, Kind::Bye) => {
+                self.connections.send_after_commit(connection, &frames::EMPTY);
+            }
             (Sender::Left, _) => {}
             (Sender::Stranger, _) => {
                 self.log.stranger(&self.connections.at(connection), client, incarnation);
@@ -354,17 +357,17 @@ impl EventLoop {
     /// Gives the connections what leaves, and takes requests that were kept, as far as what has left
     /// lets them be taken.
     pub fn send(&mut self, now: Now) -> Result<(), ServeError> {
-        self.send_what_is_said(now)?;
+        self.send_and_call_back(now)?;
         if self.take_kept(now)? {
-            self.send_what_is_said(now)?;
+            self.send_and_call_back(now)?;
         }
         Ok(())
     }
 
-    fn send_what_is_said(&mut self, now: Now) -> Result<(), ServeError> {
-        if self.send_said(now)? == Pushed::Some && mem::take(&mut self.was_released) {
+    fn send_and_call_back(&mut self, now: Now) -> Result<(), ServeError> {
+        if self.send_ready(now)? == Pushed::Some && mem::take(&mut self.was_released) {
             self.call_back_for_waiters();
-            self.send_said(now)?;
+            self.send_ready(now)?;
         }
         Ok(())
     }
@@ -375,14 +378,14 @@ impl EventLoop {
     /// that another client waits for, it would do so after the next message that acts. A client
     /// need not acknowledge the grant by a message of its own, so that message may come late.
     fn call_back_for_waiters(&mut self) {
-        for client in self.open.waiting() {
+        for client in self.requests.waiting() {
             // A nudge for which there is no memory is a message that is lost.
             let _ = self.server.nudge(client);
         }
     }
 
     /// Gives the connections what the server sends.
-    fn send_said(&mut self, now: Now) -> Result<Pushed, ServeError> {
+    fn send_ready(&mut self, now: Now) -> Result<Pushed, ServeError> {
         let mut pushed = Pushed::Nothing;
         let length = match self.server.take(&mut self.frames) {
             Ok(length) => length,
@@ -398,7 +401,7 @@ impl EventLoop {
             if self.held_back.holds(client, message, now.monotonic) {
                 continue;
             }
-            self.open.said(client, message, now.monotonic, &self.timings);
+            self.requests.sent(client, message, now.monotonic, &self.timings);
             if is_push {
                 pushed = Pushed::Some;
                 self.watch.may_change(client);
@@ -423,6 +426,7 @@ mod leases;
 mod long_frames;
 mod looks;
 mod notices;
+mod requests;
 mod sharding;
 mod showing;
 #[cfg(test)]

@@ -47,7 +47,7 @@ impl Listening {
     fn has_failed(&mut self, error: io::Error, now: Instant) -> io::Result<()> {
         match after(&error) {
             Next::AtOnce => {}
-            Next::WhenToldAgain => self.has_some = false,
+            Next::WhenReportedAgain => self.has_some = false,
             Next::Later => {
                 self.not_taken(&error);
                 self.not_before = Some(now + NO_ROOM);
@@ -69,7 +69,7 @@ enum Next {
     /// The connection is gone, and the next one may be there already.
     AtOnce,
     /// No connection waits.
-    WhenToldAgain,
+    WhenReportedAgain,
     /// The system has no room for another connection just now, or the network is not there.
     Later,
     /// The socket takes no connection any more.
@@ -82,7 +82,7 @@ fn after(error: &io::Error) -> Next {
     const ENOTSOCK: i32 = 88;
     match (error.kind(), error.raw_os_error()) {
         (ErrorKind::Interrupted | ErrorKind::ConnectionAborted, _) => Next::AtOnce,
-        (ErrorKind::WouldBlock, _) => Next::WhenToldAgain,
+        (ErrorKind::WouldBlock, _) => Next::WhenReportedAgain,
         (_, Some(EBADF | EINVAL | ENOTSOCK)) => Next::End,
         _ => Next::Later,
     }
@@ -104,7 +104,7 @@ mod tests {
         const ECONNABORTED: i32 = 103;
         const ENOBUFS: i32 = 105;
         let next = |number| after(&io::Error::from_raw_os_error(number));
-        assert_eq!(next(EAGAIN), Next::WhenToldAgain);
+        assert_eq!(next(EAGAIN), Next::WhenReportedAgain);
         for number in [EINTR, ECONNABORTED] {
             assert_eq!(next(number), Next::AtOnce, "{number}");
         }

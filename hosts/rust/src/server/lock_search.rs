@@ -81,7 +81,7 @@ impl HeldRun {
         HeldSlot { lo, hi, client, mode }
     }
 
-    /// Takes the next run into this one if they are neighbors, and answers whether they are.
+    /// Takes the next run into this one if they are neighbors, and returns whether they are.
     pub(crate) fn join(&mut self, next: &HeldRun) -> bool {
         let is_next = (self.client, self.mode, self.hi) == (next.client, next.mode, next.lo);
         if is_next {
@@ -191,7 +191,7 @@ mod tests {
     }
 
     #[test]
-    fn a_search_tells_what_meets_its_points() {
+    fn a_search_finds_what_meets_its_points() {
         let mut whole = search(15..31, 100);
         let held = whole.page(next_held, || false);
         let expected = [run(1, 10, 20, 1), run(1, 20, 30, 1), run(1, 30, 40, 1), run(3, 20, 30, 1)];

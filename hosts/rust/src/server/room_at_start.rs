@@ -85,9 +85,9 @@ mod tests {
     fn a_store_with_more_rows_is_refused_with_both_numbers() {
         for kept in [None, Some(3), Some(100)] {
             let refused = start(&store(3, kept), Some(2)).unwrap_err();
-            let told =
+            let expected =
                 "the store has 3 rows, and the server room for 2: give it room for 3 or more";
-            assert!(refused.contains(told), "{refused}");
+            assert!(refused.contains(expected), "{refused}");
         }
     }
 

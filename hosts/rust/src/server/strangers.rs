@@ -34,7 +34,7 @@ struct Stranger {
 }
 
 impl Strangers {
-    /// A connection comes. It answers which one is to be closed for it, if one is.
+    /// A connection comes. Returns which one is to be closed for it, if one is.
     pub fn comes(&mut self, connection: u64, from: Option<IpAddr>, now: Instant) -> Option<u64> {
         let network = from.map(network_of);
         let crowded = self.from(network) >= MAX_FROM_ONE;
@@ -53,7 +53,7 @@ impl Strangers {
         self.waiting.iter().any(|stranger| stranger.connection == connection)
     }
 
-    /// It has identified itself. It answers which one is to be closed for it, if one is: the oldest
+    /// It has identified itself. Returns which one is to be closed for it, if one is: the oldest
     /// of the same identity.
     pub(crate) fn is_known(&mut self, connection: u64, identity: Identity) -> Option<u64> {
         self.waiting.retain(|stranger| stranger.connection != connection);

@@ -123,7 +123,7 @@ mod tests {
     }
 
     #[test]
-    fn what_became_of_each_write_is_told_where_one_shard_does_not_answer() {
+    fn the_fate_of_each_write_is_reported_where_one_shard_does_not_answer() {
         let spread = spread(&[150, 1, 101, 2]).unwrap();
         let lost = judged(&[Applied], Some(ErrorKind::TimedOut));
         let error = spread.joined(&[judged(&[Applied, Applied], None), lost], at).unwrap_err();

@@ -180,7 +180,7 @@ mod tests {
     }
 
     #[test]
-    fn a_map_with_a_version_says_what_each_shard_has() {
+    fn a_map_with_a_version_shows_what_each_shard_has() {
         let map = map(&[0, 10, END]).unwrap();
         assert_eq!((map.version(), map.bounds_of(0)), (None, None));
         let map = map.with_version(NonZeroU64::new(3).unwrap());

@@ -143,8 +143,8 @@ mod tests {
     }
 
     #[test]
-    fn what_is_no_map_is_told() {
-        let told = |text: &str| ShardMap::from_toml(text).unwrap_err().to_string();
+    fn what_is_no_map_is_reported() {
+        let error_of = |text: &str| ShardMap::from_toml(text).unwrap_err().to_string();
         for (old, new, expected) in [
             ("version = 3\n", "", "missing field `version`"),
             ("version = 3", "version = 0", "[[shard]]"),
@@ -152,10 +152,10 @@ mod tests {
             ("first = 9", "first = 0", "each other one above the one before it"),
             ("127.0.0.1:1", "here", "the servers 'here' of the shard from 0 on: "),
         ] {
-            let said = told(&MAP.replace(old, new));
-            assert!(said.contains(expected), "{said}");
+            let error = error_of(&MAP.replace(old, new));
+            assert!(error.contains(expected), "{error}");
         }
-        assert!(told("").contains("missing field `version`"));
+        assert!(error_of("").contains("missing field `version`"));
         let missing = ShardMap::from_file("/no/such/map.toml").unwrap_err().to_string();
         assert!(missing.starts_with("it can't be read: "), "{missing}");
     }

@@ -27,7 +27,7 @@ fn scan_and_do(known: &[Known<'_>], rows: &mut Vec<Row>, mut between: impl FnMut
         if place > 0 {
             between();
         }
-        if held[place].scan_behind(keys, rows, Moment::now) != Ok(Scan::Rows) {
+        if held[place].scan_after(keys, rows, Moment::now) != Ok(Scan::Rows) {
             return false;
         }
     }

@@ -62,12 +62,12 @@ pub struct Server {
 struct Around {
     now: Now,
     unread: BTreeMap<u64, Unread>,
-    said: Vec<Said>,
+    sent: Vec<Sent>,
 }
 
 /// What leaves of a server on one connection.
 #[derive(Clone, Debug, PartialEq, Eq)]
-pub struct Said {
+pub struct Sent {
     /// The connection.
     pub connection: u64,
     /// The bytes.
@@ -104,12 +104,12 @@ impl Environment for Around {
             let mut bytes = Vec::new();
             connections.write(connection, &mut bytes);
             if !bytes.is_empty() {
-                self.said.push(Said { connection, bytes, closes: false });
+                self.sent.push(Sent { connection, bytes, closes: false });
             }
         }
         while let Some(closed) = connections.next_closed() {
             self.unread.remove(&closed.number);
-            self.said.push(Said { connection: closed.number, bytes: Vec::new(), closes: true });
+            self.sent.push(Sent { connection: closed.number, bytes: Vec::new(), closes: true });
         }
     }
 }
@@ -132,7 +132,7 @@ impl Server {
         let timings = Arc::new(Timings::new());
         let began = Now::simulated(time);
         let Opened { events, .. } = decided.open(store, &address, timings, || began)?;
-        let around = Around { now: began, unread: BTreeMap::new(), said: Vec::new() };
+        let around = Around { now: began, unread: BTreeMap::new(), sent: Vec::new() };
         Ok(Server { events, around, turn: None, commit: None })
     }
 
@@ -229,8 +229,8 @@ impl Server {
     }
 
     /// What has left since it was asked last: nothing that rests on what is not committed.
-    pub fn take_said(&mut self) -> Vec<Said> {
-        std::mem::take(&mut self.around.said)
+    pub fn take_sent(&mut self) -> Vec<Sent> {
+        std::mem::take(&mut self.around.sent)
     }
 
     /// Why it has ended, if nobody has asked it to. It is reported once.

@@ -201,7 +201,7 @@ pub fn deposes_an_older_value<S: Store>(mut open: impl FnMut() -> S) {
 /// # Panics
 ///
 /// If both do.
-pub fn tells_two_starts_apart<S: Store>(mut open: impl FnMut() -> S) {
+pub fn distinguishes_two_starts<S: Store>(mut open: impl FnMut() -> S) {
     for epoch in 1..3 {
         let ((mut one, _), (mut other, _)) = (loaded(&mut open), loaded(&mut open));
         one.commit(&[Change::Started { epoch }]).expect("nobody else has committed anything");

@@ -157,11 +157,11 @@ fn split_length(bytes: &[u8]) -> Option<(u64, &[u8])> {
 pub(crate) fn split(frames: &[u8]) -> impl Iterator<Item = (&[u8], &[u8])> {
     let mut rest = frames;
     std::iter::from_fn(move || {
-        let (length, behind) = split_length(rest)?;
+        let (length, after) = split_length(rest)?;
         let length = usize::try_from(length).ok()?;
-        let message = behind.get(..length)?;
+        let message = after.get(..length)?;
         let frame = rest.get(..PREFIX + length)?;
-        rest = &behind[length..];
+        rest = &after[length..];
         Some((message, frame))
     })
 }

@@ -66,9 +66,9 @@ impl FromClient {
     pub fn frame(self) -> Vec<u8> {
         match self {
             FromClient::Hello(seen) => {
-                let mut said = seen.map(spelled_seen).unwrap_or_default();
-                said.push(STREAM_VERSION);
-                framed(&[HOST, FromClient::HELLO], &said)
+                let mut content = seen.map(spelled_seen).unwrap_or_default();
+                content.push(STREAM_VERSION);
+                framed(&[HOST, FromClient::HELLO], &content)
             }
             FromClient::OtherVersion => framed(&[HOST, FromClient::HELLO], &[]),
             FromClient::Shard(shard) => {
@@ -83,7 +83,7 @@ impl FromClient {
     /// The content of the frame, or `None` if it is of another kind, which has no meaning.
     pub fn read(frame: &[u8]) -> Option<FromClient> {
         match frame {
-            [HOST, FromClient::HELLO, said @ ..] => Some(read_hello(said)),
+            [HOST, FromClient::HELLO, content @ ..] => Some(read_hello(content)),
             [HOST, FromClient::SHARD, shard @ ..] => {
                 Some(shard_frame::read(shard).map_or(FromClient::NoShard, FromClient::Shard))
             }
@@ -121,7 +121,7 @@ impl FromServer {
     /// The content of the frame, or `None` if it is of another kind, which has no meaning.
     pub fn read(frame: &[u8]) -> Option<FromServer> {
         match frame {
-            [HOST, FromServer::HELLO, said @ ..] => Some(read_server_hello(said)),
+            [HOST, FromServer::HELLO, content @ ..] => Some(read_server_hello(content)),
             [HOST, FromServer::REFUSED, reason, numbers @ ..] => {
                 refusal(*reason, numbers).map(FromServer::Refused)
             }
@@ -136,8 +136,8 @@ impl FromServer {
 }
 
 /// What follows the kind of a client's Hello: the mark, if it has received one, and the version.
-fn read_hello(said: &[u8]) -> FromClient {
-    match said.split_last() {
+fn read_hello(content: &[u8]) -> FromClient {
+    match content.split_last() {
         Some((&STREAM_VERSION, mark)) if MARK_LENGTHS.contains(&mark.len()) => {
             FromClient::Hello(read_seen(mark))
         }
@@ -146,8 +146,8 @@ fn read_hello(said: &[u8]) -> FromClient {
 }
 
 /// What follows the kind of a server's Hello: whether it answers signs, and the version.
-fn read_server_hello(said: &[u8]) -> FromServer {
-    match *said {
+fn read_server_hello(content: &[u8]) -> FromServer {
+    match *content {
         [signs, STREAM_VERSION, ..] => FromServer::Hello { answers_signs: signs == ANSWERS_SIGNS },
         [_, read, ..] => FromServer::Refused(Refusal::Version { read }),
         _ => FromServer::Refused(Refusal::Version { read: BEFORE_VERSIONS }),
@@ -228,7 +228,7 @@ mod tests {
         "5..258@7".parse().unwrap()
     }
 
-    fn said() -> Vec<FromServer> {
+    fn examples() -> Vec<FromServer> {
         let missing = Refusal::Missing([3, 63].into_iter().collect());
         let refusals = [
             Refusal::Version { read: 1 },
@@ -255,13 +255,13 @@ mod tests {
     }
 
     #[test]
-    fn what_is_said_is_read() {
-        for said in said() {
-            let body = body(&said.frame());
+    fn what_is_sent_is_read() {
+        for content in examples() {
+            let body = body(&content.frame());
             assert!(is_of_host(&body) && body.len() < crate::wire::frames::LONGEST_TO_CLIENT);
-            assert_eq!(FromServer::read(&body), Some(said));
+            assert_eq!(FromServer::read(&body), Some(content));
             // A later release may send more after it.
-            assert_eq!(FromServer::read(&[&body[..], b"more"].concat()), Some(said));
+            assert_eq!(FromServer::read(&[&body[..], b"more"].concat()), Some(content));
         }
         for seen in [None, Some(SEEN), Some(SEEN_EARLIER)] {
             let hello = FromClient::Hello(seen);
@@ -325,10 +325,10 @@ mod tests {
         for (hello, read) in [(&[0, 16][..], 1), (&[0, 16, 1], 1), (&[0, 16, 1, 2, 9], 2)] {
             assert_eq!(FromServer::read(hello), refused(read), "{hello:?}");
         }
-        let of_client = |said: &[u8]| FromClient::read(&[&[0, 0], said].concat());
+        let of_client = |content: &[u8]| FromClient::read(&[&[0, 0], content].concat());
         // A mark of a host from before versions may end as a version does.
-        for said in [&[][..], &[3; 24], &[3; 40], &[1], &[2], &[3, 9], &[3; 26]] {
-            assert_eq!(of_client(said), Some(FromClient::OtherVersion), "{said:?}");
+        for content in [&[][..], &[3; 24], &[3; 40], &[1], &[2], &[3, 9], &[3; 26]] {
+            assert_eq!(of_client(content), Some(FromClient::OtherVersion), "{content:?}");
         }
         for length in MARK_LENGTHS {
             let hello = of_client(&[&vec![7; length][..], &[STREAM_VERSION]].concat());
@@ -337,10 +337,10 @@ mod tests {
     }
 
     #[test]
-    fn what_is_cut_off_or_unknown_says_nothing() {
-        for said in said() {
-            let body = body(&said.frame());
-            let shortest = match said {
+    fn what_is_cut_off_or_unknown_is_not_read() {
+        for content in examples() {
+            let body = body(&content.frame());
+            let shortest = match content {
                 // One that is shorter names no version.
                 FromServer::Hello { .. } => 2,
                 FromServer::Mark(_) => 26,

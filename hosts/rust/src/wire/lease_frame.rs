@@ -69,8 +69,8 @@ fn numbers<const N: usize>(frame: &[u8], kind: u8) -> Option<[u64; N]> {
     let mut rest = frame.strip_prefix(&[HOST, kind])?;
     let mut numbers = [0; N];
     for number in &mut numbers {
-        let (bytes, behind) = rest.split_first_chunk()?;
-        (*number, rest) = (u64::from_le_bytes(*bytes), behind);
+        let (bytes, after) = rest.split_first_chunk()?;
+        (*number, rest) = (u64::from_le_bytes(*bytes), after);
     }
     Some(numbers)
 }
@@ -99,7 +99,7 @@ mod tests {
     }
 
     #[test]
-    fn what_is_said_is_read() {
+    fn what_is_sent_is_read() {
         for older in [Older::Unknown, Older::IsOver(6), Older::Vouched] {
             let body = body(&sign(older).frame());
             assert_eq!(Sign::read(&body), Some(sign(older)));
@@ -119,23 +119,23 @@ mod tests {
         let numbers = [7, 0, 0, 0, 0, 0, 0, 0, 2, 1, 0, 0, 0, 0, 0, 0, 10, 0, 0, 0, 0, 0, 0, 0];
         assert_eq!(granted, [&[0, 20][..], &numbers].concat());
         assert_eq!(ended, [0, 21, 7, 0, 0, 0, 0, 0, 0, 0]);
-        let said = body(&sign(Older::IsOver(6)).frame());
-        assert_eq!(said[..18], [0, 1, 3, 0, 0, 0, 0, 0, 0, 0, 7, 0, 0, 0, 0, 0, 0, 0]);
-        assert_eq!(said[18..26], (1_u64 << 60).to_le_bytes());
-        assert_eq!(said[26..], [255, 255, 255, 255, 255, 255, 255, 255, 6, 0, 0, 0, 0, 0, 0, 0]);
+        let content = body(&sign(Older::IsOver(6)).frame());
+        assert_eq!(content[..18], [0, 1, 3, 0, 0, 0, 0, 0, 0, 0, 7, 0, 0, 0, 0, 0, 0, 0]);
+        assert_eq!(content[18..26], (1_u64 << 60).to_le_bytes());
+        assert_eq!(content[26..], [255, 255, 255, 255, 255, 255, 255, 255, 6, 0, 0, 0, 0, 0, 0, 0]);
     }
 
     #[test]
-    fn what_is_cut_off_or_of_another_kind_says_nothing() {
-        let said = body(&sign(Older::Unknown).frame());
-        assert!((0..said.len()).all(|length| Sign::read(&said[..length]).is_none()));
+    fn what_is_cut_off_or_of_another_kind_is_not_read() {
+        let content = body(&sign(Older::Unknown).frame());
+        assert!((0..content.len()).all(|length| Sign::read(&content[..length]).is_none()));
         for answer in answers() {
-            let said = body(&answer.frame());
-            assert!((0..said.len()).all(|length| Answer::read(&said[..length]).is_none()));
-            assert_eq!((Sign::read(&said), FromServer::read(&said)), (None, None));
+            let content = body(&answer.frame());
+            assert!((0..content.len()).all(|length| Answer::read(&content[..length]).is_none()));
+            assert_eq!((Sign::read(&content), FromServer::read(&content)), (None, None));
         }
-        assert_eq!((Answer::read(&said), FromClient::read(&said)), (None, None));
-        let stranger = [&said[..2], &256_u64.to_le_bytes(), &said[10..]].concat();
+        assert_eq!((Answer::read(&content), FromClient::read(&content)), (None, None));
+        let stranger = [&content[..2], &256_u64.to_le_bytes(), &content[10..]].concat();
         assert_eq!(Sign::read(&stranger), None, "a number that no client has");
     }
 }

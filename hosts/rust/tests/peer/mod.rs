@@ -39,12 +39,12 @@ impl Peer {
         Peer(stream)
     }
 
-    pub fn say(&mut self, frame: &[u8]) {
+    pub fn send(&mut self, frame: &[u8]) {
         self.0.write_all(frame).unwrap();
     }
 
     /// The bytes that come within the time.
-    pub fn hear(&mut self, time: Duration) -> Vec<u8> {
+    pub fn receive(&mut self, time: Duration) -> Vec<u8> {
         let (end, mut heard) = (Instant::now() + time, Vec::new());
         while Instant::now() < end {
             let mut bytes = [0; 4096];
@@ -59,8 +59,8 @@ impl Peer {
     }
 
     /// The messages that come within the time, without the frames of the server's host.
-    pub fn hear_messages(&mut self, time: Duration) -> Vec<Vec<u8>> {
-        let (heard, mut messages) = (self.hear(time), Vec::new());
+    pub fn receive_messages(&mut self, time: Duration) -> Vec<Vec<u8>> {
+        let (heard, mut messages) = (self.receive(time), Vec::new());
         let mut rest = &heard[..];
         while let Some((length, more)) = rest.split_first_chunk() {
             let length = usize::try_from(u64::from_le_bytes(*length)).unwrap();

@@ -5,7 +5,8 @@ use super::looks::Held;
 use super::markup::{Markup, escape, list, number};
 use super::modes::{self, LEGEND};
 use crate::clients::{self, brief, end_in_words, lease_in_words};
-use krl::{HeldRun, Status, Wait};
+use krl::operate::HeldRun;
+use krl::{Status, Wait};
 use std::ops::Range;
 use std::time::Duration;
 

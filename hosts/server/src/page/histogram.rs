@@ -1,6 +1,6 @@
 //! The picture of how long something takes, as SVG.
 use super::markup::{Markup, number};
-use krl::Counts;
+use krl::operate::Counts;
 use std::time::Duration;
 
 const WIDTH: f64 = 320.0;

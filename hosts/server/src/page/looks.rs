@@ -4,7 +4,8 @@
 //! each second. So all viewers share one look at each range, which a thread makes again for as long
 //! as somebody asks. After each part of it, that thread pauses for long enough that all looks take
 //! less than one percent of the loop's time.
-use krl::{HeldPage, HeldRun, HeldSearch, LocksError, Monitor};
+use krl::Monitor;
+use krl::operate::{HeldPage, HeldRun, HeldSearch, LocksError};
 use std::collections::BTreeMap;
 use std::ops::Range;
 use std::sync::{Arc, Mutex, MutexGuard, PoisonError};
@@ -286,7 +287,7 @@ impl View {
 }
 
 /// Puts the runs in order, and leaves out those after the first `most`, and all that begin where
-/// the first of these does. It answers where those begin, if there are any.
+/// the first of these does. Returns where those begin, if there are any.
 fn cut(runs: &mut Vec<HeldRun>, most: usize) -> Option<u64> {
     runs.sort_unstable();
     let next = runs.get(most)?.lo;

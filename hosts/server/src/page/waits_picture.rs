@@ -144,7 +144,7 @@ mod tests {
     }
 
     #[test]
-    fn a_circle_is_marked_and_told() {
+    fn a_circle_is_marked_and_reported() {
         let waits = [wait(1, &[2], 1), wait(2, &[1, 7], 1), wait(3, &[1], 1)];
         let svg = svg(&waits).unwrap();
         assert_eq!(svg.matches("<g class=\"wait deadlock\"").count(), 2, "{svg}");

@@ -44,7 +44,7 @@ impl World {
             Some(Ask::Leave) => self.ask_to_leave(client),
             None => {}
         }
-        self.says_to_server(client);
+        self.send_to_server(client);
         self.look(client);
         if self.machines[client].timer.due() > self.now + BUSY {
             self.proceed_in(client, BUSY);
@@ -369,7 +369,7 @@ impl World {
         let time = machine.clock.at(self.now);
         if let (Some(pinned), Some(it)) = (machine.calls.pinned.take(), &mut machine.client) {
             it.unpin(time, pinned.pin);
-            self.says_to_server(client);
+            self.send_to_server(client);
         }
     }
 
@@ -386,7 +386,7 @@ impl World {
         self.judge.bind(write, pinned.keys.clone(), pinned.rows.clone());
         let call = it.write(time, write, Some(pinned.pin));
         machine.calls.bound = Some(Waiting::new(write, call, made, deadline));
-        self.says_to_server(client);
+        self.send_to_server(client);
     }
 
     /// Looks at the write under a pin. After an outcome that is not known the pin is dropped.

@@ -72,7 +72,7 @@ impl World {
     }
 
     /// A client's process ends. Its server learns of it, or not.
-    pub(super) fn kill_client(&mut self, client: usize, is_told: bool) {
+    pub(super) fn kill_client(&mut self, client: usize, is_reported: bool) {
         let machine = &mut self.machines[client];
         if machine.client.take().is_none() {
             return;
@@ -80,7 +80,7 @@ impl World {
         machine.calls = Calls::default();
         machine.life += 1;
         match machine.link.take() {
-            Some(link) if is_told => self.end_link(link, Side::Client),
+            Some(link) if is_reported => self.end_link(link, Side::Client),
             Some(link) => drop(self.network.end(link, Side::Client)),
             None => {}
         }
@@ -98,7 +98,7 @@ impl World {
             return;
         }
         let Some(it) = &mut machine.client else { return };
-        if it.has_to_begin_anew(time) {
+        if it.has_to_begin_again(time) {
             if let Errand::Evict { victim, .. } = machine.errand {
                 return self.end_eviction(client, victim);
             }
@@ -153,7 +153,7 @@ impl World {
             self.judge.find(format!("client {client} sends an incarnation that is not kept"));
         }
         self.note(Node::Client(client), 12, || format!("connects by {link}"));
-        self.says_to_server(client);
+        self.send_to_server(client);
         self.proceed(client);
     }
 
@@ -234,12 +234,12 @@ impl World {
         self.note_frame(link, to, number, bytes, fate);
         match (is_taken, to) {
             (false, _) => {}
-            (true, Side::Server) => self.server_hears(site, connection, bytes),
-            (true, Side::Client) => self.client_hears(client, link, bytes),
+            (true, Side::Server) => self.server_receives(site, connection, bytes),
+            (true, Side::Client) => self.client_receives(client, link, bytes),
         }
     }
 
-    fn client_hears(&mut self, client: usize, link: u64, bytes: &[u8]) {
+    fn client_receives(&mut self, client: usize, link: u64, bytes: &[u8]) {
         self.happened += 1;
         let kind = FrameKind::of(&bytes[PREFIX..]);
         let machine = &mut self.machines[client];
@@ -292,7 +292,7 @@ impl World {
         match it.proceed(time) {
             Ok(()) => {
                 let due = machine.clock.takes(it.due().saturating_sub(time));
-                self.says_to_server(client);
+                self.send_to_server(client);
                 self.proceed_in(client, due);
             }
             Err(error) => self.disconnect(client, error),
@@ -308,14 +308,14 @@ impl World {
         }
     }
 
-    pub(super) fn says_to_server(&mut self, client: usize) {
+    pub(super) fn send_to_server(&mut self, client: usize) {
         let machine = &mut self.machines[client];
         let time = machine.clock.at(self.now);
         let Some(it) = &mut machine.client else { return };
-        let said = it.output(time).to_vec();
-        it.sent(said.len());
+        let sent = it.output(time).to_vec();
+        it.sent(sent.len());
         if let Some(link) = machine.link {
-            self.carry(link, Side::Server, &said);
+            self.carry(link, Side::Server, &sent);
         }
     }
 

@@ -5,7 +5,7 @@ use crate::network::Side;
 use crate::record::Node;
 use crate::timer::Timer;
 use crate::weather::{self, Terms};
-use krl::simulated::{FrameKind, Next, Said, Server, Start};
+use krl::simulated::{FrameKind, Next, Sent, Server, Start};
 use krl::{Leases, Room, ServeError};
 use std::collections::BTreeMap;
 use std::time::Duration;
@@ -131,8 +131,8 @@ impl World {
         let clock = self.sites[site].clock;
         let Some(serving) = &mut self.sites[site].serving else { return };
         let start = serving.start;
-        for said in &serving.server.take_said() {
-            self.says(site, said);
+        for sent in &serving.server.take_sent() {
+            self.deliver(site, sent);
         }
         match next {
             Next::Turn(soon) => self.turn_in(site, clock.takes(soon)),
@@ -156,19 +156,19 @@ impl World {
     }
 
     /// What leaves of a server on a connection.
-    fn says(&mut self, site: usize, said: &Said) {
+    fn deliver(&mut self, site: usize, sent: &Sent) {
         let Some(serving) = &mut self.sites[site].serving else { return };
         let start = serving.start;
-        let Some(link) = serving.links.get(&said.connection).copied() else { return };
-        if said.closes {
-            serving.links.remove(&said.connection);
+        let Some(link) = serving.links.get(&sent.connection).copied() else { return };
+        if sent.closes {
+            serving.links.remove(&sent.connection);
         }
-        if self.weather.is_identified && tells_that_it_went_back(&said.bytes) {
+        if self.weather.is_identified && reports_that_it_went_back(&sent.bytes) {
             let why = "it has found its store to be an older one";
             self.after(ENDS_BY, Event::HasEnded { site, start, why });
         }
-        self.carry(link, Side::Client, &said.bytes);
-        if said.closes {
+        self.carry(link, Side::Client, &sent.bytes);
+        if sent.closes {
             self.end_link(link, Side::Server);
         }
     }
@@ -189,7 +189,7 @@ impl World {
     }
 
     /// Bytes have come to a server.
-    pub(super) fn server_hears(&mut self, site: usize, connection: u64, bytes: &[u8]) {
+    pub(super) fn server_receives(&mut self, site: usize, connection: u64, bytes: &[u8]) {
         let time = self.sites[site].clock.at(self.now);
         let Some(serving) = &mut self.sites[site].serving else { return };
         self.happened += 1;
@@ -213,7 +213,7 @@ impl World {
 }
 
 /// Whether a frame among these reports to a client that the store lacks what it has seen.
-fn tells_that_it_went_back(bytes: &[u8]) -> bool {
+fn reports_that_it_went_back(bytes: &[u8]) -> bool {
     crate::network::frames(bytes)
         .any(|frame| FrameKind::of(&frame[crate::network::PREFIX..]) == FrameKind::WentBack)
 }

@@ -14,7 +14,7 @@ pub(super) enum Does {
     /// It keeps this many of the changes, and then fails.
     Only(usize),
     /// It keeps all, and its answer is lost.
-    AllUnheard,
+    AllUnanswered,
 }
 
 /// What a server learns of its commit.
@@ -32,7 +32,7 @@ impl World {
         let (fails, hangs) = (self.weather.store_fails, self.weather.store_hangs);
         let dice = &mut self.dice;
         let does = match dice.among(0..10_000) < fails {
-            true if dice.happens(300) => Does::AllUnheard,
+            true if dice.happens(300) => Does::AllUnanswered,
             true => Does::Only(dice.below(changes.len() + 1)),
             false => Does::All,
         };
@@ -79,7 +79,7 @@ impl World {
 
     fn keep(&mut self, changes: &[Change], does: Does) -> Stored {
         let kept = match does {
-            Does::All | Does::AllUnheard => changes,
+            Does::All | Does::AllUnanswered => changes,
             Does::Only(count) => &changes[..count],
         };
         self.disk.keep(kept);

@@ -129,7 +129,7 @@ impl Link {
         self.wake();
     }
 
-    /// Makes a call of the session, and sends what the client says.
+    /// Makes a call of the session, and sends what the client has to send.
     fn call<T>(&self, call: impl FnOnce(&mut Session) -> T) -> T {
         let mut session = self.session();
         let answer = call(&mut session);
@@ -140,8 +140,8 @@ impl Link {
         answer
     }
 
-    /// Sends what the client says, as far as the connection takes it at once. What can't be sent is
-    /// lost: a tick sends it again.
+    /// Sends what the client has to send, as far as the connection takes it at once. What can't be
+    /// sent is lost: a tick sends it again.
     pub fn flush(&self) {
         self.call(|_| ());
     }

@@ -63,7 +63,7 @@ fn a_peer_that_takes_nothing_holds_no_call_beyond_its_deadline() {
 }
 
 #[test]
-fn callers_hear_that_the_thread_has_panicked() {
+fn callers_learn_that_the_thread_has_panicked() {
     let link = link();
     std::thread::scope(|scope| {
         let read = scope.spawn(|| link.ask(Instant::now() + LONG, |state| state.read(0..9)));

@@ -1,4 +1,4 @@
-//! What a client's host and that of its server say to one another beneath the messages.
+//! What a client's host and that of its server send to one another beneath the messages.
 use super::Session;
 use crate::client::state::Dropped;
 use crate::lease::terms::Answer;
@@ -18,18 +18,18 @@ impl Session {
         frames
     }
 
-    /// Says the greeting again, if it has not been answered for long.
+    /// Sends the greeting again, if it has not been answered for long.
     pub(super) fn greet_again_if_due(&mut self) -> io::Result<()> {
         if let Some(sign) = self.state.greet_again_if_due() {
             let greeting = [self.hello(), sign.frame()].concat();
-            self.connection()?.said.extend(greeting);
+            self.connection()?.to_send.extend(greeting);
         }
         Ok(())
     }
 
-    /// Takes what the server's host says beneath the messages. If the client has to begin again
+    /// Takes what the server's host sends beneath the messages. If the client has to begin again
     /// after it, the connection ends with that.
-    pub(super) fn hear_host(&mut self, frame: &[u8]) -> io::Result<()> {
+    pub(super) fn receive_host_frame(&mut self, frame: &[u8]) -> io::Result<()> {
         match FromServer::read(frame) {
             Some(FromServer::Refused(Refusal::OtherShard(served))) => {
                 return Err(self.connection()?.fence.is_refused(served).into());
@@ -47,10 +47,10 @@ impl Session {
             }
             Some(FromServer::Mark(seen)) => self.seen = Some(seen),
             Some(FromServer::WentBack) => {
-                self.connection()?.heard.went_back = true;
+                self.connection()?.received.went_back = true;
                 return Err(self.drop_all());
             }
-            Some(FromServer::Shard(served)) => self.connection()?.fence.hear(served)?,
+            Some(FromServer::Shard(served)) => self.connection()?.fence.note_served(served)?,
             Some(FromServer::Hello { answers_signs: false }) => {
                 self.connection()?.fence.passes()?;
                 self.state.go_without_terms()?;
@@ -61,7 +61,7 @@ impl Session {
                     self.connection()?.fence.passes()?;
                     // Who may not sign for the client is denied in place of that.
                     self.accepted();
-                    self.state.hear_answer(answer)?;
+                    self.state.receive_answer(answer)?;
                 }
             }
         }
@@ -69,7 +69,7 @@ impl Session {
     }
 
     /// The server's store lacks what the client has seen. From here on nothing of that is answered,
-    /// and no message that rests on it is said or taken: another connection has another
+    /// and no message that rests on it is sent or taken: another connection has another
     /// incarnation. Returns why the connection ends.
     fn drop_all(&mut self) -> io::Error {
         self.state.drop_all(Dropped::StoreWentBack);
@@ -93,7 +93,7 @@ impl Session {
             self.state.drop_all(Dropped::OtherStore);
             event_log::store_is_another_one(self.address());
         }
-        // Callers hear of it once nothing is answered from the old cache.
+        // Callers learn of it once nothing is answered from the old cache.
         self.refusal = Some((Refusal::OtherStore, self.now()));
         self.end_join_if_hopeless();
         io::Error::other(Refusal::OtherStore.to_string())

@@ -14,7 +14,7 @@ const MILLISECOND: Duration = Duration::from_millis(1);
 
 /// A client of incarnation 1, of these servers.
 fn session(servers: &str) -> Session {
-    let client = ClientHandle::open_behind(1, 1, Older::Unknown).unwrap();
+    let client = ClientHandle::open_after(1, 1, Older::Unknown).unwrap();
     Session::new(servers.parse().unwrap(), State::new(client, Now::read()), 1)
 }
 
@@ -28,13 +28,13 @@ fn connect(session: &mut Session) -> Vec<u8> {
     session.connected().unwrap()
 }
 
-fn hear(session: &mut Session, sent: &[u8]) -> io::Result<()> {
+fn receive(session: &mut Session, sent: &[u8]) -> io::Result<()> {
     let mut frames = Frames::to_client();
     frames.fill(&mut &*sent).unwrap();
     session.receive(&mut frames)
 }
 
-fn said(session: &mut Session) -> Vec<Vec<u8>> {
+fn sent_by(session: &mut Session) -> Vec<Vec<u8>> {
     let mut frames = Vec::new();
     session.take(&mut frames);
     split(&frames).map(|(frame, _)| frame.to_vec()).collect()
@@ -61,9 +61,11 @@ fn nothing_is_taken_after_the_word_that_the_store_went_back() {
     session.seen = Some(seen(1, 9));
     connect(&mut session);
     let after = FromServer::Mark(seen(2, 1));
-    let end = hear(&mut session, &[FromServer::WentBack.frame(), after.frame()].concat());
+    let end = receive(&mut session, &[FromServer::WentBack.frame(), after.frame()].concat());
     assert!(end.unwrap_err().to_string().contains("went back"));
-    assert!(session.has_to_begin_anew() && session.connection.as_ref().unwrap().heard.went_back);
+    assert!(
+        session.has_to_begin_again() && session.connection.as_ref().unwrap().received.went_back
+    );
     assert_eq!(session.seen, None);
 }
 
@@ -73,10 +75,10 @@ fn a_client_that_is_refused_for_another_store_keeps_its_mark_and_its_incarnation
     session.seen = Some(seen(1, 9));
     connect(&mut session);
     let after = FromServer::Mark(seen(2, 1));
-    let end = hear(&mut session, &[refused(Refusal::OtherStore), after.frame()].concat());
+    let end = receive(&mut session, &[refused(Refusal::OtherStore), after.frame()].concat());
     assert!(end.unwrap_err().to_string().contains("another store"));
     assert_eq!(session.seen, Some(seen(1, 9)), "what comes after the refusal is not taken");
-    assert!(!session.has_to_begin_anew(), "it has not joined, and has nothing to drop");
+    assert!(!session.has_to_begin_again(), "it has not joined, and has nothing to drop");
     assert_eq!(session.hint(), Some(Refusal::OtherStore));
 }
 
@@ -87,14 +89,14 @@ fn a_connection_begins_with_the_greeting_and_goes_on_by_its_terms() {
     let first = split(&greeting).next().unwrap().0;
     assert_eq!(FromClient::read(first), Some(FromClient::Hello(None)));
     session.proceed().unwrap();
-    assert_eq!(said(&mut session).len(), 0, "nothing before the terms");
-    hear(&mut session, &terms(&greeting)).unwrap();
+    assert_eq!(sent_by(&mut session).len(), 0, "nothing before the terms");
+    receive(&mut session, &terms(&greeting)).unwrap();
     session.proceed().unwrap();
-    assert_eq!(said(&mut session).len(), 1, "the library's Hello");
+    assert_eq!(sent_by(&mut session).len(), 1, "the library's Hello");
     // A connection that has ended takes nothing with it.
     session.disconnected(io::ErrorKind::UnexpectedEof.into());
     session.state().tick();
-    assert_eq!(said(&mut session).len(), 0);
+    assert_eq!(sent_by(&mut session).len(), 0);
 }
 
 #[test]
@@ -102,7 +104,7 @@ fn a_client_that_is_asked_nothing_sleeps_until_a_sign_or_a_tick_is_due() {
     let mut session = session("unix:nowhere");
     let greeting = connect(&mut session);
     assert_eq!(session.due_in(), Duration::ZERO);
-    hear(&mut session, &terms(&greeting)).unwrap();
+    receive(&mut session, &terms(&greeting)).unwrap();
     session.proceed().unwrap();
     assert_eq!(session.due_in(), IDLE_TICK);
     pass(&mut session, Duration::from_millis(249));
@@ -119,12 +121,12 @@ fn a_client_that_is_asked_nothing_sleeps_until_a_sign_or_a_tick_is_due() {
 fn a_silent_server_is_asked_and_left_for_the_next_one() {
     let mut session = session("unix:one,unix:two");
     let greeting = connect(&mut session);
-    hear(&mut session, &terms(&greeting)).unwrap();
+    receive(&mut session, &terms(&greeting)).unwrap();
     session.proceed().unwrap();
-    said(&mut session);
+    sent_by(&mut session);
     pass(&mut session, Duration::from_millis(250));
     session.proceed().unwrap();
-    let asks = said(&mut session);
+    let asks = sent_by(&mut session);
     assert!(asks.iter().any(|frame| FromClient::read(frame) == Some(FromClient::Hello(None))));
     pass(&mut session, Duration::from_millis(750));
     let end = session.proceed().unwrap_err();
@@ -138,22 +140,22 @@ fn a_silent_server_is_asked_and_left_for_the_next_one() {
 fn the_connection_ends_with_the_lease() {
     let mut session = session("unix:nowhere");
     let greeting = connect(&mut session);
-    hear(&mut session, &terms(&greeting)).unwrap();
+    receive(&mut session, &terms(&greeting)).unwrap();
     session.proceed().unwrap();
     pass(&mut session, LEASE);
-    hear(&mut session, &[]).unwrap();
+    receive(&mut session, &[]).unwrap();
     assert!(session.proceed().unwrap_err().to_string().contains("lease"));
-    assert!(session.has_to_begin_anew());
+    assert!(session.has_to_begin_again());
     session.disconnected(io::ErrorKind::Other.into());
-    session.begin_anew(ClientHandle::open_behind(1, 2, Older::IsOver(1)).unwrap());
-    assert!(!session.has_to_begin_anew());
+    session.begin_again(ClientHandle::open_after(1, 2, Older::IsOver(1)).unwrap());
+    assert!(!session.has_to_begin_again());
 }
 
 #[test]
 fn the_hello_of_another_version_ends_the_connection() {
     let mut session = session("unix:one");
     connect(&mut session);
-    let ended = hear(&mut session, &refused(Refusal::Version { read: 3 })).unwrap_err();
+    let ended = receive(&mut session, &refused(Refusal::Version { read: 3 })).unwrap_err();
     assert!(ended.to_string().contains("speaks version 3 of the protocol"), "{ended}");
     let read = session.state().read(0..9);
     for _ in 0..2 {
@@ -188,10 +190,10 @@ fn all_jobs_end_when_the_only_server_has_rejected_this_side_twice() {
 /// What a web server answers to a greeting.
 const OF_HTTP: &[u8] = b"HTTP/1.1 400 Bad Request\r\nconnection: close\r\n\r\n";
 
-/// A connection that hears this and then ends with what was wrong with it.
-fn hear_and_end(session: &mut Session, sent: &[u8]) -> String {
+/// A connection that receives this and then ends with what was wrong with it.
+fn receive_and_end(session: &mut Session, sent: &[u8]) -> String {
     connect(session);
-    let end = hear(session, sent).unwrap_err();
+    let end = receive(session, sent).unwrap_err();
     let why = end.to_string();
     session.disconnected(end);
     why
@@ -202,13 +204,13 @@ fn who_joins_gives_up_when_another_program_has_answered_twice_at_the_only_addres
     for (servers, gives_up) in [("unix:one", true), ("unix:one,unix:two", false)] {
         let mut session = session(servers);
         let asked = session.join(Box::new(|_, _| false));
-        let why = hear_and_end(&mut session, OF_HTTP);
+        let why = receive_and_end(&mut session, OF_HTTP);
         assert!(why.contains("what answers at unix:one is not a krl server"), "{why}");
         connect(&mut session);
         session.disconnected(io::ErrorKind::ConnectionReset.into());
-        hear_and_end(&mut session, OF_HTTP);
+        receive_and_end(&mut session, OF_HTTP);
         assert!(asked.answer.try_recv().is_err(), "one may be a proxy's mistake");
-        hear_and_end(&mut session, OF_HTTP);
+        receive_and_end(&mut session, OF_HTTP);
         assert_eq!(asked.answer.try_recv() == Ok(Err(ErrorKind::TimedOut)), gives_up, "{servers}");
     }
 }
@@ -218,11 +220,11 @@ fn a_client_that_has_joined_waits_for_its_server_whatever_else_answers_there() {
     let mut session = session("unix:one");
     let read = session.state().read(0..9);
     for _ in 0..5 {
-        hear_and_end(&mut session, OF_HTTP);
+        receive_and_end(&mut session, OF_HTTP);
     }
     assert!(read.answer.try_recv().is_err());
     let after_a_frame = [&terms(&connect(&mut session)), OF_HTTP].concat();
-    let end = hear(&mut session, &after_a_frame).unwrap_err().to_string();
+    let end = receive(&mut session, &after_a_frame).unwrap_err().to_string();
     assert!(end.contains("the server says what no server says"), "{end}");
 }
 
@@ -328,7 +330,7 @@ fn how_a_connection_ended_is_known_until_the_server_answers_on_another_one() {
     assert_eq!(fault, Some(io::ErrorKind::ConnectionReset), "the server has not answered yet");
     session.disconnected(io::ErrorKind::ConnectionReset.into());
     let greeting = connect(&mut session);
-    hear(&mut session, &terms(&greeting)).unwrap();
+    receive(&mut session, &terms(&greeting)).unwrap();
     assert!(session.take_fault().is_none(), "the server takes the client");
 }
 
@@ -339,8 +341,8 @@ fn who_joins_gives_up_for_a_reason_as_soon_as_it_may() {
     let patience = session.now() + Duration::from_secs(1);
     let asked = session.join(Box::new(move |refusal, now| refusal == runs && now >= patience));
     connect(&mut session);
-    hear(&mut session, &refused(Refusal::Full { connections: 9 })).unwrap();
-    hear(&mut session, &refused(runs)).unwrap();
+    receive(&mut session, &refused(Refusal::Full { connections: 9 })).unwrap();
+    receive(&mut session, &refused(runs)).unwrap();
     session.proceed().unwrap();
     assert!(asked.answer.try_recv().is_err(), "too early");
     pass(&mut session, Duration::from_millis(999));
@@ -349,12 +351,12 @@ fn who_joins_gives_up_for_a_reason_as_soon_as_it_may() {
 }
 
 #[test]
-fn what_a_server_told_long_ago_is_no_reason() {
+fn an_old_report_of_a_server_is_no_reason() {
     let mut session = session("unix:nowhere");
     let read = session.state().read(0..9);
     connect(&mut session);
     let full = Refusal::Full { connections: 9 };
-    hear(&mut session, &refused(full)).unwrap();
+    receive(&mut session, &refused(full)).unwrap();
     let next = session.state().read(0..9);
     assert_eq!(session.give_up(read.id), ErrorKind::Unserved(full));
     pass(&mut session, HINT);

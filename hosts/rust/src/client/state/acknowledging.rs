@@ -13,19 +13,19 @@ use crate::proved::client_handle::Shown;
 use crate::wire::frames::split;
 use crate::wire::message::{Kind, Message};
 
-/// How the client acknowledges what it has heard since it spoke last.
+/// How the client acknowledges what it has received since it last sent something.
 #[derive(Clone, Copy, Debug, Default, PartialEq, Eq)]
 pub(super) enum Acknowledging {
     /// By a message.
     #[default]
     AtOnce,
-    /// By its next message: it has heard the one push for which it has waited.
+    /// By its next message: it has received the one push for which it has waited.
     Later,
 }
 
 impl State {
-    /// The client has heard a message of this kind. `awaited` is whether it waited for a push.
-    pub(super) fn has_heard(&mut self, kind: Kind, awaited: bool) {
+    /// The client has received a message of this kind. `awaited` is whether it waited for a push.
+    pub(super) fn note_received(&mut self, kind: Kind, awaited: bool) {
         let is_last = kind.is_push() && awaited && !self.shows(Shown::awaits_a_push);
         self.held.acknowledging =
             if is_last { Acknowledging::Later } else { Acknowledging::AtOnce };
@@ -53,19 +53,19 @@ mod tests {
     use crate::wire::message::kind::ACK;
 
     /// The kinds of what the client sends.
-    fn said(world: &mut World, client: usize) -> Vec<u8> {
-        world.said(client).iter().map(|message| message[1]).collect()
+    fn kinds_sent(world: &mut World, client: usize) -> Vec<u8> {
+        world.messages_of(client).iter().map(|message| message[1]).collect()
     }
 
     #[test]
     fn the_last_push_for_which_a_client_waits_is_acknowledged_by_its_next_message() {
         let mut world = World::new();
         let read = world.clients[0].read(0..5);
-        let asked = world.said(0);
-        world.tell_server(&asked);
-        assert_eq!(world.tell_clients(), 1);
+        let asked = world.messages_of(0);
+        world.deliver_to_server(&asked);
+        assert_eq!(world.deliver_to_clients(), 1);
         assert_eq!(read.answer.try_recv(), Ok(Ok(vec![])));
-        assert!(said(&mut world, 0).is_empty());
+        assert!(kinds_sent(&mut world, 0).is_empty());
         // The next request does it, so the server answers.
         assert_eq!(world.write(0, Write::Insert(row(3, 1))), Outcome::Applied);
         assert_eq!(world.read(1, 0..5), [row(3, 1)]);
@@ -75,13 +75,13 @@ mod tests {
     fn a_push_that_comes_again_is_acknowledged_at_once() {
         let mut world = World::new();
         let _read = world.clients[0].read(0..5);
-        let asked = world.said(0);
-        world.tell_server(&asked);
-        assert_eq!(world.tell_clients(), 1);
-        assert!(said(&mut world, 0).is_empty());
+        let asked = world.messages_of(0);
+        world.deliver_to_server(&asked);
+        assert_eq!(world.deliver_to_clients(), 1);
+        assert!(kinds_sent(&mut world, 0).is_empty());
         world.server.nudge(0).unwrap();
-        assert_eq!(world.tell_clients(), 1, "the server lacks the acknowledgement");
-        assert_eq!(said(&mut world, 0), [ACK]);
+        assert_eq!(world.deliver_to_clients(), 1, "the server lacks the acknowledgement");
+        assert_eq!(kinds_sent(&mut world, 0), [ACK]);
     }
 
     #[test]
@@ -89,7 +89,7 @@ mod tests {
         let mut world = World::new();
         world.read(0, 0..5);
         world.clients[0].tick();
-        assert_eq!(said(&mut world, 0), [ACK]);
+        assert_eq!(kinds_sent(&mut world, 0), [ACK]);
     }
 
     #[test]
@@ -99,14 +99,14 @@ mod tests {
         assert_eq!(world.write(0, Write::Insert(row(3, 1))), Outcome::Applied);
         let write = world.clients[0].write(Write::Put(row(3, 2)));
         let read = world.clients[0].read(10..11);
-        let asked = world.said(0);
+        let asked = world.messages_of(0);
         assert_eq!(asked.len(), 2);
-        world.tell_server(&asked);
-        world.tell_clients();
+        world.deliver_to_server(&asked);
+        world.deliver_to_clients();
         assert!(read.answer.try_recv().is_err());
-        let said = world.said(0);
-        assert!(said.iter().any(|message| message[1] == ACK));
-        world.tell_server(&said);
+        let sent = world.messages_of(0);
+        assert!(sent.iter().any(|message| message[1] == ACK));
+        world.deliver_to_server(&sent);
         // The server has passed over the request, which left before the answer had come.
         world.clients[0].tick();
         world.settle();

@@ -55,8 +55,8 @@ impl State {
         self.add(|reply| Job::Write(wanted, Report::Once(reply)))
     }
 
-    /// Whether a write of this bond is added to the jobs. A client that has left says so, of its pins
-    /// too.
+    /// Whether a write of this bond is added to the jobs. A write by a pin of a
+    /// client that has left is: it ends with `Left`.
     pub(super) fn may_ask_to_write(&mut self, bond: Bond) -> bool {
         self.may_write(bond) || self.life.stage == Stage::Gone
     }

@@ -125,7 +125,7 @@ impl State {
         let was_waiting = self.shows(|shown| shown.is_waiting);
         let awaited = self.shows(Shown::awaits_a_push);
         give(&mut self.client, message.bytes())?;
-        self.has_heard(message.kind(), awaited);
+        self.note_received(message.kind(), awaited);
         if message.kind().is_push() {
             self.attempts.note_served();
             self.call_back_again(was_waiting)?;

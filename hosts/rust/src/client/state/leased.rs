@@ -1,4 +1,4 @@
-//! The lease of a client: what it may say, its signs, and how it ends.
+//! The lease of a client: what it may send, its signs, and how it ends.
 use super::life::Stage;
 use super::{Dropped, State};
 use crate::lease::boot_clock::Moment;
@@ -12,36 +12,36 @@ use std::time::Duration;
 /// A greeting that is not answered for so long is sent again: it may be lost.
 const GREETS_AGAIN: u64 = 200_000_000;
 
-/// What a client may say on its connection.
+/// What a client may send on its connection.
 #[derive(Clone, Copy, Debug, PartialEq, Eq)]
-pub(super) enum Speech {
+pub(super) enum MaySend {
     /// Messages of the library, and signs when they are due.
     Free,
-    /// Nothing of the library before the server has told its terms on this connection: an
+    /// Nothing of the library before the server has sent its terms on this connection: an
     /// incarnation without terms holds nothing. It was greeted at this moment.
     AwaitsTerms(Moment),
 }
 
 impl State {
-    /// The sign with which a connection begins. Until its answer comes, the library says nothing.
+    /// The sign with which a connection begins. Until its answer comes, the library sends nothing.
     pub fn greet(&mut self) -> io::Result<Sign> {
         let now = self.now.boot()?;
         let sign = self.client.lease_mut().greet(now).ok_or(ErrorKind::Interrupted)?;
-        self.life.speech = Speech::AwaitsTerms(now);
+        self.life.may_send = MaySend::AwaitsTerms(now);
         Ok(sign)
     }
 
-    /// The incarnation is on the disk, so it may be said.
+    /// The incarnation is on the disk, so it may be sent.
     pub fn confirm_incarnation(&mut self) -> Result<(), Code> {
         self.client.confirm()
     }
 
     /// The greeting again, if it has not been answered for long.
     pub fn greet_again_if_due(&mut self) -> Option<Sign> {
-        let Speech::AwaitsTerms(greeted) = self.life.speech else { return None };
+        let MaySend::AwaitsTerms(greeted) = self.life.may_send else { return None };
         let now = self.now.boot().ok().filter(|now| now.since(greeted) >= GREETS_AGAIN)?;
         let sign = self.client.lease_mut().greet_again(now)?;
-        self.life.speech = Speech::AwaitsTerms(now);
+        self.life.may_send = MaySend::AwaitsTerms(now);
         Some(sign)
     }
 
@@ -49,11 +49,11 @@ impl State {
     pub fn go_without_terms(&mut self) -> io::Result<()> {
         let now = self.now.boot()?;
         self.client.lease_mut().go_without_terms(now);
-        self.speak();
+        self.begin_to_send();
         Ok(())
     }
 
-    /// The connection has ended. What is still heard of it grants nothing.
+    /// The connection has ended. What still comes from it grants nothing.
     pub fn disconnect(&mut self) {
         self.client.lease_mut().disconnect();
     }
@@ -63,11 +63,11 @@ impl State {
     ///
     /// An incarnation that has ended while it sends Bye has left: the Bye is kept, or it was
     /// evicted.
-    pub fn hear_answer(&mut self, answer: Answer) -> io::Result<()> {
+    pub fn receive_answer(&mut self, answer: Answer) -> io::Result<()> {
         match answer {
             Answer::Granted(grant) => {
                 if self.client.lease_mut().take(grant, self.now.boot()?) {
-                    self.speak();
+                    self.begin_to_send();
                 }
             }
             Answer::Ended { incarnation } if incarnation != self.life.incarnation => {}
@@ -77,10 +77,10 @@ impl State {
         Ok(())
     }
 
-    /// From now on the library may say something, and begins with its Hello.
-    fn speak(&mut self) {
-        if self.life.speech != Speech::Free {
-            self.life.speech = Speech::Free;
+    /// From now on the library may send, and begins with its Hello.
+    fn begin_to_send(&mut self) {
+        if self.life.may_send != MaySend::Free {
+            self.life.may_send = MaySend::Free;
             self.tick_soon();
         }
     }
@@ -96,11 +96,11 @@ impl State {
         self.client.lease().end().allows(|| self.now.boot())
     }
 
-    /// Appends what the client says, and a sign if one is due. What may not be said is lost, and so
+    /// Appends what the client sends, and a sign if one is due. What may not be sent is lost, and so
     /// is what there is no memory for: a tick sends it again.
     pub fn take(&mut self, frames: &mut Vec<u8>) {
         let before = frames.len();
-        self.say(frames);
+        self.append_output(frames);
         if frames.len() > before
             && let Some(written) = &mut self.held.written
         {
@@ -108,15 +108,15 @@ impl State {
         }
     }
 
-    /// There is no connection: what the client says is lost.
+    /// There is no connection: what the client sends is lost.
     pub fn lose(&mut self) {
-        self.say(&mut Vec::new());
+        self.append_output(&mut Vec::new());
     }
 
-    fn say(&mut self, frames: &mut Vec<u8>) {
+    fn append_output(&mut self, frames: &mut Vec<u8>) {
         let before = frames.len();
         let _ = self.client.take(frames);
-        if self.life.speech != Speech::Free || !self.holds_lease() {
+        if self.life.may_send != MaySend::Free || !self.holds_lease() {
             frames.truncate(before);
             return;
         }

@@ -2,7 +2,7 @@
 //! server's store went back or is another one, or its lease has ended.
 use super::acknowledging::Acknowledging;
 use super::callbacks::Callbacks;
-use super::leased::Speech;
+use super::leased::MaySend;
 use super::pins::PinTable;
 use super::request::Request;
 use super::takings::Takings;
@@ -31,10 +31,10 @@ pub(super) struct Life {
     pub stage: Stage,
     /// Why the client has dropped all, if it has not begun again.
     pub void: Option<Dropped>,
-    has_begun_anew: bool,
+    has_begun_again: bool,
     /// The last incarnation that it has begun.
     pub incarnation: u64,
-    pub speech: Speech,
+    pub may_send: MaySend,
 }
 
 /// Whether the client is still there.
@@ -72,8 +72,8 @@ impl Dropped {
 
 impl Life {
     pub fn of(incarnation: u64) -> Life {
-        let (stage, speech) = (Stage::Here, Speech::Free);
-        Life { stage, void: None, has_begun_anew: false, incarnation, speech }
+        let (stage, may_send) = (Stage::Here, MaySend::Free);
+        Life { stage, void: None, has_begun_again: false, incarnation, may_send }
     }
 
     /// Whether it has what it was given, and has not begun to leave.
@@ -147,7 +147,7 @@ impl State {
     /// Whether a client that leaves has to join first, since the server may know it by an older
     /// incarnation only.
     fn has_to_return(&self) -> bool {
-        self.is_void() || self.life.has_begun_anew && !self.has_joined()
+        self.is_void() || self.life.has_begun_again && !self.has_joined()
     }
 
     /// Sends Bye if the client has joined again to do so.
@@ -199,7 +199,7 @@ impl State {
             self.open.extend(job.after_drop(why).map(|job| (id, job)));
         }
         self.watches.note_change();
-        self.tell_changes();
+        self.report_changes();
     }
 
     /// Whether the client has to begin again.
@@ -213,11 +213,11 @@ impl State {
     }
 
     /// Continues as a client of a greater incarnation, which has not joined yet.
-    pub fn begin_anew(&mut self, client: ClientHandle) {
+    pub fn begin_again(&mut self, client: ClientHandle) {
         self.life.incarnation = client.lease().incarnation();
         self.client.replace(client);
         self.life.void = None;
-        self.life.has_begun_anew = true;
+        self.life.has_begun_again = true;
         self.advance(Asking::Later);
     }
 }

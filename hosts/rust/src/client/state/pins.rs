@@ -114,7 +114,7 @@ impl State {
         self.held.pins.give_up(id);
         self.free_pins();
         // What is given back the client knows no more.
-        self.tell_changes();
+        self.report_changes();
     }
 
     /// Frees the pins that were given up and do not stay for a write.

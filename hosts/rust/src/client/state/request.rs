@@ -14,7 +14,7 @@ pub(super) struct Request {
 /// Whether a job may ask for a lock just now.
 ///
 /// While messages that came are still unread it may not: a callback among them would be obeyed too
-/// late. The release would say that the client has not seen the grant that it has just asked for,
+/// late. The release would mean that the client has not seen the grant that it has just asked for,
 /// and the server passes over such a release.
 #[derive(Clone, Copy, Debug, PartialEq, Eq)]
 pub(crate) enum Asking {

@@ -31,21 +31,21 @@ fn a_write_whose_lock_is_called_back_is_asked_again() {
     let mut delayed = Vec::new();
     for _ in 0..4 {
         let (deletes, others): (Vec<_>, Vec<_>) =
-            world.said(0).into_iter().partition(|message| message[1] == DELETE);
+            world.messages_of(0).into_iter().partition(|message| message[1] == DELETE);
         delayed.extend(deletes);
-        world.tell_server(&others);
-        world.tell_clients();
+        world.deliver_to_server(&others);
+        world.deliver_to_clients();
         world.clients[0].advance(Asking::Allowed);
     }
     assert_eq!(delayed.len(), 1);
     // Another client reads the gap after the key: the release overtakes the delete.
     let read = world.clients[1].read(11..15);
-    let said = world.said(1);
-    world.tell_server(&said);
-    world.tell_clients();
-    let released = world.said(0);
-    world.tell_server(&released);
-    world.tell_server(&delayed);
+    let sent = world.messages_of(1);
+    world.deliver_to_server(&sent);
+    world.deliver_to_clients();
+    let released = world.messages_of(0);
+    world.deliver_to_server(&released);
+    world.deliver_to_server(&delayed);
     world.settle();
     assert_eq!(read.answer.try_recv(), Ok(Ok(vec![])));
     assert_eq!(answer.answer.try_recv(), Ok(Ok(Outcome::Applied)));
@@ -66,15 +66,15 @@ fn an_abandoned_job_keeps_no_other_one_waiting() {
 }
 
 #[test]
-fn a_client_has_left_when_the_server_says_so() {
+fn a_client_has_left_when_the_server_confirms_it() {
     let mut world = World::new();
-    world.clients[0].hear(&[]).unwrap();
+    world.clients[0].receive(&[]).unwrap();
     let left = world.clients[0].leave();
     world.settle();
     assert!(world.clients[0].are_open() && left.answer.try_recv().is_err());
     world.clients[0].tick();
-    assert_eq!(world.said(0).len(), 1, "it says Bye again");
-    world.clients[0].hear(&[]).unwrap();
+    assert_eq!(world.messages_of(0).len(), 1, "it says Bye again");
+    world.clients[0].receive(&[]).unwrap();
     assert_eq!(left.answer.try_recv(), Ok(Ok(())));
     assert!(!world.clients[0].are_open());
 }
@@ -88,7 +88,7 @@ fn a_cache_knows_nothing_of_what_was_dropped() {
     assert_eq!(cache.scan(&keys, &mut rows, Moment::now), Ok(Scan::Rows));
     world.clients[0].drop_all(Dropped::StoreWentBack);
     assert_eq!(cache.scan(&keys, &mut rows, Moment::now), Err(Code::Closed));
-    world.clients[0].begin_anew(ClientHandle::open(0, 2).unwrap());
+    world.clients[0].begin_again(ClientHandle::open(0, 2).unwrap());
     assert_eq!(cache.scan(&keys, &mut rows, Moment::now), Ok(Scan::Miss(0)));
     world.settle();
     world.read(0, keys.clone());
@@ -96,7 +96,7 @@ fn a_cache_knows_nothing_of_what_was_dropped() {
 }
 
 #[test]
-fn whoever_waits_hears_that_the_thread_has_ended() {
+fn whoever_waits_learns_that_the_thread_has_ended() {
     use std::sync::mpsc::TryRecvError;
     let mut world = World::new();
     let before = world.clients[0].read(0..9);
@@ -124,7 +124,7 @@ fn a_write_that_waits_for_its_lock_is_not_made_if_the_store_went_back_or_the_cli
     let sent = world.clients[0].write(Write::Put(row(10, 2)));
     let waits = world.clients[0].write(Write::Put(row(15, 2)));
     assert_eq!(world.clients[0].was_sent(sent.id), WasSent::Yes);
-    assert!(!world.said(0).is_empty());
+    assert!(!world.messages_of(0).is_empty());
     world.clients[0].drop_all(Dropped::StoreWentBack);
     assert_eq!(sent.answer.try_recv(), Ok(Err(ErrorKind::StoreWentBack)));
     let not_sent = |why| Ok(Err(ErrorKind::NotSent(why)));
@@ -148,7 +148,7 @@ fn a_write_that_has_not_left_is_not_made_if_the_store_went_back() {
 }
 
 #[test]
-fn what_is_called_back_in_a_pin_is_given_back_behind_it() {
+fn what_is_called_back_in_a_pin_is_given_back_after_it() {
     let mut world = World::new();
     assert_eq!(world.write(1, Write::Insert(row(10, 1))), Outcome::Applied);
     world.read(0, 0..30);
@@ -246,17 +246,17 @@ fn who_waits_for_a_lower_point_keeps_nothing_from_who_has_that() {
     let mut world = with_three_rows();
     world.read(0, 8..12);
     let held = world.clients[1].hold(5..16, Purpose::Write);
-    let said = world.said(1);
-    world.tell_server(&said);
-    let late = world.said_by_server();
+    let sent = world.messages_of(1);
+    world.deliver_to_server(&sent);
+    let late = world.messages_of_server();
     // Before client 0 is called back, it asks for a point that the other one keeps, and pins.
     let read = world.clients[0].read(5..6);
     let other = world.clients[0].hold(8..20, Purpose::Read);
-    let said = world.said(0);
-    world.tell_server(&said);
+    let sent = world.messages_of(0);
+    world.deliver_to_server(&sent);
     for message in &late {
         let client = usize::from(Message::read(message).client().unwrap());
-        world.clients[client].hear(message).unwrap();
+        world.clients[client].receive(message).unwrap();
     }
     world.settle();
     let pin = held.answer.try_recv().unwrap().unwrap().pin;
@@ -267,14 +267,14 @@ fn who_waits_for_a_lower_point_keeps_nothing_from_who_has_that() {
 }
 
 #[test]
-fn a_client_that_drops_all_answers_says_and_hears_nothing_until_it_begins_anew() {
+fn a_void_client_answers_sends_and_takes_nothing_until_it_begins_again() {
     let mut world = World::new();
     assert_eq!(world.write(1, Write::Insert(row(10, 1))), Outcome::Applied);
     world.read(0, 0..11);
     let (read, write) = (world.clients[0].read(0..50), world.clients[0].write(Write::Delete(10)));
-    let said = world.said(0);
-    world.tell_server(&said);
-    let late = world.said_by_server();
+    let sent = world.messages_of(0);
+    world.deliver_to_server(&sent);
+    let late = world.messages_of_server();
     assert!(!late.is_empty());
     world.clients[0].drop_all(Dropped::StoreWentBack);
     assert_eq!(read.answer.try_recv(), Ok(Err(ErrorKind::StoreWentBack)));
@@ -282,14 +282,14 @@ fn a_client_that_drops_all_answers_says_and_hears_nothing_until_it_begins_anew()
     assert_eq!(write.answer.try_recv(), Ok(Err(not_sent)));
     let later = world.clients[0].read(0..11);
     for message in &late {
-        world.clients[0].hear(message).unwrap();
+        world.clients[0].receive(message).unwrap();
     }
     world.clients[0].tick();
     world.clients[0].advance(Asking::Allowed);
     assert!(!world.is_cached(0, 0..11));
-    assert_eq!(world.said(0).len(), 0);
+    assert_eq!(world.messages_of(0).len(), 0);
     assert!(later.answer.try_recv().is_err());
-    world.clients[0].begin_anew(ClientHandle::open(0, 2).unwrap());
+    world.clients[0].begin_again(ClientHandle::open(0, 2).unwrap());
     assert!(!world.is_cached(0, 0..11));
     world.clients[0].tick();
     world.settle();
@@ -303,17 +303,17 @@ fn a_client_that_leaves_and_drops_all_has_left_when_the_new_bye_is_kept() {
         let before = (leaves == "before").then(|| world.clients[0].leave());
         world.clients[0].drop_all(Dropped::StoreWentBack);
         let between = (leaves == "between").then(|| world.clients[0].leave());
-        // That the old Bye is kept says nothing of the new one.
-        world.clients[0].hear(&[]).unwrap();
-        world.clients[0].begin_anew(ClientHandle::open(0, 2).unwrap());
+        // That the old Bye is kept does not mean that the new one is.
+        world.clients[0].receive(&[]).unwrap();
+        world.clients[0].begin_again(ClientHandle::open(0, 2).unwrap());
         let left = before.or(between).unwrap_or_else(|| world.clients[0].leave());
-        world.clients[0].hear(&[]).unwrap();
+        world.clients[0].receive(&[]).unwrap();
         assert!(left.answer.try_recv().is_err() && world.clients[0].are_open());
         world.clients[0].tick();
         world.settle();
         let record = world.server.record(0).unwrap().unwrap();
         assert_eq!((record.incarnation, record.left), (2, true));
-        world.clients[0].hear(&[]).unwrap();
+        world.clients[0].receive(&[]).unwrap();
         assert_eq!(left.answer.try_recv(), Ok(Ok(())));
     }
 }
@@ -327,11 +327,11 @@ fn a_read_asks_for_what_the_client_does_not_know() {
     world.read(0, 10..15);
     assert_eq!(world.write(1, Write::Put(row(12, 2))), Outcome::Applied);
     let read = world.clients[0].read(10..15);
-    let asked = world.said(0);
+    let asked = world.messages_of(0);
     let locks: Vec<_> = asked.iter().filter(|message| message[1] == LOCK).collect();
     assert_eq!(locks.len(), 1);
     assert_eq!(locks[0][42..58], [12u64.to_le_bytes(), 13u64.to_le_bytes()].concat());
-    world.tell_server(&asked);
+    world.deliver_to_server(&asked);
     world.settle();
     let rows: Vec<_> = (10..15).map(|key| row(key, if key == 12 { 2 } else { 1 })).collect();
     assert_eq!(read.answer.try_recv(), Ok(Ok(rows)));
@@ -347,7 +347,7 @@ fn a_read_after_a_long_one_asks_for_what_the_client_does_not_know() {
     assert_eq!(world.read(0, 0..5000).len(), 5000);
     assert_eq!(world.write(1, Write::Put(row(12, 2))), Outcome::Applied);
     let _read = world.clients[0].read(10..15);
-    let asked = world.said(0);
+    let asked = world.messages_of(0);
     let locks: Vec<_> = asked.iter().filter(|message| message[1] == LOCK).collect();
     assert_eq!(locks.len(), 1);
     assert_eq!(locks[0][42..58], [12u64.to_le_bytes(), 13u64.to_le_bytes()].concat());

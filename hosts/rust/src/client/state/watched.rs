@@ -49,7 +49,7 @@ impl State {
         } else {
             self.watches.open.push(Watched { id, keys, rows, reply });
             self.watches.note_change();
-            self.tell_changes();
+            self.report_changes();
         }
         Asked { id, answer }
     }
@@ -65,7 +65,7 @@ impl State {
     }
 
     /// Tells those who wait for a change, if there may be one.
-    pub(super) fn tell_changes(&mut self) {
+    pub(super) fn report_changes(&mut self) {
         if !mem::take(&mut self.watches.is_changed) {
             return;
         }

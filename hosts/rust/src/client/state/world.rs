@@ -45,13 +45,13 @@ impl World {
         world
     }
 
-    /// What the client says.
-    pub fn said(&mut self, client: usize) -> Vec<Vec<u8>> {
+    /// What the client sends.
+    pub fn messages_of(&mut self, client: usize) -> Vec<Vec<u8>> {
         messages(|frames| self.clients[client].take(frames))
     }
 
-    pub fn tell_server(&mut self, said: &[Vec<u8>]) {
-        for message in said {
+    pub fn deliver_to_server(&mut self, sent: &[Vec<u8>]) {
+        for message in sent {
             // A message that is refused is one that is lost.
             if let Ok(Some(change)) = self.server.step(message) {
                 self.server.confirm(&[change]).unwrap();
@@ -59,39 +59,40 @@ impl World {
         }
     }
 
-    /// What the server says.
-    pub fn said_by_server(&mut self) -> Vec<Vec<u8>> {
+    /// What the server sends.
+    pub fn messages_of_server(&mut self) -> Vec<Vec<u8>> {
         messages(|frames| {
             let length = self.server.take(frames).unwrap();
             frames.truncate(length);
         })
     }
 
-    /// Hands over what the server says.
-    pub fn tell_clients(&mut self) -> usize {
-        let said = self.said_by_server();
-        for message in &said {
+    /// Hands over what the server sends.
+    pub fn deliver_to_clients(&mut self) -> usize {
+        let sent = self.messages_of_server();
+        for message in &sent {
             let client = usize::from(Message::read(message).client().unwrap());
-            self.clients[client].hear(message).unwrap();
+            self.clients[client].receive(message).unwrap();
         }
-        said.len()
+        sent.len()
     }
 
-    /// Hands messages over until nobody says anything.
+    /// Hands messages over until nobody sends anything.
     pub fn settle(&mut self) {
         while self.round() {}
     }
 
-    /// Hands over what each client says, and then what the server says. It answers whether anybody
-    /// has said anything.
+    /// Hands over what each client sends, and then what the server sends. Returns whether anybody
+    /// has sent anything.
     pub fn round(&mut self) -> bool {
-        let said: Vec<_> = (0..self.clients.len()).flat_map(|client| self.said(client)).collect();
-        self.tell_server(&said);
-        let heard = self.tell_clients();
+        let sent: Vec<_> =
+            (0..self.clients.len()).flat_map(|client| self.messages_of(client)).collect();
+        self.deliver_to_server(&sent);
+        let received = self.deliver_to_clients();
         for state in &mut self.clients {
             state.advance(Asking::Allowed);
         }
-        !said.is_empty() || heard > 0
+        !sent.is_empty() || received > 0
     }
 
     pub fn write(&mut self, client: usize, write: Write) -> Outcome {

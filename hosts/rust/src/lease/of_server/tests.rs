@@ -142,29 +142,35 @@ fn a_host_that_signs_nothing_is_not_evicted() {
     assert_eq!(table.register(9, 2, at(3)), record(10, 0));
 }
 
-/// Whether incarnation `incarnation` of the client is heard, whose host has signed with this word.
-fn hears(kept: LeaseRecord, client: u8, incarnation: u64, older: Older, now: Moment) -> bool {
+/// Whether the client's `incarnation`, whose host has signed with this word, may send Hello.
+fn accepts_hello(
+    kept: LeaseRecord,
+    client: u8,
+    incarnation: u64,
+    older: Older,
+    now: Moment,
+) -> bool {
     let mut table = table(kept, Some(ten()));
     table.sign(Sign { older, ..sign(client, incarnation, 0) }, at(0));
-    table.hears(client, incarnation, now)
+    table.accepts_hello(client, incarnation, now)
 }
 
 #[test]
 fn a_second_process_waits_until_the_first_has_ended() {
     use Older::{IsOver, Unknown, Vouched};
     let kept = record(10, 1 << 5);
-    assert!(hears(kept, 4, 8, Unknown, at(1)), "it has left");
-    assert!(!hears(kept, 3, 8, Unknown, before(12)));
-    assert!(!hears(kept, 3, 8, Vouched, before(12)), "its lease ends by itself");
-    assert!(hears(kept, 3, 8, Unknown, at(12)), "its lease has ended");
-    assert!(hears(kept, 3, 8, IsOver(7), at(1)), "it had the lock file");
-    assert!(!hears(kept, 3, 9, IsOver(8), at(1)), "a later start that failed");
-    assert!(!hears(kept, 5, 8, Unknown, at(9999)), "it answers forever");
-    assert!(hears(kept, 5, 8, Vouched, at(1)), "nothing else ends it");
+    assert!(accepts_hello(kept, 4, 8, Unknown, at(1)), "it has left");
+    assert!(!accepts_hello(kept, 3, 8, Unknown, before(12)));
+    assert!(!accepts_hello(kept, 3, 8, Vouched, before(12)), "its lease ends by itself");
+    assert!(accepts_hello(kept, 3, 8, Unknown, at(12)), "its lease has ended");
+    assert!(accepts_hello(kept, 3, 8, IsOver(7), at(1)), "it had the lock file");
+    assert!(!accepts_hello(kept, 3, 9, IsOver(8), at(1)), "a later start that failed");
+    assert!(!accepts_hello(kept, 5, 8, Unknown, at(9999)), "it answers forever");
+    assert!(accepts_hello(kept, 5, 8, Vouched, at(1)), "nothing else ends it");
 }
 
 #[test]
-fn who_says_no_sign_replaces_unsigned() {
+fn a_client_without_signs_replaces_an_unsigned_one() {
     let mut table = table(record(10, 0), Some(ten()));
     assert!(table.replaces_unsigned(3, 8));
     assert!(!table.replaces_unsigned(3, 7), "it is the registered one");
@@ -176,23 +182,23 @@ fn who_says_no_sign_replaces_unsigned() {
 }
 
 #[test]
-fn who_is_known_says_hello_again() {
+fn a_known_client_may_send_hello_again() {
     let mut table = table(record(10, 0), Some(ten()));
-    assert!(table.hears(3, 7, at(1)));
+    assert!(table.accepts_hello(3, 7, at(1)));
     table.register(3, 8, at(12));
     table.leave(3);
-    assert!(table.hears(3, 9, at(12)), "it was evicted");
-    assert!(table.hears(64, 1, at(12)), "the library hears no such number");
+    assert!(table.accepts_hello(3, 9, at(12)), "it was evicted");
+    assert!(table.accepts_hello(64, 1, at(12)), "the library hears no such number");
 }
 
 #[test]
-fn who_signs_nothing_is_heard_as_without_leases() {
+fn a_client_without_signs_is_accepted_as_without_leases() {
     let table_with = table(record(10, 1 << 5), Some(ten()));
-    assert!(table_with.hears(5, 8, at(1)));
-    assert!(!table_with.hears(3, 8, before(12)), "its lease ends by itself");
+    assert!(table_with.accepts_hello(5, 8, at(1)));
+    assert!(!table_with.accepts_hello(3, 8, before(12)), "its lease ends by itself");
     let mut without = table(record(10, 0), None);
     without.sign(sign(3, 8, 0), at(0));
-    assert!(without.hears(3, 8, at(1)));
+    assert!(without.accepts_hello(3, 8, at(1)));
 }
 
 #[test]
@@ -200,11 +206,11 @@ fn a_late_sign_of_an_older_incarnation_takes_nothing_away() {
     let mut table = table(record(10, 1 << 5), Some(ten()));
     table.sign(sign(5, 8, 0), at(0));
     table.sign(sign(5, 7, FOR_EVER), at(0));
-    assert!(!table.hears(5, 8, at(1)), "it has signed, and nobody vouches");
+    assert!(!table.accepts_hello(5, 8, at(1)), "it has signed, and nobody vouches");
 }
 
 #[test]
-fn who_is_evicted_half_is_evicted_anew() {
+fn a_half_evicted_client_is_evicted_again() {
     let mut table = table(record(10, 0), Some(ten()));
     table.evict(3, 8);
     assert_eq!(table.register(3, 8, at(12)), record(10, 0));

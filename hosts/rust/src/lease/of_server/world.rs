@@ -30,7 +30,7 @@ struct Serving {
     answers: Vec<Answer>,
     is_connected: bool,
     is_greeted: bool,
-    says_hello: bool,
+    sends_hello: bool,
 }
 
 /// What a run has come to.
@@ -84,8 +84,8 @@ impl World {
         match self.dice.below(20) {
             0..=3 => self.time += self.dice.below(SECOND),
             4 => self.connect(),
-            5 | 6 => self.say(),
-            7 | 8 => self.hear(),
+            5 | 6 => self.send_sign(),
+            7 | 8 => self.receive_sign(),
             9 | 10 => self.take(),
             11 => self.hello(),
             12 => self.register(),
@@ -100,7 +100,7 @@ impl World {
     fn connect(&mut self) {
         let now = self.client_clock();
         if !self.lease.holds(now) {
-            self.begin_anew();
+            self.begin_again();
         }
         let Some(serving) = &mut self.serving else { return };
         self.lease.disconnect();
@@ -110,25 +110,25 @@ impl World {
     }
 
     /// A client whose lease has ended, or that learns that it has, takes a greater incarnation.
-    fn begin_anew(&mut self) {
+    fn begin_again(&mut self) {
         let next = self.record.map_or(0, |record| record.incarnation) + 1;
         self.lease = Lease::new(CLIENT, next, Older::Unknown);
         if let Some(serving) = &mut self.serving {
-            (serving.is_connected, serving.says_hello) = (false, false);
+            (serving.is_connected, serving.sends_hello) = (false, false);
         }
     }
 
-    fn say(&mut self) {
+    fn send_sign(&mut self) {
         let now = self.client_clock();
         let Some(serving) = self.serving.as_mut().filter(|it| it.is_connected) else { return };
         serving.signs.extend(self.lease.sign_due(now, Company::Messages));
     }
 
     /// A sign comes, in any order and any number of times.
-    fn hear(&mut self) {
+    fn receive_sign(&mut self) {
         let (now, is_cut) = (self.server_clock(), self.is_cut);
-        let hears = |it: &&mut Serving| !is_cut && !it.signs.is_empty();
-        let Some(serving) = self.serving.as_mut().filter(hears) else { return };
+        let can_receive = |it: &&mut Serving| !is_cut && !it.signs.is_empty();
+        let Some(serving) = self.serving.as_mut().filter(can_receive) else { return };
         let place = self.dice.below(serving.signs.len() as u64);
         let sign = serving.signs[usize::try_from(place).unwrap()];
         serving.answers.extend(serving.table.sign(sign, now));
@@ -143,7 +143,7 @@ impl World {
         match serving.answers[usize::try_from(place).unwrap()] {
             Answer::Granted(grant) => serving.is_greeted |= self.lease.take(grant, now),
             Answer::Ended { incarnation } if incarnation == self.lease.incarnation() => {
-                self.begin_anew();
+                self.begin_again();
             }
             Answer::Ended { .. } => {}
         }
@@ -151,17 +151,17 @@ impl World {
 
     fn hello(&mut self) {
         if let Some(serving) = self.serving.as_mut().filter(|it| it.is_connected && it.is_greeted) {
-            serving.says_hello = true;
+            serving.sends_hello = true;
         }
     }
 
     fn register(&mut self) {
         let (now, incarnation) = (self.server_clock(), self.lease.incarnation());
         let is_new = self.record.is_none_or(|record| record.incarnation < incarnation);
-        let Some(serving) = self.serving.as_mut().filter(|it| it.says_hello && is_new) else {
+        let Some(serving) = self.serving.as_mut().filter(|it| it.sends_hello && is_new) else {
             return;
         };
-        if serving.table.hears(CLIENT, incarnation, now) {
+        if serving.table.accepts_hello(CLIENT, incarnation, now) {
             self.stored = serving.table.register(CLIENT, incarnation, now);
             self.record = Some(Record { client: CLIENT, incarnation, last: None, left: false });
         }
@@ -188,7 +188,7 @@ impl World {
             answers: Vec::new(),
             is_connected: false,
             is_greeted: false,
-            says_hello: false,
+            sends_hello: false,
         });
     }
 

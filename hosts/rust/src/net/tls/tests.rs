@@ -38,7 +38,7 @@ fn shake(client: &TlsConfig, server: &TlsConfig) -> io::Result<(TlsSession, TlsS
 }
 
 #[test]
-fn what_one_side_says_the_other_one_hears() {
+fn what_one_side_sends_the_other_one_receives() {
     let (folder, authority) = (Folder::new("says"), Authority::new("ours"));
     let server = config(&authority.certify(&folder.0, &["krl:server"], 1));
     let three = config(&authority.certify(&folder.0, &["krl:client:3", "krl:client:4"], 1));
@@ -99,7 +99,7 @@ fn each_table_has_its_names() {
 }
 
 #[test]
-fn a_stranger_says_little_before_it_says_who_it_is() {
+fn a_stranger_sends_little_before_it_identifies_itself() {
     let (folder, authority) = (Folder::new("little"), Authority::new("ours"));
     let server = config(&authority.certify(&folder.0, &["krl:server"], 1));
     for said in [&[0; 100][..], b"GET / HTTP/1.1\r\n\r\n"] {
@@ -149,7 +149,7 @@ fn files_are_read_again_and_bad_ones_change_nothing() {
 }
 
 #[test]
-fn each_side_hears_why_it_is_refused() {
+fn each_side_learns_why_it_is_refused() {
     let folder = Folder::new("why");
     let (ours, theirs) = (Authority::new("ours"), Authority::new("theirs"));
     let server = config(&ours.certify(&folder.0, &["krl:server"], 1));

@@ -18,8 +18,8 @@ struct Judged {
 }
 
 #[test]
-fn nothing_is_said_before_the_incarnation_is_kept() {
-    let mut client = ClientHandle::open_behind(3, 7, Older::Unknown).unwrap();
+fn nothing_is_sent_before_the_incarnation_is_kept() {
+    let mut client = ClientHandle::open_after(3, 7, Older::Unknown).unwrap();
     let mut frames = Vec::new();
     client.take(&mut frames).unwrap();
     assert!(!client.is_kept() && frames.is_empty());
@@ -114,7 +114,7 @@ fn no_scan_has_what_another_client_holds_alone() {
 
 /// Here scans go by a copy of what the client knows, which follows when the messages have left.
 #[test]
-fn the_judge_tells_scans_that_see_too_long_what_was_given_up() {
+fn the_judge_finds_scans_that_see_too_long_what_was_given_up() {
     let mut world = World::new(|client| client);
     let copy = AtomicBool::new(true);
     let judged = judge(
@@ -131,7 +131,7 @@ fn the_judge_tells_scans_that_see_too_long_what_was_given_up() {
 fn a_release_leaves_when_the_scans_have_ended_that_see_what_it_gives_up() {
     let mut world = World::new(|client| client);
     let cache = world.scanned.cache();
-    let (tell_in, is_in) = channel();
+    let (send_in, is_in) = channel();
     let (let_go, go) = channel();
     let callback = world.call_back();
     let begins = Barrier::new(2);
@@ -139,7 +139,7 @@ fn a_release_leaves_when_the_scans_have_ended_that_see_what_it_gives_up() {
         scope.spawn(move || {
             cache.0.read(|handle| {
                 assert!(has_last(|rows| handle.scan(&LAST, rows, Moment::now)));
-                tell_in.send(()).unwrap();
+                send_in.send(()).unwrap();
                 go.recv().unwrap();
                 assert!(
                     has_last(|rows| handle.scan(&LAST, rows, Moment::now)),
@@ -194,7 +194,7 @@ fn a_scan_makes_the_room_that_it_needs() {
 }
 
 #[test]
-fn rows_count_only_if_the_lease_holds_behind_them() {
+fn rows_count_only_if_the_lease_holds_after_them() {
     let mut lease = Lease::new(3, 1, Older::Unknown);
     let sign = lease.greet(Moment::of_nanoseconds(1000)).unwrap();
     let grant = Grant { incarnation: 1, stamp: sign.stamp, length: 600 };

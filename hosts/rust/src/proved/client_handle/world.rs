@@ -78,8 +78,8 @@ impl<S: Scanned> World<S> {
     /// Hands messages over until nobody sends anything.
     pub fn settle(&mut self) {
         loop {
-            self.hear_clients();
-            self.hear_server();
+            self.deliver_to_server();
+            self.take_from_server();
             if self.frames.is_empty() {
                 return;
             }
@@ -93,7 +93,7 @@ impl<S: Scanned> World<S> {
     }
 
     /// The server receives what the clients send.
-    fn hear_clients(&mut self) {
+    fn deliver_to_server(&mut self) {
         self.frames.clear();
         self.scanned.change(|client| client.take(&mut self.frames)).unwrap();
         self.other.take(&mut self.frames).unwrap();
@@ -105,7 +105,7 @@ impl<S: Scanned> World<S> {
     }
 
     /// What the server sends.
-    fn hear_server(&mut self) {
+    fn take_from_server(&mut self) {
         let length = self.server.take(&mut self.frames).unwrap();
         self.frames.truncate(length);
     }
@@ -123,8 +123,8 @@ impl<S: Scanned> World<S> {
     /// The callback that is for the scanned client, as soon as the other one asks for the last row.
     pub fn call_back(&mut self) -> Vec<u8> {
         self.ask_for_last();
-        self.hear_clients();
-        self.hear_server();
+        self.deliver_to_server();
+        self.take_from_server();
         let (callback, _) = split(&self.frames).next().expect("a callback");
         assert_eq!(Message::read(callback).client(), Some(0));
         callback.to_vec()

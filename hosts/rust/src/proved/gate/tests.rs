@@ -104,13 +104,13 @@ fn no_reader_starves_beside_an_owner_that_changes_without_a_pause() {
 fn a_change_waits_for_who_is_inside_and_for_nobody_else() {
     let mut owner = Owner::new(Pair::default());
     let (inside, out) = (owner.reader(), owner.reader());
-    let (tell_in, is_in) = channel();
+    let (send_in, is_in) = channel();
     let (let_go, go) = channel();
     let begins = Barrier::new(2);
     thread::scope(|scope| {
         scope.spawn(move || {
             inside.read(|pair| {
-                tell_in.send(()).unwrap();
+                send_in.send(()).unwrap();
                 go.recv().unwrap();
                 assert_eq!(pair.read(), [0, 0], "it was changed around a reader");
             });
@@ -137,13 +137,13 @@ fn a_change_waits_for_who_is_inside_and_for_nobody_else() {
 fn a_reader_waits_for_the_change_at_work() {
     let mut owner = Owner::new(Pair::default());
     let reader = owner.reader();
-    let (tell_begun, has_begun) = channel();
+    let (send_begun, has_begun) = channel();
     let (let_go, go) = channel();
     let begins = Barrier::new(2);
     thread::scope(|scope| {
         scope.spawn(move || {
             owner.change(|pair| {
-                tell_begun.send(()).unwrap();
+                send_begun.send(()).unwrap();
                 go.recv().unwrap();
                 pair.change();
             });

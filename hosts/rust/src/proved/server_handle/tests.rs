@@ -28,7 +28,7 @@ fn register(server: &mut ServerHandle, client: u8) -> Change {
 }
 
 #[test]
-fn what_is_said_waits_for_the_start_and_for_each_change() {
+fn messages_wait_for_the_start_and_for_each_change() {
     let (mut server, epoch) = open();
     assert_eq!(server.take(&mut Vec::new()), Ok(0), "nothing is sent");
     let change = register(&mut server, 0);

@@ -45,13 +45,13 @@ fn connection() -> (Wired, UnixStream) {
 /// Sends a batch after a commit for which the host frames have waited.
 fn send(connection: &mut Wired, frame: &[u8], seen: Option<Seen>) {
     connection.committed();
-    connection.say(frame, seen);
+    connection.put_message(frame, seen);
     connection.end_batch(seen);
     connection.write();
 }
 
 /// All that the peer receives until nothing waits.
-fn heard(connection: &mut Wired, peer: &mut UnixStream) -> Vec<u8> {
+fn received(connection: &mut Wired, peer: &mut UnixStream) -> Vec<u8> {
     let (mut bytes, mut all) = (vec![0; 1 << 16], Vec::new());
     loop {
         while let Ok(count @ 1..) = peer.read(&mut bytes) {
@@ -65,34 +65,37 @@ fn heard(connection: &mut Wired, peer: &mut UnixStream) -> Vec<u8> {
 }
 
 #[test]
-fn a_host_hears_of_itself_then_of_the_store_and_then_all_else() {
+fn a_host_gets_its_answer_then_the_mark_and_then_all_else() {
     let (mut connection, mut peer) = connection();
-    connection.tell(b"told");
+    connection.send_after_commit(b"told");
     connection.greet(HELLO);
     send(&mut connection, b"said", Some(SEEN));
     let hello = HELLO.frame();
     let news = FromServer::Mark(SEEN).frame();
-    assert_eq!(heard(&mut connection, &mut peer), [&hello[..], &news, b"told", b"said"].concat());
+    assert_eq!(
+        received(&mut connection, &mut peer),
+        [&hello[..], &news, b"told", b"said"].concat()
+    );
     // What it knows is not sent again.
     send(&mut connection, b"said", Some(SEEN));
-    assert_eq!(heard(&mut connection, &mut peer), b"said");
+    assert_eq!(received(&mut connection, &mut peer), b"said");
 }
 
 #[test]
-fn a_peer_without_host_frames_hears_none() {
+fn a_peer_without_host_frames_gets_none() {
     let (mut connection, mut peer) = connection();
     connection.refuse(Refusal::Version { read: 1 }, Instant::now());
     send(&mut connection, b"said", Some(SEEN));
-    assert_eq!(heard(&mut connection, &mut peer), b"said");
+    assert_eq!(received(&mut connection, &mut peer), b"said");
 }
 
 #[test]
-fn a_host_whose_store_went_back_hears_that_and_no_mark() {
+fn a_host_whose_store_went_back_gets_that_and_no_mark() {
     let (mut connection, mut peer) = connection();
     connection.greet(FromServer::WentBack);
     connection.end(CloseReason::OlderStore);
     send(&mut connection, &[], Some(SEEN));
-    assert_eq!(heard(&mut connection, &mut peer), FromServer::WentBack.frame());
+    assert_eq!(received(&mut connection, &mut peer), FromServer::WentBack.frame());
     assert!(connection.is_over());
 }
 
@@ -103,17 +106,17 @@ fn a_batch_that_is_lost_is_lost_whole() {
     while connection.waits() < MAX_WAITING {
         send(&mut connection, &[0; 1 << 12], None);
     }
-    connection.tell(b"lost");
+    connection.send_after_commit(b"lost");
     send(&mut connection, b"lost", Some(SEEN));
-    let before = heard(&mut connection, &mut peer);
+    let before = received(&mut connection, &mut peer);
     assert!(!before.ends_with(b"lost"));
     send(&mut connection, b"said", Some(SEEN));
     let news = FromServer::Mark(SEEN).frame();
-    assert_eq!(heard(&mut connection, &mut peer), [&news[..], b"said"].concat());
+    assert_eq!(received(&mut connection, &mut peer), [&news[..], b"said"].concat());
 }
 
 #[test]
-fn a_refusal_is_told_once_a_second() {
+fn a_refusal_is_sent_once_a_second() {
     let (mut connection, mut peer) = connection();
     let (refusal, start) = (Refusal::Version { read: 1 }, Instant::now());
     connection.greet(HELLO);
@@ -122,5 +125,5 @@ fn a_refusal_is_told_once_a_second() {
     }
     send(&mut connection, &[], None);
     let once = [HELLO.frame(), FromServer::Refused(refusal).frame()].concat();
-    assert_eq!(heard(&mut connection, &mut peer), once);
+    assert_eq!(received(&mut connection, &mut peer), once);
 }

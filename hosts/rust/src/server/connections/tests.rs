@@ -96,7 +96,7 @@ fn frame(message: &[u8]) -> Vec<u8> {
 }
 
 /// The next frame that is taken, if one comes within a moment.
-fn hear(connections: &mut Rig) -> Option<(u64, Vec<u8>)> {
+fn next_frame(connections: &mut Rig) -> Option<(u64, Vec<u8>)> {
     let end = Instant::now() + Duration::from_millis(300);
     while Instant::now() < end {
         match connections.look() {
@@ -104,9 +104,9 @@ fn hear(connections: &mut Rig) -> Option<(u64, Vec<u8>)> {
             Found::Nothing | Found::Unread(_) => {}
             Found::Long(number, _) => connections.admit_long(number, 3),
             Found::Frame(number, mut incoming) => {
-                let heard = incoming.next().unwrap().unwrap().to_vec();
+                let received = incoming.next().unwrap().unwrap().to_vec();
                 connections.put_back(number, incoming);
-                return Some((number, heard));
+                return Some((number, received));
             }
         }
     }
@@ -120,7 +120,7 @@ fn closed(connections: &Rig, reason: &str) -> u64 {
 }
 
 /// Sends a batch of one frame to client 3.
-fn say(connections: &mut Rig, frame: &[u8]) {
+fn send_to_client(connections: &mut Rig, frame: &[u8]) {
     let mut sending = connections.send(None);
     sending.put(3, frame);
     sending.end();
@@ -136,33 +136,33 @@ fn stuff(connections: &mut Rig, number: u64) {
     let bytes = frame(&vec![7; 1 << 20]);
     connections.route(3, number);
     while !unwritten(connections, number) {
-        say(connections, &bytes);
+        send_to_client(connections, &bytes);
     }
 }
 
 #[test]
-fn a_client_speaks_until_it_has_been_silent_for_two_seconds() {
+fn a_client_is_active_until_it_has_been_silent_for_two_seconds() {
     let (mut connections, at, _waker) = connections();
     let (mut stream, number) = peer(&mut connections, at);
-    assert!(!connections.speaks_elsewhere(3, number + 1), "it is nobody's connection");
+    assert!(!connections.is_active_elsewhere(3, number + 1), "it is nobody's connection");
     connections.route(3, number);
-    let heard = connections.now;
-    assert!(connections.speaks_elsewhere(3, number + 1));
-    assert!(!connections.speaks_elsewhere(3, number), "that is its own connection");
-    connections.now = heard.after(SPEAKS / 2);
-    assert!(connections.speaks_elsewhere(3, number + 1));
-    connections.now = heard.after(SPEAKS);
-    assert!(!connections.speaks_elsewhere(3, number + 1));
+    let received = connections.now;
+    assert!(connections.is_active_elsewhere(3, number + 1));
+    assert!(!connections.is_active_elsewhere(3, number), "that is its own connection");
+    connections.now = received.after(ACTIVE_FOR / 2);
+    assert!(connections.is_active_elsewhere(3, number + 1));
+    connections.now = received.after(ACTIVE_FOR);
+    assert!(!connections.is_active_elsewhere(3, number + 1));
     stream.write_all(&frame(b"tick")).unwrap();
     connections.wait(SOON).unwrap();
-    connections.now = heard.after(SPEAKS);
-    assert!(connections.speaks_elsewhere(3, number + 1), "it has not been read");
+    connections.now = received.after(ACTIVE_FOR);
+    assert!(connections.is_active_elsewhere(3, number + 1), "it has not been read");
     connections.close(number, CloseReason::Ended);
-    assert!(!connections.speaks_elsewhere(3, number + 1), "its connection has ended");
+    assert!(!connections.is_active_elsewhere(3, number + 1), "its connection has ended");
 }
 
 #[test]
-fn a_frame_that_comes_in_pieces_is_heard_when_it_is_whole() {
+fn a_frame_that_comes_in_pieces_is_taken_when_it_is_whole() {
     let (mut connections, at, _) = connections();
     let (mut stream, number) = peer(&mut connections, at);
     let bytes = frame(b"in pieces");
@@ -173,20 +173,20 @@ fn a_frame_that_comes_in_pieces_is_heard_when_it_is_whole() {
         assert!(matches!(connections.look(), Found::Nothing));
     }
     stream.write_all(&[*last]).unwrap();
-    assert_eq!(hear(&mut connections), Some((number, b"in pieces".to_vec())));
-    assert_eq!(hear(&mut connections), None);
+    assert_eq!(next_frame(&mut connections), Some((number, b"in pieces".to_vec())));
+    assert_eq!(next_frame(&mut connections), None);
 }
 
 #[test]
-fn a_frame_longer_than_a_read_is_heard() {
+fn a_frame_longer_than_a_read_is_taken() {
     let (mut connections, at, _) = connections();
     let (mut stream, number) = peer(&mut connections, at);
     let long: Vec<u8> = (0..1 << 20).map(|place: u32| place.to_le_bytes()[1]).collect();
     let bytes = [frame(&long), frame(b"short")].concat();
     let writing = thread::spawn(move || stream.write_all(&bytes).map(|()| stream));
-    let heard = std::iter::repeat_with(|| hear(&mut connections)).flatten().next();
-    assert!(heard == Some((number, long)));
-    assert_eq!(hear(&mut connections), Some((number, b"short".to_vec())));
+    let received = std::iter::repeat_with(|| next_frame(&mut connections)).flatten().next();
+    assert!(received == Some((number, long)));
+    assert_eq!(next_frame(&mut connections), Some((number, b"short".to_vec())));
     writing.join().unwrap().unwrap();
 }
 
@@ -216,14 +216,14 @@ fn a_client_has_one_long_frame_on_its_way() {
 }
 
 #[test]
-fn what_a_peer_said_before_it_went_is_heard() {
+fn what_a_peer_sent_before_it_closed_is_taken() {
     let (mut connections, at, _) = connections();
     let (mut stream, number) = peer(&mut connections, at);
     stream.write_all(&[frame(b"one"), frame(b"two"), vec![5, 0]].concat()).unwrap();
     drop(stream);
-    assert_eq!(hear(&mut connections), Some((number, b"one".to_vec())));
-    assert_eq!(hear(&mut connections), Some((number, b"two".to_vec())));
-    assert_eq!((hear(&mut connections), connections.count()), (None, 0));
+    assert_eq!(next_frame(&mut connections), Some((number, b"one".to_vec())));
+    assert_eq!(next_frame(&mut connections), Some((number, b"two".to_vec())));
+    assert_eq!((next_frame(&mut connections), connections.count()), (None, 0));
 }
 
 #[test]
@@ -232,9 +232,9 @@ fn a_peer_that_goes_after_it_was_read_is_closed() {
     let (mut stream, number) = peer(&mut connections, at);
     connections.route(3, number);
     stream.write_all(&frame(b"one")[..5]).unwrap();
-    assert_eq!((hear(&mut connections), connections.count()), (None, 1));
+    assert_eq!((next_frame(&mut connections), connections.count()), (None, 1));
     drop(stream);
-    assert_eq!((hear(&mut connections), connections.count()), (None, 0));
+    assert_eq!((next_frame(&mut connections), connections.count()), (None, 0));
     assert!(connections.clients().is_empty());
 }
 
@@ -243,8 +243,8 @@ fn a_length_that_no_message_has_ends_its_connection() {
     let (mut connections, at, _) = connections();
     let (mut stream, number) = peer(&mut connections, at);
     stream.write_all(&[frame(b"one"), u64::MAX.to_le_bytes().to_vec()].concat()).unwrap();
-    assert_eq!(hear(&mut connections), Some((number, b"one".to_vec())));
-    assert_eq!((hear(&mut connections), connections.count()), (None, 0));
+    assert_eq!(next_frame(&mut connections), Some((number, b"one".to_vec())));
+    assert_eq!((next_frame(&mut connections), connections.count()), (None, 0));
     assert_eq!(stream.read(&mut [0]).unwrap_or(0), 0);
 }
 
@@ -254,15 +254,15 @@ fn a_flood_takes_no_turn_of_another_connection() {
     let (mut floods, flooding) = peer(&mut connections, at);
     let (mut stream, number) = peer(&mut connections, at);
     floods.write_all(&frame(b"flood").repeat(2000)).unwrap();
-    assert_eq!(hear(&mut connections).unwrap().0, flooding);
+    assert_eq!(next_frame(&mut connections).unwrap().0, flooding);
     stream.write_all(&frame(b"one")).unwrap();
     connections.wait(SOON).unwrap();
     while !connections.open[&number].is_in_ready {
         connections.wait(SOON).unwrap();
     }
-    let heard: Vec<u64> = (0..3).map(|_| hear(&mut connections).unwrap().0).collect();
-    assert!(heard.contains(&number), "{heard:?}");
-    let rest = std::iter::from_fn(|| hear(&mut connections));
+    let received: Vec<u64> = (0..3).map(|_| next_frame(&mut connections).unwrap().0).collect();
+    assert!(received.contains(&number), "{received:?}");
+    let rest = std::iter::from_fn(|| next_frame(&mut connections));
     assert_eq!(rest.filter(|(from, _)| *from == flooding).count(), 1997);
 }
 
@@ -273,22 +273,22 @@ fn a_peer_that_takes_nothing_stops_nobody_and_costs_a_bounded_room() {
     let (_stuck, number) = peer(&mut connections, at);
     stuff(&mut connections, number);
     for _ in 0..100 {
-        say(&mut connections, &frame(&vec![7; LARGE]));
+        send_to_client(&mut connections, &frame(&vec![7; LARGE]));
     }
     let waits = connections.open[&number].connection.waits();
     assert!(waits < 4 * LARGE, "{waits} bytes wait");
     // The other one receives what is sent to it.
     let (mut stream, other) = peer(&mut connections, at);
     stream.write_all(&frame(b"here")).unwrap();
-    assert_eq!(hear(&mut connections), Some((other, b"here".to_vec())));
+    assert_eq!(next_frame(&mut connections), Some((other, b"here".to_vec())));
     connections.route(4, other);
     let mut sending = connections.send(None);
     sending.put(4, &frame(b"one"));
     sending.end();
     connections.settle();
-    let mut heard = [0; 11];
-    stream.read_exact(&mut heard).unwrap();
-    assert_eq!(heard[..], frame(b"one"));
+    let mut received = [0; 11];
+    stream.read_exact(&mut received).unwrap();
+    assert_eq!(received[..], frame(b"one"));
     // The loop sleeps meanwhile.
     let begun = Instant::now();
     connections.wait(Duration::from_millis(200)).unwrap();
@@ -339,7 +339,7 @@ fn a_silent_peer_is_closed_in_its_time() {
     let (mut connections, at, _) = connections();
     let (mut silent, _) = peer(&mut connections, at);
     silent.write_all(&frame(b"one")).unwrap();
-    assert!(hear(&mut connections).is_some());
+    assert!(next_frame(&mut connections).is_some());
     connections.now = Now::read().after(LONG / 2);
     connections.close_dead();
     connections.settle();
@@ -351,11 +351,11 @@ fn a_silent_peer_is_closed_in_its_time() {
 }
 
 #[test]
-fn one_that_has_said_no_whole_frame_is_closed_in_a_shorter_time() {
+fn a_connection_without_a_whole_frame_is_closed_in_a_shorter_time() {
     let (mut connections, at, _) = connections();
     let (mut stranger, _) = peer(&mut connections, at);
     stranger.write_all(&frame(b"half")[..10]).unwrap();
-    assert_eq!(hear(&mut connections), None);
+    assert_eq!(next_frame(&mut connections), None);
     connections.close_dead();
     connections.settle();
     assert_eq!(connections.count(), 1);
@@ -367,18 +367,18 @@ fn one_that_has_said_no_whole_frame_is_closed_in_a_shorter_time() {
 }
 
 #[test]
-fn a_stranger_makes_room_for_one_more_and_who_has_spoken_does_not() {
+fn a_stranger_makes_room_for_one_more_and_a_known_peer_does_not() {
     let (mut connections, at, _) = connections();
     let (mut known, first) = peer(&mut connections, at);
     known.write_all(&frame(b"one")).unwrap();
-    assert!(hear(&mut connections).is_some());
+    assert!(next_frame(&mut connections).is_some());
     let mut streams: Vec<_> = (0..70).map(|_| peer(&mut connections, at)).collect();
     assert_eq!(connections.count(), 1 + 64, "so many strangers are of one network");
     assert_eq!(closed(&connections, "stranger_crowded"), 6);
     assert!(connections.open.contains_key(&first));
     let (newest, number) = streams.last_mut().unwrap();
     newest.write_all(&frame(b"two")).unwrap();
-    assert_eq!(hear(&mut connections), Some((*number, b"two".to_vec())));
+    assert_eq!(next_frame(&mut connections), Some((*number, b"two".to_vec())));
 }
 
 #[test]
@@ -388,7 +388,7 @@ fn one_for_which_there_is_no_place_stays_a_stranger() {
     let known = |connections: &mut Rig| {
         let (mut stream, number) = peer(connections, at);
         stream.write_all(&frame(b"one")).unwrap();
-        assert_eq!(hear(connections), Some((number, b"one".to_vec())));
+        assert_eq!(next_frame(connections), Some((number, b"one".to_vec())));
         (stream, number)
     };
     let (_first, first) = known(&mut connections);
@@ -406,14 +406,14 @@ fn one_for_which_there_is_no_place_stays_a_stranger() {
 }
 
 #[test]
-fn a_connection_that_ends_gets_its_last_frames_and_is_heard_no_more() {
+fn a_connection_that_ends_gets_its_last_frames_and_nothing_is_taken_from_it() {
     let (mut connections, at, _) = connections();
     let (mut stream, number) = peer(&mut connections, at);
     stream.write_all(&frame(b"one").repeat(3)).unwrap();
-    assert!(hear(&mut connections).is_some());
-    connections.tell(number, &frame(b"last"));
+    assert!(next_frame(&mut connections).is_some());
+    connections.send_after_commit(number, &frame(b"last"));
     connections.end(number, CloseReason::BadMessage);
-    assert_eq!(hear(&mut connections), None);
+    assert_eq!(next_frame(&mut connections), None);
     connections.flush();
     let mut bytes = Vec::new();
     stream.read_to_end(&mut bytes).unwrap();
@@ -421,22 +421,22 @@ fn a_connection_that_ends_gets_its_last_frames_and_is_heard_no_more() {
 }
 
 #[test]
-fn what_is_told_leaves_with_the_next_batch_and_not_before() {
+fn a_host_frame_leaves_with_the_next_batch_and_not_before() {
     let (mut connections, at, _) = connections();
     let (mut stream, number) = peer(&mut connections, at);
-    connections.tell(number, &frame(b"told"));
+    connections.send_after_commit(number, &frame(b"told"));
     connections.greet(number, HELLO);
     connections.refuse(number, Refusal::Version { read: 1 });
     stream.write_all(&frame(b"one")).unwrap();
-    assert!(hear(&mut connections).is_some());
+    assert!(next_frame(&mut connections).is_some());
     stream.set_nonblocking(true).unwrap();
     assert!(stream.peek(&mut [0]).is_err());
     connections.flush();
     stream.set_nonblocking(false).unwrap();
     let hello = HELLO.frame();
-    let mut heard = vec![0; hello.len()];
-    stream.read_exact(&mut heard).unwrap();
-    assert_eq!(heard, hello);
+    let mut received = vec![0; hello.len()];
+    stream.read_exact(&mut received).unwrap();
+    assert_eq!(received, hello);
 }
 
 #[test]
@@ -461,7 +461,7 @@ fn a_wait_sleeps_while_nothing_comes() {
     let (mut connections, at, _) = connections();
     let (mut stream, _) = peer(&mut connections, at);
     stream.write_all(&frame(b"one")[..9]).unwrap();
-    assert_eq!(hear(&mut connections), None);
+    assert_eq!(next_frame(&mut connections), None);
     let begun = Instant::now();
     for _ in 0..4 {
         connections.wait(Duration::from_millis(50)).unwrap();
@@ -475,7 +475,7 @@ fn what_was_sent_is_written_before_the_end() {
     let (mut connections, at, _) = connections();
     let (mut stream, number) = peer(&mut connections, at);
     connections.route(3, number);
-    say(&mut connections, &vec![7; LENGTH]);
+    send_to_client(&mut connections, &vec![7; LENGTH]);
     let reads = thread::spawn(move || {
         thread::sleep(Duration::from_millis(100));
         let mut bytes = Vec::new();

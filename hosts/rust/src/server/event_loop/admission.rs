@@ -47,12 +47,12 @@ impl KeptRequests {
 
 impl EventLoop {
     /// Keeps a message that came on a connection, if it is a new request for a lock and has to wait.
-    /// It answers whether it has.
+    /// Returns whether it has.
     pub(super) fn keeps(&mut self, connection: u64, message: Message<'_>, now: Now) -> bool {
         let Some(client) = message.client().filter(|_| message.kind() == Kind::Lock) else {
             return false;
         };
-        let has_to_wait = self.open.is_new(client, message)
+        let has_to_wait = self.requests.is_new(client, message)
             && self.connections.is_routed(client, connection)
             && (self.keeps_some() || self.do_many_wait(now.monotonic));
         if has_to_wait {
@@ -61,7 +61,7 @@ impl EventLoop {
         has_to_wait
     }
 
-    /// Takes requests that were kept, until many wait again. It answers whether there were any. A
+    /// Takes requests that were kept, until many wait again. Returns whether there were any. A
     /// request of an earlier connection of its client is lost.
     pub(super) fn take_kept(&mut self, now: Now) -> Result<bool, ServeError> {
         let mut is_any = false;
@@ -86,13 +86,13 @@ impl EventLoop {
 
     /// Whether so many requests wait that came lately that others are kept.
     fn do_many_wait(&self, now: Instant) -> bool {
-        self.open.count_waiting(now, LATELY) >= MOST
+        self.requests.count_waiting(now, LATELY) >= MOST
     }
 
     /// How soon after this moment a request that is kept may be taken without a message that comes,
     /// if one is kept.
     pub(super) fn takes_kept_in(&self, now: Instant) -> Option<Duration> {
-        let soon = || self.open.youth_left(now, LATELY).filter(|_| self.do_many_wait(now));
+        let soon = || self.requests.youth_left(now, LATELY).filter(|_| self.do_many_wait(now));
         self.keeps_some().then(|| soon().unwrap_or_default())
     }
 }

@@ -7,8 +7,8 @@ impl EventLoop {
     /// Sees which clients are there, and since when each has been silent.
     pub(super) fn look_at_clients(&mut self, now: Now) {
         for client in self.connections.clients() {
-            if let Some(heard) = self.connections.heard_last(client) {
-                self.last_heard.heard(client, heard);
+            if let Some(received) = self.connections.last_received(client) {
+                self.last_received.note(client, received);
             }
         }
         // Without that clock the loop ends.
@@ -17,7 +17,7 @@ impl EventLoop {
         let status = |(client, lease)| ClientStatus {
             client,
             connection: self.connections.of_client(client, now.monotonic),
-            silent_for: self.last_heard.silent_for(client, now.monotonic),
+            silent_for: self.last_received.silent_for(client, now.monotonic),
             lease,
         };
         self.status.clients = leases.into_iter().map(status).collect();

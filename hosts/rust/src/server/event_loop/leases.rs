@@ -14,7 +14,7 @@ impl EventLoop {
     /// Takes a sign, which has come by now. The answer leaves after the commit that begins next, by
     /// which the store has answered that it is still this server's. The host of an incarnation that
     /// has ended learns why.
-    pub(super) fn hear_sign(
+    pub(super) fn receive_sign(
         &mut self,
         connection: u64,
         sign: Sign,
@@ -26,14 +26,14 @@ impl EventLoop {
         if registered > sign.incarnation {
             self.connections.refuse(connection, Refusal::Incarnation { client, registered });
         }
-        self.connections.tell(connection, &answer.frame());
+        self.connections.send_after_commit(connection, &answer.frame());
         self.gathered.owes_terms = true;
         Ok(())
     }
 
     /// Whether the library may have the message. A Hello that has to wait for an older incarnation, or
     /// is too far ahead of the server's clock, counts as lost, and the client's host learns why.
-    pub(super) fn hears(
+    pub(super) fn accepts_hello(
         &mut self,
         connection: u64,
         head: Option<Head>,
@@ -49,22 +49,22 @@ impl EventLoop {
             self.connections.refuse(connection, Refusal::FarAhead { client, latest });
             return Ok(false);
         }
-        let has_ended = self.leases.hears(client, incarnation, boot(now)?);
-        let is_heard = has_ended && !self.replaces_one_that_speaks(connection, client, incarnation);
-        if !is_heard {
+        let has_ended = self.leases.accepts_hello(client, incarnation, boot(now)?);
+        let is_accepted = has_ended && !self.replaces_active_one(connection, client, incarnation);
+        if !is_accepted {
             self.connections.refuse(connection, Refusal::LeaseRuns { client, registered });
         }
-        Ok(is_heard)
+        Ok(is_accepted)
     }
 
-    /// Whether this incarnation, of which no sign has come, would replace one that still speaks.
+    /// Whether this incarnation, of which no sign has come, would replace one that still sends.
     ///
     /// Starting a client vouches that the one before is over. Two processes with two lock files of
     /// one number show that it is not: the older one would answer from its cache until it learns of
     /// the newer one.
-    fn replaces_one_that_speaks(&self, connection: u64, client: u8, incarnation: u64) -> bool {
+    fn replaces_active_one(&self, connection: u64, client: u8, incarnation: u64) -> bool {
         self.leases.replaces_unsigned(client, incarnation)
-            && self.connections.speaks_elsewhere(client, connection)
+            && self.connections.is_active_elsewhere(client, connection)
     }
 
     /// Takes a change into those of the next commit.

@@ -70,7 +70,7 @@ impl EventLoop {
                 Change::Registered { client, .. } => self.watch.joined(client),
                 Change::Left { client } => {
                     self.watch.left(client);
-                    self.open.left(client);
+                    self.requests.left(client);
                 }
                 Change::Judged {
                     write: Write::Insert(_) | Write::Delete(_),

@@ -20,7 +20,8 @@ impl EventLoop {
         match *frame {
             Incoming::Host(Some(FromClient::Shard(expected))) => {
                 if self.compare(connection, Some(expected)) {
-                    self.connections.tell(connection, &FromServer::Shard(expected).frame());
+                    self.connections
+                        .send_after_commit(connection, &FromServer::Shard(expected).frame());
                 }
                 false
             }
@@ -36,7 +37,7 @@ impl EventLoop {
     }
 
     /// Lets the connection in if its client takes the server for what it serves, and otherwise ends
-    /// it. It answers which.
+    /// it. Returns which.
     fn compare(&mut self, connection: u64, expected: Option<ShardBounds>) -> bool {
         match shard_fence::compare(expected, self.shard) {
             Ok(()) => {

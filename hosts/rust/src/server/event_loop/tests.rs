@@ -14,7 +14,7 @@ use crate::model::reach::Reach;
 use crate::model::room::Room;
 use crate::model::snapshot::Snapshot;
 use crate::net::address::Address;
-use crate::server::requests::Requests;
+use crate::server::questions::Questions;
 use crate::server::sockets::Sockets;
 use crate::store::{MemoryStore, Store, StoreError};
 use crate::wire::host_frame::FromServer;
@@ -38,7 +38,7 @@ const KEPT: LeaseRecord =
 struct Watching {
     store: MemoryStore,
     peer: TcpStream,
-    heard: Arc<Mutex<Vec<usize>>>,
+    received: Arc<Mutex<Vec<usize>>>,
     /// What was committed, batch by batch.
     batches: Arc<Mutex<Vec<Vec<Change>>>>,
     is_deposed: Arc<AtomicBool>,
@@ -51,8 +51,8 @@ impl Store for Watching {
 
     fn commit(&mut self, changes: &[Change]) -> Result<(), StoreError> {
         // Whatever was sent has arrived by now, over a socket of this machine.
-        let heard = self.peer.peek(&mut [0; 64]).unwrap_or(0);
-        self.heard.lock().unwrap().push(heard);
+        let received = self.peer.peek(&mut [0; 64]).unwrap_or(0);
+        self.received.lock().unwrap().push(received);
         if self.is_deposed.load(Ordering::SeqCst) {
             return Err(StoreError::Deposed("another one".into()));
         }
@@ -67,13 +67,13 @@ impl Store for Watching {
 
 /// A loop, its peer, and how much the peer had received at each commit.
 fn event_loop() -> (ServerThread<Watching>, TcpStream, Arc<Mutex<Vec<usize>>>) {
-    let heard = Arc::default();
-    let shared = Arc::clone(&heard);
+    let received = Arc::default();
+    let shared = Arc::clone(&received);
     let (serving, peer) = event_loop_over(|store, peer| {
         let (batches, is_deposed) = Default::default();
-        Watching { store, peer: peer.try_clone().unwrap(), heard: shared, batches, is_deposed }
+        Watching { store, peer: peer.try_clone().unwrap(), received: shared, batches, is_deposed }
     });
-    (serving, peer, heard)
+    (serving, peer, received)
 }
 
 /// A loop over a store that is made of this one, and its peer.
@@ -92,7 +92,7 @@ fn event_loop_over<S: Store>(
     let store = store_of(store, &peer);
     let (sockets, waker) = Sockets::new(listener.into(), Access::new()).unwrap();
     let connections = Connections::new(4, Room::default(), Now::read());
-    let (_, asked) = Requests::new(waker);
+    let (_, asked) = Questions::new(waker);
     let log = EventLog::started(epoch, &Address::Unix("nowhere".into()), 0, &[]);
     let now = Moment::now().unwrap();
     let terms = Leases::of(Duration::from_millis(LEASE)).unwrap().with_drift(0).unwrap();
@@ -111,12 +111,12 @@ fn event_loop_over<S: Store>(
 fn greet<S: Store>(serving: &mut ServerThread<S>, peer: &mut TcpStream) {
     peer.write_all(&FromClient::Hello(None).frame()).unwrap();
     let answer = FromServer::Hello { answers_signs: true }.frame();
-    let mut heard = vec![0; answer.len()];
-    while peer.peek(&mut heard).unwrap_or(0) < answer.len() {
+    let mut received = vec![0; answer.len()];
+    while peer.peek(&mut received).unwrap_or(0) < answer.len() {
         assert!(serving.turn().unwrap());
     }
-    peer.read_exact(&mut heard).unwrap();
-    assert_eq!(heard, answer);
+    peer.read_exact(&mut received).unwrap();
+    assert_eq!(received, answer);
 }
 
 #[test]
@@ -125,28 +125,28 @@ fn a_message_before_any_hello_of_its_host_ends_the_connection() {
     let mut old = TcpStream::connect(peer.peer_addr().unwrap()).unwrap();
     old.write_all(&HELLO).unwrap();
     old.set_nonblocking(true).unwrap();
-    let mut heard = Vec::new();
-    while old.read_to_end(&mut heard).is_err() {
+    let mut received = Vec::new();
+    while old.read_to_end(&mut received).is_err() {
         assert!(serving.turn().unwrap());
         assert_eq!(serving.events.status.taken, 0);
     }
     let refusal = FromServer::Refused(Refusal::Version { read: STREAM_VERSION });
-    assert_eq!(heard, refusal.frame());
+    assert_eq!(received, refusal.frame());
 }
 
 #[test]
 fn nothing_leaves_before_the_commit() {
-    let (mut serving, mut peer, heard) = event_loop();
+    let (mut serving, mut peer, received) = event_loop();
     peer.write_all(&HELLO).unwrap();
-    while heard.lock().unwrap().is_empty() {
+    while received.lock().unwrap().is_empty() {
         assert!(serving.turn().unwrap());
     }
-    assert_eq!(heard.lock().unwrap()[..], [0]);
+    assert_eq!(received.lock().unwrap()[..], [0]);
     assert!(peer.read(&mut [0; 64]).unwrap() > 0, "it leaves in the same turn");
 }
 
 #[test]
-fn a_client_that_speaks_is_not_replaced_by_one_that_says_no_sign() {
+fn an_active_client_is_not_replaced_by_one_without_signs() {
     let (mut serving, mut peer, _) = event_loop();
     peer.write_all(&HELLO).unwrap();
     while serving.events.status.taken == 0 {
@@ -156,18 +156,21 @@ fn a_client_that_speaks_is_not_replaced_by_one_that_says_no_sign() {
     let hello = [&HELLO[8..18], &2u64.to_le_bytes()].concat();
     let head = Message::read(&hello).head();
     let now = serving.events.connections.now();
-    assert!(!serving.events.hears(other_connection, head, now).unwrap());
+    assert!(!serving.events.accepts_hello(other_connection, head, now).unwrap());
     peer.shutdown(std::net::Shutdown::Both).unwrap();
     while !serving.events.connections.clients().is_empty() {
         assert!(serving.turn().unwrap());
     }
     let now = serving.events.connections.now();
-    assert!(serving.events.hears(other_connection, head, now).unwrap(), "its connection has ended");
+    assert!(
+        serving.events.accepts_hello(other_connection, head, now).unwrap(),
+        "its connection has ended"
+    );
 }
 
 #[test]
 fn a_turn_asks_the_store_once_for_all_who_have_seen_another_one() {
-    let (mut serving, peer, heard) = event_loop();
+    let (mut serving, peer, received) = event_loop();
     let at = peer.peer_addr().unwrap();
     let others = (0..2).map(|_| TcpStream::connect(at).unwrap());
     let mut peers: Vec<TcpStream> = others.chain([peer]).collect();
@@ -180,7 +183,7 @@ fn a_turn_asks_the_store_once_for_all_who_have_seen_another_one() {
         assert!(serving.turn().unwrap());
     }
     // It may have been asked once more, as it is each second.
-    assert!((1..=2).contains(&heard.lock().unwrap().len()));
+    assert!((1..=2).contains(&received.lock().unwrap().len()));
 }
 
 #[test]
@@ -213,7 +216,7 @@ fn a_loop_that_was_busy_shows_itself_and_sleeps() {
 }
 
 #[test]
-fn a_server_that_begins_to_serve_says_so_at_once() {
+fn a_server_that_begins_to_serve_reports_it_at_once() {
     let (mut serving, mut peer, _) = event_loop();
     let shown = Mutex::new(Status::default());
     // The status was shown a moment ago.
@@ -244,8 +247,8 @@ fn batches(serving: &mut ServerThread<Watching>) -> Vec<Vec<Change>> {
 
 /// Takes turns until the store was asked this many times.
 fn turns_until(serving: &mut ServerThread<Watching>, asked: usize) -> Result<(), ServeError> {
-    let heard = Arc::clone(&serving.store.heard);
-    while heard.lock().unwrap().len() < asked {
+    let received = Arc::clone(&serving.store.received);
+    while received.lock().unwrap().len() < asked {
         serving.turn()?;
     }
     Ok(())
@@ -253,10 +256,10 @@ fn turns_until(serving: &mut ServerThread<Watching>, asked: usize) -> Result<(),
 
 #[test]
 fn terms_leave_when_the_store_was_asked() {
-    let (mut serving, mut peer, heard) = event_loop();
+    let (mut serving, mut peer, received) = event_loop();
     peer.write_all(&sign()).unwrap();
     turns_until(&mut serving, 1).unwrap();
-    assert_eq!(heard.lock().unwrap()[..], [0]);
+    assert_eq!(received.lock().unwrap()[..], [0]);
     let mut told = [0; 64];
     let length = peer.read(&mut told).unwrap();
     let (answer, _) = frames::split(&told[..length]).next().unwrap();
@@ -264,7 +267,7 @@ fn terms_leave_when_the_store_was_asked() {
 }
 
 #[test]
-fn a_server_behind_which_another_one_started_grants_nothing() {
+fn a_server_after_which_another_one_started_grants_nothing() {
     let (mut serving, mut peer, _) = event_loop();
     serving.store.is_deposed.store(true, Ordering::SeqCst);
     peer.write_all(&sign()).unwrap();
@@ -287,7 +290,7 @@ fn what_is_stored_of_leases_comes_before_the_registration() {
 
 #[test]
 fn an_eviction_is_committed_with_its_turn() {
-    let (mut serving, mut peer, heard) = event_loop();
+    let (mut serving, mut peer, received) = event_loop();
     peer.write_all(&[sign(), HELLO.to_vec()].concat()).unwrap();
     turns_until(&mut serving, 1).unwrap();
     let begun = Instant::now();
@@ -302,7 +305,7 @@ fn an_eviction_is_committed_with_its_turn() {
     let mut told = [0; 1024];
     let _ = peer.read(&mut told);
     peer.write_all(&sign()).unwrap();
-    let asked = heard.lock().unwrap().len();
+    let asked = received.lock().unwrap().len();
     turns_until(&mut serving, asked + 1).unwrap();
     let length = peer.read(&mut told).unwrap();
     let ended = frames::split(&told[..length]).find_map(|(frame, _)| Answer::read(frame));

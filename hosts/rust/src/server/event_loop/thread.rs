@@ -7,7 +7,7 @@ use crate::log::event_log;
 use crate::server::connections::{Connections, Found};
 use crate::server::error::ServeError;
 use crate::server::lock_search::Page;
-use crate::server::requests::Request;
+use crate::server::questions::Question;
 use crate::server::shown::status::Status;
 use crate::server::sockets::Sockets;
 use crate::store::Store;
@@ -27,7 +27,7 @@ pub(crate) struct ServerThread<S> {
     pub(super) events: EventLoop,
     pub(super) store: S,
     sockets: Sockets,
-    asked: Receiver<Request>,
+    asked: Receiver<Question>,
 }
 
 impl<S: Store> ServerThread<S> {
@@ -35,7 +35,7 @@ impl<S: Store> ServerThread<S> {
         events: EventLoop,
         store: S,
         sockets: Sockets,
-        asked: Receiver<Request>,
+        asked: Receiver<Question>,
     ) -> ServerThread<S> {
         ServerThread { events, store, sockets, asked }
     }
@@ -67,7 +67,7 @@ impl<S: Store> ServerThread<S> {
         let was_to_end = self.events.is_to_end();
         let longest_wait = self.events.longest_wait();
         let began = self.sockets.wait(self.events.connections(), longest_wait)?;
-        self.answer_requests();
+        self.answer_questions();
         let mut turn = Turn::new(was_to_end, began);
         let mut step = turn.judge(&mut self.events, &mut self.sockets)?;
         loop {
@@ -88,15 +88,15 @@ impl<S: Store> ServerThread<S> {
     }
 
     /// Answers what other threads have asked.
-    fn answer_requests(&mut self) {
+    fn answer_questions(&mut self) {
         let mut looks_end = None;
         while let Ok(request) = self.asked.try_recv() {
             match request {
-                Request::Snapshot(reply) => {
+                Question::Snapshot(reply) => {
                     // A caller that asks and no longer waits gets no answer.
                     let _ = reply.send(self.store.snapshot());
                 }
-                Request::Locks(search, reply) => {
+                Question::Locks(search, reply) => {
                     let began = Now::read();
                     let turn_end = *looks_end.get_or_insert(began.monotonic + LOOKS);
                     let end = (began.monotonic + search.longest()).min(turn_end);
@@ -104,7 +104,7 @@ impl<S: Store> ServerThread<S> {
                     let page = self.events.look_up(search, began, is_late);
                     let _ = reply.send(Page { took: began.monotonic.elapsed(), ..page });
                 }
-                Request::Stop => self.events.stop(Now::read()),
+                Question::Stop => self.events.stop(Now::read()),
             }
         }
     }

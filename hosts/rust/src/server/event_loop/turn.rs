@@ -64,7 +64,7 @@ impl Turn {
         events: &mut EventLoop,
         around: &mut impl Environment,
     ) -> Result<Step, ServeError> {
-        self.hear(events, around)?;
+        self.judge_connections(events, around)?;
         let now = around.now().monotonic;
         let waited = now.saturating_duration_since(*self.gathers.get_or_insert(now));
         let rest = events.waits_for_writers().saturating_sub(waited);
@@ -81,7 +81,7 @@ impl Turn {
     }
 
     /// Judges connections in their turn.
-    fn hear(
+    fn judge_connections(
         &mut self,
         events: &mut EventLoop,
         around: &mut impl Environment,

@@ -49,15 +49,15 @@ impl ClientConnection {
 
 /// When something last came from each client.
 #[derive(Debug)]
-pub(crate) struct LastHeard(PerClient<Option<Instant>>);
+pub(crate) struct LastReceived(PerClient<Option<Instant>>);
 
-impl LastHeard {
-    pub fn new() -> LastHeard {
-        LastHeard([None; ClientNumber::COUNT as usize])
+impl LastReceived {
+    pub fn new() -> LastReceived {
+        LastReceived([None; ClientNumber::COUNT as usize])
     }
 
     /// Something came from the client at this moment, and nothing later.
-    pub fn heard(&mut self, client: u8, at: Instant) {
+    pub fn note(&mut self, client: u8, at: Instant) {
         if let Some(last) = self.0.get_mut(usize::from(client)) {
             *last = Some(at);
         }
@@ -75,11 +75,11 @@ mod tests {
     use super::*;
 
     #[test]
-    fn silence_begins_with_the_last_word() {
-        let (mut last, start) = (LastHeard::new(), Instant::now());
+    fn silence_begins_with_the_last_frame() {
+        let (mut last, start) = (LastReceived::new(), Instant::now());
         let after = |seconds| start + Duration::from_secs(seconds);
-        last.heard(3, start);
-        last.heard(3, after(2));
+        last.note(3, start);
+        last.note(3, after(2));
         assert_eq!(last.silent_for(3, after(7)), Some(Duration::from_secs(5)));
         assert_eq!(last.silent_for(3, start), Some(Duration::ZERO));
         assert_eq!(last.silent_for(4, after(7)), None);

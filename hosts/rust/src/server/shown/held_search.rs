@@ -61,7 +61,7 @@ impl HeldSearch {
     /// search may continue afterwards.
     pub fn go_on(&mut self, monitor: &Monitor) -> Result<HeldPage, LocksError> {
         let first = self.search.client();
-        let Page { held, rest, took, .. } = page(&monitor.requests, self.search.clone())?;
+        let Page { held, rest, took, .. } = page(&monitor.questions, self.search.clone())?;
         self.search = rest;
         Ok(HeldPage { clients: self.complete(first, held), took })
     }

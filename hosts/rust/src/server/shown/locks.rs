@@ -3,7 +3,7 @@ use crate::model::client_number::ClientNumber;
 use crate::model::lock::HeldSlot;
 use crate::model::range::keys_of;
 use crate::server::lock_search::{HeldRun, Page, Search};
-use crate::server::requests::{BUSY, Request, Requests, Unanswered};
+use crate::server::questions::{BUSY, Question, Questions, Unanswered};
 use crate::server::shown::watch::Wait;
 use std::fmt;
 use std::ops::{Range, RangeBounds};
@@ -44,17 +44,17 @@ pub enum LocksError {
 /// Who holds which slots that meet this range, as
 /// [`Monitor::locks`](super::monitor::Monitor::locks) answers it.
 pub(crate) fn locks(
-    requests: &Requests,
+    questions: &Questions,
     points: impl RangeBounds<u64>,
     most: usize,
 ) -> Result<Locks, LocksError> {
     let points = keys_of(&points).map_err(|_| LocksError::BadRange)?;
     let most = most.max(ClientNumber::COUNT.into());
-    let first = page(requests, Search::of_slots(points.clone(), most.saturating_add(1)))?;
+    let first = page(questions, Search::of_slots(points.clone(), most.saturating_add(1)))?;
     let is_of_one_moment = first.rest.is_done();
     let Page { mut held, waits, mut rest, .. } = first;
     while !rest.is_done() {
-        let page = page(requests, rest)?;
+        let page = page(questions, rest)?;
         held.extend(page.held);
         rest = page.rest;
     }
@@ -65,8 +65,8 @@ pub(crate) fn locks(
 }
 
 /// What the server's loop finds in one page of this search.
-pub(crate) fn page(requests: &Requests, search: Search) -> Result<Page, LocksError> {
-    let answered = requests.answer(|reply| Request::Locks(search, reply), LONGEST_WAIT);
+pub(crate) fn page(questions: &Questions, search: Search) -> Result<Page, LocksError> {
+    let answered = questions.answer(|reply| Question::Locks(search, reply), LONGEST_WAIT);
     answered.map_err(|why| match why {
         Unanswered::Ended => LocksError::Ended,
         Unanswered::Busy => LocksError::Busy,
@@ -74,7 +74,7 @@ pub(crate) fn page(requests: &Requests, search: Search) -> Result<Page, LocksErr
 }
 
 /// Puts the slots in order, and leaves out those after the first `most`, and all holders of the
-/// first of these. It answers where those begin, if there are any.
+/// first of these. Returns where those begin, if there are any.
 fn cut(held: &mut Vec<HeldSlot>, most: usize) -> Option<u64> {
     held.sort_unstable();
     let next = held.get(most)?.lo;

@@ -1,6 +1,6 @@
 //! What a server lets other threads see of it while it runs.
 use crate::model::snapshot::Snapshot;
-use crate::server::requests::{BUSY, Request, Requests, Unanswered};
+use crate::server::questions::{BUSY, Question, Questions, Unanswered};
 use crate::server::shown::liveness::{LONGEST_TURN, Liveness};
 use crate::server::shown::locks::{Locks, LocksError, locks};
 use crate::server::shown::metrics::metrics;
@@ -17,7 +17,7 @@ use std::time::Duration;
 pub struct Monitor {
     pub(crate) status: Arc<Mutex<Status>>,
     pub(crate) timings: Arc<Timings>,
-    pub(crate) requests: Requests,
+    pub(crate) questions: Questions,
     pub(crate) longest_store_wait: Duration,
 }
 
@@ -63,7 +63,7 @@ impl Monitor {
     pub fn snapshot(&self) -> Result<Snapshot, SnapshotError> {
         // The call before it, and its own.
         let longest = self.longest_store_wait.saturating_mul(2).saturating_add(LONGEST_TURN);
-        let answered = self.requests.answer(Request::Snapshot, longest);
+        let answered = self.questions.answer(Question::Snapshot, longest);
         answered.map_err(SnapshotError::from)?.map_err(SnapshotError::Store)
     }
 
@@ -80,7 +80,7 @@ impl Monitor {
     /// `BadRange` if the range begins above its end or ends above 2^63; `Ended` if the server has
     /// ended; `Busy` if its loop does not answer within ten seconds.
     pub fn locks(&self, points: impl RangeBounds<u64>, most: usize) -> Result<Locks, LocksError> {
-        locks(&self.requests, points, most)
+        locks(&self.questions, points, most)
     }
 
     /// Whether the server's loop continues, and if not, where it hangs.

@@ -50,7 +50,7 @@ fn is_so_soon(is_so: impl Fn() -> bool) -> bool {
     true
 }
 
-/// Scans both rows. Between the two scans the grant comes, if nothing keeps it back. It answers the
+/// Scans both rows. Between the two scans the grant comes, if nothing keeps it back. Returns the
 /// rows, if both are known.
 fn scan_with_a_grant_between(shards: &mut Shards, number: u64) -> Option<Vec<Row>> {
     let [left, right] = shards.caches();
@@ -79,7 +79,7 @@ fn a_grant_between_two_scans_makes_no_rows_of_two_moments() {
 }
 
 #[test]
-fn rows_come_behind_one_another_if_all_are_known() {
+fn rows_come_in_order_if_all_are_known() {
     let mut shards = Shards::new();
     let [left, right] = shards.caches();
     let known = [Known { cache: &left, keys: LEFT }, Known { cache: &right, keys: RIGHT }];

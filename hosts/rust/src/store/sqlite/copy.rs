@@ -281,7 +281,7 @@ pub(crate) mod tests {
     }
 
     #[test]
-    fn a_copy_that_is_damaged_is_told_and_not_opened() {
+    fn a_damaged_copy_is_reported_and_not_opened() {
         let folder = Folder::new("damaged");
         let changes = [
             "UPDATE entry SET value = x'ff' WHERE key = 3",

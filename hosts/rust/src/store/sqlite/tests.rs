@@ -153,14 +153,14 @@ fn an_older_store_keeps_its_page_size() {
 }
 
 #[test]
-fn a_value_commits_nothing_behind_another_one() {
+fn a_store_value_commits_nothing_after_a_later_one() {
     let folder = std::env::temp_dir().join(format!("krl-behind-{}", std::process::id()));
     std::fs::create_dir_all(&folder).unwrap();
     // Without the file's lock two values may have it open.
     let open =
         |name: &str| SqliteStore::open_by(&folder.join(name), "NORMAL", LogWrites::Single).unwrap();
     store_tests::deposes_an_older_value(|| open("deposed.db"));
-    store_tests::tells_two_starts_apart(|| open("starts.db"));
+    store_tests::distinguishes_two_starts(|| open("starts.db"));
     std::fs::remove_dir_all(&folder).unwrap();
 }
 

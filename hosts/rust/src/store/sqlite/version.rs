@@ -95,7 +95,7 @@ mod tests {
     }
 
     #[test]
-    fn the_first_bytes_of_a_file_tell_what_is_plainly_no_store() {
+    fn the_first_bytes_of_a_file_show_what_is_plainly_no_store() {
         let mut bytes = [0; 100];
         assert_eq!(judge_first_bytes(&[]), Ok(()));
         assert!(judge_first_bytes(b"root:x:0:0:root:/root:/bin/bash\n").is_err());

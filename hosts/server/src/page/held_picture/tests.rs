@@ -1,5 +1,6 @@
 use super::*;
-use krl::{ClientConnection, ClientStatus, END, LeaseLeft, Mode, PeerAddress};
+use krl::operate::{ClientConnection, ClientStatus};
+use krl::{END, LeaseLeft, Mode, PeerAddress};
 
 fn client(client: u8, silent: u64) -> ClientStatus {
     let peer = PeerAddress::Tcp("10.0.0.5:41234".parse().unwrap());
@@ -64,7 +65,7 @@ fn a_wait_is_hatched_and_one_in_a_circle_is_marked() {
 }
 
 #[test]
-fn the_picture_is_told_in_words() {
+fn the_picture_is_described_in_words() {
     let svg = svg(&[wait(3, &[5])], None);
     let text = "client 3 reads (RangeS-S) 2 slots from 0 below 20. client 5 reads, writes next \
                 (RangeS-U) 2 slots from 20 below END. client 3 waits for 5: writes (RangeX-X) from 20 \
@@ -84,7 +85,7 @@ fn the_picture_is_told_in_words() {
 
 /// Of a client that was not looked at nothing is known.
 #[test]
-fn a_client_that_was_not_looked_at_is_not_told_to_hold_nothing() {
+fn a_client_that_was_not_looked_at_is_not_shown_to_hold_nothing() {
     let status = status(Vec::new());
     for (seen, told) in [
         (vec![9], ">1 more client holds nothing here. 2 clients were not looked at yet.</text>"),

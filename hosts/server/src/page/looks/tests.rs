@@ -83,7 +83,7 @@ fn ranges_take_turns_and_are_forgotten() {
 }
 
 #[test]
-fn a_look_that_fails_says_so_until_one_succeeds() {
+fn a_look_that_fails_is_reported_until_one_succeeds() {
     let (server, mut views, now) = (server(), Views::default(), Instant::now());
     let (begun, _) = searches();
     views.ask(&server.monitor(), 1, &(0..9), now);

@@ -1,5 +1,6 @@
 use super::*;
-use krl::{ClientStatus, Counts, Mode, Wait};
+use krl::operate::{ClientStatus, Counts};
+use krl::{Mode, Wait};
 
 fn client(client: u8, lease: LeaseLeft) -> ClientStatus {
     ClientStatus::new(client, lease)
@@ -98,7 +99,7 @@ fn a_recovery_names_who_is_missing_and_its_end() {
 }
 
 #[test]
-fn an_old_look_is_told_and_so_is_none() {
+fn an_old_look_is_reported_and_so_is_none() {
     let (status, held) = (serving(), held());
     let old = Held { age: Some(Duration::from_secs(9)), ..Held::default() };
     let page = overview(&status, &old).html();
@@ -111,7 +112,7 @@ fn an_old_look_is_told_and_so_is_none() {
 
 #[test]
 fn a_part_has_links_to_its_parts_and_to_the_whole() {
-    let run = |at: u64| krl::HeldRun::new(3, at..at + 1, Mode::X, 1);
+    let run = |at: u64| krl::operate::HeldRun::new(3, at..at + 1, Mode::X, 1);
     let runs = (0..100).map(|at| run((1 << 60) + at)).collect();
     let held = Held { runs, next: Some(1 << 61), ..held() };
     let status = serving();

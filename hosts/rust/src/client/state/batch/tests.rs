@@ -16,11 +16,11 @@ fn answer(asked: &Asked<Judged>) -> Judged {
 }
 
 /// The writes that a client sends next.
-fn writes_said(world: &mut World) -> Vec<Vec<u8>> {
+fn writes_sent(world: &mut World) -> Vec<Vec<u8>> {
     const WRITES: std::ops::RangeInclusive<u8> = 4..=6;
-    let mut said = world.said(0);
-    said.retain(|message| WRITES.contains(&message[1]));
-    said
+    let mut outgoing = world.messages_of(0);
+    outgoing.retain(|message| WRITES.contains(&message[1]));
+    outgoing
 }
 
 #[test]
@@ -65,11 +65,14 @@ fn the_next_write_is_sent_in_the_step_in_which_the_one_before_is_judged() {
     }
     let asked = world.clients[0].write_all(writes.to_vec());
     for sent in 1..=3 {
-        let said = world.said(0);
-        assert!(asked.answer.try_recv().is_err() && !said.is_empty(), "the write {sent} is sent");
-        world.tell_server(&said);
+        let outgoing = world.messages_of(0);
+        assert!(
+            asked.answer.try_recv().is_err() && !outgoing.is_empty(),
+            "the write {sent} is sent"
+        );
+        world.deliver_to_server(&outgoing);
         // No caller makes a call meanwhile.
-        world.tell_clients();
+        world.deliver_to_clients();
     }
     assert_eq!(answer(&asked), judged(&[Applied; 3], None));
 }
@@ -98,9 +101,9 @@ fn a_batch_that_is_given_up_writes_nothing_more() {
         assert_eq!(world.write(0, Write::Insert(row(key, 1))), Applied);
     }
     let asked = world.clients[0].write_all([10, 11, 12].map(|key| Put(row(key, 2))).to_vec());
-    let said = world.said(0);
-    world.tell_server(&said);
-    world.tell_clients();
+    let outgoing = world.messages_of(0);
+    world.deliver_to_server(&outgoing);
+    world.deliver_to_clients();
     assert_eq!(world.clients[0].was_sent(asked.id), WasSent::Yes);
     world.clients[0].abandon(asked.id, ErrorKind::TimedOut);
     assert_eq!(answer(&asked), judged(&[Applied], Some(ErrorKind::TimedOut)));
@@ -110,7 +113,7 @@ fn a_batch_that_is_given_up_writes_nothing_more() {
 }
 
 #[test]
-fn a_batch_that_waits_for_a_lock_tells_what_it_has_done() {
+fn a_batch_that_waits_for_a_lock_reports_what_it_has_done() {
     let mut world = World::new();
     for key in [10, 11] {
         assert_eq!(world.write(1, Write::Insert(row(key, 1))), Applied);
@@ -148,11 +151,11 @@ fn a_batch_that_is_bound_to_a_pin_writes_nothing_after_the_pin() {
     let pin = world.clients[0].pin(0..20).unwrap();
     let asked = world.clients[0].write_all_under(pin, vec![Insert(row(10, 1)), Insert(row(11, 1))]);
     // It asks for the lock of the first one.
-    let said = world.said(0);
-    world.tell_server(&said);
-    world.tell_clients();
+    let outgoing = world.messages_of(0);
+    world.deliver_to_server(&outgoing);
+    world.deliver_to_clients();
     world.clients[0].advance(Asking::Allowed);
-    assert_eq!(writes_said(&mut world).len(), 1, "the first write is sent");
+    assert_eq!(writes_sent(&mut world).len(), 1, "the first write is sent");
     world.clients[0].drop_all(Dropped::StoreWentBack);
     assert_eq!(answer(&asked), judged(&[], Some(ErrorKind::StoreWentBack)));
     let late = world.clients[0].write_all_under(pin, vec![Insert(row(12, 1))]);
@@ -166,9 +169,9 @@ fn the_end_of_the_client_loses_no_outcome() {
         assert_eq!(world.write(0, Write::Insert(row(key, 1))), Applied);
     }
     let asked = world.clients[0].write_all([10, 11].map(|key| Put(row(key, 2))).to_vec());
-    let said = world.said(0);
-    world.tell_server(&said);
-    world.tell_clients();
+    let outgoing = world.messages_of(0);
+    world.deliver_to_server(&outgoing);
+    world.deliver_to_clients();
     world.clients[0].end();
     assert_eq!(answer(&asked), judged(&[Applied], Some(ErrorKind::Stopped)));
 }

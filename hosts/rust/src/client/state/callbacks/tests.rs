@@ -34,16 +34,16 @@ fn world() -> World {
 }
 
 /// One round trip. After each message a client continues as far as it comes, and the hasty one does
-/// this. It answers what the hasty client has said, by its kinds.
+/// this. Returns what the hasty client has sent, by its kinds.
 fn trip(world: &mut World, mut hasten: impl FnMut(&mut World)) -> Vec<u8> {
     // What the patient client asks for comes before what the hasty one asks for.
-    let [patient, hasty] = [PATIENT, HASTY].map(|client| world.said(client));
-    for said in [&patient, &hasty] {
-        world.tell_server(said);
+    let [patient, hasty] = [PATIENT, HASTY].map(|client| world.messages_of(client));
+    for sent in [&patient, &hasty] {
+        world.deliver_to_server(sent);
     }
-    for message in world.said_by_server() {
+    for message in world.messages_of_server() {
         let client = usize::from(Message::read(&message).client().unwrap());
-        world.clients[client].hear(&message).unwrap();
+        world.clients[client].receive(&message).unwrap();
         world.clients[client].advance(Asking::Allowed);
         hasten(world);
     }
@@ -55,8 +55,8 @@ fn trips(world: &mut World, count: usize) -> Vec<u8> {
     (0..count).flat_map(|_| trip(world, |_| {})).collect()
 }
 
-fn of_kind(kind: u8, said: Vec<u8>) -> Vec<u8> {
-    said.into_iter().filter(|said| *said == kind).collect()
+fn of_kind(kind: u8, sent: Vec<u8>) -> Vec<u8> {
+    sent.into_iter().filter(|sent| *sent == kind).collect()
 }
 
 fn put(world: &mut World, client: usize, number: u64) -> Asked<Outcome> {
@@ -104,25 +104,25 @@ fn who_writes_one_value_after_the_other_keeps_nobody_waiting() {
 }
 
 #[test]
-fn what_is_granted_behind_a_callback_is_not_given_back_for_it() {
+fn what_is_granted_after_a_callback_is_not_given_back_for_it() {
     let mut world = world();
     let [first, second] = [PATIENT, HASTY].map(|client| put(&mut world, client, 4));
-    let said = trips(&mut world, MANY);
+    let sent = trips(&mut world, MANY);
     for written in [first, second] {
         assert_eq!(written.answer.try_recv(), Ok(Ok(Outcome::Applied)));
     }
-    assert_eq!(of_kind(LOCK, said), [LOCK]);
+    assert_eq!(of_kind(LOCK, sent), [LOCK]);
 }
 
 #[test]
 fn who_awaits_no_push_releases_once() {
     let mut world = world();
     put(&mut world, PATIENT, 5);
-    let mut said = trips(&mut world, FEW);
+    let mut sent = trips(&mut world, FEW);
     let read = world.clients[HASTY].read(OTHER);
-    said.extend(trips(&mut world, FEW));
+    sent.extend(trips(&mut world, FEW));
     assert_eq!(read.answer.try_recv(), Ok(Ok(vec![])));
-    assert_eq!(of_kind(RELEASE, said), [RELEASE]);
+    assert_eq!(of_kind(RELEASE, sent), [RELEASE]);
 }
 
 #[test]

@@ -26,9 +26,9 @@ fn sent_for(world: &mut World, write: Write) -> Vec<u8> {
     let asked = world.clients[WRITER].write(write);
     let mut sent = Vec::new();
     for _ in 0..ENOUGH {
-        let said = world.said(WRITER);
-        sent.extend(said.iter().map(|message| message[1]).filter(|kind| *kind != ACK));
-        world.tell_server(&said);
+        let outgoing = world.messages_of(WRITER);
+        sent.extend(outgoing.iter().map(|message| message[1]).filter(|kind| *kind != ACK));
+        world.deliver_to_server(&outgoing);
         world.round();
         if let Ok(answer) = asked.answer.try_recv() {
             assert_eq!(answer, Ok(Outcome::Applied));
@@ -147,7 +147,7 @@ fn nothing_is_taken_while_messages_are_unread() {
 /// The writer sends this write, which takes its lock and is lost, and its caller gives it up.
 fn give_up(world: &mut World, write: Write) {
     let asked = world.clients[WRITER].write(write);
-    let lost = world.said(WRITER);
+    let lost = world.messages_of(WRITER);
     assert!(matches!(lost.last().unwrap()[1], TAKING_INSERT | TAKING_PUT));
     world.clients[WRITER].abandon(asked.id, ErrorKind::TimedOut);
     assert_eq!(asked.answer.try_recv(), Ok(Err(ErrorKind::TimedOut)));
@@ -183,7 +183,7 @@ fn a_write_by_a_pin_that_was_given_up_bars_others_until_it_is_decided() {
     world.settle();
     let pin = held.answer.try_recv().unwrap().unwrap().pin;
     let asked = world.clients[WRITER].write_under(pin, Write::Insert(row(15, 1)));
-    assert_eq!(world.said(WRITER).last().unwrap()[1], INSERT, "this one is lost");
+    assert_eq!(world.messages_of(WRITER).last().unwrap()[1], INSERT, "this one is lost");
     world.clients[WRITER].abandon(asked.id, ErrorKind::TimedOut);
     world.clients[WRITER].unpin(pin);
     let read = world.clients[OTHER].read(15..16);

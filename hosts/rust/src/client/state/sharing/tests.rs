@@ -12,22 +12,23 @@ fn wanted_by_the_other() -> World {
     world
 }
 
-/// How many callbacks client 0 hears until client 1 has read the row 10 with this number.
+/// How many callbacks client 0 receives until client 1 has read the row 10 with this number.
 fn callbacks_until_read(world: &mut World, number: u64) -> usize {
     let asked = world.clients[1].read(10..11);
     let mut callbacks = 0;
     loop {
-        let said: Vec<_> = [0, 1].into_iter().flat_map(|client| world.said(client)).collect();
-        world.tell_server(&said);
-        let heard = world.said_by_server();
-        if said.is_empty() && heard.is_empty() {
+        let sent: Vec<_> =
+            [0, 1].into_iter().flat_map(|client| world.messages_of(client)).collect();
+        world.deliver_to_server(&sent);
+        let received = world.messages_of_server();
+        if sent.is_empty() && received.is_empty() {
             break;
         }
-        for message in &heard {
+        for message in &received {
             let message = Message::read(message);
             let client = usize::from(message.client().unwrap());
             callbacks += usize::from(client == 0 && message.kind() == Kind::Callback);
-            world.clients[client].hear(message.bytes()).unwrap();
+            world.clients[client].receive(message.bytes()).unwrap();
         }
         for state in &mut world.clients {
             state.advance(Asking::Allowed);
@@ -87,9 +88,9 @@ fn what_is_pinned_or_about_to_be_changed_is_not_shared() {
     world.clients[0].unpin(pin);
     let first = world.clients[0].write(Write::Put(row(10, 3)));
     let second = world.clients[0].write(Write::Put(row(10, 4)));
-    let said = world.said(0);
-    world.tell_server(&said);
-    world.tell_clients();
+    let sent = world.messages_of(0);
+    world.deliver_to_server(&sent);
+    world.deliver_to_clients();
     assert_eq!(first.answer.try_recv(), Ok(Ok(Outcome::Applied)));
     assert!(world.clients[0].client.may_change(10), "the next write needs it");
     world.settle();

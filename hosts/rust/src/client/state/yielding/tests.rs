@@ -20,7 +20,7 @@ fn read_by_both() -> World {
     world
 }
 
-/// A write of client 0 under its pin, and what client 1 has not heard yet.
+/// A write of client 0 under its pin, and what client 1 has not received yet.
 struct Upgrade {
     pin: u64,
     put: Asked<Outcome>,
@@ -34,30 +34,30 @@ fn asks_under_its_pin(world: &mut World) -> Upgrade {
     world.settle();
     let pin = held.answer.try_recv().unwrap().unwrap().pin;
     let put = world.clients[0].write(Write::Put(row(10, 2)));
-    let said = world.said(0);
-    world.tell_server(&said);
-    let late = world.said_by_server();
+    let sent = world.messages_of(0);
+    world.deliver_to_server(&sent);
+    let late = world.messages_of_server();
     assert!(!late.is_empty());
     Upgrade { pin, put, late }
 }
 
-/// Client 1 speaks before it has heard what is late.
-fn speaks_first(world: &mut World, late: &[Vec<u8>]) {
-    let said = world.said(1);
-    world.tell_server(&said);
+/// Client 1 sends before it has received what is late.
+fn sends_first(world: &mut World, late: &[Vec<u8>]) {
+    let sent = world.messages_of(1);
+    world.deliver_to_server(&sent);
     for message in late {
-        world.clients[1].hear(message).unwrap();
+        world.clients[1].receive(message).unwrap();
     }
     world.clients[1].advance(Asking::Allowed);
     world.settle();
 }
 
 #[test]
-fn who_pins_for_an_update_next_waits_behind_the_one_that_writes() {
+fn a_later_pin_for_an_update_waits_for_the_write() {
     let mut world = read_by_both();
     let Upgrade { pin, put, late } = asks_under_its_pin(&mut world);
     let next = world.clients[1].hold(10..11, Purpose::Update);
-    speaks_first(&mut world, &late);
+    sends_first(&mut world, &late);
     assert_eq!(put.answer.try_recv(), Ok(Ok(Outcome::Applied)));
     assert!(next.answer.try_recv().is_err(), "the row is pinned");
     world.clients[0].unpin(pin);
@@ -66,12 +66,12 @@ fn who_pins_for_an_update_next_waits_behind_the_one_that_writes() {
 }
 
 #[test]
-fn who_writes_next_waits_behind_the_one_that_has_pinned_for_an_update() {
+fn a_later_write_waits_for_the_pin_for_an_update() {
     for write in [Write::Put(row(10, 3)), Write::Insert(row(7, 3)), Write::Delete(10)] {
         let mut world = read_by_both();
         let Upgrade { pin, put, late } = asks_under_its_pin(&mut world);
         let next = world.clients[1].write(write);
-        speaks_first(&mut world, &late);
+        sends_first(&mut world, &late);
         assert_eq!(put.answer.try_recv(), Ok(Ok(Outcome::Applied)), "{write:?}");
         assert!(next.answer.try_recv().is_err(), "the row is pinned: {write:?}");
         world.clients[0].unpin(pin);
@@ -89,12 +89,12 @@ fn read_without_its_gap() -> World {
 }
 
 #[test]
-fn who_reads_an_entry_without_its_gap_waits_behind_the_one_that_writes_too() {
+fn a_reader_of_an_entry_without_its_gap_waits_for_the_write_too() {
     for write in [Write::Put(row(10, 3)), Write::Insert(row(9, 3)), Write::Delete(10)] {
         let mut world = read_without_its_gap();
         let Upgrade { pin, put, late } = asks_under_its_pin(&mut world);
         let next = world.clients[1].write(write);
-        speaks_first(&mut world, &late);
+        sends_first(&mut world, &late);
         assert_eq!(put.answer.try_recv(), Ok(Ok(Outcome::Applied)), "{write:?}");
         assert!(next.answer.try_recv().is_err(), "the row is pinned: {write:?}");
         world.clients[0].unpin(pin);
@@ -126,17 +126,17 @@ fn a_callback_leaves_the_entry_of_a_slot() {
 #[test]
 fn who_reads_a_gap_again_gives_back_what_a_callback_left() {
     let mut world = read_without_its_gap();
-    let kinds = |said: &[Vec<u8>]| said.iter().map(|message| message[1]).collect::<Vec<_>>();
+    let kinds = |sent: &[Vec<u8>]| sent.iter().map(|message| message[1]).collect::<Vec<_>>();
     let read = world.clients[1].read(8..11);
-    let said = world.said(1);
-    assert_eq!(kinds(&said), [RELEASE, LOCK]);
-    world.tell_server(&said);
+    let sent = world.messages_of(1);
+    assert_eq!(kinds(&sent), [RELEASE, LOCK]);
+    world.deliver_to_server(&sent);
     world.settle();
     assert_eq!(read.answer.try_recv(), Ok(Ok(vec![row(10, 1)])));
     world.clients[1].forget(0..6);
     world.settle();
     let _read = world.clients[1].read(0..6);
-    assert_eq!(kinds(&world.said(1)), [LOCK], "nobody else has wanted that");
+    assert_eq!(kinds(&world.messages_of(1)), [LOCK], "nobody else has wanted that");
 }
 
 /// Two clients that read this range over and over, each as soon as it was called back there.
@@ -161,11 +161,11 @@ impl HastyReaders {
 
     /// One round trip, in which each message comes by itself.
     fn trip(&mut self, world: &mut World) {
-        let said: Vec<_> = (0..3).flat_map(|client| world.said(client)).collect();
-        world.tell_server(&said);
-        for message in world.said_by_server() {
+        let sent: Vec<_> = (0..3).flat_map(|client| world.messages_of(client)).collect();
+        world.deliver_to_server(&sent);
+        for message in world.messages_of_server() {
             let client = usize::from(Message::read(&message).client().unwrap());
-            world.clients[client].hear(&message).unwrap();
+            world.clients[client].receive(&message).unwrap();
             world.clients[client].advance(Asking::Allowed);
             self.go_on(world);
         }
@@ -212,7 +212,7 @@ fn who_puts_a_row_that_is_not_there_gives_nothing_back() {
 /// A delete asks for two slots, and is given the first one. A callback of the second one came before
 /// that, and the release was lost: the server still counts the client as a reader there.
 #[test]
-fn who_was_called_back_before_a_grant_waits_behind_the_one_that_writes_too() {
+fn a_client_called_back_before_a_grant_waits_for_the_write_too() {
     let mut world = read_by_both();
     assert_eq!(world.write(0, Write::Insert(row(7, 1))), Outcome::Applied);
     for client in [0, 1] {
@@ -222,21 +222,21 @@ fn who_was_called_back_before_a_grant_waits_behind_the_one_that_writes_too() {
     world.settle();
     let pin = held.answer.try_recv().unwrap().unwrap().pin;
     let delete = world.clients[1].write(Write::Delete(7));
-    let asked = world.said(1);
+    let asked = world.messages_of(1);
     let put = world.clients[0].write(Write::Put(row(10, 2)));
-    let said = world.said(0);
-    world.tell_server(&said);
-    let callback = world.said_by_server();
+    let sent = world.messages_of(0);
+    world.deliver_to_server(&sent);
+    let callback = world.messages_of_server();
     // Client 0 gives back the first slot, so the server grants it.
-    world.tell_server(&asked);
-    world.tell_clients();
-    let said = world.said(0);
-    world.tell_server(&said);
-    let grant = world.said_by_server();
+    world.deliver_to_server(&asked);
+    world.deliver_to_clients();
+    let sent = world.messages_of(0);
+    world.deliver_to_server(&sent);
+    let grant = world.messages_of_server();
     for message in callback.iter().chain(&grant) {
-        world.clients[1].hear(message).unwrap();
-        let said = world.said(1);
-        world.tell_server(&said);
+        world.clients[1].receive(message).unwrap();
+        let sent = world.messages_of(1);
+        world.deliver_to_server(&sent);
     }
     world.clients[1].advance(Asking::Allowed);
     world.settle();
@@ -248,13 +248,13 @@ fn who_was_called_back_before_a_grant_waits_behind_the_one_that_writes_too() {
 }
 
 #[test]
-fn a_release_that_is_lost_is_said_again_with_the_request() {
+fn a_release_that_is_lost_is_sent_again_with_the_request() {
     let mut world = read_by_both();
     let Upgrade { put, late, .. } = asks_under_its_pin(&mut world);
     let _next = world.clients[1].write(Write::Put(row(10, 3)));
-    assert!(!world.said(1).is_empty(), "both are lost");
+    assert!(!world.messages_of(1).is_empty(), "both are lost");
     world.clients[1].tick();
-    speaks_first(&mut world, &late);
+    sends_first(&mut world, &late);
     assert_eq!(put.answer.try_recv(), Ok(Ok(Outcome::Applied)));
 }
 
@@ -289,7 +289,7 @@ fn who_pins_for_a_write_waits_for_no_other_thread_of_its_client() {
 }
 
 #[test]
-fn what_a_writer_read_of_the_gap_it_reads_behind_its_write_too() {
+fn what_a_writer_read_of_the_gap_it_reads_after_its_write_too() {
     let mut world = read_by_both();
     assert_eq!(world.write(1, Write::Insert(row(7, 2))), Outcome::Applied);
     assert!(world.is_cached(1, 0..20));

@@ -37,7 +37,7 @@ fn connect(events: &mut EventLoop, now: Now) -> u64 {
     let connection = events.connections().enter(entry, PeerAddress::Gone);
     let hello = FromClient::Hello(None).frame();
     let (hello, _) = split(&hello).next().unwrap();
-    events.hear(connection, hello, now).unwrap();
+    events.receive(connection, hello, now).unwrap();
     connection
 }
 
@@ -65,42 +65,42 @@ impl World {
 
     /// Hands messages over until nobody sends anything.
     fn settle(&mut self) {
-        while self.hear_clients() | self.tell_clients() {}
+        while self.deliver_to_server() | self.deliver_to_clients() {}
     }
 
-    /// The server takes what each client sends. It answers whether one has sent anything.
-    fn hear_clients(&mut self) -> bool {
-        let mut has_heard = false;
+    /// The server takes what each client sends. Returns whether one has sent anything.
+    fn deliver_to_server(&mut self) -> bool {
+        let mut is_any = false;
         for (state, connection) in self.clients.iter_mut().zip(&self.connections) {
             for message in messages(|frames| state.take(frames)) {
-                self.events.hear(*connection, &message, self.now).unwrap();
-                has_heard = true;
+                self.events.receive(*connection, &message, self.now).unwrap();
+                is_any = true;
             }
         }
-        has_heard
+        is_any
     }
 
-    /// The clients take what the server sends. It answers whether it has sent anything.
-    fn tell_clients(&mut self) -> bool {
+    /// The clients take what the server sends. Returns whether it has sent anything.
+    fn deliver_to_clients(&mut self) -> bool {
         if let Some(commit) = self.events.take_commit(self.now) {
             self.events.committed(commit, self.now).unwrap();
         }
         self.events.send(self.now).unwrap();
-        let mut has_told = false;
+        let mut is_any = false;
         while let Some(connection) = self.events.connections().next_to_write() {
             let mut bytes = Vec::new();
             self.events.connections().write(connection, &mut bytes);
-            self.tell(connection, &bytes);
-            has_told |= !bytes.is_empty();
+            self.deliver(connection, &bytes);
+            is_any |= !bytes.is_empty();
         }
-        has_told
+        is_any
     }
 
-    fn tell(&mut self, connection: u64, bytes: &[u8]) {
+    fn deliver(&mut self, connection: u64, bytes: &[u8]) {
         let place = self.connections.iter().position(|it| *it == connection).unwrap();
         let state = &mut self.clients[place];
         for (message, _) in split(bytes).filter(|(message, _)| !host_frame::is_of_host(message)) {
-            state.hear(message).unwrap();
+            state.receive(message).unwrap();
         }
         state.advance(Asking::Allowed);
     }
@@ -156,11 +156,11 @@ fn have_read(reads: &[Asked<Vec<Row>>]) -> bool {
 #[test]
 fn while_many_wait_other_requests_are_taken_one_after_the_other() {
     let (mut world, pin, reads) = crowd();
-    assert_eq!(world.events.open.waiting().count(), MOST);
+    assert_eq!(world.events.requests.waiting().count(), MOST);
     // What one of those asks again that are kept is no further request.
     world.clients[MOST + 1].tick();
     world.settle();
-    assert_eq!(world.events.open.waiting().count(), MOST);
+    assert_eq!(world.events.requests.waiting().count(), MOST);
     world.unpin(0, pin);
     assert!(have_read(&reads));
 }
@@ -174,10 +174,10 @@ fn a_request_that_has_waited_for_long_keeps_no_other_one_back() {
     assert_eq!(soon(&world), Some(Duration::ZERO));
     // One that comes now is taken after those that are kept.
     let other = world.clients[0].read(20..21);
-    world.hear_clients();
-    assert_eq!(world.events.open.waiting().count(), MOST);
+    world.deliver_to_server();
+    assert_eq!(world.events.requests.waiting().count(), MOST);
     world.settle();
-    assert_eq!(world.events.open.waiting().count(), reads.len());
+    assert_eq!(world.events.requests.waiting().count(), reads.len());
     assert_eq!(other.answer.try_recv(), Ok(Ok(Vec::new())));
     assert_eq!(soon(&world), None);
     world.unpin(0, pin);
@@ -192,7 +192,7 @@ fn a_request_of_an_earlier_connection_is_not_taken() {
     world.clients[last].tick();
     for message in messages(|frames| world.clients[last].take(frames)) {
         if Message::read(&message).kind() != Kind::Lock {
-            world.events.hear(world.connections[last], &message, world.now).unwrap();
+            world.events.receive(world.connections[last], &message, world.now).unwrap();
         }
     }
     world.unpin(0, pin);
@@ -211,9 +211,9 @@ fn a_client_that_has_left_waits_for_nothing() {
     let held = world.ask(0, |state| state.hold(10..11, Purpose::Write));
     let Held { pin, .. } = held.answer.try_recv().unwrap().unwrap();
     let _reading = world.ask(1, |state| state.read(10..11));
-    assert_eq!(world.events.open.waiting().count(), 1);
+    assert_eq!(world.events.requests.waiting().count(), 1);
     let _left = world.ask(1, State::leave);
     world.unpin(0, pin);
     assert!(world.events.server.record(1).unwrap().unwrap().left);
-    assert_eq!(world.events.open.waiting().count(), 0, "it has left");
+    assert_eq!(world.events.requests.waiting().count(), 0, "it has left");
 }

@@ -144,7 +144,7 @@ mod tests {
     }
 
     #[test]
-    fn what_can_not_be_made_is_told_by_its_path() {
+    fn a_copy_that_cannot_be_made_is_reported_by_its_path() {
         let Err(error) = Part::new(Path::new("/nowhere/copy.db")) else { panic!("it is made") };
         assert!(error.to_string().contains("/nowhere/copy.db."), "{error}");
     }

@@ -7,14 +7,14 @@ use std::sync::Arc;
 use std::sync::mpsc::{Receiver, RecvTimeoutError, SyncSender, TrySendError, sync_channel};
 use std::time::Duration;
 
-/// The most requests that wait. One more is refused.
+/// The most questions that wait. One more is refused.
 const MAX_WAITING: usize = 256;
 
 /// The report on a server whose loop does not answer.
 pub(crate) const BUSY: &str = "the server's loop did not answer in time: it is busy, or hangs";
 
 /// What another thread asks.
-pub(crate) enum Request {
+pub(crate) enum Question {
     /// All that the store has.
     Snapshot(SyncSender<Result<Snapshot, StoreError>>),
     /// Who holds what.
@@ -23,31 +23,31 @@ pub(crate) enum Request {
     Stop,
 }
 
-/// Why a request has no answer.
+/// Why a question has no answer.
 #[derive(Clone, Copy, Debug, PartialEq, Eq)]
 pub(crate) enum Unanswered {
-    /// The loop has ended, or ends before it takes the request.
+    /// The loop has ended, or ends before it takes the question.
     Ended,
     /// The loop did not come to it in time.
     Busy,
 }
 
-/// Where other threads ask. Each request wakes the loop.
+/// Where other threads ask. Each question wakes the loop.
 #[derive(Clone)]
-pub(crate) struct Requests {
-    waiting: SyncSender<Request>,
+pub(crate) struct Questions {
+    waiting: SyncSender<Question>,
     waker: Arc<Waker>,
 }
 
-impl Requests {
-    pub fn new(waker: Arc<Waker>) -> (Requests, Receiver<Request>) {
+impl Questions {
+    pub fn new(waker: Arc<Waker>) -> (Questions, Receiver<Question>) {
         let (waiting, asked) = sync_channel(MAX_WAITING);
-        (Requests { waiting, waker }, asked)
+        (Questions { waiting, waker }, asked)
     }
 
     /// Asks, and wakes the loop.
-    pub fn ask(&self, request: Request) -> Result<(), Unanswered> {
-        self.waiting.try_send(request).map_err(|error| match error {
+    pub fn ask(&self, question: Question) -> Result<(), Unanswered> {
+        self.waiting.try_send(question).map_err(|error| match error {
             TrySendError::Full(_) => Unanswered::Busy,
             TrySendError::Disconnected(_) => Unanswered::Ended,
         })?;
@@ -59,11 +59,11 @@ impl Requests {
     /// Asks, and waits for the answer, but not longer than this.
     pub fn answer<T>(
         &self,
-        request: impl FnOnce(SyncSender<T>) -> Request,
+        question: impl FnOnce(SyncSender<T>) -> Question,
         longest: Duration,
     ) -> Result<T, Unanswered> {
         let (reply, answer) = sync_channel(1);
-        self.ask(request(reply))?;
+        self.ask(question(reply))?;
         answer.recv_timeout(longest).map_err(|error| match error {
             RecvTimeoutError::Timeout => Unanswered::Busy,
             RecvTimeoutError::Disconnected => Unanswered::Ended,
@@ -73,7 +73,7 @@ impl Requests {
     /// Has the loop end. It waits until the loop takes that, if it is busy.
     pub fn stop(&self) {
         // One that does not take it has ended already.
-        let _ = self.waiting.send(Request::Stop);
+        let _ = self.waiting.send(Question::Stop);
         let _ = self.waker.wake();
     }
 }
@@ -88,14 +88,14 @@ mod tests {
         const SHORT: Duration = Duration::from_millis(20);
         let poll = Poll::new().unwrap();
         let waker = Arc::new(Waker::new(poll.registry(), Token(0)).unwrap());
-        let (requests, asked) = Requests::new(waker);
-        let answer = || requests.answer(Request::Snapshot, SHORT).map(drop);
+        let (questions, asked) = Questions::new(waker);
+        let answer = || questions.answer(Question::Snapshot, SHORT).map(drop);
         assert_eq!(answer(), Err(Unanswered::Busy), "it does not come to it");
         for _ in 1..MAX_WAITING {
             let (reply, _) = sync_channel(1);
-            requests.ask(Request::Snapshot(reply)).unwrap();
+            questions.ask(Question::Snapshot(reply)).unwrap();
         }
-        assert_eq!(requests.ask(Request::Stop), Err(Unanswered::Busy), "too many wait");
+        assert_eq!(questions.ask(Question::Stop), Err(Unanswered::Busy), "too many wait");
         drop(asked);
         assert_eq!(answer(), Err(Unanswered::Ended));
     }

@@ -7,14 +7,14 @@
 
 /// The frames of a host, by whether they wait for a commit.
 #[derive(Debug, Default)]
-pub(super) struct Told {
+pub(super) struct HostFrames {
     /// They wait for the next commit. An empty one is the end of the connection.
     waiting: Option<Vec<u8>>,
     /// They may leave.
     free: Vec<u8>,
 }
 
-impl Told {
+impl HostFrames {
     /// Something waits for the next commit. Returns whether nothing did before.
     pub fn waits(&mut self) -> bool {
         let is_first = self.waiting.is_none();
@@ -48,15 +48,15 @@ mod tests {
 
     #[test]
     fn a_frame_waits_for_a_commit() {
-        let mut told = Told::default();
-        assert!(told.waits() && !told.waits(), "it waits once");
-        told.put(b"first");
-        assert!(told.free().is_empty() && told.is_waiting());
-        told.committed();
-        assert!(!told.is_waiting());
-        told.put(b"second");
-        assert_eq!(std::mem::take(told.free()), b"first");
-        told.committed();
-        assert_eq!(told.free(), b"second");
+        let mut host_frames = HostFrames::default();
+        assert!(host_frames.waits() && !host_frames.waits(), "it waits once");
+        host_frames.put(b"first");
+        assert!(host_frames.free().is_empty() && host_frames.is_waiting());
+        host_frames.committed();
+        assert!(!host_frames.is_waiting());
+        host_frames.put(b"second");
+        assert_eq!(std::mem::take(host_frames.free()), b"first");
+        host_frames.committed();
+        assert_eq!(host_frames.free(), b"second");
     }
 }
