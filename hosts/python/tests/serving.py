@@ -109,6 +109,15 @@ class Served(unittest.TestCase):
         """Kills the server."""
         end(self.server)
 
+    def pause(self) -> None:
+        """Stops the server's process. When this returns, none of its threads runs."""
+        self.server.send_signal(signal.SIGSTOP)
+        os.waitpid(self.server.pid, os.WUNTRACED)
+
+    def resume(self) -> None:
+        """Has a server that was paused continue."""
+        self.server.send_signal(signal.SIGCONT)
+
     def start_again(self, store: str = "store.db") -> None:
         """Kills the server, and starts another one."""
         self.stop()

@@ -4,7 +4,6 @@ from __future__ import annotations
 
 import gc
 import shutil
-import signal
 import socket
 import subprocess
 import sys
@@ -356,13 +355,13 @@ class ServersTest(Served):
     def test_a_write_that_is_sent_and_not_answered_may_have_been_applied(self) -> None:
         client = self.join(0)
         client.insert(10, b"1")
-        self.server.send_signal(signal.SIGSTOP)
+        self.pause()
         with self.assertRaises(krl.TimedOut) as raised:
             client.put(10, b"2", timeout=0.3)
         self.assertNotIsInstance(raised.exception, krl.NotSent)
         self.assertTrue(raised.exception.is_unknown_outcome)
         self.assertEqual(raised.exception.outcomes, [Outcome.UNKNOWN])
-        self.server.send_signal(signal.SIGCONT)
+        self.resume()
         self.assertEqual(client.put(10, b"3"), Outcome.APPLIED)
 
     def test_a_server_that_waits_for_another_client_says_so_until_that_is_evicted(self) -> None:
@@ -460,9 +459,9 @@ class LeasesTest(Served):
         client.insert(10, b"1")
         with client.pin_for_read(0, 20) as pin:
             self.assertEqual(client.cached(0, 20), [Row(10, b"1")])
-            self.server.send_signal(signal.SIGSTOP)
+            self.pause()
             until(lambda: client.cached(0, 20) is None)
-            self.server.send_signal(signal.SIGCONT)
+            self.resume()
             with self.assertRaises(krl.PinIsVoid):
                 pin.put(10, b"2")
         self.assertEqual(client.read(0, 20), [Row(10, b"1")])
