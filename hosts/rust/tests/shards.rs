@@ -24,16 +24,21 @@ struct World {
 
 impl World {
     fn new(name: &str) -> World {
+        World::of(name, &[0, BOUND])
+    }
+
+    /// A server for each of these shards, which begin at these keys.
+    fn of(name: &str, first_keys: &[u64]) -> World {
         let folder = std::env::temp_dir().join(format!("krl-shards-{}-{name}", std::process::id()));
         std::fs::create_dir_all(&folder).unwrap();
         let start = |_| {
             let listener = Listener::bind(&"127.0.0.1:0".parse().unwrap()).unwrap();
             Server::start(listener, MemoryStore::default()).unwrap()
         };
-        let servers: Vec<Server> = (0..2).map(start).collect();
+        let servers: Vec<Server> = first_keys.iter().map(start).collect();
         let shard =
-            |(first, server): (u64, &Server)| Shard { first, servers: server.address().into() };
-        let map = ShardMap::new([0, BOUND].into_iter().zip(&servers).map(shard).collect());
+            |(&first, server): (&u64, &Server)| Shard { first, servers: server.address().into() };
+        let map = ShardMap::new(first_keys.iter().zip(&servers).map(shard).collect());
         World { map: map.unwrap(), servers, folder }
     }
 
@@ -214,6 +219,19 @@ fn a_client_that_is_dropped_leaves_each_shard() {
     world.servers.remove(0).stop().unwrap();
     drop(client);
     assert_eq!(other.put(300, Value::from(3)), Ok(Outcome::Applied));
+}
+
+/// Otherwise a program would take the longer to end the more servers are down.
+#[test]
+fn a_client_that_is_dropped_leaves_all_shards_at_once() {
+    let first_keys: Vec<u64> = (0..16).map(|shard| shard * BOUND).collect();
+    let mut world = World::of("at-once", &first_keys);
+    let client = world.join(1);
+    world.servers.drain(..).for_each(|server| server.stop().unwrap());
+    let begun = Instant::now();
+    drop(client);
+    // It waits for a second for the servers, not for a second for each of them.
+    assert!(begun.elapsed() < Duration::from_secs(8), "{:?}", begun.elapsed());
 }
 
 #[test]
