@@ -1,7 +1,7 @@
 -- What a step leaves of the facts on loads.
 use Rattle.std.proofs.Common.{◌≡◌, ◌<◌, ◌≤◌, ℕ, ◌⊎◌, inl, inr, Bool, true, false, refl, sym, ◌∙◌, ⊎_elim, true≢false, arith}
 use Rattle.std.proofs.lemmas.Bool.{cases_lt}
-use Rattle.krl_cached_table.specs.Worlds.{Setting, row_after, Transaction, LoadStage, Unused, Held, Counted, Unnoticed, Quiet, Kept, Load, World}
+use Rattle.krl_cached_table.specs.Worlds.{Setting, row_after, Transaction, LoadStage, Unused, Held, Counted, MarkUnnoticed, Unnoticed, Quiet, Kept, Load, World}
 use Rattle.krl_cached_table.specs.Steps.{IsCompatible, Holds, IsExclusive}
 use Rattle.krl_cached_table.specs.Promises.{HasTenures}
 use Rattle.krl_cached_table.proofs.Sound.{HasNotEnded, IsHome, CountsAsKept, NobodyTook, IsUnnoticed, IsGuarded, Facts, excluded}
@@ -13,6 +13,7 @@ pub record Frame (g : Setting) (w v : World) : Type 0 where
   pub start : w.start ≤ v.start
   pub open_since : (l : Load) → l.nonce ≤ w.start → l.nonce ≡ v.start → l.nonce ≡ w.start
   pub counted : (l : Load) → l.nonce ≤ w.start → l.nonce ≡ v.start → CountsAsKept w l → CountsAsKept v l
+  pub mark_unnoticed : (l : Load) → IsHome g w l → HasTenures g w l → NobodyTook w g.mark → NobodyTook v g.mark
   pub unnoticed : (l : Load) → IsHome g w l → HasTenures g w l → l.nonce ≤ w.start → l.nonce ≡ v.start → IsUnnoticed g w l → IsUnnoticed g v l
   pub guarded : (l : Load) → IsHome g w l → HasTenures g w l → IsGuarded g w l → IsGuarded g v l
   pub rows : (l : Load) → IsGuarded g w l → (key : ℕ) → g.stripe_of key ≡ l.stripe → row_after w.changes key ≡ row_after v.changes key
@@ -27,6 +28,14 @@ framed g w v f l Counted h =
     let past : w.start ≤ v.start = f.start in
     let older : l.nonce ≤ w.start = h.0 in
     (omega arith, f.home l h.1, λ t e. f.counted l h.0 e (h.2 (f.tenures l h.1 t) (f.open_since l h.0 e)))
+framed g w v f l MarkUnnoticed h =
+    let past : w.start ≤ v.start = f.start in
+    let older : l.nonce ≤ w.start = h.0 in
+    (
+      omega arith,
+      f.home l h.1,
+      λ t e. let k = h.2 (f.tenures l h.1 t) (f.open_since l h.0 e) in (f.counted l h.0 e k.0, f.mark_unnoticed l h.1 (f.tenures l h.1 t) k.1),
+    )
 framed g w v f l Unnoticed h =
     let past : w.start ≤ v.start = f.start in
     let older : l.nonce ≤ w.start = h.0 in
@@ -65,6 +74,7 @@ module _ (g : Setting) (w : World) (f : ℕ → Transaction) (up : Bool) (compat
     start = omega arith;
     open_since = λ l past e. e;
     counted = λ l past e c. c;
+    mark_unnoticed = λ l h t nobody. nobody_took l.client g.mark h.reader (h.mark t) nobody;
     unnoticed = λ l h t past e u. record {
       counted = u.counted;
       stripe = nobody_took l.client l.stripe h.reader (h.stripe t) u.stripe;

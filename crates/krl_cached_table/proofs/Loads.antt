@@ -1,7 +1,7 @@
 -- A step of a load gives it the facts of its next stage.
-use Rattle.std.proofs.Common.{◌≡◌, ◌≢◌, ◌<◌, ℕ, inl, inr, true, false, refl, sym, subst, arith}
-use Rattle.krl_cached_table.specs.Worlds.{Setting, Stage, Running, Prepared, Committed, Visible, Recovering, Ended, Held, Counted, Unnoticed, Quiet, Kept, Load, World}
-use Rattle.krl_cached_table.specs.Steps.{LoadStep, begins, begins_elsewhere, sees_no_notice, finds_count, takes_rows, has_locks, NobodyGaveNotice}
+use Rattle.std.proofs.Common.{◌≡◌, ◌≢◌, ◌<◌, ℕ, inl, inr, true, refl, sym, subst, arith}
+use Rattle.krl_cached_table.specs.Worlds.{Setting, Stage, Running, Prepared, Committed, Visible, Recovering, Ended, Counted, MarkUnnoticed, Unnoticed, Quiet, Load, World}
+use Rattle.krl_cached_table.specs.Steps.{LoadStep, begins, begins_elsewhere, sees_no_notice_of_mark, sees_no_notice, finds_count, takes_rows, has_locks, NobodyGaveNotice}
 use Rattle.krl_cached_table.proofs.Sound.{NobodyTook, Facts, Sound}
 
 locked : (s : Stage) → s ≢ Recovering → s ≢ Ended → has_locks s ≡ true
@@ -23,15 +23,18 @@ load_kept g w l m s (begins c p reader stripe mark) h =
 load_kept g w l m s (begins_elsewhere other held older) h =
     let past : other.nonce < w.start = older in
     subst (Facts g w other) (sym held) (omega arith, inr older)
-load_kept g w l m s (sees_no_notice counted is_open stripe mark) h =
+load_kept g w l m s (sees_no_notice_of_mark counted is_open mark) h =
     let k : Facts g w l Counted = subst (Facts g w l) counted h in
+    (k.0, k.1, λ t e. (k.2 t e, none_took g w g.mark s is_open.0 mark))
+load_kept g w l m s (sees_no_notice unnoticed is_open stripe) h =
+    let k : Facts g w l MarkUnnoticed = subst (Facts g w l) unnoticed h in
     (
       k.0,
       k.1,
       λ t e. record {
-        counted = k.2 t e;
+        counted = (k.2 t e).0;
         stripe = none_took g w l.stripe s is_open.0 stripe;
-        mark = none_took g w g.mark s is_open.0 mark;
+        mark = (k.2 t e).1;
         skipped = λ x not_ended skip. absurd (stripe x (locked (w.transactions x).stage (s.recovered is_open.0 x) not_ended, (s.proper x).skipped l.stripe skip));
       },
     )

@@ -1,10 +1,9 @@
 -- What a read returns from memory is the table.
-use Rattle.std.proofs.Common.{◌≡◌, ◌<◌, ◌≤◌, ℕ, zero, suc, ◌+◌, ◌⊎◌, Option, refl, sym, ◌∙◌, ap, subst, ⊎_elim, arith}
-use Rattle.krl_modes.specs.Parts.{reads_key}
-use Rattle.krl_cached_table.specs.Worlds.{Setting, row_after, LoadStage, Held, Counted, Unnoticed, Quiet, Kept, Load, World}
-use Rattle.krl_cached_table.specs.Steps.{Step, locks_change, takes_mark, transacts, counts_recall, becomes_visible, crashes, recovers, starts, loads, counts_as_kept, Steps, none, more, Reachable}
-use Rattle.krl_cached_table.specs.Promises.{HasTenures, Answers, AnswersAreTable, with_row, range, RangesAreTable}
-use Rattle.krl_cached_table.proofs.Sound.{IsHome, IsGuarded, AreRows, Facts, Sound}
+use Rattle.std.proofs.Common.{◌≡◌, ◌<◌, ◌≤◌, ℕ, zero, suc, ◌+◌, Option, refl, sym, ◌∙◌, ap, subst, arith}
+use Rattle.krl_cached_table.specs.Worlds.{Setting, row_after, Kept, Load, World}
+use Rattle.krl_cached_table.specs.Steps.{Step, locks_change, takes_mark, transacts, counts_recall, becomes_visible, crashes, recovers, starts, loads, counts_as_kept, Steps, none, more}
+use Rattle.krl_cached_table.specs.Promises.{HasTenures, AnswersAreTable, with_row, range, RangesAreTable}
+use Rattle.krl_cached_table.proofs.Sound.{IsHome, IsGuarded, AreRows, Facts}
 use Rattle.krl_cached_table.proofs.Worlds.{sound, later_tenure}
 
 -- No step gives a client an earlier tenure

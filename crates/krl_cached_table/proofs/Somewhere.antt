@@ -1,12 +1,12 @@
 -- A run in which a reader, client 1, answers from memory. The worker is client 0. Key 3 is of stripe 7, all others of 8.
-use Rattle.std.proofs.Common.{◌≡◌, ◌≢◌, ℕ, suc, ◌<◌, ◌⊎◌, inl, inr, true, false, Some, None, [], ◌∷◌, refl, sym, ◌∙◌, ap, subst, ⊎_elim, true≢false, arith, if◌then◌else◌, eqb}
+use Rattle.std.proofs.Common.{◌≡◌, ◌≢◌, ℕ, suc, inl, inr, true, false, Some, None, [], ◌∷◌, refl, sym, ◌∙◌, ap, subst, ⊎_elim, true≢false, arith, if◌then◌else◌, eqb}
 use Rattle.std.proofs.lemmas.Bool.{eqb-true, ne_eqb, cases_eq, cond-false, cond_both}
 use Rattle.krl_modes.specs.Parts.{keys_compatible, reads_key}
 use Rattle.krl_modes.specs.declared.part.KeyPart.{KeyPart}
 use Rattle.krl_modes.specs.declared.part.KeyPart.TheVariants as part
-use Rattle.krl_cached_table.specs.Worlds.{Setting, Change, row_after, Running, Committed, Visible, Ended, Transaction, Held, Counted, Unnoticed, Quiet, Kept, Load, World, new_transaction, first}
-use Rattle.krl_cached_table.specs.Steps.{put, IsCompatible, HasNotice, NobodyGaveNotice, AreSettled, IsChanged, IsSettled, TransactionStep, changes_row, gives_notice, takes_back, skips, commits, ends, begins, sees_no_notice, finds_count, takes_rows, LoadStep, shown, Step, locks_change, takes_mark, transacts, counts_recall, becomes_visible, loads, counts_as_kept, Steps, none, more, Reachable, begun, stepped}
-use Rattle.krl_cached_table.specs.Promises.{Answers, AnswersSomewhere}
+use Rattle.krl_cached_table.specs.Worlds.{Setting, row_after, Committed, Visible, Ended, Transaction, Held, Counted, MarkUnnoticed, Unnoticed, Quiet, Kept, Load, World, new_transaction, first}
+use Rattle.krl_cached_table.specs.Steps.{put, IsCompatible, HasNotice, NobodyGaveNotice, AreSettled, IsSettled, changes_row, gives_notice, takes_back, skips, commits, ends, begins, sees_no_notice_of_mark, sees_no_notice, finds_count, takes_rows, shown, Step, locks_change, takes_mark, transacts, counts_recall, becomes_visible, loads, counts_as_kept, Steps, none, more, Reachable, begun, stepped}
+use Rattle.krl_cached_table.specs.Promises.{AnswersSomewhere}
 
 abbrev g : Setting
 g = record { stripe_of = λ key. if eqb key 3 then 7 else 8; mark = 9; is_worker = λ c. eqb c 0 }
@@ -60,8 +60,11 @@ counted w =
       loads = put (put w.loads 0 (held_load w)) 0 (counted_load w);
     }
 
+abbrev mark_unnoticed : World → World
+mark_unnoticed w = with_load (counted w) (record (counted_load w) { stage = MarkUnnoticed })
+
 abbrev unnoticed : World → World
-unnoticed w = with_load (counted w) (record (counted_load w) { stage = Unnoticed })
+unnoticed w = with_load (mark_unnoticed w) (record (counted_load w) { stage = Unnoticed })
 
 abbrev quiet : World → World
 quiet w = with_load (unnoticed w) (record (counted_load w) { stage = Quiet })
@@ -80,8 +83,11 @@ module _ (w : World) (held : w.held ≡ owned 1 part.S) (up : w.is_up ≡ true) 
   counts_load : Step g (with_load w (held_load w)) (counted w)
   counts_load = counts_as_kept 0 refl (up, new)
 
-  unnoticed_load : Step g (counted w) (unnoticed w)
-  unnoticed_load = loads 0 (record (counted_load w) { stage = Unnoticed }) (sees_no_notice refl (up, new) stripe mark)
+  mark_unnoticed_load : Step g (counted w) (mark_unnoticed w)
+  mark_unnoticed_load = loads 0 (record (counted_load w) { stage = MarkUnnoticed }) (sees_no_notice_of_mark refl (up, new) mark)
+
+  unnoticed_load : Step g (mark_unnoticed w) (unnoticed w)
+  unnoticed_load = loads 0 (record (counted_load w) { stage = Unnoticed }) (sees_no_notice refl (up, new) stripe)
 
   quiet_load : Step g (unnoticed w) (quiet w)
   quiet_load = loads 0 (record (counted_load w) { stage = Quiet }) (finds_count refl (up, new) refl refl)
@@ -90,7 +96,7 @@ module _ (w : World) (held : w.held ≡ owned 1 part.S) (up : w.is_up ≡ true) 
   kept_load = loads 0 (record (counted_load w) { stage = Kept; rows = row_after w.changes }) (takes_rows refl)
 
   loads_rows : Steps g w (loaded w)
-  loads_rows = more (more (more (more (more none begun_load) counts_load) unnoticed_load) quiet_load) kept_load
+  loads_rows = more (more (more (more (more (more none begun_load) counts_load) mark_unnoticed_load) unnoticed_load) quiet_load) kept_load
 
 steps_on : {u v w : World} → Steps g u v → Steps g v w → Steps g u w
 steps_on a none = a

@@ -1,10 +1,10 @@
 -- What holds of each reachable world.
-use Rattle.std.proofs.Common.{◌≡◌, ◌≢◌, ◌<◌, ◌≤◌, ℕ, ◌⊎◌, true, false, refl, sym, ◌∙◌, ap, subst, eqb, true≢false}
+use Rattle.std.proofs.Common.{◌≡◌, ◌≢◌, ◌<◌, ◌≤◌, ℕ, ◌⊎◌, true, false, sym, ◌∙◌, ap, subst, eqb, true≢false}
 use Rattle.std.proofs.lemmas.Bool.{eqb-true, cond_both}
 use Rattle.krl_modes.specs.Parts.{keys_compatible, reads_key}
 use Rattle.krl_modes.specs.declared.part.KeyPart.{KeyPart}
 use Rattle.krl_modes.specs.declared.part.KeyPart.TheVariants as part
-use Rattle.krl_cached_table.specs.Worlds.{Setting, row_after, Stage, Running, Prepared, Committed, Visible, Recovering, Ended, Transaction, LoadStage, Unused, Held, Counted, Unnoticed, Quiet, Kept, Load, World}
+use Rattle.krl_cached_table.specs.Worlds.{Setting, row_after, Stage, Running, Prepared, Committed, Visible, Recovering, Ended, Transaction, LoadStage, Unused, Held, Counted, MarkUnnoticed, Unnoticed, Quiet, Kept, Load, World}
 use Rattle.krl_cached_table.specs.Steps.{put, IsCompatible, Holds, IsExclusive, AreSettled}
 use Rattle.krl_cached_table.specs.Promises.{HasTenures}
 
@@ -88,6 +88,7 @@ abbrev pub Facts : Setting → World → Load → LoadStage → Type 0
 Facts g w l Unused = Unit {0}
 Facts g w l Held = (l.nonce ≤ w.start) × (IsHome g w l ⊎ (l.nonce < w.start))
 Facts g w l Counted = (l.nonce ≤ w.start) × IsHome g w l × (HasTenures g w l → l.nonce ≡ w.start → CountsAsKept w l)
+Facts g w l MarkUnnoticed = (l.nonce ≤ w.start) × IsHome g w l × (HasTenures g w l → l.nonce ≡ w.start → CountsAsKept w l × NobodyTook w g.mark)
 Facts g w l Unnoticed = (l.nonce ≤ w.start) × IsHome g w l × (HasTenures g w l → l.nonce ≡ w.start → IsUnnoticed g w l)
 Facts g w l Quiet = IsHome g w l × (HasTenures g w l → IsGuarded g w l)
 Facts g w l Kept = IsHome g w l × (HasTenures g w l → IsGuarded g w l × AreRows g w l)

@@ -1,12 +1,12 @@
 -- Each step keeps a world sound.
-use Rattle.std.proofs.Common.{◌≡◌, ◌≢◌, ◌<◌, ◌≤◌, ℕ, suc, ◌⊎◌, inl, inr, Bool, true, false, List, [], ◌∷◌, ◌++◌, refl, sym, ◌∙◌, ap, subst, ⊎_elim, true≢false, eqb, arith, cond}
+use Rattle.std.proofs.Common.{◌≡◌, ◌≢◌, ◌<◌, ◌≤◌, ℕ, suc, inl, inr, true, false, List, [], ◌∷◌, ◌++◌, refl, sym, subst, ⊎_elim, true≢false, eqb, arith}
 use Rattle.std.proofs.lemmas.Bool.{eqb-true, eq-eqb, cond_both, cond-true}
 use Rattle.krl_modes.specs.declared.part.KeyPart.{KeyPart}
 use Rattle.krl_modes.specs.Parts.{reads_key}
-use Rattle.krl_cached_table.specs.Worlds.{Setting, Change, row_after, Stage, Running, Committed, Visible, Recovering, Ended, Transaction, Count, Held, Counted, Load, World, new_count, first}
-use Rattle.krl_cached_table.specs.Steps.{put, IsCompatible, Holds, IsExclusive, NotesLosses, IsSettled, IsChanged, AreSettled, IsOpen, shown, crashed, Step, locks_change, takes_mark, transacts, counts_recall, becomes_visible, crashes, recovers, starts, loads, counts_as_kept, Reachable, begun, stepped}
+use Rattle.krl_cached_table.specs.Worlds.{Setting, Change, row_after, Stage, Running, Visible, Recovering, Ended, Transaction, Count, Held, Counted, Load, World, new_count}
+use Rattle.krl_cached_table.specs.Steps.{put, IsCompatible, Holds, IsExclusive, NotesLosses, IsSettled, IsChanged, IsOpen, shown, crashed, Step, locks_change, takes_mark, transacts, counts_recall, becomes_visible, crashes, recovers, starts, loads, counts_as_kept, Reachable, begun, stepped}
 use Rattle.krl_cached_table.specs.Promises.{HasTenures}
-use Rattle.krl_cached_table.proofs.Sound.{put_all, IsFixed, IsProper, HasNotEnded, IsHome, CountsAsKept, IsUnnoticed, IsGuarded, Facts, Sound, excluded}
+use Rattle.krl_cached_table.proofs.Sound.{put_all, IsFixed, IsProper, HasNotEnded, IsHome, CountsAsKept, IsGuarded, Facts, Sound, excluded}
 use Rattle.krl_cached_table.proofs.Frames.{Frame, framed, Goes, going}
 use Rattle.krl_cached_table.proofs.Transactions.{goes_same, goes_to, step_goes, step_proper, step_recovered, crash_goes, crash_proper, proper_unfixed, committed_not_ended, recovering_not_ended}
 use Rattle.krl_cached_table.proofs.Loads.{load_kept}
@@ -62,6 +62,7 @@ module _ (g : Setting) (w : World) (held : ℕ → ℕ → KeyPart) (tenure : �
     start = omega arith;
     open_since = λ l past e. e;
     counted = λ l past e c. c;
+    mark_unnoticed = λ l h t nobody. nobody;
     unnoticed = λ l h t past e u. u;
     guarded = λ l h t k. k;
     rows = λ l k key e. refl;
@@ -89,6 +90,7 @@ module _ (g : Setting) (w : World) (exclusive : IsExclusive g w g.mark) where
     start = omega arith;
     open_since = λ l past e. e;
     counted = λ l past e c. c;
+    mark_unnoticed = λ l h t nobody. nobody;
     unnoticed = λ l h t past e u. u;
     guarded = λ l h t k. absurd (excluded g w l.client g.mark compatible h.reader (h.mark t) exclusive);
     rows = λ l k key e. refl;
@@ -149,6 +151,7 @@ module _ (g : Setting) (w : World) (t : ℕ) (stage : Stage) (s : Sound g w) (no
         start = f.start;
         open_since = f.open_since;
         counted = f.counted;
+        mark_unnoticed = f.mark_unnoticed;
         unnoticed = f.unnoticed;
         guarded = f.guarded;
         rows = λ l k key e. sym (unchanged_row x.changes w.changes key (not_changed l k key e));
@@ -186,6 +189,7 @@ module _ (g : Setting) (w : World) (t p : ℕ) (run : (w.transactions t).stage �
     start = omega arith;
     open_since = λ l past e. e;
     counted = λ l past e c. counted_still l c;
+    mark_unnoticed = λ l h t nobody. nobody;
     unnoticed = λ l h t past e u. record {
       counted = counted_still l u.counted;
       stripe = u.stripe;
@@ -241,6 +245,7 @@ module _ (g : Setting) (w : World) (n : ℕ) (held : (w.loads n).stage ≡ Held)
     start = omega arith;
     open_since = λ l past e. e;
     counted = λ l past e c. kept_still l c;
+    mark_unnoticed = λ l h t nobody. nobody;
     unnoticed = λ l h t past e u. record {
       counted = kept_still l u.counted;
       stripe = u.stripe;
@@ -290,6 +295,7 @@ module _ (g : Setting) (w : World) (n : ℕ) (l : Load) where
     start = omega arith;
     open_since = λ l past e. e;
     counted = λ l past e c. c;
+    mark_unnoticed = λ l h t nobody. nobody;
     unnoticed = λ l h t past e u. u;
     guarded = λ l h t k. k;
     rows = λ l k key e. refl;
@@ -327,6 +333,7 @@ module _ (g : Setting) (w : World) (s : Sound g w) where
     start = omega arith;
     open_since = λ l past e. absurd (omega arith);
     counted = λ l past e c. absurd (omega arith);
+    mark_unnoticed = λ l h t nobody. nobody;
     unnoticed = λ l h t past e u. absurd (omega arith);
     guarded = λ l h t k. record {
       stripe = k.stripe;

@@ -3,7 +3,7 @@ use Rattle.std.specs.Prelude.{◌≡◌, ◌≢◌, ℕ, suc, ◌<◌, Bool, tru
 use Rattle.krl_modes.specs.Parts.{keys_compatible, reads_key}
 use Rattle.krl_modes.specs.declared.part.KeyPart.{KeyPart}
 use Rattle.krl_modes.specs.declared.part.KeyPart.TheVariants as part
-use Rattle.krl_cached_table.specs.Worlds.{Setting, Change, row_after, Stage, Running, Prepared, Committed, Visible, Recovering, Ended, Transaction, Count, Held, Counted, Unnoticed, Quiet, Kept, Load, World, new_count, first}
+use Rattle.krl_cached_table.specs.Worlds.{Setting, Change, row_after, Stage, Running, Prepared, Committed, Visible, Recovering, Ended, Transaction, Held, Counted, MarkUnnoticed, Unnoticed, Quiet, Kept, Load, World, new_count, first}
 
 -- the same, but for one place
 abbrev pub put : {A : Type 0} → (ℕ → A) → ℕ → A → ℕ → A
@@ -95,8 +95,8 @@ IsOpen w l = (w.is_up ≡ true) × (l.nonce ≡ w.start)
 abbrev pub NobodyGaveNotice : World → ℕ → Type 0
 NobodyGaveNotice w p = (t : ℕ) → HasNotice (w.transactions t) p → ⊥
 
--- what changes nothing but the load l. The three parts of one call of krl.quiet are counts_as_kept, below, and
--- sees_no_notice and finds_count here
+-- what changes nothing but the load l. The parts of one call of krl.quiet are, in this order, counts_as_kept, below,
+-- and sees_no_notice_of_mark, sees_no_notice and finds_count here
 pub data LoadStep (g : Setting) (w : World) (l : Load) : Load → Type 0 where
   begins : (c p : ℕ) → g.is_worker c ≡ false →
       Holds w c p →
@@ -113,9 +113,9 @@ pub data LoadStep (g : Setting) (w : World) (l : Load) : Load → Type 0 where
       })
   -- by a client of another server of krl, or of one whose store went back. The mark has an older nonce there
   begins_elsewhere : (other : Load) → other.stage ≡ Held → other.nonce < w.start → LoadStep g w l other
-  sees_no_notice : l.stage ≡ Counted → IsOpen w l →
-      NobodyGaveNotice w l.stripe →
-      NobodyGaveNotice w g.mark →
+  sees_no_notice_of_mark : l.stage ≡ Counted → IsOpen w l → NobodyGaveNotice w g.mark →
+      LoadStep g w l (record l { stage = MarkUnnoticed })
+  sees_no_notice : l.stage ≡ MarkUnnoticed → IsOpen w l → NobodyGaveNotice w l.stripe →
       LoadStep g w l (record l { stage = Unnoticed })
   finds_count : l.stage ≡ Unnoticed → IsOpen w l →
       (w.counts l.stripe).recalls ≡ l.recalls →

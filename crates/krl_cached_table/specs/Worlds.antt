@@ -52,7 +52,8 @@ pub data LoadStage : Type 0 where
   Unused : LoadStage
   Held : LoadStage  -- the reader has taken the tenures of the stripe and of the mark
   Counted : LoadStage  -- rows of the stripe count as kept
-  Unnoticed : LoadStage  -- nobody had given notice
+  MarkUnnoticed : LoadStage  -- nobody had given notice of the mark
+  Unnoticed : LoadStage  -- nor of the stripe
   Quiet : LoadStage  -- the count was the same: krl.quiet has returned true
   Kept : LoadStage  -- the rows are in memory
 
