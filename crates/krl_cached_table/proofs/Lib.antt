@@ -5,3 +5,4 @@ pub mod Loads
 pub mod Worlds
 pub mod Promised
 pub mod Somewhere
+pub mod Locks

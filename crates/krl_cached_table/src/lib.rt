@@ -5,6 +5,7 @@
 
 ghost use Rattle.krl_cached_table.specs.Promises.{AnswersAreTable, RangesAreTable};
 ghost use Rattle.krl_cached_table.specs.Promises.{AnswersSomewhere};
+ghost use Rattle.krl_cached_table.specs.Locks.{LocksAreCompatible};
 
 /// What a read takes from memory is the committed table at one moment of the read, the same for all
 /// of its rows.
@@ -16,6 +17,12 @@ pub fn answers_are_table()
 /// read.
 pub fn ranges_are_table()
     ensures { RangesAreTable }
+{}
+
+/// The premise of these laws on krl's locks is what krl's machine promises: no two clients hold
+/// incompatible parts of one key.
+pub fn locks_are_compatible()
+    ensures { LocksAreCompatible }
 {}
 
 /// The laws are not empty: a reader answers from memory before and after a transaction takes back
