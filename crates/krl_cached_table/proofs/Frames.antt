@@ -30,8 +30,7 @@ framed g w v f l Counted h =
     (omega arith, f.home l h.1, λ t e. f.counted l h.0 e (h.2 (f.tenures l h.1 t) (f.open_since l h.0 e)))
 framed g w v f l MarkUnnoticed h =
     let past : w.start ≤ v.start = f.start in
-    let older : l.nonce ≤ w.start = h.0 in
-    (
+    let older : l.nonce ≤ w.start = h.0 in (
       omega arith,
       f.home l h.1,
       λ t e. let k = h.2 (f.tenures l h.1 t) (f.open_since l h.0 e) in (f.counted l h.0 e k.0, f.mark_unnoticed l h.1 (f.tenures l h.1 t) k.1),

@@ -27,8 +27,7 @@ load_kept g w l m s (sees_no_notice_of_mark counted is_open mark) h =
     let k : Facts g w l Counted = subst (Facts g w l) counted h in
     (k.0, k.1, λ t e. (k.2 t e, none_took g w g.mark s is_open.0 mark))
 load_kept g w l m s (sees_no_notice unnoticed is_open stripe) h =
-    let k : Facts g w l MarkUnnoticed = subst (Facts g w l) unnoticed h in
-    (
+    let k : Facts g w l MarkUnnoticed = subst (Facts g w l) unnoticed h in (
       k.0,
       k.1,
       λ t e. record {
@@ -39,8 +38,7 @@ load_kept g w l m s (sees_no_notice unnoticed is_open stripe) h =
       },
     )
 load_kept g w l m s (finds_count unnoticed is_open same kept) h =
-    let k : Facts g w l Unnoticed = subst (Facts g w l) unnoticed h in
-    (
+    let k : Facts g w l Unnoticed = subst (Facts g w l) unnoticed h in (
       k.1,
       λ t. let u = k.2 t is_open.1 in record {
         stripe = u.stripe;

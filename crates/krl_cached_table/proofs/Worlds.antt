@@ -138,7 +138,7 @@ module _ (g : Setting) (w : World) (t : ℕ) (stage : Stage) (s : Sound g w) (no
   not_changed : (l : Load) → IsGuarded g w l → (key : ℕ) → g.stripe_of key ≡ l.stripe → IsChanged key x.changes → ⊥
   not_changed l k key e i = ⊎_elim
       (λ (a : IsSettled x (g.stripe_of key)). let b : IsSettled x l.stripe = subst (IsSettled x) e a in
-          ⊎_elim (λ (took : x.took_back l.stripe ≡ true). k.stripe t not_ended took) (λ (skip : x.skipped l.stripe ≡ true). k.skipped t not_ended skip) b.1)
+      ⊎_elim (λ (took : x.took_back l.stripe ≡ true). k.stripe t not_ended took) (λ (skip : x.skipped l.stripe ≡ true). k.skipped t not_ended skip) b.1)
       (λ (a : IsSettled x g.mark). ⊎_elim (λ (took : x.took_back g.mark ≡ true). k.mark t not_ended took) (λ (skip : x.skipped g.mark ≡ true). (s.proper t).mark skip) a.1)
       ((s.proper t).settled fixed key i)
 
@@ -267,10 +267,14 @@ module _ (g : Setting) (w : World) (n : ℕ) (held : (w.loads n).stage ≡ Held)
   is_home h = ⊎_elim (λ (a : IsHome g w (w.loads n)). a) (λ (b : (w.loads n).nonce < w.start). let same : (w.loads n).nonce ≡ w.start = is_open.1 in absurd (omega arith)) h.1
 
   counted_facts : Facts g w (w.loads n) Held → Facts g counted_world counted_load Counted
-  counted_facts h = (h.0, is_home h, λ t e. record {
-        past = subst (λ (k : Count). (w.counts p).recalls ≤ k.recalls) (sym (put_here w.counts p kept_count)) (omega arith);
-        kept = λ same. subst (λ (k : Count). k.is_kept ≡ true) (sym (put_here w.counts p kept_count)) refl;
-      })
+  counted_facts h = (
+    h.0,
+    is_home h,
+    λ t e. record {
+      past = subst (λ (k : Count). (w.counts p).recalls ≤ k.recalls) (sym (put_here w.counts p kept_count)) (omega arith);
+      kept = λ same. subst (λ (k : Count). k.is_kept ≡ true) (sym (put_here w.counts p kept_count)) refl;
+    },
+  )
 
   count_kept : Sound g w → Sound g counted_world
   count_kept s = record {

@@ -149,9 +149,9 @@ pub data Step (g : Setting) (w : World) : World → Type 0 where
   becomes_visible : (t : ℕ) → (w.transactions t).stage ≡ Committed → Step g w (shown w t Visible)
   -- the database
   crashes : Step g w (record w {
-        is_up = false;
-        transactions = λ t. crashed (w.transactions t).stage (w.transactions t);
-      })
+    is_up = false;
+    transactions = λ t. crashed (w.transactions t).stage (w.transactions t);
+  })
   recovers : (t : ℕ) → (w.transactions t).stage ≡ Recovering → Step g w (shown w t Ended)
   starts : w.is_up ≡ false →
       ((t : ℕ) → (w.transactions t).stage ≢ Recovering) →
