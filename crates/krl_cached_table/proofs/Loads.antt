@@ -25,22 +25,24 @@ load_kept g w l m s (begins_elsewhere other held older) h =
     subst (Facts g w other) (sym held) (omega arith, inr older)
 load_kept g w l m s (sees_no_notice_of_mark counted is_open mark) h =
     let k : Facts g w l Counted = subst (Facts g w l) counted h in
-    (k.0, k.1, λ t e. (k.2 t e, none_took g w g.mark s is_open.0 mark))
+    (k.0, k.1, k.2, λ t e. (k.3 t e, none_took g w g.mark s is_open.0 mark))
 load_kept g w l m s (sees_no_notice unnoticed is_open stripe) h =
     let k : Facts g w l MarkUnnoticed = subst (Facts g w l) unnoticed h in (
       k.0,
       k.1,
+      k.2,
       λ t e. record {
-        counted = (k.2 t e).0;
+        counted = (k.3 t e).0;
         stripe = none_took g w l.stripe s is_open.0 stripe;
-        mark = (k.2 t e).1;
+        mark = (k.3 t e).1;
         skipped = λ x not_ended skip. absurd (stripe x (locked (w.transactions x).stage (s.recovered is_open.0 x) not_ended, (s.proper x).skipped l.stripe skip));
       },
     )
 load_kept g w l m s (finds_count unnoticed is_open same kept) h =
     let k : Facts g w l Unnoticed = subst (Facts g w l) unnoticed h in (
       k.1,
-      λ t. let u = k.2 t is_open.1 in record {
+      k.2,
+      λ t. let u = k.3 t is_open.2 in record {
         stripe = u.stripe;
         mark = u.mark;
         skipped = λ x not_ended skip. let late : l.recalls < (w.counts l.stripe).recalls = u.skipped x not_ended skip in omega arith;
@@ -49,4 +51,4 @@ load_kept g w l m s (finds_count unnoticed is_open same kept) h =
     )
 load_kept g w l m s (takes_rows quiet) h =
     let k : Facts g w l Quiet = subst (Facts g w l) quiet h in
-    (k.0, λ t. (k.1 t, λ key e. refl))
+    (k.0, k.1, λ t. (k.2 t, λ key e. refl))

@@ -1,7 +1,7 @@
 -- What a read returns from memory is the table.
 use Rattle.std.proofs.Common.{◌≡◌, ◌<◌, ◌≤◌, ℕ, zero, suc, ◌+◌, Option, refl, sym, ◌∙◌, ap, subst, arith}
 use Rattle.krl_cached_table.specs.Worlds.{Setting, row_after, Kept, Load, World}
-use Rattle.krl_cached_table.specs.Steps.{Step, locks_change, takes_mark, transacts, counts_recall, becomes_visible, crashes, recovers, starts, loads, counts_as_kept, Steps, none, more}
+use Rattle.krl_cached_table.specs.Steps.{Step, locks_change, takes_mark, transacts, counts_recall, becomes_visible, crashes, recovers, starts, closes, suspends, resumes, opens, joins_again, loads, counts_as_kept, Steps, none, more}
 use Rattle.krl_cached_table.specs.Promises.{HasTenures, AnswersAreTable, with_row, range, RangesAreTable}
 use Rattle.krl_cached_table.proofs.Sound.{IsHome, IsGuarded, AreRows, Facts}
 use Rattle.krl_cached_table.proofs.Worlds.{sound, later_tenure}
@@ -17,6 +17,11 @@ step_rises g w v (becomes_visible t committed) c p = omega arith
 step_rises g w v crashes c p = omega arith
 step_rises g w v (recovers t recovering) c p = omega arith
 step_rises g w v (starts down recovered) c p = omega arith
+step_rises g w v closes c p = omega arith
+step_rises g w v (suspends closed nobody) c p = omega arith
+step_rises g w v resumes c p = omega arith
+step_rises g w v (opens active) c p = omega arith
+step_rises g w v joins_again c p = omega arith
 step_rises g w v (loads n l step) c p = omega arith
 step_rises g w v (counts_as_kept n held is_open) c p = omega arith
 
@@ -42,7 +47,7 @@ pub answers_are_table : AnswersAreTable
 answers_are_table g w key row reachable a =
     let l : Load = w.loads a.load in
     let k : Facts g w l Kept = subst (Facts g w l) a.kept ((sound g w reachable).loads a.load) in
-    let rows : IsGuarded g w l × AreRows g w l = k.1 (had_tenures g w a.look l a.later k.0 a.tenures) in
+    let rows : IsGuarded g w l × AreRows g w l = k.2 (had_tenures g w a.look l a.later k.0 a.tenures) in
     sym a.taken ∙ rows.1 key a.stripe
 
 -- Ranges

@@ -73,7 +73,7 @@ abbrev loaded : World → World
 loaded w = with_load (quiet w) (record (counted_load w) { stage = Kept; rows = row_after w.changes })
 
 -- The database is up, with the nonce of its start in the mark, client 1 holds all, and nobody has given notice
-module _ (w : World) (held : w.held ≡ owned 1 part.S) (up : w.is_up ≡ true) (new : w.nonce ≡ w.start) (stripe : NobodyGaveNotice w 7) (mark : NobodyGaveNotice w 9) where
+module _ (w : World) (held : w.held ≡ owned 1 part.S) (up : w.is_up ≡ true) (closed : w.is_closed ≡ false) (new : w.nonce ≡ w.start) (stripe : NobodyGaveNotice w 7) (mark : NobodyGaveNotice w 9) where
   holds : (p : ℕ) → reads_key (w.held 1 p) ≡ true
   holds p = ap (λ (h : ℕ → ℕ → KeyPart). reads_key (h 1 p)) held
 
@@ -81,16 +81,16 @@ module _ (w : World) (held : w.held ≡ owned 1 part.S) (up : w.is_up ≡ true) 
   begun_load = loads 0 (held_load w) (begins 1 7 refl (holds 7) (holds 9))
 
   counts_load : Step g (with_load w (held_load w)) (counted w)
-  counts_load = counts_as_kept 0 refl (up, new)
+  counts_load = counts_as_kept 0 refl (up, closed, new)
 
   mark_unnoticed_load : Step g (counted w) (mark_unnoticed w)
-  mark_unnoticed_load = loads 0 (record (counted_load w) { stage = MarkUnnoticed }) (sees_no_notice_of_mark refl (up, new) mark)
+  mark_unnoticed_load = loads 0 (record (counted_load w) { stage = MarkUnnoticed }) (sees_no_notice_of_mark refl (up, closed, new) mark)
 
   unnoticed_load : Step g (mark_unnoticed w) (unnoticed w)
-  unnoticed_load = loads 0 (record (counted_load w) { stage = Unnoticed }) (sees_no_notice refl (up, new) stripe)
+  unnoticed_load = loads 0 (record (counted_load w) { stage = Unnoticed }) (sees_no_notice refl (up, closed, new) stripe)
 
   quiet_load : Step g (unnoticed w) (quiet w)
-  quiet_load = loads 0 (record (counted_load w) { stage = Quiet }) (finds_count refl (up, new) refl refl)
+  quiet_load = loads 0 (record (counted_load w) { stage = Quiet }) (finds_count refl (up, closed, new) refl refl)
 
   kept_load : Step g (quiet w) (loaded w)
   kept_load = loads 0 (record (counted_load w) { stage = Kept; rows = row_after w.changes }) (takes_rows refl)
@@ -124,7 +124,7 @@ to_marked : Steps g (first []) marked
 to_marked = more (more none (gives (first []) 0 part.X)) (takes_mark (0, refl, refl))
 
 to_before : Steps g (first []) before
-to_before = steps_on (more to_marked (gives marked 1 part.S)) (loads_rows ready refl refl refl (nobody_yet 7) (nobody_yet 9))
+to_before = steps_on (more to_marked (gives marked 1 part.S)) (loads_rows ready refl refl refl refl (nobody_yet 7) (nobody_yet 9))
 
 -- Transaction 0 makes a row of key 3
 
@@ -177,7 +177,7 @@ to_w8 =
     (transacts 0 x1 (changes_row (record { key = 3; row = Some 5 }) refl)))
     (transacts 0 x2 (gives_notice 7 refl)))
     (gives w2 0 part.X))
-    (transacts 0 x3 (takes_back 7 refl refl (0, refl, refl))))
+    (transacts 0 x3 (takes_back 7 refl refl (inl (0, refl, refl)))))
     (counts_recall 0 7 refl refl))
     (transacts 0 x4 (commits refl settled)))
     (becomes_visible 0 refl))
@@ -240,7 +240,7 @@ answers_somewhere = record {
   last = last;
   reachable = reaches (begun []) to_before;
   no_row = record { load = 0; kept = refl; stripe = refl; taken = refl; look = before; later = none; tenures = (refl, refl) };
-  changed = steps_on to_w8 (loads_rows w8 refl refl refl (nobody_any_more 7) (nobody_any_more 9));
+  changed = steps_on to_w8 (loads_rows w8 refl refl refl refl (nobody_any_more 7) (nobody_any_more 9));
   took = refl;
   row = record { load = 0; kept = refl; stripe = refl; taken = refl; look = after; later = none; tenures = (refl, refl) };
   changed_elsewhere = to_last;

@@ -1,6 +1,6 @@
 -- What holds of each reachable world.
-use Rattle.std.proofs.Common.{◌≡◌, ◌≢◌, ◌<◌, ◌≤◌, ℕ, ◌⊎◌, true, false, sym, ◌∙◌, ap, subst, eqb, true≢false}
-use Rattle.std.proofs.lemmas.Bool.{eqb-true, cond_both}
+use Rattle.std.proofs.Common.{refl, ◌≡◌, ◌≢◌, ◌<◌, ◌≤◌, ℕ, ◌⊎◌, true, false, sym, ◌∙◌, ap, subst, eqb, true≢false}
+use Rattle.std.proofs.lemmas.Bool.{eqb-true, eq-eqb, cond_both, cond-true}
 use Rattle.krl_modes.specs.Parts.{keys_compatible, reads_key}
 use Rattle.krl_modes.specs.declared.part.KeyPart.{KeyPart}
 use Rattle.krl_modes.specs.declared.part.KeyPart.TheVariants as part
@@ -11,6 +11,12 @@ use Rattle.krl_cached_table.specs.Promises.{HasTenures}
 -- what holds of the one that was put there, and of each other one, holds of all
 pub put_all : {A : Type 0} (P : ℕ → A → Type 0) (f : ℕ → A) (n : ℕ) (x : A) → P n x → ((m : ℕ) → P m (f m)) → (m : ℕ) → P m (put f n x m)
 put_all P f n x here rest m = cond_both (eqb m n) x (f m) (P m) (λ e. subst (λ k. P k x) (sym (eqb-true m n e)) here) (λ e. rest m)
+
+pub put_at : {A : Type 0} (P : A → Type 0) (f : ℕ → A) (n : ℕ) (x : A) (m : ℕ) → (m ≡ n → P x) → P (f m) → P (put f n x m)
+put_at P f n x m here rest = cond_both (eqb m n) x (f m) P (λ e. here (eqb-true m n e)) (λ e. rest)
+
+pub put_here : {A : Type 0} (f : ℕ → A) (n : ℕ) (x : A) → put f n x n ≡ x
+put_here f n x = cond-true (eqb n n) x (f n) (eq-eqb n n refl)
 
 -- Transactions
 
@@ -48,6 +54,10 @@ IsHome g w l =
       stripe : HasTenures g w l → Holds w l.client l.stripe;
       mark : HasTenures g w l → Holds w l.client g.mark;
     }
+
+-- transactions do not commit without krl
+abbrev pub IsActive : Setting → World → Load → Type 0
+IsActive g w l = HasTenures g w l → w.is_suspended ≡ false
 
 -- it counts as kept, or was taken back since
 abbrev pub CountsAsKept : World → Load → Type 0
@@ -87,11 +97,11 @@ AreRows g w l = (key : ℕ) → g.stripe_of key ≡ l.stripe → l.rows key ≡ 
 abbrev pub Facts : Setting → World → Load → LoadStage → Type 0
 Facts g w l Unused = Unit {0}
 Facts g w l Held = (l.nonce ≤ w.start) × (IsHome g w l ⊎ (l.nonce < w.start))
-Facts g w l Counted = (l.nonce ≤ w.start) × IsHome g w l × (HasTenures g w l → l.nonce ≡ w.start → CountsAsKept w l)
-Facts g w l MarkUnnoticed = (l.nonce ≤ w.start) × IsHome g w l × (HasTenures g w l → l.nonce ≡ w.start → CountsAsKept w l × NobodyTook w g.mark)
-Facts g w l Unnoticed = (l.nonce ≤ w.start) × IsHome g w l × (HasTenures g w l → l.nonce ≡ w.start → IsUnnoticed g w l)
-Facts g w l Quiet = IsHome g w l × (HasTenures g w l → IsGuarded g w l)
-Facts g w l Kept = IsHome g w l × (HasTenures g w l → IsGuarded g w l × AreRows g w l)
+Facts g w l Counted = (l.nonce ≤ w.start) × IsHome g w l × IsActive g w l × (HasTenures g w l → l.nonce ≡ w.start → CountsAsKept w l)
+Facts g w l MarkUnnoticed = (l.nonce ≤ w.start) × IsHome g w l × IsActive g w l × (HasTenures g w l → l.nonce ≡ w.start → CountsAsKept w l × NobodyTook w g.mark)
+Facts g w l Unnoticed = (l.nonce ≤ w.start) × IsHome g w l × IsActive g w l × (HasTenures g w l → l.nonce ≡ w.start → IsUnnoticed g w l)
+Facts g w l Quiet = IsHome g w l × IsActive g w l × (HasTenures g w l → IsGuarded g w l)
+Facts g w l Kept = IsHome g w l × IsActive g w l × (HasTenures g w l → IsGuarded g w l × AreRows g w l)
 
 -- All of it
 
@@ -99,6 +109,7 @@ pub record Sound (g : Setting) (w : World) : Type 0 where
   pub compatible : IsCompatible w.held
   pub nonce : w.nonce ≤ w.start
   pub proper : (t : ℕ) → IsProper g (w.transactions t)
+  pub closed : w.is_suspended ≡ true → w.is_closed ≡ true
   pub recovered : w.is_up ≡ true → (t : ℕ) → (w.transactions t).stage ≢ Recovering
   pub loads : (n : ℕ) → Facts g w (w.loads n) (w.loads n).stage
 

@@ -43,7 +43,7 @@ pub step_goes : (g : Setting) (w : World) (x y : Transaction) → TransactionSte
 step_goes g w x y (changes_row c run) = record { took = λ p n t. inl (n, t); skipped = λ p n t. inl (n, t) }
 step_goes g w x y (gives_notice p run) = record { took = λ q n t. inl (n, t); skipped = λ q n t. inl (n, t) }
 step_goes g w x y (takes_back p run notice exclusive) = record {
-  took = λ q n t. ⊎_elim (λ (e : q ≡ p). inr (subst (IsExclusive g w) (sym e) exclusive)) (λ (a : x.took_back q ≡ true). inl (n, a)) (put_true x.took_back p q t);
+  took = λ q n t. ⊎_elim (λ (e : q ≡ p). inr (subst (λ r. IsExclusive g w r ⊎ (w.is_suspended ≡ true)) (sym e) exclusive)) (λ (a : x.took_back q ≡ true). inl (n, a)) (put_true x.took_back p q t);
   skipped = λ q n t. inl (n, t);
 }
 step_goes g w x y (skips p run notice no_mark new unkept) = record {

@@ -1,25 +1,16 @@
 -- Each step keeps a world sound.
-use Rattle.std.proofs.Common.{◌≡◌, ◌≢◌, ◌<◌, ◌≤◌, ℕ, suc, inl, inr, true, false, List, [], ◌∷◌, ◌++◌, refl, sym, subst, ⊎_elim, true≢false, eqb, arith}
-use Rattle.std.proofs.lemmas.Bool.{eqb-true, eq-eqb, cond_both, cond-true}
+use Rattle.std.proofs.Common.{◌≡◌, ◌≢◌, ◌∙◌, ◌<◌, ◌≤◌, ℕ, suc, inl, inr, true, false, List, [], ◌∷◌, ◌++◌, refl, sym, subst, ⊎_elim, true≢false, eqb, arith}
+use Rattle.std.proofs.lemmas.Bool.{eqb-true, cond_both, false_from_ne_true}
 use Rattle.krl_modes.specs.declared.part.KeyPart.{KeyPart}
 use Rattle.krl_modes.specs.Parts.{reads_key}
 use Rattle.krl_cached_table.specs.Worlds.{Setting, Change, row_after, Stage, Running, Visible, Recovering, Ended, Transaction, Count, Held, Counted, Load, World, new_count}
-use Rattle.krl_cached_table.specs.Steps.{put, IsCompatible, Holds, IsExclusive, NotesLosses, IsSettled, IsChanged, IsOpen, shown, crashed, Step, locks_change, takes_mark, transacts, counts_recall, becomes_visible, crashes, recovers, starts, loads, counts_as_kept, Reachable, begun, stepped}
+use Rattle.krl_cached_table.specs.Steps.{put, IsCompatible, Holds, IsExclusive, NotesLosses, IsSettled, IsChanged, IsOpen, shown, Step, locks_change, takes_mark, transacts, counts_recall, becomes_visible, crashes, recovers, starts, closes, suspends, resumes, opens, joins_again, loads, counts_as_kept, Reachable, begun, stepped}
 use Rattle.krl_cached_table.specs.Promises.{HasTenures}
-use Rattle.krl_cached_table.proofs.Sound.{put_all, IsFixed, IsProper, HasNotEnded, IsHome, CountsAsKept, IsGuarded, Facts, Sound, excluded}
-use Rattle.krl_cached_table.proofs.Frames.{Frame, framed, Goes, going}
-use Rattle.krl_cached_table.proofs.Transactions.{goes_same, goes_to, step_goes, step_proper, step_recovered, crash_goes, crash_proper, proper_unfixed, committed_not_ended, recovering_not_ended}
+use Rattle.krl_cached_table.proofs.Sound.{put_all, put_at, put_here, IsFixed, IsProper, HasNotEnded, IsHome, CountsAsKept, IsGuarded, Facts, Sound, excluded}
+use Rattle.krl_cached_table.proofs.Frames.{Frame, framed, all_framed, Goes, going}
+use Rattle.krl_cached_table.proofs.Transactions.{goes_same, goes_to, step_goes, step_proper, step_recovered, proper_unfixed, committed_not_ended, recovering_not_ended}
 use Rattle.krl_cached_table.proofs.Loads.{load_kept}
-
-put_at : {A : Type 0} (P : A → Type 0) (f : ℕ → A) (n : ℕ) (x : A) (m : ℕ) → (m ≡ n → P x) → P (f m) → P (put f n x m)
-put_at P f n x m here rest = cond_both (eqb m n) x (f m) P (λ e. here (eqb-true m n e)) (λ e. rest)
-
-put_here : {A : Type 0} (f : ℕ → A) (n : ℕ) (x : A) → put f n x n ≡ x
-put_here f n x = cond-true (eqb n n) x (f n) (eq-eqb n n refl)
-
--- what was sound stays so, of all loads
-all_framed : (g : Setting) (w v : World) → Frame g w v → Sound g w → (n : ℕ) → Facts g v (w.loads n) (w.loads n).stage
-all_framed g w v f s n = framed g w v f (w.loads n) (w.loads n).stage (s.loads n)
+use Rattle.krl_cached_table.proofs.Database.{crash_kept, renewed_kept, operated_kept}
 
 -- Locks change
 
@@ -62,9 +53,10 @@ module _ (g : Setting) (w : World) (held : ℕ → ℕ → KeyPart) (tenure : �
     start = omega arith;
     open_since = λ l past e. e;
     counted = λ l past e c. c;
-    mark_unnoticed = λ l h t nobody. nobody;
-    unnoticed = λ l h t past e u. u;
-    guarded = λ l h t k. k;
+    active = λ l h t a. a;
+    mark_unnoticed = λ l h t a nobody. nobody;
+    unnoticed = λ l h t a past e u. u;
+    guarded = λ l h t a k. k;
     rows = λ l k key e. refl;
   }
 
@@ -73,6 +65,7 @@ module _ (g : Setting) (w : World) (held : ℕ → ℕ → KeyPart) (tenure : �
     compatible = compatible;
     nonce = s.nonce;
     proper = s.proper;
+    closed = s.closed;
     recovered = s.recovered;
     loads = all_framed g w relocked relocking s;
   }
@@ -90,9 +83,10 @@ module _ (g : Setting) (w : World) (exclusive : IsExclusive g w g.mark) where
     start = omega arith;
     open_since = λ l past e. e;
     counted = λ l past e c. c;
-    mark_unnoticed = λ l h t nobody. nobody;
-    unnoticed = λ l h t past e u. u;
-    guarded = λ l h t k. absurd (excluded g w l.client g.mark compatible h.reader (h.mark t) exclusive);
+    active = λ l h t a. a;
+    mark_unnoticed = λ l h t a nobody. nobody;
+    unnoticed = λ l h t a past e u. u;
+    guarded = λ l h t a k. absurd (excluded g w l.client g.mark compatible h.reader (h.mark t) exclusive);
     rows = λ l k key e. refl;
   }
 
@@ -101,6 +95,7 @@ module _ (g : Setting) (w : World) (exclusive : IsExclusive g w g.mark) where
     compatible = s.compatible;
     nonce = omega arith;
     proper = s.proper;
+    closed = s.closed;
     recovered = s.recovered;
     loads = all_framed g w marked (marking s.compatible) s;
   }
@@ -115,6 +110,7 @@ transaction_kept g w t x goes proper recovered s = record {
   compatible = s.compatible;
   nonce = s.nonce;
   proper = put_all (λ u y. IsProper g y) w.transactions t x proper s.proper;
+  closed = s.closed;
   recovered = λ up. put_all (λ u (y : Transaction). y.stage ≢ Recovering) w.transactions t x (recovered up) (s.recovered up);
   loads = all_framed g w (record w { transactions = put w.transactions t x }) (going g w (put w.transactions t x) w.is_up s.compatible (all_go g w t x goes)) s;
 }
@@ -151,6 +147,7 @@ module _ (g : Setting) (w : World) (t : ℕ) (stage : Stage) (s : Sound g w) (no
         start = f.start;
         open_since = f.open_since;
         counted = f.counted;
+        active = f.active;
         mark_unnoticed = f.mark_unnoticed;
         unnoticed = f.unnoticed;
         guarded = f.guarded;
@@ -162,6 +159,7 @@ module _ (g : Setting) (w : World) (t : ℕ) (stage : Stage) (s : Sound g w) (no
     compatible = s.compatible;
     nonce = s.nonce;
     proper = put_all (λ u z. IsProper g z) w.transactions t y (proper_unfixed g x stage unfixed (s.proper t)) s.proper;
+    closed = s.closed;
     recovered = λ up. put_all (λ u (z : Transaction). z.stage ≢ Recovering) w.transactions t y recovered (s.recovered up);
     loads = all_framed g w (shown w t stage) showing s;
   }
@@ -189,15 +187,16 @@ module _ (g : Setting) (w : World) (t p : ℕ) (run : (w.transactions t).stage �
     start = omega arith;
     open_since = λ l past e. e;
     counted = λ l past e c. counted_still l c;
-    mark_unnoticed = λ l h t nobody. nobody;
-    unnoticed = λ l h t past e u. record {
+    active = λ l h t a. a;
+    mark_unnoticed = λ l h t a nobody. nobody;
+    unnoticed = λ l h t a past e u. record {
       counted = counted_still l u.counted;
       stripe = u.stripe;
       mark = u.mark;
       skipped = λ x n skip. let late : l.recalls < (w.counts l.stripe).recalls = u.skipped x n skip in
           put_at (λ k. l.recalls < k.recalls) w.counts p risen l.stripe (λ same. let past : l.recalls ≤ (w.counts p).recalls = past_at l u.counted.past same in omega arith) late;
     };
-    guarded = λ l h tenures k. record {
+    guarded = λ l h tenures a k. record {
       stripe = k.stripe;
       mark = k.mark;
       skipped = k.skipped;
@@ -215,6 +214,7 @@ module _ (g : Setting) (w : World) (t p : ℕ) (run : (w.transactions t).stage �
     compatible = s.compatible;
     nonce = s.nonce;
     proper = s.proper;
+    closed = s.closed;
     recovered = s.recovered;
     loads = all_framed g w counted_up rising s;
   }
@@ -245,15 +245,16 @@ module _ (g : Setting) (w : World) (n : ℕ) (held : (w.loads n).stage ≡ Held)
     start = omega arith;
     open_since = λ l past e. e;
     counted = λ l past e c. kept_still l c;
-    mark_unnoticed = λ l h t nobody. nobody;
-    unnoticed = λ l h t past e u. record {
+    active = λ l h t a. a;
+    mark_unnoticed = λ l h t a nobody. nobody;
+    unnoticed = λ l h t a past e u. record {
       counted = kept_still l u.counted;
       stripe = u.stripe;
       mark = u.mark;
       skipped = λ x not_ended skip. put_at (λ k. l.recalls < k.recalls) w.counts p kept_count l.stripe
           (λ same. subst (λ q. l.recalls < (w.counts q).recalls) same (u.skipped x not_ended skip)) (u.skipped x not_ended skip);
     };
-    guarded = λ l h t k. record {
+    guarded = λ l h t a k. record {
       stripe = k.stripe;
       mark = k.mark;
       skipped = k.skipped;
@@ -264,12 +265,13 @@ module _ (g : Setting) (w : World) (n : ℕ) (held : (w.loads n).stage ≡ Held)
 
   -- its nonce is that of this start, so it is none of a client of another server
   is_home : Facts g w (w.loads n) Held → IsHome g w (w.loads n)
-  is_home h = ⊎_elim (λ (a : IsHome g w (w.loads n)). a) (λ (b : (w.loads n).nonce < w.start). let same : (w.loads n).nonce ≡ w.start = is_open.1 in absurd (omega arith)) h.1
+  is_home h = ⊎_elim (λ (a : IsHome g w (w.loads n)). a) (λ (b : (w.loads n).nonce < w.start). let same : (w.loads n).nonce ≡ w.start = is_open.2 in absurd (omega arith)) h.1
 
-  counted_facts : Facts g w (w.loads n) Held → Facts g counted_world counted_load Counted
-  counted_facts h = (
+  counted_facts : Sound g w → Facts g w (w.loads n) Held → Facts g counted_world counted_load Counted
+  counted_facts s h = (
     h.0,
     is_home h,
+    λ t. false_from_ne_true w.is_suspended (λ suspended. true≢false (sym (s.closed suspended) ∙ is_open.1)),
     λ t e. record {
       past = subst (λ (k : Count). (w.counts p).recalls ≤ k.recalls) (sym (put_here w.counts p kept_count)) (omega arith);
       kept = λ same. subst (λ (k : Count). k.is_kept ≡ true) (sym (put_here w.counts p kept_count)) refl;
@@ -281,9 +283,10 @@ module _ (g : Setting) (w : World) (n : ℕ) (held : (w.loads n).stage ≡ Held)
     compatible = s.compatible;
     nonce = s.nonce;
     proper = s.proper;
+    closed = s.closed;
     recovered = s.recovered;
     loads = put_all (λ m (l : Load). Facts g counted_world l l.stage) w.loads n counted_load
-        (counted_facts (subst (Facts g w (w.loads n)) held (s.loads n))) (all_framed g w counted_world counting s);
+        (counted_facts s (subst (Facts g w (w.loads n)) held (s.loads n))) (all_framed g w counted_world counting s);
   }
 
 -- A load goes on
@@ -299,9 +302,10 @@ module _ (g : Setting) (w : World) (n : ℕ) (l : Load) where
     start = omega arith;
     open_since = λ l past e. e;
     counted = λ l past e c. c;
-    mark_unnoticed = λ l h t nobody. nobody;
-    unnoticed = λ l h t past e u. u;
-    guarded = λ l h t k. k;
+    active = λ l h t a. a;
+    mark_unnoticed = λ l h t a nobody. nobody;
+    unnoticed = λ l h t a past e u. u;
+    guarded = λ l h t a k. k;
     rows = λ l k key e. refl;
   }
 
@@ -310,51 +314,9 @@ module _ (g : Setting) (w : World) (n : ℕ) (l : Load) where
     compatible = s.compatible;
     nonce = s.nonce;
     proper = s.proper;
+    closed = s.closed;
     recovered = s.recovered;
     loads = put_all (λ m (k : Load). Facts g with_load k k.stage) w.loads n l (framed g w with_load loading l l.stage facts) (all_framed g w with_load loading s);
-  }
-
--- The database crashes, and starts again
-
-crash_kept : (g : Setting) (w : World) → Sound g w → Sound g (record w { is_up = false; transactions = λ t. crashed (w.transactions t).stage (w.transactions t) })
-crash_kept g w s = record {
-  compatible = s.compatible;
-  nonce = s.nonce;
-  proper = λ t. crash_proper g (w.transactions t) (w.transactions t).stage refl (s.proper t);
-  recovered = λ up. absurd (true≢false (sym up));
-  loads = all_framed g w (record w { is_up = false; transactions = λ t. crashed (w.transactions t).stage (w.transactions t) })
-      (going g w (λ t. crashed (w.transactions t).stage (w.transactions t)) false s.compatible (λ t. crash_goes g w (w.transactions t) (w.transactions t).stage refl)) s;
-}
-
-module _ (g : Setting) (w : World) (s : Sound g w) where
-  abbrev started : World
-  started = record w { is_up = true; start = suc w.start; counts = λ p. new_count }
-
-  starting : Frame g w started
-  starting = record {
-    home = λ l h. h;
-    tenures = λ l h t. t;
-    start = omega arith;
-    open_since = λ l past e. absurd (omega arith);
-    counted = λ l past e c. absurd (omega arith);
-    mark_unnoticed = λ l h t nobody. nobody;
-    unnoticed = λ l h t past e u. absurd (omega arith);
-    guarded = λ l h t k. record {
-      stripe = k.stripe;
-      mark = k.mark;
-      skipped = k.skipped;
-      kept = λ new. let old : w.nonce ≤ w.start = s.nonce in absurd (omega arith);
-    };
-    rows = λ l k key e. refl;
-  }
-
-  start_kept : ((t : ℕ) → (w.transactions t).stage ≢ Recovering) → Sound g started
-  start_kept recovered = record {
-    compatible = s.compatible;
-    nonce = let old : w.nonce ≤ w.start = s.nonce in omega arith;
-    proper = s.proper;
-    recovered = λ up. recovered;
-    loads = all_framed g w started starting s;
   }
 
 -- Each step
@@ -370,7 +332,12 @@ step_kept g w v (becomes_visible t committed) s =
 step_kept g w v crashes s = crash_kept g w s
 step_kept g w v (recovers t recovering) s =
     shown_kept g w t Ended s (recovering_not_ended (w.transactions t).stage recovering) (subst IsFixed (sym recovering) tt) (λ never. never) (λ e. cc)
-step_kept g w v (starts down recovered) s = start_kept g w s recovered
+step_kept g w v (starts down recovered) s = renewed_kept g w true (λ p. new_count) s (λ up. recovered)
+step_kept g w v joins_again s = renewed_kept g w w.is_up w.counts s s.recovered
+step_kept g w v closes s = operated_kept g w true w.is_suspended (λ l h t a. a) (λ e. refl) s
+step_kept g w v (suspends closed nobody) s = operated_kept g w w.is_closed true (λ l h t a. absurd (nobody l.client l.stripe h.reader (h.stripe t))) (λ e. closed) s
+step_kept g w v resumes s = operated_kept g w w.is_closed false (λ l h t a. refl) (λ e. absurd (true≢false (sym e))) s
+step_kept g w v (opens active) s = operated_kept g w false w.is_suspended (λ l h t a. a) (λ e. absurd (true≢false (sym e ∙ active))) s
 step_kept g w v (loads n l step) s = with_load_kept g w n l s (load_kept g w (w.loads n) l s step (s.loads n))
 step_kept g w v (counts_as_kept n held is_open) s = count_kept g w n held is_open s
 
@@ -381,6 +348,7 @@ sound g w (begun changes) = record {
   compatible = λ c d p differ. refl;
   nonce = omega arith;
   proper = λ t. record { took = λ p e. absurd (true≢false (sym e)); skipped = λ p e. absurd (true≢false (sym e)); mark = λ e. true≢false (sym e); settled = λ fixed. absurd fixed };
+  closed = λ e. absurd (true≢false (sym e));
   recovered = λ up t e. cc;
   loads = λ n. tt;
 }

@@ -20,9 +20,13 @@ IsCompatible held = (c d p : ℕ) → c ≢ d → keys_compatible (held c p) (he
 abbrev pub Holds : World → ℕ → ℕ → Type 0
 Holds w c p = reads_key (w.held c p) ≡ true
 
--- a worker holds the key so that nobody else may read it
+-- a worker holds the key of krl so that nobody else may read it
 abbrev pub IsExclusive : Setting → World → ℕ → Type 0
 IsExclusive g w p = (d : ℕ) × (g.is_worker d ≡ true) × (w.held d p ≡ part.X)
+
+-- the leases of all readers have ended
+abbrev pub NobodyReads : Setting → World → Type 0
+NobodyReads g w = (c p : ℕ) → g.is_worker c ≡ false → Holds w c p → ⊥
 
 -- each client has either another tenure of a key, or lost nothing of it
 abbrev pub NotesLosses : World → (ℕ → ℕ → KeyPart) → (ℕ → ℕ → ℕ) → Type 0
@@ -62,9 +66,10 @@ pub data TransactionStep (g : Setting) (w : World) (x : Transaction) : Transacti
   changes_row : (c : Change) → x.stage ≡ Running → TransactionStep g w x (record x { changes = c ∷ x.changes })
   gives_notice : (p : ℕ) → x.stage ≡ Running →
       TransactionStep g w x (record x { gave_notice = put x.gave_notice p true })
+  -- while the cluster is suspended, nobody keeps anything
   takes_back : (p : ℕ) → x.stage ≡ Running →
       x.gave_notice p ≡ true →
-      IsExclusive g w p →
+      IsExclusive g w p ⊎ (w.is_suspended ≡ true) →
       TransactionStep g w x (record x { took_back = put x.took_back p true })
   -- nobody keeps a row of the stripe. Before the mark has the nonce of this start, that is not known
   skips : (p : ℕ) → x.stage ≡ Running → x.gave_notice p ≡ true → p ≢ g.mark →
@@ -88,9 +93,9 @@ crashed Ended x = x
 
 -- A load
 
--- the database answers krl.quiet: it is up, and the nonce is that of this start
+-- the database answers krl.quiet: it is up and not closed, and the nonce is that of this start
 abbrev pub IsOpen : World → Load → Type 0
-IsOpen w l = (w.is_up ≡ true) × (l.nonce ≡ w.start)
+IsOpen w l = (w.is_up ≡ true) × (w.is_closed ≡ false) × (l.nonce ≡ w.start)
 
 abbrev pub NobodyGaveNotice : World → ℕ → Type 0
 NobodyGaveNotice w p = (t : ℕ) → HasNotice (w.transactions t) p → ⊥
@@ -156,6 +161,12 @@ pub data Step (g : Setting) (w : World) : World → Type 0 where
   starts : w.is_up ≡ false →
       ((t : ℕ) → (w.transactions t).stage ≢ Recovering) →
       Step g w (record w { is_up = true; start = suc w.start; counts = λ p. new_count })
+  -- the database is suspended, after it was closed to krl.quiet, and resumed
+  closes : Step g w (record w { is_closed = true })
+  suspends : w.is_closed ≡ true → NobodyReads g w → Step g w (record w { is_suspended = true })
+  resumes : Step g w (record w { is_suspended = false })
+  opens : w.is_suspended ≡ false → Step g w (record w { is_closed = false })
+  joins_again : Step g w (record w { start = suc w.start })
   -- readers
   loads : (n : ℕ) (l : Load) → LoadStep g w (w.loads n) l → Step g w (record w { loads = put w.loads n l })
   counts_as_kept : (n : ℕ) → (w.loads n).stage ≡ Held → IsOpen w (w.loads n) →

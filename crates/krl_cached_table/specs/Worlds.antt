@@ -77,7 +77,9 @@ pub record World : Type 0 where
   pub nonce : ℕ  -- the value that the mark has
   -- the database
   pub is_up : Bool
-  pub start : ℕ  -- how often it was started, which stands for the nonce of this start
+  pub start : ℕ  -- how often it started, or its workers joined krl again: it stands for the nonce that they drew then
+  pub is_closed : Bool  -- krl.quiet returns false
+  pub is_suspended : Bool  -- transactions commit without krl
   pub changes : List Change  -- of the transactions that became visible, the last first
   pub transactions : ℕ → Transaction
   pub counts : ℕ → Count  -- by stripe
@@ -118,6 +120,8 @@ first changes = record {
   nonce = 0;
   is_up = true;
   start = 1;
+  is_closed = false;
+  is_suspended = false;
   changes = changes;
   transactions = λ t. new_transaction;
   counts = λ p. new_count;
