@@ -1,0 +1,9 @@
+pub mod Sound
+pub mod Frames
+pub mod Transactions
+pub mod Loads
+pub mod Database
+pub mod Worlds
+pub mod Promised
+pub mod Somewhere
+pub mod Locks

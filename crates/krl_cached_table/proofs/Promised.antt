@@ -1,0 +1,64 @@
+-- What a read returns from memory is the table.
+use Rattle.std.proofs.Common.{◌≡◌, ◌<◌, ◌≤◌, ℕ, zero, suc, ◌+◌, Option, refl, sym, ◌∙◌, ap, subst, arith}
+use Rattle.krl_cached_table.specs.Worlds.{Setting, row_after, Kept, Load, World}
+use Rattle.krl_cached_table.specs.Steps.{Step, locks_change, takes_mark, transacts, counts_recall, becomes_visible, crashes, recovers, starts, closes, suspends, resumes, opens, joins_again, loads, counts_as_kept, Steps, none, more}
+use Rattle.krl_cached_table.specs.Promises.{HasTenures, AnswersAreTable, with_row, range, RangesAreTable}
+use Rattle.krl_cached_table.proofs.Sound.{IsHome, IsGuarded, AreRows, Facts}
+use Rattle.krl_cached_table.proofs.Worlds.{sound, later_tenure}
+
+-- No step gives a client an earlier tenure
+
+step_rises : (g : Setting) (w v : World) → Step g w v → (c p : ℕ) → w.tenure c p ≤ v.tenure c p
+step_rises g w v (locks_change held tenure compatible notes) c p = later_tenure g w held tenure notes c p
+step_rises g w v (takes_mark exclusive) c p = omega arith
+step_rises g w v (transacts t x step) c p = omega arith
+step_rises g w v (counts_recall t q run took) c p = omega arith
+step_rises g w v (becomes_visible t committed) c p = omega arith
+step_rises g w v crashes c p = omega arith
+step_rises g w v (recovers t recovering) c p = omega arith
+step_rises g w v (starts down recovered) c p = omega arith
+step_rises g w v closes c p = omega arith
+step_rises g w v (suspends closed nobody) c p = omega arith
+step_rises g w v resumes c p = omega arith
+step_rises g w v (opens active) c p = omega arith
+step_rises g w v joins_again c p = omega arith
+step_rises g w v (loads n l step) c p = omega arith
+step_rises g w v (counts_as_kept n held is_open) c p = omega arith
+
+steps_rise : (g : Setting) (w v : World) → Steps g w v → (c p : ℕ) → w.tenure c p ≤ v.tenure c p
+steps_rise g w v none c p = omega arith
+steps_rise g w v (more {v = u} before step) c p =
+    let first : w.tenure c p ≤ u.tenure c p = steps_rise g w u before c p in
+    let last : u.tenure c p ≤ v.tenure c p = step_rises g u v step c p in
+    omega arith
+
+-- so a client that has its tenures later has them now
+had_tenures : (g : Setting) (w v : World) (l : Load) → Steps g w v → IsHome g w l → HasTenures g v l → HasTenures g w l
+had_tenures g w v l later h t =
+    let stripe_past : l.stripe_tenure ≤ w.tenure l.client l.stripe = h.stripe_past in
+    let mark_past : l.mark_tenure ≤ w.tenure l.client g.mark = h.mark_past in
+    let stripe_rises : w.tenure l.client l.stripe ≤ v.tenure l.client l.stripe = steps_rise g w v later l.client l.stripe in
+    let mark_rises : w.tenure l.client g.mark ≤ v.tenure l.client g.mark = steps_rise g w v later l.client g.mark in
+    let stripe_then : v.tenure l.client l.stripe ≡ l.stripe_tenure = t.0 in
+    let mark_then : v.tenure l.client g.mark ≡ l.mark_tenure = t.1 in
+    (omega arith, omega arith)
+
+pub answers_are_table : AnswersAreTable
+answers_are_table g w key row reachable a =
+    let l : Load = w.loads a.load in
+    let k : Facts g w l Kept = subst (Facts g w l) a.kept ((sound g w reachable).loads a.load) in
+    let rows : IsGuarded g w l × AreRows g w l = k.2 (had_tenures g w a.look l a.later k.0 a.tenures) in
+    sym a.taken ∙ rows.1 key a.stripe
+
+-- Ranges
+
+range_same : (f h : ℕ → Option ℕ) (lo n : ℕ) → ((key : ℕ) → lo ≤ key → key < lo + n → f key ≡ h key) → range f lo n ≡ range h lo n
+range_same f h lo zero same = refl
+range_same f h lo (suc n) same =
+    let here : f lo ≡ h lo = same lo (omega arith) (omega arith) in
+    let rest : range f (suc lo) n ≡ range h (suc lo) n = range_same f h (suc lo) n (λ key low high. same key (omega arith) (omega arith)) in
+    ap (λ r. with_row lo r (range f (suc lo) n)) here ∙ ap (with_row lo (h lo)) rest
+
+pub ranges_are_table : RangesAreTable
+ranges_are_table g w lo n row_of reachable answers =
+    range_same row_of (row_after w.changes) lo n (λ key low high. answers_are_table g w key (row_of key) reachable (answers key low high))

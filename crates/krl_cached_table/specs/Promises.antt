@@ -1,0 +1,59 @@
+-- What holds of each reachable world: what a reader answers from memory is the table.
+use Rattle.std.specs.Prelude.{◌≡◌, ℕ, zero, suc, ◌+◌, ◌≤◌, ◌<◌, true, Option, Some, None, List, [], ◌∷◌}
+use Rattle.krl_cached_table.specs.Worlds.{Setting, row_after, Kept, Load, World}
+use Rattle.krl_cached_table.specs.Steps.{Steps, Reachable}
+
+-- the client's tenures of the stripe and of the mark are those that it took before it loaded the rows
+abbrev pub HasTenures : Setting → World → Load → Type 0
+HasTenures g w l = (w.tenure l.client l.stripe ≡ l.stripe_tenure) × (w.tenure l.client g.mark ≡ l.mark_tenure)
+
+-- at this moment a read takes the row of the key from memory, and at the same moment or later it looks at the tenures
+pub record Answers (g : Setting) (w : World) (key : ℕ) (row : Option ℕ) : Type 0 where
+  pub load : ℕ
+  pub kept : (w.loads load).stage ≡ Kept
+  pub stripe : g.stripe_of key ≡ (w.loads load).stripe
+  pub taken : (w.loads load).rows key ≡ row
+  pub look : World
+  pub later : Steps g w look
+  pub tenures : HasTenures g look (w.loads load)
+
+-- What a read returns is the table at that moment, whether the key has a row or not. A read of several keys takes all
+-- its rows at one moment, and looks at the tenures one after another
+abbrev pub AnswersAreTable : Type 0
+AnswersAreTable =
+    (g : Setting) (w : World) (key : ℕ) (row : Option ℕ) → Reachable g w → Answers g w key row →
+    row ≡ row_after w.changes key
+
+abbrev pub with_row : ℕ → Option ℕ → List (ℕ × ℕ) → List (ℕ × ℕ)
+with_row key None rows = rows
+with_row key (Some row) rows = (key, row) ∷ rows
+
+-- the rows of the n keys from lo on, in order
+abbrev pub range : (ℕ → Option ℕ) → ℕ → ℕ → List (ℕ × ℕ)
+range row_of lo zero = []
+range row_of lo (suc n) = with_row lo (row_of lo) (range row_of (suc lo) n)
+
+-- and so it is of a range as a list, in which no row is missing and none is too many
+abbrev pub RangesAreTable : Type 0
+RangesAreTable =
+    (g : Setting) (w : World) (lo n : ℕ) (row_of : ℕ → Option ℕ) → Reachable g w →
+    ((key : ℕ) → lo ≤ key → key < lo + n → Answers g w key (row_of key)) →
+    range row_of lo n ≡ range (row_after w.changes) lo n
+
+-- The laws are not empty. Somewhere a read finds in memory that a key has no row. Later, after a transaction has taken
+-- the stripe back, it finds the row that this transaction made. It still does after another transaction has skipped a
+-- stripe of which nobody had kept a row
+pub record AnswersSomewhere : Type 0 where
+  pub setting : Setting
+  pub before : World
+  pub after : World
+  pub last : World
+  pub reachable : Reachable setting before
+  pub no_row : Answers setting before 3 None
+  pub changed : Steps setting before after
+  pub took : (after.transactions 0).took_back 7 ≡ true
+  pub row : Answers setting after 3 (Some 5)
+  pub changed_elsewhere : Steps setting after last
+  pub skipped : (last.transactions 1).skipped 8 ≡ true
+  pub other_row : row_after last.changes 4 ≡ Some 6
+  pub same_row : Answers setting last 3 (Some 5)
