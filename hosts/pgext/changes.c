@@ -26,11 +26,25 @@
 static HTAB *changed = NULL;
 static bool all_changed = false;
 
+/* Notices are given, or none was needed: what other libraries change before the commit comes too late. */
+static bool is_committing = false;
+
+/* Reports an error if it is too late for a change. */
+static void
+require_before_commit(void)
+{
+	if (is_committing)
+		ereport(ERROR,
+				(errcode(ERRCODE_INVALID_TRANSACTION_STATE),
+				 errmsg("a cached table cannot be changed while the transaction commits")));
+}
+
 static void
 note_stripe(uint64 stripe)
 {
 	HASHCTL		how = {0};
 
+	require_before_commit();
 	if (all_changed)
 		return;
 	if (!changed)
@@ -50,7 +64,15 @@ note_stripe(uint64 stripe)
 void
 krl_note_all(void)
 {
+	require_before_commit();
 	all_changed = true;
+}
+
+/* Whether this transaction has changed what readers keep: it sees what may never be committed. */
+bool
+krl_has_changed(void)
+{
+	return changed || all_changed;
 }
 
 PG_FUNCTION_INFO_V1(krl_changed);
@@ -173,12 +195,14 @@ on_transaction(XactEvent event, void *arg)
 	{
 		case XACT_EVENT_PRE_COMMIT:
 		case XACT_EVENT_PRE_PREPARE:
-			if (changed || all_changed)
+			is_committing = true;
+			if (krl_has_changed())
 				before_commit();
 			break;
 		case XACT_EVENT_COMMIT:
 		case XACT_EVENT_ABORT:
 		case XACT_EVENT_PREPARE:
+			is_committing = false;
 			changed = NULL;
 			all_changed = false;
 			break;

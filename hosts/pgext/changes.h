@@ -10,5 +10,6 @@
 
 extern void krl_changes_init(void);
 extern void krl_note_all(void);
+extern bool krl_has_changed(void);
 
 #endif							/* KRL_CHANGES_H */

@@ -1,8 +1,11 @@
 \echo Use "CREATE EXTENSION krl" to load this file. \quit
 
--- The stripes that no table has had: those of a table are never used for another one.
-CREATE TABLE krl.free_stripes (first integer NOT NULL);
-INSERT INTO krl.free_stripes VALUES (0);
+-- The stripes that no table has had: those of a table are never used for another one. It has one row, or none at first:
+-- a dump has the row.
+CREATE TABLE krl.free_stripes (
+    is_only boolean PRIMARY KEY DEFAULT true CHECK (is_only),
+    first integer NOT NULL
+);
 
 CREATE TABLE krl.cached (
     relation regclass PRIMARY KEY,
@@ -87,7 +90,7 @@ CREATE FUNCTION krl.primary_key(relation regclass) RETURNS name[]
     SELECT array_agg(attname ORDER BY place)
     FROM pg_index, unnest(indkey::smallint[]) WITH ORDINALITY AS part (attnum, place)
         JOIN pg_attribute USING (attnum)
-    WHERE indrelid = relation AND indisprimary AND attrelid = relation
+    WHERE indrelid = relation AND indisprimary AND attrelid = relation AND place <= indnkeyatts
 $$;
 
 -- Reports why the table cannot be cached by these columns, if it cannot.
@@ -169,16 +172,17 @@ BEGIN
         entry := (relation, columns, 0, stripes, cardinality(columns) = 1
             AND (SELECT atttypid IN ('smallint'::regtype, 'integer'::regtype, 'bigint'::regtype)
                 FROM pg_attribute WHERE attrelid = relation AND attname = columns[1]));
-        UPDATE krl.free_stripes SET first = first + cache.stripes
-        RETURNING first - cache.stripes INTO entry.first;
-        PERFORM krl.make(entry.first, stripes);
+        INSERT INTO krl.free_stripes AS free (first) VALUES (cache.stripes)
+        ON CONFLICT (is_only) DO UPDATE SET first = free.first + excluded.first
+        RETURNING free.first - cache.stripes INTO entry.first;
         INSERT INTO krl.cached SELECT entry.*;
     END IF;
+    PERFORM krl.make(entry.first, entry.stripes);
     PERFORM krl.add_triggers(entry);
 END $$;
 REVOKE ALL ON FUNCTION krl.cache(regclass, name[], integer) FROM PUBLIC;
 COMMENT ON FUNCTION krl.cache(regclass, name[], integer) IS
-    'lets readers keep rows of the table; called again, also those of partitions that are new';
+    'lets readers keep rows of the table; called again, also those of new partitions, and by another store of krl';
 
 -- The triggers of a table and of all its partitions, if it lacks them.
 CREATE FUNCTION krl.add_triggers(cached krl.cached) RETURNS void

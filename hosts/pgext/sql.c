@@ -9,6 +9,7 @@
 
 #include "access/htup_details.h"
 #include "access/relation.h"
+#include "access/xact.h"
 #include "access/xlog.h"
 #include "catalog/pg_inherits.h"
 #include "catalog/pg_type.h"
@@ -16,13 +17,15 @@
 #include "fmgr.h"
 #include "funcapi.h"
 #include "miscadmin.h"
+#include "portability/instr_time.h"
+#include "storage/ipc.h"
 #include "utils/acl.h"
 #include "utils/array.h"
 #include "utils/builtins.h"
 #include "utils/lsyscache.h"
 #include "utils/rel.h"
-#include "utils/timestamp.h"
 
+#include "changes.h"
 #include "stripes.h"
 
 /* Clocks of two machines differ in rate by a quarter at most. */
@@ -43,7 +46,8 @@ enabled_trigger(Relation relation, const char *name)
 	{
 		const Trigger *trigger = &relation->trigdesc->triggers[i];
 
-		if (trigger->tgenabled == TRIGGER_FIRES_ALWAYS && strcmp(trigger->tgname, name) == 0)
+		if (trigger->tgenabled == TRIGGER_FIRES_ALWAYS && strcmp(trigger->tgname, name) == 0 &&
+			krl_is_trigger_function(trigger->tgfoid))
 			return trigger;
 	}
 	return NULL;
@@ -166,6 +170,16 @@ is_open(uint64 nonce)
 		nonce != 0 && nonce == pg_atomic_read_u64(&krl_shared->nonce);
 }
 
+/*
+ * Whether the next statement sees just what is committed as it begins.  The
+ * snapshot of a transaction may be older than the look at the notices.
+ */
+static bool
+is_next_snapshot_new(void)
+{
+	return !IsolationUsesXactSnapshot() && !krl_has_changed();
+}
+
 PG_FUNCTION_INFO_V1(krl_quiet);
 
 /* krl.quiet(nonce bigint, relation regclass, first integer, stripes integer[]) */
@@ -178,8 +192,9 @@ krl_quiet(PG_FUNCTION_ARGS)
 
 	require_select(table);
 	/* The triggers are looked at after the notices too: who drops one gives notice first. */
-	PG_RETURN_BOOL(is_open(nonce) && is_table_guarded(table, wanted.first) &&
-				   are_quiet(&wanted) && is_table_guarded(table, wanted.first));
+	PG_RETURN_BOOL(is_open(nonce) && is_next_snapshot_new() &&
+				   is_table_guarded(table, wanted.first) && are_quiet(&wanted) &&
+				   is_table_guarded(table, wanted.first));
 }
 
 PG_FUNCTION_INFO_V1(krl_nonce);
@@ -256,16 +271,40 @@ krl_skipped(PG_FUNCTION_ARGS)
 	PG_RETURN_INT64((int64) pg_atomic_read_u64(&krl_shared->skipped));
 }
 
-/* By the end of this call the lease of each reader has ended. */
+/* By the end of this call the lease of each reader has ended, whatever is done to the time of day. */
 static void
 await_leases(void)
 {
-	TimestampTz end = TimestampTzPlusMilliseconds(GetCurrentTimestamp(),
-												  krl_lease + krl_lease / DRIFT_DIVISOR + 100);
-	long		left;
+	double		longest = krl_lease + krl_lease / DRIFT_DIVISOR + 100;
+	instr_time	begun;
+	instr_time	passed;
 
-	while ((left = TimestampDifferenceMilliseconds(GetCurrentTimestamp(), end)) > 0)
-		krl_wait(left);
+	INSTR_TIME_SET_CURRENT(begun);
+	for (;;)
+	{
+		double		left;
+
+		INSTR_TIME_SET_CURRENT(passed);
+		INSTR_TIME_SUBTRACT(passed, begun);
+		left = longest - INSTR_TIME_GET_MILLISEC(passed);
+		if (left <= 0)
+			return;
+		krl_wait((long) left + 1);
+	}
+}
+
+/* The cluster was not suspended: transactions still wait for krl, so readers may keep rows again. */
+static void
+open_again(int code, Datum arg)
+{
+	pg_atomic_write_u32(&krl_shared->is_closed, false);
+}
+
+/* The cluster was not resumed: transactions commit without krl as before. */
+static void
+suspend_again(int code, Datum arg)
+{
+	pg_atomic_write_u32(&krl_shared->is_suspended, true);
 }
 
 PG_FUNCTION_INFO_V1(krl_suspend);
@@ -284,18 +323,12 @@ krl_suspend(PG_FUNCTION_ARGS)
 	if (pg_atomic_read_u32(&krl_shared->is_suspended))
 		PG_RETURN_VOID();
 	pg_atomic_write_u32(&krl_shared->is_closed, true);
-	PG_TRY();
+	PG_ENSURE_ERROR_CLEANUP(open_again, (Datum) 0);
 	{
 		await_leases();
 		krl_store_suspend();
 	}
-	PG_CATCH();
-	{
-		/* Transactions still wait for krl, so readers may keep rows again. */
-		pg_atomic_write_u32(&krl_shared->is_closed, false);
-		PG_RE_THROW();
-	}
-	PG_END_TRY();
+	PG_END_ENSURE_ERROR_CLEANUP(open_again, (Datum) 0);
 	pg_atomic_write_u32(&krl_shared->is_suspended, true);
 	krl_join_again();
 	PG_RETURN_VOID();
@@ -315,17 +348,12 @@ krl_resume(PG_FUNCTION_ARGS)
 		PG_RETURN_VOID();
 	/* First transactions wait for krl, then all is taken back, and then readers keep rows again. */
 	pg_atomic_write_u32(&krl_shared->is_suspended, false);
-	PG_TRY();
+	PG_ENSURE_ERROR_CLEANUP(suspend_again, (Datum) 0);
 	{
 		krl_recall(&mark, 1);
 		krl_store_resume();
 	}
-	PG_CATCH();
-	{
-		pg_atomic_write_u32(&krl_shared->is_suspended, true);
-		PG_RE_THROW();
-	}
-	PG_END_TRY();
+	PG_END_ENSURE_ERROR_CLEANUP(suspend_again, (Datum) 0);
 	pg_atomic_write_u32(&krl_shared->is_closed, false);
 	PG_RETURN_VOID();
 }

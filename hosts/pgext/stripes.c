@@ -11,6 +11,7 @@
  */
 #include "postgres.h"
 
+#include "catalog/namespace.h"
 #include "catalog/pg_type.h"
 #include "executor/spi.h"
 #include "fmgr.h"
@@ -26,6 +27,16 @@
 
 /* Stands between the texts of two columns. */
 #define SEPARATOR 0x1f
+
+/* Whether this is krl.changed, by which the triggers of cached tables note changes. */
+bool
+krl_is_trigger_function(Oid function)
+{
+	const char *name = get_func_name(function);
+
+	return name && strcmp(name, "changed") == 0 &&
+		get_func_namespace(function) == get_namespace_oid("krl", true);
+}
 
 /* Returns the stripe of a key that has these texts, which are the same in each session. */
 static uint32

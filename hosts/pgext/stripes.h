@@ -28,6 +28,7 @@ typedef struct KrlStripes
 	int			ncolumns;
 } KrlStripes;
 
+extern bool krl_is_trigger_function(Oid function);
 extern void krl_read_stripes(const Trigger *trigger, KrlStripes *stripes);
 extern uint64 krl_stripe_of_row(const KrlStripes *stripes, HeapTuple row, TupleDesc desc);
 

@@ -20,7 +20,9 @@
 #include "storage/fd.h"
 #include "storage/ipc.h"
 #include "storage/latch.h"
+#include "storage/pmsignal.h"
 #include "utils/guc.h"
+#include "utils/memutils.h"
 #include "utils/timestamp.h"
 
 #include "krl_pg.h"
@@ -30,7 +32,7 @@
 #define ATTEMPT_MS 1000
 
 #define MARK_MS 5000
-#define ROWS_MS 60000
+#define ROWS_MS 5000
 
 #define REJOIN_MS 200
 #define RETRY_MS 10
@@ -43,6 +45,13 @@ static int	my_number;
 static KrlWorker *my_worker;
 static krlc_client *client = NULL;
 static uint32 joined_in = 0;	/* the joining that the client made */
+
+/* A server that is gone cannot be started again before its last process has ended. */
+static bool
+must_end(void)
+{
+	return ShutdownRequestPending || !PostmasterIsAlive();
+}
 
 static void
 set_fault(const char *fault)
@@ -211,7 +220,7 @@ hold(KrlSpan span, TimestampTz end, krlc_error *error)
 				return KRLC_OK;
 			strlcpy(error->sentence, "the lease of the worker ended", sizeof(error->sentence));
 		}
-		if (left <= 0 || ShutdownRequestPending)
+		if (left <= 0 || must_end())
 			return code;
 		if (code != KRLC_TIMED_OUT && code != KRLC_UNSERVED && code != KRLC_PIN_IS_VOID)
 			pg_usleep(RETRY_MS * 1000L);
@@ -257,7 +266,7 @@ krl_insert_rows(krlc_client *with, KrlSpan span, TimestampTz end, krlc_error *er
 	krlc_write *writes = palloc0(sizeof(krlc_write) * ROWS_OF_A_CALL);
 	uint32		code = KRLC_OK;
 
-	while (span.lo < span.hi && code != KRLC_FULL && !ShutdownRequestPending)
+	while (span.lo < span.hi && code != KRLC_FULL && !must_end())
 	{
 		KrlSpan		part = {span.lo, Min(span.lo + ROWS_OF_A_CALL, span.hi)};
 
@@ -309,7 +318,7 @@ answer_requests(void)
 {
 	bool		found = false;
 
-	for (int procno = 0; procno < krl_shared->nbackends && !ShutdownRequestPending; procno++)
+	for (int procno = 0; procno < krl_shared->nbackends && !must_end(); procno++)
 	{
 		KrlRequest *request = krl_request_of(my_number, procno);
 		uint32		waits = KRL_REQUEST_WAITS;
@@ -372,6 +381,9 @@ work(void)
 void
 krl_worker_main(Datum number)
 {
+	MemoryContext of_step = AllocSetContextCreate(TopMemoryContext, "krl: one step of the worker",
+												  ALLOCSET_DEFAULT_SIZES);
+
 	my_number = DatumGetInt32(number);
 	my_worker = &krl_shared->workers[my_number];
 	pqsignal(SIGTERM, SignalHandlerForShutdownRequest);
@@ -383,8 +395,11 @@ krl_worker_main(Datum number)
 	(void) MakePGDirectory(krl_lock_directory_path());
 	while (!ShutdownRequestPending)
 	{
-		long		sleep = work();
+		long		sleep;
 
+		MemoryContextSwitchTo(of_step);
+		MemoryContextReset(of_step);
+		sleep = work();
 		if (sleep > 0)
 			(void) WaitLatch(MyLatch, WL_LATCH_SET | WL_TIMEOUT | WL_EXIT_ON_PM_DEATH, sleep,
 							 PG_WAIT_EXTENSION);

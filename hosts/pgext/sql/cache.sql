@@ -70,6 +70,10 @@ SELECT krl.cache('keyless', '{id}', 0);
 SELECT krl.cache('keyless', '{id}', 2000);
 SELECT krl.uncache('keyless');
 
+-- Columns that an index only includes are not of the key.
+CREATE TABLE covered (id bigint, n bigint, PRIMARY KEY (id) INCLUDE (n));
+SELECT krl.primary_key('covered');
+
 -- Partitions.
 CREATE TABLE part (id bigint PRIMARY KEY, n bigint) PARTITION BY RANGE (id);
 CREATE TABLE part0 PARTITION OF part FOR VALUES FROM (0) TO (10);

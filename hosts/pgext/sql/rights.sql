@@ -45,5 +45,17 @@ RESET ROLE;
 SELECT krl.quiet(:nonce, 'parent', :first, '{0}');
 SELECT krl.quiet(:nonce, 4000000000::oid, :first, '{0}');
 
+-- Triggers of the same names that note nothing.
+CREATE FUNCTION nothing() RETURNS trigger LANGUAGE plpgsql AS 'BEGIN RETURN NULL; END';
+CREATE TABLE feigned (id bigint PRIMARY KEY);
+CREATE TRIGGER krl_changed AFTER INSERT OR UPDATE OR DELETE ON feigned
+    FOR EACH ROW EXECUTE FUNCTION nothing('0', '64', 'remainder', 'id');
+CREATE TRIGGER krl_truncated AFTER TRUNCATE ON feigned
+    FOR EACH STATEMENT EXECUTE FUNCTION nothing('0', '64', 'remainder', 'id');
+ALTER TABLE feigned ENABLE ALWAYS TRIGGER krl_changed;
+ALTER TABLE feigned ENABLE ALWAYS TRIGGER krl_truncated;
+SELECT krl.quiet(:nonce, 'feigned', 0, '{0}');
+DROP TABLE feigned;
+
 -- Lock files that a base backup would copy.
 ALTER SYSTEM SET krl.lock_directory = 'krl';

@@ -100,6 +100,16 @@ SELECT quiet('item', 20);
 ROLLBACK PREPARED 'two';
 SELECT quiet('item', 20);
 
+-- A snapshot that may be older than the look at the notices, and changes of the reader's own transaction.
+BEGIN ISOLATION LEVEL REPEATABLE READ;
+SELECT quiet('item', 21);
+COMMIT;
+BEGIN;
+SELECT quiet('item', 21);
+INSERT INTO item VALUES (21);
+SELECT quiet('item', 22);
+ROLLBACK;
+
 -- A row whose key is not an integer, and one of a partition.
 INSERT INTO place VALUES ('at', 'a0eebc99-9c0b-4ef8-bb6d-6bb9bd380a11', 'Wien');
 SELECT FROM since();
