@@ -76,7 +76,7 @@ time_left(const Round *round, int worker)
 static int
 worker_of(uint64 key)
 {
-	int			first = key == KRL_MARK ? 0 : (key / STRIPES_OF_A_TURN) % krl_workers;
+	int			first = key == KRL_CLUSTER_MARK ? 0 : (key / STRIPES_OF_A_TURN) % krl_workers;
 
 	for (int more = 0; more < krl_workers; more++)
 	{

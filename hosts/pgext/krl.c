@@ -22,8 +22,8 @@ PG_MODULE_MAGIC;
 
 PGDLLEXPORT void _PG_init(void);
 
-/* Fifteen tables of 4,096 stripes, which a server of krl has room for by default. */
-#define DEFAULT_STRIPES (15 * 4096)
+/* Fifteen tables of 4,096 stripes and a mark, which a server of krl has room for by default. */
+#define DEFAULT_STRIPES (15 * 4097)
 
 #define MAX_MS (3600 * 1000)
 
@@ -123,7 +123,7 @@ define_worker_settings(void)
 							 "Whether workers keep the locks that no reader wants.",
 							 NULL, &krl_keep_locks, true, PGC_POSTMASTER, 0, NULL, NULL, NULL);
 	DefineCustomIntVariable("krl.stripes",
-							"The most stripes of all cached tables together.",
+							"The most stripes of all cached tables together, and one for each.",
 							"krl's servers need room for two rows more.",
 							&krl_stripes, DEFAULT_STRIPES, 1, KRL_MAX_STRIPES,
 							PGC_POSTMASTER, 0, NULL, NULL, NULL);
@@ -133,8 +133,8 @@ define_worker_settings(void)
 							&krl_timeout, 15 * 1000, 1, MAX_MS,
 							PGC_USERSET, GUC_UNIT_MS, NULL, NULL, NULL);
 	DefineCustomIntVariable("krl.recall_limit",
-							"The most stripes that a transaction takes back one by one.",
-							"One that changes more takes everything back from all caches.",
+							"The most stripes of a table that a transaction takes back one by one.",
+							"One that changes more takes all rows of the table back.",
 							&krl_recall_limit, 64, 1, KRL_MAX_STRIPES,
 							PGC_USERSET, 0, NULL, NULL, NULL);
 }

@@ -29,15 +29,16 @@
 #define KRL_FAULT_LENGTH 256
 
 /*
- * Keys of krl.  The stripes of all tables lie below krl_stripes, those of one
- * table after those of another.  The mark is a row that each reader holds with
- * each stripe: whoever takes the mark takes everything.  The row before it
- * names the store.
+ * Keys of krl.  Those of a table are its mark and, after it, its stripes; the
+ * keys of all tables lie below krl_stripes.  A reader holds the mark of the
+ * table with each stripe, and the mark of the cluster: whoever takes a mark
+ * takes all rows of the table, or of all tables.  The row before the mark of
+ * the cluster names the store.
  */
-#define KRL_MARK (UINT64CONST(1) << 40)
-#define KRL_STORE_KEY (KRL_MARK - 1)
+#define KRL_CLUSTER_MARK (UINT64CONST(1) << 40)
+#define KRL_STORE_KEY (KRL_CLUSTER_MARK - 1)
 
-/* The most stripes of all tables together. */
+/* The most keys of all tables together. */
 #define KRL_MAX_STRIPES (1 << 20)
 
 /* The keys from lo on below hi. */
@@ -95,7 +96,7 @@ typedef struct KrlWorker
 
 typedef struct KrlShared
 {
-	/* The value of krl's mark since this start, or 0 until it has it. */
+	/* The value of the cluster's mark since this start, or 0 until it has it. */
 	pg_atomic_uint64 nonce;
 
 	/* Readers keep nothing: krl's server is stopped, or is about to be. */
@@ -110,16 +111,16 @@ typedef struct KrlShared
 	 */
 	pg_atomic_uint32 joining;
 
-	/* How many stripes were changed of which nobody had kept anything. */
+	/* How many keys were changed of which nobody had kept anything. */
 	pg_atomic_uint64 skipped;
 
 	int			nbackends;
 	KrlWorker	workers[KRL_MAX_WORKERS];
 
 	/*
-	 * For each stripe twice how often it was taken back, and one more if a
-	 * reader may have kept a row of it since then.  The requests of all
-	 * backends at each worker follow.
+	 * For each key of a table, and for the cluster's mark, twice how often it
+	 * was taken back, and one more if a reader may have kept a row by it since
+	 * then.  The requests of all backends at each worker follow.
 	 */
 	pg_atomic_uint32 kept[FLEXIBLE_ARRAY_MEMBER];
 } KrlShared;
@@ -148,10 +149,10 @@ extern uint32 krl_my_procno(void);
 extern void krl_set_latch(uint32 procno);
 extern bool krl_is_ready(KrlWorker *worker);
 extern void krl_join_again(void);
-extern bool krl_is_kept(uint64 stripe);
-extern uint32 krl_note_kept(uint64 stripe);
-extern uint32 krl_kept_count(uint64 stripe);
-extern void krl_note_recalled(uint64 stripe);
+extern bool krl_is_kept(uint64 key);
+extern uint32 krl_note_kept(uint64 key);
+extern uint32 krl_kept_count(uint64 key);
+extern void krl_note_recalled(uint64 key);
 
 /* notice.c */
 extern void krl_give_notice(uint64 key);

@@ -40,7 +40,7 @@ static Size
 requests_offset(void)
 {
 	return MAXALIGN(add_size(offsetof(KrlShared, kept),
-							 mul_size(sizeof(pg_atomic_uint32), krl_stripes)));
+							 mul_size(sizeof(pg_atomic_uint32), krl_stripes + 1)));
 }
 
 static Size
@@ -88,8 +88,8 @@ init_shared(void)
 	pg_atomic_init_u32(&krl_shared->is_suspended, is_suspended);
 	for (int worker = 0; worker < KRL_MAX_WORKERS; worker++)
 		init_worker(&krl_shared->workers[worker]);
-	for (int stripe = 0; stripe < krl_stripes; stripe++)
-		pg_atomic_init_u32(&krl_shared->kept[stripe], 0);
+	for (int key = 0; key <= krl_stripes; key++)
+		pg_atomic_init_u32(&krl_shared->kept[key], 0);
 	for (int worker = 0; worker < krl_workers; worker++)
 		for (int procno = 0; procno < krl_shared->nbackends; procno++)
 			pg_atomic_init_u32(&krl_request_of(worker, procno)->state, KRL_REQUEST_FREE);
@@ -176,33 +176,40 @@ krl_join_again(void)
 		krl_set_latch(pg_atomic_read_u32(&krl_shared->workers[worker].procno));
 }
 
-/* Whether a reader may have kept a row of the stripe since it was taken back last. */
+/* The count of a key: that of the cluster's mark is the last one. */
+static pg_atomic_uint32 *
+count_of(uint64 key)
+{
+	return &krl_shared->kept[Min(key, (uint64) krl_stripes)];
+}
+
+/* Whether a reader may have kept a row by the key since it was taken back last. */
 bool
-krl_is_kept(uint64 stripe)
+krl_is_kept(uint64 key)
 {
-	return pg_atomic_read_u32(&krl_shared->kept[stripe]) & 1;
+	return pg_atomic_read_u32(count_of(key)) & 1;
 }
 
-/* A reader is about to keep a row of the stripe.  Returns the count from then on. */
+/* A reader is about to keep a row by the key.  Returns the count from then on. */
 uint32
-krl_note_kept(uint64 stripe)
+krl_note_kept(uint64 key)
 {
-	return pg_atomic_fetch_or_u32(&krl_shared->kept[stripe], 1) | 1;
+	return pg_atomic_fetch_or_u32(count_of(key), 1) | 1;
 }
 
 uint32
-krl_kept_count(uint64 stripe)
+krl_kept_count(uint64 key)
 {
-	return pg_atomic_read_u32(&krl_shared->kept[stripe]);
+	return pg_atomic_read_u32(count_of(key));
 }
 
-/* The stripe was taken back from all caches. */
+/* The key was taken back from all caches. */
 void
-krl_note_recalled(uint64 stripe)
+krl_note_recalled(uint64 key)
 {
-	pg_atomic_uint32 *kept = &krl_shared->kept[stripe];
-	uint32		old = pg_atomic_read_u32(kept);
+	pg_atomic_uint32 *count = count_of(key);
+	uint32		old = pg_atomic_read_u32(count);
 
-	while (!pg_atomic_compare_exchange_u32(kept, &old, (old | 1) + 1))
+	while (!pg_atomic_compare_exchange_u32(count, &old, (old | 1) + 1))
 		;
 }

@@ -31,12 +31,11 @@
 /* Clocks of two machines differ in rate by a quarter at most. */
 #define DRIFT_DIVISOR 4
 
-/* The stripes that a reader wants to keep rows of. */
+/* The keys by which a reader wants to keep rows of a table. */
 typedef struct Wanted
 {
-	uint64		first;			/* of the table */
+	uint64	   *keys;			/* the marks of the cluster and of the table, and its stripes */
 	int			count;
-	Datum	   *stripes;		/* of the table, from 0 on */
 } Wanted;
 
 static const Trigger *
@@ -65,7 +64,7 @@ is_plain(Relation relation)
 
 /* Whether each change of the relation is noted, and all its readers see the same rows. */
 static bool
-is_guarded(Oid oid, uint64 first)
+is_guarded(Oid oid, uint32 mark)
 {
 	Relation	relation = try_relation_open(oid, AccessShareLock);
 	const Trigger *trigger;
@@ -79,7 +78,7 @@ is_guarded(Oid oid, uint64 first)
 		KrlStripes	stripes;
 
 		krl_read_stripes(trigger, &stripes);
-		result = stripes.first == first;
+		result = stripes.mark == mark;
 	}
 	relation_close(relation, AccessShareLock);
 	return result;
@@ -87,7 +86,7 @@ is_guarded(Oid oid, uint64 first)
 
 /* The same of the table, and of its partitions and the tables that inherit from it. */
 static bool
-is_table_guarded(Oid table, uint64 first)
+is_table_guarded(Oid table, uint32 mark)
 {
 	List	   *relations = list_make1_oid(table);
 	ListCell   *cell;
@@ -95,7 +94,7 @@ is_table_guarded(Oid table, uint64 first)
 	if (has_subclass(table))
 		relations = find_all_inheritors(table, AccessShareLock, NULL);
 	foreach(cell, relations)
-		if (!is_guarded(lfirst_oid(cell), first))
+		if (!is_guarded(lfirst_oid(cell), mark))
 			return false;
 	return true;
 }
@@ -110,55 +109,71 @@ require_select(Oid table)
 }
 
 static Wanted
-read_wanted(int32 first, ArrayType *array)
+read_wanted(int32 mark, ArrayType *array)
 {
-	Wanted		wanted = {.first = first};
+	Wanted		wanted;
+	Datum	   *stripes;
 	bool	   *nulls;
+	int			nstripes;
 
-	deconstruct_array(array, INT4OID, sizeof(int32), true, TYPALIGN_INT,
-					  &wanted.stripes, &nulls, &wanted.count);
-	for (int i = 0; i < wanted.count; i++)
+	if (mark < 0 || mark >= krl_stripes)
+		ereport(ERROR,
+				(errcode(ERRCODE_INVALID_PARAMETER_VALUE),
+				 errmsg("there is no table whose mark is %d", mark),
+				 errdetail("krl.stripes is %d.", krl_stripes)));
+	deconstruct_array(array, INT4OID, sizeof(int32), true, TYPALIGN_INT, &stripes, &nulls,
+					  &nstripes);
+	wanted.keys = palloc(sizeof(uint64) * (nstripes + 2));
+	wanted.keys[0] = KRL_CLUSTER_MARK;
+	wanted.keys[1] = mark;
+	wanted.count = 2;
+	for (int i = 0; i < nstripes; i++)
 	{
-		int32		stripe = nulls[i] ? -1 : DatumGetInt32(wanted.stripes[i]);
+		int32		stripe = nulls[i] ? -1 : DatumGetInt32(stripes[i]);
 
-		if (first < 0 || stripe < 0 || stripe >= krl_stripes - first)
+		if (stripe < 0 || stripe >= krl_stripes - mark - 1)
 			ereport(ERROR,
 					(errcode(ERRCODE_INVALID_PARAMETER_VALUE),
-					 errmsg("there is no stripe %d of a table whose first is %d", stripe, first),
+					 errmsg("there is no stripe %d of a table whose mark is %d", stripe, mark),
 					 errdetail("krl.stripes is %d.", krl_stripes)));
+		wanted.keys[wanted.count++] = (uint64) mark + 1 + stripe;
 	}
 	return wanted;
 }
 
-static uint64
-wanted_stripe(const Wanted *wanted, int i)
+static bool
+has_any_notice(const Wanted *wanted)
 {
-	return wanted->first + (uint64) DatumGetInt32(wanted->stripes[i]);
+	for (int i = 0; i < wanted->count; i++)
+		if (krl_has_notice(wanted->keys[i]))
+			return true;
+	return false;
+}
+
+static bool
+has_same_counts(const Wanted *wanted, const uint32 *counts)
+{
+	pg_memory_barrier();		/* after the look at the notices */
+	for (int i = 0; i < wanted->count; i++)
+		if (krl_kept_count(wanted->keys[i]) != counts[i])
+			return false;
+	return true;
 }
 
 /*
  * Whether no transaction that may still commit has given notice of one of the
- * stripes.  They count as kept from before the look at the notices.  If one was
+ * keys.  They count as kept from before the look at the notices.  If one was
  * taken back after that, the next writer may have found that it is not kept.
  */
 static bool
 are_quiet(const Wanted *wanted)
 {
-	uint32	   *counts = palloc(sizeof(uint32) * Max(wanted->count, 1));
+	uint32	   *counts = palloc(sizeof(uint32) * wanted->count);
 
 	for (int i = 0; i < wanted->count; i++)
-		counts[i] = krl_note_kept(wanted_stripe(wanted, i));
+		counts[i] = krl_note_kept(wanted->keys[i]);
 	pg_memory_barrier();
-	if (krl_has_notice(KRL_MARK))
-		return false;
-	for (int i = 0; i < wanted->count; i++)
-		if (krl_has_notice(wanted_stripe(wanted, i)))
-			return false;
-	pg_memory_barrier();
-	for (int i = 0; i < wanted->count; i++)
-		if (krl_kept_count(wanted_stripe(wanted, i)) != counts[i])
-			return false;
-	return true;
+	return !has_any_notice(wanted) && has_same_counts(wanted, counts);
 }
 
 /* Whether readers may keep rows that they hold by a mark of this nonce. */
@@ -182,19 +197,20 @@ is_next_snapshot_new(void)
 
 PG_FUNCTION_INFO_V1(krl_quiet);
 
-/* krl.quiet(nonce bigint, relation regclass, first integer, stripes integer[]) */
+/* krl.quiet(nonce bigint, relation regclass, mark integer, stripes integer[]) */
 Datum
 krl_quiet(PG_FUNCTION_ARGS)
 {
 	uint64		nonce = (uint64) PG_GETARG_INT64(0);
 	Oid			table = PG_GETARG_OID(1);
-	Wanted		wanted = read_wanted(PG_GETARG_INT32(2), PG_GETARG_ARRAYTYPE_P(3));
+	int32		mark = PG_GETARG_INT32(2);
+	Wanted		wanted = read_wanted(mark, PG_GETARG_ARRAYTYPE_P(3));
 
 	require_select(table);
 	/* The triggers are looked at after the notices too: who drops one gives notice first. */
 	PG_RETURN_BOOL(is_open(nonce) && is_next_snapshot_new() &&
-				   is_table_guarded(table, wanted.first) && are_quiet(&wanted) &&
-				   is_table_guarded(table, wanted.first));
+				   is_table_guarded(table, mark) && are_quiet(&wanted) &&
+				   is_table_guarded(table, mark));
 }
 
 PG_FUNCTION_INFO_V1(krl_nonce);
@@ -209,7 +225,7 @@ krl_nonce(PG_FUNCTION_ARGS)
 
 PG_FUNCTION_INFO_V1(krl_make);
 
-/* krl.make(first integer, stripes integer) */
+/* krl.make(first integer, keys integer) */
 Datum
 krl_make(PG_FUNCTION_ARGS)
 {
@@ -220,7 +236,7 @@ krl_make(PG_FUNCTION_ARGS)
 	if (first < 0 || count < 1 || count > krl_stripes - first)
 		ereport(ERROR,
 				(errcode(ERRCODE_CONFIGURATION_LIMIT_EXCEEDED),
-				 errmsg("%d stripes after %d are more than krl.stripes, which is %d",
+				 errmsg("%d keys after %d are more than krl.stripes, which is %d",
 						count, first, krl_stripes),
 				 errhint("Set krl.stripes to more, and restart the server; or cache the table with "
 						 "fewer stripes.")));
@@ -340,7 +356,7 @@ PG_FUNCTION_INFO_V1(krl_resume);
 Datum
 krl_resume(PG_FUNCTION_ARGS)
 {
-	uint64		mark = KRL_MARK;
+	uint64		mark = KRL_CLUSTER_MARK;
 
 	krl_require_shared();
 	krl_lock_operators();

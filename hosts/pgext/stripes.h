@@ -21,8 +21,8 @@
 /* As the arguments of the triggers have them. */
 typedef struct KrlStripes
 {
-	uint32		first;
-	uint32		count;
+	uint32		mark;
+	uint32		count;			/* their keys follow that of the mark */
 	bool		by_remainder;	/* of a key that is one integer */
 	char	  **columns;		/* of the key */
 	int			ncolumns;

@@ -128,8 +128,8 @@ join(krlc_error *error)
 }
 
 /*
- * Puts a nonce into krl's mark, which takes everything back from all caches.
- * After that a count of zero means that nobody keeps anything of the stripe.
+ * Puts a nonce into the cluster's mark, which takes everything back from all
+ * caches.  After that an even count means that nobody keeps anything by the key.
  */
 static bool
 take_mark(krlc_error *error)
@@ -140,7 +140,7 @@ take_mark(krlc_error *error)
 		ereport(ERROR,
 				(errcode(ERRCODE_INTERNAL_ERROR), errmsg("could not generate random values")));
 	nonce |= 1;
-	if (krlc_set(client, KRL_MARK, &nonce, sizeof(nonce), MARK_MS, error) != KRLC_OK)
+	if (krlc_set(client, KRL_CLUSTER_MARK, &nonce, sizeof(nonce), MARK_MS, error) != KRLC_OK)
 		return false;
 	pg_atomic_write_u64(&krl_shared->nonce, nonce);
 	return true;

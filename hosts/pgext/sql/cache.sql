@@ -33,7 +33,7 @@ CREATE TABLE place (country text, code uuid, name text, PRIMARY KEY (country, co
 SELECT krl.cache('place', stripes => 16);
 CREATE TABLE note (author text, body text);
 SELECT krl.cache('note', '{author}', 16);
-SELECT relation, key_columns, first, stripes, by_remainder FROM krl.cached ORDER BY first;
+SELECT relation, key_columns, mark, stripes, by_remainder FROM krl.cached ORDER BY mark;
 SELECT tgrelid::regclass AS relation, tgname, tgenabled, tgtype FROM pg_trigger
     WHERE tgname LIKE 'krl%' ORDER BY 1, 2;
 
@@ -86,7 +86,7 @@ SELECT tgrelid::regclass AS relation, tgname, tgenabled FROM pg_trigger
 SELECT krl.uncache('note');
 SELECT tgname FROM pg_trigger WHERE tgrelid = 'note'::regclass;
 SELECT krl.cache('note', '{author}', 16);
-SELECT first FROM krl.cached WHERE relation = 'note'::regclass;
+SELECT mark FROM krl.cached WHERE relation = 'note'::regclass;
 
 -- The triggers of cached tables need the extension.
 \set VERBOSITY terse
