@@ -221,6 +221,8 @@ on_transaction(XactEvent event, void *arg)
 				before_commit();
 			break;
 		case XACT_EVENT_ABORT:
+			krl_drop_request();
+			/* FALLTHROUGH */
 		case XACT_EVENT_COMMIT:
 		case XACT_EVENT_PREPARE:
 			is_committing = false;

@@ -55,7 +55,7 @@ CREATE FUNCTION krl.make(first integer, keys integer) RETURNS void
 REVOKE ALL ON FUNCTION krl.make(integer, integer) FROM PUBLIC;
 COMMENT ON FUNCTION krl.make(integer, integer) IS 'makes rows of krl for these keys';
 
-CREATE FUNCTION krl.worker(number integer, OUT is_ready boolean, OUT fault text, OUT recalls bigint,
+CREATE FUNCTION krl.worker(number integer, OUT is_ready boolean, OUT fault text, OUT pid integer,
     OUT spans bigint, OUT failures bigint, OUT milliseconds double precision)
     RETURNS record LANGUAGE C STRICT VOLATILE AS 'MODULE_PATHNAME', 'krl_worker';
 
@@ -67,6 +67,18 @@ COMMENT ON VIEW krl.workers IS 'what each worker has done since the server start
 GRANT SELECT ON krl.workers TO pg_monitor;
 REVOKE ALL ON FUNCTION krl.worker(integer) FROM PUBLIC;
 GRANT EXECUTE ON FUNCTION krl.worker(integer) TO pg_monitor;
+
+CREATE FUNCTION krl.requests(OUT pid integer, OUT key bigint, OUT is_in_work boolean)
+    RETURNS SETOF record LANGUAGE C STRICT VOLATILE AS 'MODULE_PATHNAME', 'krl_requests';
+REVOKE ALL ON FUNCTION krl.requests() FROM PUBLIC;
+GRANT EXECUTE ON FUNCTION krl.requests() TO pg_monitor;
+
+CREATE VIEW krl.waiting AS
+    SELECT request.pid, cached.relation, request.is_in_work
+    FROM krl.requests() AS request LEFT JOIN krl.cached ON key BETWEEN mark AND mark + stripes;
+COMMENT ON VIEW krl.waiting IS
+    'the sessions that wait until rows are taken back; the relation is null if it is of another database';
+GRANT SELECT ON krl.waiting TO pg_monitor;
 
 CREATE FUNCTION krl.skipped() RETURNS bigint
     LANGUAGE C STRICT VOLATILE AS 'MODULE_PATHNAME', 'krl_skipped';

@@ -48,6 +48,13 @@ krl_lock_directory_path(void)
 	return lock_directory[0] ? pstrdup(lock_directory) : psprintf("%s.krl", DataDir);
 }
 
+/* Where krl's server is, for workers and readers. */
+const char *
+krl_server_address(void)
+{
+	return krl_servers;
+}
+
 /*
  * A base backup copies the data directory.  Two processes with copies of one
  * lock file would be the same client of krl, of the same incarnation.
@@ -112,7 +119,7 @@ define_worker_settings(void)
 {
 	DefineCustomIntVariable("krl.workers",
 							"The number of workers that take rows back from caches.",
-							NULL, &krl_workers, 2, 1, KRL_MAX_WORKERS,
+							NULL, &krl_workers, 4, 1, KRL_MAX_WORKERS,
 							PGC_POSTMASTER, 0, NULL, NULL, NULL);
 	DefineCustomIntVariable("krl.first_client",
 							"The number of the first worker among the clients of krl.",

@@ -5,8 +5,8 @@
  *
  * A transaction notes which rows of cached tables it changes (changes.c).
  * Before it commits it gives notice of them (notice.c) and has them taken
- * back from all caches (ask.c) by background workers, which are clients of
- * krl (worker.c).  A reader that holds rows in krl asks whether somebody has
+ * back from all caches (ask.c, answer.c) by background workers, which are
+ * clients of krl (worker.c).  A reader that holds rows in krl asks whether somebody has
  * given notice of them (sql.c), and keeps what it selects after that only if
  * nobody has.  PROTOCOL.md has the argument that no cache is stale.
  *
@@ -23,7 +23,7 @@
 
 #define KRL_MAX_WORKERS 8
 
-/* One request has so many spans at most. */
+/* One request has so many spans at most: their places have eight bits. */
 #define KRL_MAX_SPANS 64
 
 #define KRL_FAULT_LENGTH 256
@@ -55,40 +55,51 @@ typedef enum KrlRequestKind
 } KrlRequestKind;
 
 /*
- * A backend has one request at each worker.  The backend changes FREE to
- * WAITS, and DONE or FAILED to FREE; the worker changes WAITS to RUNS, and
- * that to DONE or FAILED.  A backend that was canceled may take a request that
- * WAITS back.
+ * A backend has one request, of which workers do one span after another.  Its
+ * state has three parts: its phase; its place, which is the next span, or the
+ * worker that failed; and its number, which grows with each request of the
+ * backend.  The backend changes any phase to FREE, and FREE to WAITS.  A worker
+ * changes WAITS to RUNS, and that to WAITS for the next span, to DONE or to
+ * FAILED, if the number is still the same.
  */
-typedef enum KrlRequestState
+typedef enum KrlPhase
 {
-	KRL_REQUEST_FREE,
-	KRL_REQUEST_WAITS,
-	KRL_REQUEST_RUNS,
-	KRL_REQUEST_DONE,
-	KRL_REQUEST_FAILED
-} KrlRequestState;
+	KRL_FREE,
+	KRL_WAITS,
+	KRL_RUNS,
+	KRL_DONE,
+	KRL_FAILED
+} KrlPhase;
+
+#define KRL_PHASE(state) ((KrlPhase) ((state) & 0xff))
+#define KRL_PLACE(state) ((uint32) ((state) >> 8) & 0xff)
+#define KRL_NUMBER(state) ((uint32) ((state) >> 32))
 
 typedef struct KrlRequest
 {
-	pg_atomic_uint32 state;		/* a KrlRequestState */
+	pg_atomic_uint64 state;
 	KrlRequestKind kind;
-	int			timeout;		/* in milliseconds */
+	TimestampTz end;			/* when the backend no longer waits for it */
 	int			nspans;
 	KrlSpan		spans[KRL_MAX_SPANS];
-	char		fault[KRL_FAULT_LENGTH];
 } KrlRequest;
 
 typedef struct KrlWorker
 {
 	pg_atomic_uint32 procno;	/* KRL_NO_PROCESS if it does not run */
 	pg_atomic_uint32 ready_in;	/* the joining in which it is ready, or KRL_NOT_READY */
-	slock_t		mutex;			/* protects fault */
+	pg_atomic_uint32 sleeps;	/* whether it is to be woken for a request */
+
+	/* The keys that it does, and whether another worker has left them to it: by krl_shared->mutex. */
+	KrlSpan		claimed;
+	bool		is_awaited;
+
+	slock_t		mutex;			/* protects both texts */
 	char		fault[KRL_FAULT_LENGTH];	/* why it is not ready */
-	pg_atomic_uint64 recalls;
-	pg_atomic_uint64 spans;
+	char		failure[KRL_FAULT_LENGTH];	/* why it last failed to do a request */
+	pg_atomic_uint64 spans;		/* that it took back */
 	pg_atomic_uint64 failures;
-	pg_atomic_uint64 microseconds;	/* that its recalls took */
+	pg_atomic_uint64 microseconds;	/* that this took */
 } KrlWorker;
 
 #define KRL_NO_PROCESS PG_UINT32_MAX
@@ -114,13 +125,14 @@ typedef struct KrlShared
 	/* How many keys were changed of which nobody had kept anything. */
 	pg_atomic_uint64 skipped;
 
+	slock_t		mutex;			/* protects what workers have claimed */
 	int			nbackends;
 	KrlWorker	workers[KRL_MAX_WORKERS];
 
 	/*
 	 * For each key of a table, and for the cluster's mark, twice how often it
 	 * was taken back, and one more if a reader may have kept a row by it since
-	 * then.  The requests of all backends at each worker follow.
+	 * then.  The requests of all backends follow.
 	 */
 	pg_atomic_uint32 kept[FLEXIBLE_ARRAY_MEMBER];
 } KrlShared;
@@ -139,15 +151,19 @@ extern int	krl_lease;
 extern int	krl_recall_limit;
 extern bool krl_keep_locks;
 extern char *krl_lock_directory_path(void);
+extern const char *krl_server_address(void);
 
 /* shared.c */
 extern KrlShared *krl_shared;
 extern void krl_shared_init(void);
 extern void krl_require_shared(void);
-extern KrlRequest *krl_request_of(int worker, uint32 procno);
+extern KrlRequest *krl_request_of(uint32 procno);
+extern uint64 krl_state(uint32 number, uint32 place, KrlPhase phase);
 extern uint32 krl_my_procno(void);
 extern void krl_set_latch(uint32 procno);
+extern void krl_wake_workers(int most);
 extern bool krl_is_ready(KrlWorker *worker);
+extern void krl_read_text(KrlWorker *worker, const char *text, char *copy);
 extern void krl_join_again(void);
 extern bool krl_is_kept(uint64 key);
 extern uint32 krl_note_kept(uint64 key);
@@ -163,6 +179,15 @@ extern void krl_lock_operators(void);
 extern void krl_wait(long milliseconds);
 extern void krl_recall(const uint64 *keys, int nkeys);
 extern void krl_make_rows(uint64 first, uint64 nrows);
+extern void krl_await_first_worker(void);
+extern void krl_drop_request(void);
+
+/* answer.c */
+extern bool krl_must_end(void);
+extern bool krl_answer_one(krlc_client *client, int number);
+extern void krl_return_request(void);
+extern uint32 krl_insert_rows(krlc_client *client, KrlSpan span, TimestampTz end,
+							  krlc_error *error);
 
 /* store.c */
 extern bool krl_store_is_own(krlc_client *client, int worker, krlc_error *error);
@@ -173,8 +198,6 @@ extern void krl_store_resume(void);
 
 /* worker.c */
 extern void krl_workers_init(void);
-extern uint32 krl_insert_rows(krlc_client *client, KrlSpan span, TimestampTz end,
-							  krlc_error *error);
 PGDLLEXPORT void krl_worker_main(Datum number);
 
 #endif							/* KRL_PG_H */

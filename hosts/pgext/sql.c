@@ -7,7 +7,6 @@
  */
 #include "postgres.h"
 
-#include "access/htup_details.h"
 #include "access/relation.h"
 #include "access/xact.h"
 #include "access/xlog.h"
@@ -15,7 +14,6 @@
 #include "catalog/pg_type.h"
 #include "commands/trigger.h"
 #include "fmgr.h"
-#include "funcapi.h"
 #include "miscadmin.h"
 #include "portability/instr_time.h"
 #include "storage/ipc.h"
@@ -245,48 +243,6 @@ krl_make(PG_FUNCTION_ARGS)
 	PG_RETURN_VOID();
 }
 
-PG_FUNCTION_INFO_V1(krl_worker);
-
-/* krl.worker(number integer, ..) */
-Datum
-krl_worker(PG_FUNCTION_ARGS)
-{
-	int32		number = PG_GETARG_INT32(0);
-	KrlWorker  *worker;
-	TupleDesc	desc;
-	char		fault[KRL_FAULT_LENGTH];
-	Datum		values[6];
-	bool		nulls[6] = {false};
-
-	krl_require_shared();
-	if (number < 0 || number >= krl_workers)
-		PG_RETURN_NULL();
-	if (get_call_result_type(fcinfo, NULL, &desc) != TYPEFUNC_COMPOSITE)
-		elog(ERROR, "return type must be a row type");
-	worker = &krl_shared->workers[number];
-	SpinLockAcquire(&worker->mutex);
-	strlcpy(fault, worker->fault, sizeof(fault));
-	SpinLockRelease(&worker->mutex);
-	values[0] = BoolGetDatum(krl_is_ready(worker));
-	values[1] = CStringGetTextDatum(fault);
-	nulls[1] = fault[0] == '\0';
-	values[2] = Int64GetDatum((int64) pg_atomic_read_u64(&worker->recalls));
-	values[3] = Int64GetDatum((int64) pg_atomic_read_u64(&worker->spans));
-	values[4] = Int64GetDatum((int64) pg_atomic_read_u64(&worker->failures));
-	values[5] = Float8GetDatum(pg_atomic_read_u64(&worker->microseconds) / 1000.0);
-	PG_RETURN_DATUM(HeapTupleGetDatum(heap_form_tuple(BlessTupleDesc(desc), values, nulls)));
-}
-
-PG_FUNCTION_INFO_V1(krl_skipped);
-
-/* krl.skipped() */
-Datum
-krl_skipped(PG_FUNCTION_ARGS)
-{
-	krl_require_shared();
-	PG_RETURN_INT64((int64) pg_atomic_read_u64(&krl_shared->skipped));
-}
-
 /* By the end of this call the lease of each reader has ended, whatever is done to the time of day. */
 static void
 await_leases(void)
@@ -362,6 +318,8 @@ krl_resume(PG_FUNCTION_ARGS)
 	krl_lock_operators();
 	if (!pg_atomic_read_u32(&krl_shared->is_suspended))
 		PG_RETURN_VOID();
+	/* Only while the cluster is suspended, it takes another store. */
+	krl_await_first_worker();
 	/* First transactions wait for krl, then all is taken back, and then readers keep rows again. */
 	pg_atomic_write_u32(&krl_shared->is_suspended, false);
 	PG_ENSURE_ERROR_CLEANUP(suspend_again, (Datum) 0);
