@@ -41,7 +41,7 @@ COMMENT ON FUNCTION krl.stripe(integer, text[]) IS
     'the stripe of a key of several columns, or of one that is no integer';
 
 CREATE FUNCTION krl.servers() RETURNS text
-    LANGUAGE sql STABLE AS $$ SELECT pg_catalog.current_setting('krl.servers') $$;
+    LANGUAGE C STRICT STABLE AS 'MODULE_PATHNAME', 'krl_addresses';
 COMMENT ON FUNCTION krl.servers() IS 'the addresses of krl''s servers, as readers join them';
 
 CREATE FUNCTION krl.nonce() RETURNS bigint

@@ -38,8 +38,8 @@
 #define KRL_CLUSTER_MARK (UINT64CONST(1) << 40)
 #define KRL_STORE_KEY (KRL_CLUSTER_MARK - 1)
 
-/* The most keys of all tables together. */
-#define KRL_MAX_STRIPES (1 << 20)
+/* The most keys of all tables together: with two rows more they are the most rows of krl. */
+#define KRL_MAX_STRIPES ((1 << 20) - 2)
 
 /* The keys from lo on below hi. */
 typedef struct KrlSpan
@@ -122,6 +122,11 @@ typedef struct KrlShared
 	 */
 	pg_atomic_uint32 joining;
 
+	/* Of the worker that starts krl's server: whether that may run, and whether it is to be stopped. */
+	pg_atomic_uint32 server_procno;
+	pg_atomic_uint32 server_runs;
+	pg_atomic_uint32 server_is_stopped;
+
 	/* How many keys were changed of which nobody had kept anything. */
 	pg_atomic_uint64 skipped;
 
@@ -143,6 +148,8 @@ extern char *krl_table_name;
 extern char *krl_tls_authority;
 extern char *krl_tls_certificate;
 extern char *krl_tls_key;
+extern char *krl_server_program;
+extern char *krl_server_users;
 extern int	krl_workers;
 extern int	krl_first_client;
 extern int	krl_stripes;
@@ -150,8 +157,7 @@ extern int	krl_timeout;
 extern int	krl_lease;
 extern int	krl_recall_limit;
 extern bool krl_keep_locks;
-extern char *krl_lock_directory_path(void);
-extern const char *krl_server_address(void);
+extern char *krl_directory_path(void);
 
 /* shared.c */
 extern KrlShared *krl_shared;
@@ -195,6 +201,12 @@ extern void krl_store_note_rows(uint64 end);
 extern bool krl_store_is_suspended(void);
 extern void krl_store_suspend(void);
 extern void krl_store_resume(void);
+
+/* server.c */
+extern const char *krl_server_address(void);
+extern void krl_stop_server(void);
+extern void krl_let_server_run(void);
+PGDLLEXPORT void krl_server_main(Datum number);
 
 /* worker.c */
 extern void krl_workers_init(void);

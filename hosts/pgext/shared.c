@@ -82,6 +82,9 @@ init_shared(void)
 	krl_shared->nbackends = max_backends();
 	pg_atomic_init_u64(&krl_shared->nonce, 0);
 	pg_atomic_init_u32(&krl_shared->joining, 0);
+	pg_atomic_init_u32(&krl_shared->server_procno, KRL_NO_PROCESS);
+	pg_atomic_init_u32(&krl_shared->server_runs, false);
+	pg_atomic_init_u32(&krl_shared->server_is_stopped, false);
 	pg_atomic_init_u64(&krl_shared->skipped, 0);
 	pg_atomic_init_u32(&krl_shared->is_closed, is_suspended);
 	pg_atomic_init_u32(&krl_shared->is_suspended, is_suspended);

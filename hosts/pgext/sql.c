@@ -211,6 +211,16 @@ krl_quiet(PG_FUNCTION_ARGS)
 				   is_table_guarded(table, mark));
 }
 
+PG_FUNCTION_INFO_V1(krl_addresses);
+
+/* krl.servers() */
+Datum
+krl_addresses(PG_FUNCTION_ARGS)
+{
+	krl_require_shared();
+	PG_RETURN_TEXT_P(cstring_to_text(krl_server_address()));
+}
+
 PG_FUNCTION_INFO_V1(krl_nonce);
 
 /* krl.nonce() */
@@ -269,6 +279,7 @@ await_leases(void)
 static void
 open_again(int code, Datum arg)
 {
+	krl_let_server_run();
 	pg_atomic_write_u32(&krl_shared->is_closed, false);
 }
 
@@ -297,11 +308,13 @@ krl_suspend(PG_FUNCTION_ARGS)
 	pg_atomic_write_u32(&krl_shared->is_closed, true);
 	PG_ENSURE_ERROR_CLEANUP(open_again, (Datum) 0);
 	{
+		krl_stop_server();
 		await_leases();
 		krl_store_suspend();
 	}
 	PG_END_ENSURE_ERROR_CLEANUP(open_again, (Datum) 0);
 	pg_atomic_write_u32(&krl_shared->is_suspended, true);
+	krl_let_server_run();
 	krl_join_again();
 	PG_RETURN_VOID();
 }

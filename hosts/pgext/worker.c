@@ -73,7 +73,7 @@ text_or_null(const char *setting)
 static bool
 join(krlc_error *error)
 {
-	char	   *lock_file = psprintf("%s/worker-%d.lock", krl_lock_directory_path(), my_number);
+	char	   *lock_file = psprintf("%s/worker-%d.lock", krl_directory_path(), my_number);
 	krlc_options options = {.size = sizeof(options)};
 	sigset_t	all;
 	sigset_t	before;
@@ -227,7 +227,7 @@ krl_worker_main(Datum number)
 	BackgroundWorkerUnblockSignals();
 	before_shmem_exit(on_worker_exit, 0);
 	pg_atomic_write_u32(&my_worker->procno, krl_my_procno());
-	(void) MakePGDirectory(krl_lock_directory_path());
+	(void) MakePGDirectory(krl_directory_path());
 	while (!ShutdownRequestPending)
 	{
 		long		sleep;
@@ -246,29 +246,37 @@ krl_worker_main(Datum number)
 	proc_exit(1);				/* it is started again, unless the server stops */
 }
 
-/* Has the server start the workers, and reports if it will not start all of them. */
+static void
+register_worker(const char *type, const char *function, int number)
+{
+	BackgroundWorker worker = {0};
+
+	snprintf(worker.bgw_name, BGW_MAXLEN, "%s %d", type, number);
+	strlcpy(worker.bgw_type, type, BGW_MAXLEN);
+	strlcpy(worker.bgw_library_name, "krl", BGW_MAXLEN);
+	strlcpy(worker.bgw_function_name, function, BGW_MAXLEN);
+	worker.bgw_flags = BGWORKER_SHMEM_ACCESS;
+	worker.bgw_start_time = BgWorkerStart_RecoveryFinished;
+	worker.bgw_restart_time = 1;
+	worker.bgw_main_arg = Int32GetDatum(number);
+	RegisterBackgroundWorker(&worker);
+}
+
+/* Has PostgreSQL start the workers, and reports if it will not start all of them. */
 void
 krl_workers_init(void)
 {
+	bool		has_server = krl_servers[0] == '\0';
+
 	/* One is that of logical replication. */
-	if (krl_workers >= max_worker_processes)
+	if (krl_workers + has_server >= max_worker_processes)
 		ereport(WARNING,
 				(errmsg("krl.workers is %d, and max_worker_processes is %d", krl_workers,
 						max_worker_processes),
 				 errdetail("Some of krl's workers will not start: the others work for them."),
 				 errhint("Set max_worker_processes to %d or more.", krl_workers + 8)));
+	if (has_server)
+		register_worker("krl server", "krl_server_main", 0);
 	for (int number = 0; number < krl_workers; number++)
-	{
-		BackgroundWorker worker = {0};
-
-		snprintf(worker.bgw_name, BGW_MAXLEN, "krl worker %d", number);
-		strlcpy(worker.bgw_type, "krl worker", BGW_MAXLEN);
-		strlcpy(worker.bgw_library_name, "krl", BGW_MAXLEN);
-		strlcpy(worker.bgw_function_name, "krl_worker_main", BGW_MAXLEN);
-		worker.bgw_flags = BGWORKER_SHMEM_ACCESS;
-		worker.bgw_start_time = BgWorkerStart_RecoveryFinished;
-		worker.bgw_restart_time = 1;
-		worker.bgw_main_arg = Int32GetDatum(number);
-		RegisterBackgroundWorker(&worker);
-	}
+		register_worker("krl worker", "krl_worker_main", number);
 }

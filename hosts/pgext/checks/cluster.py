@@ -70,7 +70,7 @@ class Installation:
         for edit in edits:
             run(self.top / "tests/edit", edit, self.folder / "tree")
         words = [f"PG_CONFIG={self.given.pg_config}", f"KRL_INCLUDE={self.top / 'hosts/capi/include'}"]
-        words += [f"KRL_CLIENT={self.top / 'bin'}", "with_llvm=no"]
+        words += [f"KRL_CLIENT={self.top / 'bin'}", f"KRL_SERVER={self.top / 'bin/krl-server'}", "with_llvm=no"]
         run("make", "-C", self.source, "-j2", "all", "test/readers", *words)
         run("make", "-C", self.source, "install", f"DESTDIR={self.root}", *words)
 

@@ -72,4 +72,4 @@ SELECT krl.quiet(:nonce, 'feigned', 0, '{0}');
 DROP TABLE feigned;
 
 -- Lock files that a base backup would copy.
-ALTER SYSTEM SET krl.lock_directory = 'krl';
+ALTER SYSTEM SET krl.directory = 'krl';
