@@ -171,12 +171,16 @@ CREATE FUNCTION krl.cache(relation regclass, key_columns name[] DEFAULT NULL,
     stripes integer DEFAULT 4096) RETURNS void
     LANGUAGE plpgsql SET search_path = pg_catalog AS $$
 DECLARE
-    columns name[] := coalesce(key_columns, krl.primary_key(relation));
+    columns name[];
     entry krl.cached;
 BEGIN
-    PERFORM krl.require_cacheable(relation, columns);
     SELECT * INTO entry FROM krl.cached WHERE cached.relation = cache.relation;
-    IF NOT FOUND THEN
+    columns := coalesce(key_columns, entry.key_columns, krl.primary_key(relation));
+    PERFORM krl.require_cacheable(relation, columns);
+    IF columns <> entry.key_columns THEN
+        RAISE EXCEPTION 'table "%" is cached by its columns %, and not by %', relation, entry.key_columns, columns
+            USING ERRCODE = 'object_not_in_prerequisite_state', HINT = 'Call krl.uncache first.';
+    ELSIF entry.relation IS NULL THEN
         IF stripes < 1 THEN
             RAISE EXCEPTION 'a table has one stripe or more, and not %', stripes
                 USING ERRCODE = 'invalid_parameter_value';

@@ -63,7 +63,7 @@ def check_subscription(cluster, reader):
 def check_dump(installation, cluster, reader_number):
     """A dump that is restored into another cluster, with another store of krl, has the cached tables."""
     cluster.sql("CREATE TABLE place (country text, code text, PRIMARY KEY (country, code))",
-                "SELECT krl.cache('place', stripes => 16)")
+                "SELECT krl.cache('place', '{code}', stripes => 16)")
     dump = installation.folder / "checks.sql"
     where = ["-h", cluster.folder, "-p", cluster.port, "-U", "postgres"]
     installation.run("pg_dump", *where, "-f", dump, "checks")

@@ -27,12 +27,14 @@ SELECT number, is_ready, fault FROM krl.workers;
 
 CREATE TABLE item (id bigint PRIMARY KEY, n bigint NOT NULL DEFAULT 0);
 SELECT krl.cache('item', stripes => 64);
--- A second call changes nothing.
+-- A second call changes nothing, and may not name other columns.
 SELECT krl.cache('item');
+SELECT krl.cache('item', '{n}');
 CREATE TABLE place (country text, code uuid, name text, PRIMARY KEY (country, code));
 SELECT krl.cache('place', stripes => 16);
 CREATE TABLE note (author text, body text);
 SELECT krl.cache('note', '{author}', 16);
+SELECT krl.cache('note');
 SELECT relation, key_columns, mark, stripes, by_remainder FROM krl.cached ORDER BY mark;
 SELECT tgrelid::regclass AS relation, tgname, tgenabled, tgtype FROM pg_trigger
     WHERE tgname LIKE 'krl%' ORDER BY 1, 2;
