@@ -54,8 +54,8 @@ class Installation:
         """A program of the copy of PostgreSQL."""
         return self.inside("bindir") / name
 
-    def build(self, *edits):
-        """Builds the extension with these edits, and installs it in a copy of PostgreSQL."""
+    def build(self):
+        """Builds the extension, and installs it in a copy of PostgreSQL."""
         shutil.copytree(self.top / "hosts/pgext", self.source)
         # The programs find their folders from where they lie, so these are copies, and the rest are links.
         self.inside("bindir").mkdir(parents=True, exist_ok=True)
@@ -63,7 +63,11 @@ class Installation:
         for name in ("sharedir", "pkglibdir"):
             self.inside(name).mkdir(parents=True, exist_ok=True)
             run("cp", "-a", "-s", "-n", f"{self.where[name]}/.", self.inside(name))
-        self.make(*edits)
+        self.make()
+
+    def copy(self, other):
+        """Takes what another installation has built."""
+        run("cp", "-a", other.folder / "tree", other.root, self.folder)
 
     def make(self, *edits):
         """Makes edits, and builds and installs what they have changed."""
