@@ -170,10 +170,14 @@ class Cluster:
         first = int(file.read_text().split()[0])
         others = children_of(first)
         os.kill(first, signal.SIGKILL)
-        wait_until("all processes end", lambda: not any(map(is_running, others)))
-        # If nothing has waited for the process, PostgreSQL takes it for one that runs.
-        file.unlink()
-        (self.folder / f".s.PGSQL.{self.port}.lock").unlink()
+        try:
+            wait_until("all processes end", lambda: not any(map(is_running, others)), seconds=40)
+        finally:
+            for pid in filter(is_running, others):
+                os.kill(pid, signal.SIGKILL)
+            # If nothing has waited for the process, PostgreSQL takes it for one that runs.
+            file.unlink()
+            (self.folder / f".s.PGSQL.{self.port}.lock").unlink()
 
     def end(self):
         """Stops it, if it runs."""

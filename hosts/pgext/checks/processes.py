@@ -26,12 +26,12 @@ def expect(what, found, expected):
         raise Failed(f"{what}: expected {expected!r}, and found {found!r}")
 
 
-def wait_until(what, is_so):
+def wait_until(what, is_so, seconds=DEADLINE):
     """Waits until this is so, and returns it."""
-    end = time.monotonic() + DEADLINE
+    end = time.monotonic() + seconds
     while not (found := is_so()):
         if time.monotonic() > end:
-            raise Failed(f"{what}: it did not come about within {DEADLINE} seconds")
+            raise Failed(f"{what}: it did not come about within {seconds} seconds")
         time.sleep(0.02)
     return found
 

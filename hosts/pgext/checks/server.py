@@ -43,10 +43,11 @@ def check_suspended(cluster):
     before = server_of(cluster)
     session = cluster.session()
     session.send("SELECT krl.suspend(true)")
-    wait_until("the server has ended", lambda: not is_running(before))
+    wait_until("the server ends", lambda: not is_running(before) or not cluster.is_busy(session))
+    expect("whether it runs on while leases are waited for", is_running(before), False)
     found = server_of(cluster)
     if cluster.is_busy(session):
-        expect("whether it runs while leases are waited for", found, None)
+        expect("which server runs meanwhile", found, None)
     session.result()
     session.end()
     cluster.sql("UPDATE item SET n = n + 1")
