@@ -10,23 +10,15 @@
 #include "miscadmin.h"
 #include "pgstat.h"
 #include "storage/latch.h"
+#include "storage/proc.h"
 #include "utils/timestamp.h"
 
 #include "krl_pg.h"
 
-/* Stripes of one table that follow each other are often of one worker. */
-#define STRIPES_OF_A_TURN 16
+/* Rows that one span of a request makes, unless it would have too many spans. */
+#define ROWS_OF_A_SPAN 1024
 
-/* How long a backend sleeps until it looks again whether a worker has ended a canceled request. */
 #define POLL_MS 10
-
-/* The requests of one round: one at each worker at most. */
-typedef struct Round
-{
-	KrlRequestKind kind;
-	KrlRequest *requests[KRL_MAX_WORKERS];
-	TimestampTz end;
-} Round;
 
 /* Waits until the latch of this process is set, and for so long at most.  It may be canceled. */
 void
@@ -41,155 +33,130 @@ krl_wait(long milliseconds)
 static void
 refuse(KrlRequestKind kind, const char *fault)
 {
+	const char *address = krl_server_address();
+
 	if (kind == KRL_MAKE_ROWS)
 		ereport(ERROR,
 				(errcode(ERRCODE_CONNECTION_FAILURE),
 				 errmsg("could not make the stripes of the table: %s", fault),
-				 errhint("Check that krl's server runs at \"%s\".", krl_servers)));
+				 errhint("Check that krl's server runs at \"%s\".", address)));
 	ereport(ERROR,
 			(errcode(ERRCODE_CONNECTION_FAILURE),
 			 errmsg("could not take the changed rows back from the caches: %s", fault),
 			 errhint("Check that krl's server runs at \"%s\". To commit without it, "
-					 "stop it for good and call krl.suspend(true).", krl_servers)));
+					 "stop it for good and call krl.suspend(true).", address)));
 }
 
-/* The milliseconds that are left, or an error with what hinders the worker. */
-static long
-time_left(const Round *round, int worker)
+/* Why no worker has answered. */
+static void
+refuse_late(KrlRequestKind kind)
 {
-	KrlWorker  *asked = &krl_shared->workers[worker];
-	long		left = TimestampDifferenceMilliseconds(GetCurrentTimestamp(), round->end);
 	char		fault[KRL_FAULT_LENGTH];
 
-	if (left > 0)
-		return left;
-	SpinLockAcquire(&asked->mutex);
-	strlcpy(fault, asked->fault, sizeof(fault));
-	SpinLockRelease(&asked->mutex);
-	if (krl_is_ready(asked))
-		strlcpy(fault, "no answer came within krl.timeout", sizeof(fault));
-	refuse(round->kind, fault);
-	pg_unreachable();
-}
-
-/* The worker of a key, or the next one that is ready, or that of the key if none is. */
-static int
-worker_of(uint64 key)
-{
-	int			first = key == KRL_MARK ? 0 : (key / STRIPES_OF_A_TURN) % krl_workers;
-
-	for (int more = 0; more < krl_workers; more++)
-	{
-		int			worker = (first + more) % krl_workers;
-
+	krl_read_text(&krl_shared->workers[0], krl_shared->workers[0].fault, fault);
+	for (int worker = 0; worker < krl_workers; worker++)
 		if (krl_is_ready(&krl_shared->workers[worker]))
-			return worker;
-	}
-	return first;
+			strlcpy(fault, "no answer came within krl.timeout", sizeof(fault));
+	refuse(kind, fault);
 }
 
-/* This backend's request at the worker, as soon as that works no longer for a canceled one. */
+/* Begins a request of this backend.  No worker answers an earlier one from now on. */
 static KrlRequest *
-free_request(const Round *round, int worker)
+begin_request(KrlRequestKind kind)
 {
-	KrlRequest *request = krl_request_of(worker, krl_my_procno());
+	KrlRequest *request = krl_request_of(krl_my_procno());
+	uint32		number = KRL_NUMBER(pg_atomic_read_u64(&request->state)) + 1;
 
-	for (;;)
-	{
-		uint32		waits = KRL_REQUEST_WAITS;
-		uint32		state = pg_atomic_read_u32(&request->state);
-
-		if (state == KRL_REQUEST_RUNS)
-			krl_wait(Min(time_left(round, worker), POLL_MS));
-		else if (state != KRL_REQUEST_WAITS ||
-				 pg_atomic_compare_exchange_u32(&request->state, &waits, KRL_REQUEST_FREE))
-			return request;
-	}
-}
-
-static KrlRequest *
-request_of_round(Round *round, int worker)
-{
-	KrlRequest *request = round->requests[worker];
-
-	if (request)
-		return request;
-	request = free_request(round, worker);
-	request->kind = round->kind;
-	request->timeout = krl_timeout;
+	pg_atomic_write_u64(&request->state, krl_state(number, 0, KRL_FREE));
+	pg_memory_barrier();
+	request->kind = kind;
+	request->end = TimestampTzPlusMilliseconds(GetCurrentTimestamp(), krl_timeout);
 	request->nspans = 0;
-	request->fault[0] = '\0';
-	round->requests[worker] = request;
 	return request;
 }
 
 /* Adds keys that are above those of the request.  Returns false if it has no room for them. */
 static bool
-add_span(KrlRequest *request, KrlSpan span)
+add_span(KrlRequest *request, uint64 lo, uint64 hi)
 {
-	KrlSpan    *last = &request->spans[request->nspans - 1];
+	KrlSpan    *last = request->nspans > 0 ? &request->spans[request->nspans - 1] : NULL;
 
-	if (request->nspans > 0 && last->hi == span.lo)
-	{
-		last->hi = span.hi;
-		return true;
-	}
-	if (request->nspans == KRL_MAX_SPANS)
+	if (last && last->hi == lo)
+		last->hi = hi;
+	else if (request->nspans < KRL_MAX_SPANS)
+		request->spans[request->nspans++] = (KrlSpan) {lo, hi};
+	else
 		return false;
-	request->spans[request->nspans++] = span;
 	return true;
 }
 
+/* Waits until workers have done all spans of the request, in their order. */
 static void
-await_request(const Round *round, int worker)
+await_request(KrlRequest *request)
 {
-	KrlRequest *request = round->requests[worker];
-
 	for (;;)
 	{
-		uint32		state = pg_atomic_read_u32(&request->state);
+		uint64		state = pg_atomic_read_u64(&request->state);
+		long		left;
 
-		if (state == KRL_REQUEST_DONE || state == KRL_REQUEST_FAILED)
-		{
-			char		fault[KRL_FAULT_LENGTH];
-
-			pg_read_barrier();
-			strlcpy(fault, request->fault, sizeof(fault));
-			pg_atomic_write_u32(&request->state, KRL_REQUEST_FREE);
-			if (state == KRL_REQUEST_FAILED)
-				refuse(round->kind, fault);
+		if (KRL_PHASE(state) == KRL_DONE)
 			return;
+		if (KRL_PHASE(state) == KRL_FAILED)
+		{
+			KrlWorker  *worker = &krl_shared->workers[KRL_PLACE(state)];
+			char		failure[KRL_FAULT_LENGTH];
+
+			krl_read_text(worker, worker->failure, failure);
+			refuse(request->kind, failure);
 		}
-		krl_wait(time_left(round, worker));
+		left = TimestampDifferenceMilliseconds(GetCurrentTimestamp(), request->end);
+		if (left <= 0)
+			refuse_late(request->kind);
+		krl_wait(left);
 	}
 }
 
-/* Asks all workers of the round at once, and waits until each has done what it was asked. */
 static void
-ask(const Round *round)
+ask(KrlRequest *request)
 {
-	for (int worker = 0; worker < krl_workers; worker++)
-	{
-		if (!round->requests[worker])
-			continue;
-		pg_write_barrier();
-		pg_atomic_write_u32(&round->requests[worker]->state, KRL_REQUEST_WAITS);
-		krl_set_latch(pg_atomic_read_u32(&krl_shared->workers[worker].procno));
-	}
-	for (int worker = 0; worker < krl_workers; worker++)
-		if (round->requests[worker])
-			await_request(round, worker);
+	uint32		number = KRL_NUMBER(pg_atomic_read_u64(&request->state));
+
+	pg_write_barrier();
+	pg_atomic_write_u64(&request->state, krl_state(number, 0, KRL_WAITS));
+	/* A worker that goes to sleep looks for requests after it has noted that it sleeps. */
+	pg_memory_barrier();
+	krl_wake_workers(1);
+	await_request(request);
+	pg_atomic_write_u64(&request->state, krl_state(number, 0, KRL_FREE));
 }
 
-static Round
-new_round(KrlRequestKind kind)
+/* Waits until the first worker has joined krl's server, and uses its store. */
+void
+krl_await_first_worker(void)
 {
-	Round		round;
+	TimestampTz end = TimestampTzPlusMilliseconds(GetCurrentTimestamp(), krl_timeout);
 
-	round.kind = kind;
-	memset(round.requests, 0, sizeof(round.requests));
-	round.end = TimestampTzPlusMilliseconds(GetCurrentTimestamp(), krl_timeout);
-	return round;
+	while (!krl_is_ready(&krl_shared->workers[0]))
+	{
+		if (GetCurrentTimestamp() >= end)
+			refuse_late(KRL_RECALL);
+		krl_wait(POLL_MS);
+	}
+}
+
+/* The request of a transaction that was rolled back, if there is one, needs no answer. */
+void
+krl_drop_request(void)
+{
+	KrlRequest *request;
+	uint64		state;
+
+	if (!krl_shared || !MyProc)
+		return;
+	request = krl_request_of(krl_my_procno());
+	state = pg_atomic_read_u64(&request->state);
+	if (KRL_PHASE(state) != KRL_FREE)
+		pg_atomic_write_u64(&request->state, krl_state(KRL_NUMBER(state) + 1, 0, KRL_FREE));
 }
 
 /* Has these keys, which ascend, taken back from all caches; each at one moment of the call. */
@@ -198,33 +165,22 @@ krl_recall(const uint64 *keys, int nkeys)
 {
 	for (int done = 0; done < nkeys;)
 	{
-		Round		round = new_round(KRL_RECALL);
+		KrlRequest *request = begin_request(KRL_RECALL);
 
-		for (; done < nkeys; done++)
-		{
-			KrlRequest *request = request_of_round(&round, worker_of(keys[done]));
-			KrlSpan		span = {keys[done], keys[done] + 1};
-
-			if (!add_span(request, span))
-				break;
-		}
-		ask(&round);
+		while (done < nkeys && add_span(request, keys[done], keys[done] + 1))
+			done++;
+		ask(request);
 	}
 }
 
-/* Has krl make a row for each of these keys that has none: all workers make a part of them. */
+/* Has krl make a row for each of these keys that has none. */
 void
 krl_make_rows(uint64 first, uint64 nrows)
 {
-	Round		round = new_round(KRL_MAKE_ROWS);
-	uint64		part = (nrows + krl_workers - 1) / krl_workers;
+	KrlRequest *request = begin_request(KRL_MAKE_ROWS);
+	uint64		of_span = Max(ROWS_OF_A_SPAN, (nrows + KRL_MAX_SPANS - 1) / KRL_MAX_SPANS);
 
-	for (uint64 made = 0; made < nrows; made += part)
-	{
-		KrlSpan		span = {first + made, first + Min(made + part, nrows)};
-		KrlRequest *request = request_of_round(&round, (int) (made / part));
-
-		(void) add_span(request, span);
-	}
-	ask(&round);
+	for (uint64 made = 0; made < nrows; made += of_span)
+		request->spans[request->nspans++] = (KrlSpan) {first + made, first + Min(made + of_span, nrows)};
+	ask(request);
 }

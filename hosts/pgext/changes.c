@@ -18,39 +18,57 @@
 #include "changes.h"
 #include "stripes.h"
 
+/* A key of krl that this transaction changes, with the mark of its table. */
+typedef struct Change
+{
+	uint64		key;
+	uint64		mark;
+} Change;
+
 /*
- * The stripes that this transaction changes, in its own memory, or that it
- * changes all.  Those of a subtransaction that was rolled back are among them:
- * they are taken back in vain.
+ * What this transaction changes, in its own memory: stripes, and the marks of
+ * tables of which it may change everything.  What a subtransaction changed that
+ * was rolled back is among them: it is taken back in vain.
  */
 static HTAB *changed = NULL;
-static bool all_changed = false;
+
+/* Notices are given, or none was needed: what other libraries change before the commit comes too late. */
+static bool is_committing = false;
 
 static void
-note_stripe(uint64 stripe)
+note_key(uint64 key, uint64 mark)
 {
 	HASHCTL		how = {0};
+	Change	   *change;
 
-	if (all_changed)
-		return;
+	if (is_committing)
+		ereport(ERROR,
+				(errcode(ERRCODE_INVALID_TRANSACTION_STATE),
+				 errmsg("a cached table cannot be changed while the transaction commits")));
 	if (!changed)
 	{
 		how.keysize = sizeof(uint64);
-		how.entrysize = sizeof(uint64);
+		how.entrysize = sizeof(Change);
 		how.hcxt = TopTransactionContext;
-		changed = hash_create("krl: changed stripes", 64, &how,
+		changed = hash_create("krl: changed keys", 64, &how,
 							  HASH_ELEM | HASH_BLOBS | HASH_CONTEXT);
 	}
-	(void) hash_search(changed, &stripe, HASH_ENTER, NULL);
-	if (hash_get_num_entries(changed) > krl_recall_limit)
-		all_changed = true;
+	change = hash_search(changed, &key, HASH_ENTER, NULL);
+	change->mark = mark;
 }
 
-/* This transaction changes what every reader keeps. */
+/* This transaction may change everything that readers keep by this mark. */
 void
-krl_note_all(void)
+krl_note_mark(uint64 mark)
 {
-	all_changed = true;
+	note_key(mark, mark);
+}
+
+/* Whether this transaction has changed what readers keep: it sees what may never be committed. */
+bool
+krl_has_changed(void)
+{
+	return changed != NULL;
 }
 
 PG_FUNCTION_INFO_V1(krl_changed);
@@ -68,55 +86,81 @@ krl_changed(PG_FUNCTION_ARGS)
 				(errcode(ERRCODE_E_R_I_E_TRIGGER_PROTOCOL_VIOLATED),
 				 errmsg("function \"%s\" was not called by the trigger manager", "krl.changed")));
 	krl_require_shared();
+	krl_read_stripes(data->tg_trigger, &stripes);
 	if (TRIGGER_FIRED_FOR_STATEMENT(data->tg_event))
 	{
-		krl_note_all();
+		krl_note_mark(stripes.mark);
 		return PointerGetDatum(NULL);
 	}
-	krl_read_stripes(data->tg_trigger, &stripes);
 	desc = RelationGetDescr(data->tg_relation);
-	note_stripe(krl_stripe_of_row(&stripes, data->tg_trigtuple, desc));
+	note_key(krl_stripe_of_row(&stripes, data->tg_trigtuple, desc), stripes.mark);
 	if (TRIGGER_FIRED_BY_UPDATE(data->tg_event))
-		note_stripe(krl_stripe_of_row(&stripes, data->tg_newtuple, desc));
+		note_key(krl_stripe_of_row(&stripes, data->tg_newtuple, desc), stripes.mark);
 	return PointerGetDatum(NULL);
 }
 
 static int
-compare_keys(const void *a, const void *b)
+compare_changes(const void *a, const void *b)
 {
-	uint64		x = *(const uint64 *) a;
-	uint64		y = *(const uint64 *) b;
+	uint64		x = ((const Change *) a)->key;
+	uint64		y = ((const Change *) b)->key;
 
 	return x < y ? -1 : x > y;
 }
 
-/* The keys that this transaction changes, in ascending order: the mark, if it changes all. */
+/* The changes of this transaction, in the order of their keys: so those of a table begin with its mark. */
+static Change *
+sorted_changes(int count)
+{
+	Change	   *changes = palloc(sizeof(Change) * count);
+	Change	   *next = changes;
+	HASH_SEQ_STATUS scan;
+	Change	   *change;
+
+	hash_seq_init(&scan, changed);
+	while ((change = hash_seq_search(&scan)) != NULL)
+		*next++ = *change;
+	qsort(changes, count, sizeof(Change), compare_changes);
+	return changes;
+}
+
+/* Adds the keys of these changes of one table, or its mark in their place.  Returns how many these are. */
+static int
+add_table(const Change *changes, int count, uint64 *keys)
+{
+	if (changes[0].key == changes[0].mark || count > krl_recall_limit)
+	{
+		keys[0] = changes[0].mark;
+		return 1;
+	}
+	for (int i = 0; i < count; i++)
+		keys[i] = changes[i].key;
+	return count;
+}
+
+/* The keys that this transaction changes, in ascending order. */
 static uint64 *
 changed_keys(int *nkeys)
 {
-	HASH_SEQ_STATUS scan;
-	uint64	   *keys;
-	uint64	   *key;
+	int			count = (int) hash_get_num_entries(changed);
+	Change	   *changes = sorted_changes(count);
+	uint64	   *keys = palloc(sizeof(uint64) * count);
 
 	*nkeys = 0;
-	if (all_changed)
+	for (int i = 0, end; i < count; i = end)
 	{
-		keys = palloc(sizeof(uint64));
-		keys[(*nkeys)++] = KRL_MARK;
-		return keys;
+		for (end = i + 1; end < count && changes[end].mark == changes[i].mark; end++)
+			;
+		*nkeys += add_table(changes + i, end - i, keys + *nkeys);
 	}
-	keys = palloc(sizeof(uint64) * hash_get_num_entries(changed));
-	hash_seq_init(&scan, changed);
-	while ((key = hash_seq_search(&scan)) != NULL)
-		keys[(*nkeys)++] = *key;
-	qsort(keys, *nkeys, sizeof(uint64), compare_keys);
+	pfree(changes);
 	return keys;
 }
 
 /*
  * Leaves only the keys that readers may keep, and returns how many these are.
- * Before krl's mark has the nonce of this start, the counts do not show what
- * was kept before the start.
+ * Before the cluster's mark has the nonce of this start, the counts do not show
+ * what was kept before the start.
  */
 static int
 keep_kept(uint64 *keys, int nkeys)
@@ -125,7 +169,7 @@ keep_kept(uint64 *keys, int nkeys)
 	int			kept = 0;
 
 	for (int i = 0; i < nkeys; i++)
-		if (!are_known || keys[i] == KRL_MARK || krl_is_kept(keys[i]))
+		if (!are_known || krl_is_kept(keys[i]))
 			keys[kept++] = keys[i];
 	return kept;
 }
@@ -146,8 +190,7 @@ take_back(uint64 *keys, int nkeys)
 	/* The counts rise after the keys were taken back. */
 	pg_memory_barrier();
 	for (int i = 0; i < kept; i++)
-		if (keys[i] != KRL_MARK)
-			krl_note_recalled(keys[i]);
+		krl_note_recalled(keys[i]);
 }
 
 /* Nothing of the transaction may be visible before it is on the disk: readers would keep it. */
@@ -173,14 +216,17 @@ on_transaction(XactEvent event, void *arg)
 	{
 		case XACT_EVENT_PRE_COMMIT:
 		case XACT_EVENT_PRE_PREPARE:
-			if (changed || all_changed)
+			is_committing = true;
+			if (krl_has_changed())
 				before_commit();
 			break;
-		case XACT_EVENT_COMMIT:
 		case XACT_EVENT_ABORT:
+			krl_drop_request();
+			/* FALLTHROUGH */
+		case XACT_EVENT_COMMIT:
 		case XACT_EVENT_PREPARE:
+			is_committing = false;
 			changed = NULL;
-			all_changed = false;
 			break;
 		default:
 			break;

@@ -9,6 +9,7 @@
 #define KRL_CHANGES_H
 
 extern void krl_changes_init(void);
-extern void krl_note_all(void);
+extern void krl_note_mark(uint64 mark);
+extern bool krl_has_changed(void);
 
 #endif							/* KRL_CHANGES_H */

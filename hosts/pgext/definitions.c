@@ -4,8 +4,9 @@
  *	  Changes of the definition of cached tables.
  *
  * A transaction that changes the definition of a cached table, or of one of
- * its partitions, takes everything back from all caches: it may have rewritten
- * the table, or have changed which rows belong to it or who may see them.
+ * its partitions, takes the mark of the table, and so all its rows back from
+ * all caches: it may have rewritten the table, or have changed which rows
+ * belong to it or who may see them.
  *
  *-------------------------------------------------------------------------
  */
@@ -22,11 +23,12 @@
 #include "catalog/pg_inherits.h"
 #include "catalog/pg_trigger.h"
 #include "commands/extension.h"
+#include "fmgr.h"
 #include "miscadmin.h"
 #include "nodes/parsenodes.h"
 #include "tcop/utility.h"
 #include "utils/fmgroids.h"
-#include "utils/lsyscache.h"
+#include "utils/rel.h"
 
 #include "changes.h"
 #include "definitions.h"
@@ -35,72 +37,69 @@
 static object_access_hook_type next_object_access = NULL;
 static ProcessUtility_hook_type next_process_utility = NULL;
 
-/* Whether the relation has the trigger that krl.cache gives to a table and to its partitions. */
-bool
-krl_is_cached(Oid relation)
+/* Reads the mark of the table that has this trigger, if it is one of those of krl.cache. */
+static bool
+read_mark(HeapTuple tuple, TupleDesc desc, uint64 *mark)
 {
-	Relation	triggers;
-	SysScanDesc scan;
-	ScanKeyData keys[2];
-	bool		found;
+	Form_pg_trigger trigger = (Form_pg_trigger) GETSTRUCT(tuple);
+	bool		isnull;
+	Datum		arguments;
 
-	ScanKeyInit(&keys[0], Anum_pg_trigger_tgrelid, BTEqualStrategyNumber, F_OIDEQ,
-				ObjectIdGetDatum(relation));
-	ScanKeyInit(&keys[1], Anum_pg_trigger_tgname, BTEqualStrategyNumber, F_NAMEEQ,
-				CStringGetDatum(KRL_ROW_TRIGGER));
-	triggers = table_open(TriggerRelationId, AccessShareLock);
-	scan = systable_beginscan(triggers, TriggerRelidNameIndexId, true, NULL, 2, keys);
-	found = HeapTupleIsValid(systable_getnext(scan));
+	if (trigger->tgnargs < 1 || !krl_is_trigger_function(trigger->tgfoid))
+		return false;
+	arguments = heap_getattr(tuple, Anum_pg_trigger_tgargs, desc, &isnull);
+	*mark = strtoul(VARDATA_ANY(DatumGetByteaPP(arguments)), NULL, 10);
+	/* krl.stripes is less than it was. */
+	if (*mark >= (uint64) krl_stripes)
+		*mark = KRL_CLUSTER_MARK;
+	return true;
+}
+
+/* Takes the mark of each table whose trigger has this key.  Returns whether there is one. */
+static bool
+note_triggers(Oid index, AttrNumber attribute, Oid key)
+{
+	Relation	triggers = table_open(TriggerRelationId, AccessShareLock);
+	bool		found = false;
+	SysScanDesc scan;
+	ScanKeyData by;
+	HeapTuple	tuple;
+	uint64		mark;
+
+	ScanKeyInit(&by, attribute, BTEqualStrategyNumber, F_OIDEQ, ObjectIdGetDatum(key));
+	scan = systable_beginscan(triggers, index, true, NULL, 1, &by);
+	while (HeapTupleIsValid(tuple = systable_getnext(scan)))
+	{
+		if (!read_mark(tuple, RelationGetDescr(triggers), &mark))
+			continue;
+		krl_note_mark(mark);
+		found = true;
+	}
 	systable_endscan(scan);
 	table_close(triggers, AccessShareLock);
 	return found;
 }
 
-/* Whether the trigger is one of those that krl.cache gives to a table. */
+/* If the table is cached, or is a partition of one that is, all its rows are taken back. */
 static bool
-is_of_cached_table(Oid trigger)
+note_table(Oid table)
 {
-	Relation	triggers;
-	SysScanDesc scan;
-	ScanKeyData key;
-	HeapTuple	tuple;
-	bool		is_one = false;
-
-	ScanKeyInit(&key, Anum_pg_trigger_oid, BTEqualStrategyNumber, F_OIDEQ,
-				ObjectIdGetDatum(trigger));
-	triggers = table_open(TriggerRelationId, AccessShareLock);
-	scan = systable_beginscan(triggers, TriggerOidIndexId, true, NULL, 1, &key);
-	tuple = systable_getnext(scan);
-	if (HeapTupleIsValid(tuple))
-	{
-		const char *name = NameStr(((Form_pg_trigger) GETSTRUCT(tuple))->tgname);
-
-		is_one = strcmp(name, KRL_ROW_TRIGGER) == 0 || strcmp(name, KRL_TRUNCATE_TRIGGER) == 0;
-	}
-	systable_endscan(scan);
-	table_close(triggers, AccessShareLock);
-	return is_one;
+	return note_triggers(TriggerRelidNameIndexId, Anum_pg_trigger_tgrelid, table);
 }
 
-/* Whether an access to an object changes the definition of a cached table. */
-static bool
-changes_definition(ObjectAccessType access, Oid class, Oid object, void *arg)
+/* The same if an access to an object changes the definition of a cached table. */
+static void
+note_object(ObjectAccessType access, Oid class, Oid object, void *arg)
 {
 	if (access != OAT_DROP && access != OAT_POST_ALTER && access != OAT_TRUNCATE)
-		return false;
-	switch (class)
-	{
-		case TriggerRelationId:
-			return is_of_cached_table(object);
-		case RelationRelationId:
-			return krl_is_cached(object);
-		case InheritsRelationId:
-			/* A partition is attached or detached, or a child inherits or no longer does. */
-			return access == OAT_POST_ALTER && arg != NULL &&
-				krl_is_cached(((ObjectAccessPostAlter *) arg)->auxiliary_id);
-		default:
-			return false;
-	}
+		return;
+	if (class == TriggerRelationId)
+		(void) note_triggers(TriggerOidIndexId, Anum_pg_trigger_oid, object);
+	else if (class == RelationRelationId)
+		(void) note_table(object);
+	else if (class == InheritsRelationId && access == OAT_POST_ALTER && arg != NULL)
+		/* A partition is attached or detached, or a child inherits or no longer does. */
+		(void) note_table(((ObjectAccessPostAlter *) arg)->auxiliary_id);
 }
 
 static void
@@ -108,17 +107,16 @@ on_object_access(ObjectAccessType access, Oid class, Oid object, int sub, void *
 {
 	if (next_object_access)
 		next_object_access(access, class, object, sub, arg);
-	if (krl_shared && IsNormalProcessingMode() && IsTransactionState() &&
-		changes_definition(access, class, object, arg))
-		krl_note_all();
+	if (krl_shared && IsNormalProcessingMode() && IsTransactionState())
+		note_object(access, class, object, arg);
 }
 
 static bool
-names_cached_table(const RangeVar *name)
+note_name(const RangeVar *name)
 {
-	Oid			relation = name ? RangeVarGetRelid(name, NoLock, true) : InvalidOid;
+	Oid			table = name ? RangeVarGetRelid(name, NoLock, true) : InvalidOid;
 
-	return OidIsValid(relation) && krl_is_cached(relation);
+	return OidIsValid(table) && note_table(table);
 }
 
 /* A partition that is detached concurrently leaves the table in a transaction of its own. */
@@ -142,46 +140,69 @@ refuse_concurrent_detach(const AlterTableStmt *statement)
 	}
 }
 
+/* A statement that may be of any tables. */
+static void
+note_all(void)
+{
+	if (OidIsValid(get_extension_oid("krl", true)))
+		krl_note_mark(KRL_CLUSTER_MARK);
+}
+
 /* A reader that has lost the right to read a table keeps nothing of it any longer. */
-static bool
-revokes_from_cached(const GrantStmt *statement)
+static void
+note_revoked(const GrantStmt *statement)
 {
 	ListCell   *cell;
 
-	if (statement->is_grant || statement->objtype != OBJECT_TABLE)
-		return false;
-	if (statement->targtype != ACL_TARGET_OBJECT)
-		return OidIsValid(get_extension_oid("krl", true));
-	foreach(cell, statement->objects)
-		if (names_cached_table(lfirst_node(RangeVar, cell)))
-			return true;
-	return false;
+	if (statement->is_grant)
+		return;
+	if (statement->objtype == OBJECT_TABLE && statement->targtype == ACL_TARGET_OBJECT)
+		foreach(cell, statement->objects)
+			(void) note_name(lfirst_node(RangeVar, cell));
+	else if (statement->objtype == OBJECT_TABLE || statement->objtype == OBJECT_SCHEMA)
+		note_all();
 }
 
-/* Whether a statement changes the definition of a cached table, or who may read it. */
-static bool
-is_of_cached(Node *statement)
+/* If a statement changes the definition of a cached table, or who may read it, its rows are taken back. */
+static void
+note_statement(Node *statement)
 {
 	switch (nodeTag(statement))
 	{
 		case T_AlterTableStmt:
-			return names_cached_table(((AlterTableStmt *) statement)->relation);
+			if (note_name(((AlterTableStmt *) statement)->relation))
+				refuse_concurrent_detach((AlterTableStmt *) statement);
+			break;
 		case T_RenameStmt:
-			return names_cached_table(((RenameStmt *) statement)->relation);
+			(void) note_name(((RenameStmt *) statement)->relation);
+			break;
 		case T_AlterObjectSchemaStmt:
-			return names_cached_table(((AlterObjectSchemaStmt *) statement)->relation);
+			(void) note_name(((AlterObjectSchemaStmt *) statement)->relation);
+			break;
 		case T_RuleStmt:
-			return names_cached_table(((RuleStmt *) statement)->relation);
+			(void) note_name(((RuleStmt *) statement)->relation);
+			break;
 		case T_CreatePolicyStmt:
-			return names_cached_table(((CreatePolicyStmt *) statement)->table);
+			(void) note_name(((CreatePolicyStmt *) statement)->table);
+			break;
 		case T_AlterPolicyStmt:
-			return names_cached_table(((AlterPolicyStmt *) statement)->table);
+			(void) note_name(((AlterPolicyStmt *) statement)->table);
+			break;
 		case T_CreateTrigStmt:
-			return names_cached_table(((CreateTrigStmt *) statement)->relation);
+			(void) note_name(((CreateTrigStmt *) statement)->relation);
+			break;
 		case T_GrantStmt:
-			return revokes_from_cached((GrantStmt *) statement);
+			note_revoked((GrantStmt *) statement);
+			break;
+		case T_GrantRoleStmt:
+			if (!((GrantRoleStmt *) statement)->is_grant)
+				note_all();
+			break;
+		case T_DropOwnedStmt:
+			note_all();
+			break;
 		default:
-			return false;
+			break;
 	}
 }
 
@@ -190,14 +211,8 @@ process_utility(PlannedStmt *planned, const char *query, bool read_only_tree,
 				ProcessUtilityContext context, ParamListInfo params, QueryEnvironment *environment,
 				DestReceiver *destination, QueryCompletion *completion)
 {
-	Node	   *statement = planned->utilityStmt;
-
-	if (krl_shared && IsTransactionState() && is_of_cached(statement))
-	{
-		if (IsA(statement, AlterTableStmt))
-			refuse_concurrent_detach((AlterTableStmt *) statement);
-		krl_note_all();
-	}
+	if (krl_shared && IsTransactionState())
+		note_statement(planned->utilityStmt);
 	if (next_process_utility)
 		next_process_utility(planned, query, read_only_tree, context, params, environment,
 							 destination, completion);

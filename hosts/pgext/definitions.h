@@ -8,7 +8,6 @@
 #ifndef KRL_DEFINITIONS_H
 #define KRL_DEFINITIONS_H
 
-extern bool krl_is_cached(Oid relation);
 extern void krl_definitions_init(void);
 
 #endif							/* KRL_DEFINITIONS_H */

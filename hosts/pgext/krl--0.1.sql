@@ -1,24 +1,27 @@
 \echo Use "CREATE EXTENSION krl" to load this file. \quit
 
--- The stripes that no table has had: those of a table are never used for another one.
-CREATE TABLE krl.free_stripes (first integer NOT NULL);
-INSERT INTO krl.free_stripes VALUES (0);
+-- The keys of krl that no table has had: those of a table are never used for another one. There is one row, or none at
+-- first: a dump has the row.
+CREATE TABLE krl.free_keys (
+    is_only boolean PRIMARY KEY DEFAULT true CHECK (is_only),
+    first integer NOT NULL
+);
 
 CREATE TABLE krl.cached (
     relation regclass PRIMARY KEY,
     key_columns name[] NOT NULL,
-    first integer NOT NULL UNIQUE,
+    mark integer NOT NULL UNIQUE,
     stripes integer NOT NULL CHECK (stripes > 0),
     by_remainder boolean NOT NULL
 );
 COMMENT ON TABLE krl.cached IS 'the tables that are cached';
-COMMENT ON COLUMN krl.cached.first IS 'the key of krl of the first stripe';
+COMMENT ON COLUMN krl.cached.mark IS 'the key of krl of the table''s mark, which its stripes follow';
 COMMENT ON COLUMN krl.cached.by_remainder IS
     'whether the stripe of a key is its remainder by the number of stripes, and not krl.stripe';
 
 GRANT USAGE ON SCHEMA krl TO PUBLIC;
 GRANT SELECT ON krl.cached TO PUBLIC;
-SELECT pg_catalog.pg_extension_config_dump('krl.free_stripes', '');
+SELECT pg_catalog.pg_extension_config_dump('krl.free_keys', '');
 SELECT pg_catalog.pg_extension_config_dump('krl.cached', '');
 
 CREATE FUNCTION krl.changed() RETURNS trigger
@@ -27,10 +30,10 @@ REVOKE ALL ON FUNCTION krl.changed() FROM PUBLIC;
 COMMENT ON FUNCTION krl.changed() IS
     'notes which stripes the transaction changes: the trigger of cached tables';
 
-CREATE FUNCTION krl.quiet(nonce bigint, relation regclass, first integer, stripes integer[])
+CREATE FUNCTION krl.quiet(nonce bigint, relation regclass, mark integer, stripes integer[])
     RETURNS boolean LANGUAGE C STRICT VOLATILE AS 'MODULE_PATHNAME', 'krl_quiet';
 COMMENT ON FUNCTION krl.quiet(bigint, regclass, integer, integer[]) IS
-    'whether who holds these stripes in krl, and the mark with this nonce, may keep rows selected after this';
+    'whether who holds these stripes in krl, and both marks, may keep rows selected after this';
 
 CREATE FUNCTION krl.stripe(stripes integer, VARIADIC key text[]) RETURNS integer
     LANGUAGE C STRICT IMMUTABLE PARALLEL SAFE AS 'MODULE_PATHNAME', 'krl_stripe';
@@ -38,21 +41,21 @@ COMMENT ON FUNCTION krl.stripe(integer, text[]) IS
     'the stripe of a key of several columns, or of one that is no integer';
 
 CREATE FUNCTION krl.servers() RETURNS text
-    LANGUAGE sql STABLE AS $$ SELECT pg_catalog.current_setting('krl.servers') $$;
+    LANGUAGE C STRICT STABLE AS 'MODULE_PATHNAME', 'krl_addresses';
 COMMENT ON FUNCTION krl.servers() IS 'the addresses of krl''s servers, as readers join them';
 
 CREATE FUNCTION krl.nonce() RETURNS bigint
     LANGUAGE C STRICT VOLATILE AS 'MODULE_PATHNAME', 'krl_nonce';
 REVOKE ALL ON FUNCTION krl.nonce() FROM PUBLIC;
 COMMENT ON FUNCTION krl.nonce() IS
-    'the value of krl''s mark since this start, or 0 until it has it; readers read the mark';
+    'the value of the cluster''s mark since this start, or 0 until it has it; readers read the mark';
 
-CREATE FUNCTION krl.make(first integer, stripes integer) RETURNS void
+CREATE FUNCTION krl.make(first integer, keys integer) RETURNS void
     LANGUAGE C STRICT VOLATILE AS 'MODULE_PATHNAME', 'krl_make';
 REVOKE ALL ON FUNCTION krl.make(integer, integer) FROM PUBLIC;
-COMMENT ON FUNCTION krl.make(integer, integer) IS 'makes rows of krl for these stripes';
+COMMENT ON FUNCTION krl.make(integer, integer) IS 'makes rows of krl for these keys';
 
-CREATE FUNCTION krl.worker(number integer, OUT is_ready boolean, OUT fault text, OUT recalls bigint,
+CREATE FUNCTION krl.worker(number integer, OUT is_ready boolean, OUT fault text, OUT pid integer,
     OUT spans bigint, OUT failures bigint, OUT milliseconds double precision)
     RETURNS record LANGUAGE C STRICT VOLATILE AS 'MODULE_PATHNAME', 'krl_worker';
 
@@ -65,10 +68,22 @@ GRANT SELECT ON krl.workers TO pg_monitor;
 REVOKE ALL ON FUNCTION krl.worker(integer) FROM PUBLIC;
 GRANT EXECUTE ON FUNCTION krl.worker(integer) TO pg_monitor;
 
+CREATE FUNCTION krl.requests(OUT pid integer, OUT key bigint, OUT is_in_work boolean)
+    RETURNS SETOF record LANGUAGE C STRICT VOLATILE AS 'MODULE_PATHNAME', 'krl_requests';
+REVOKE ALL ON FUNCTION krl.requests() FROM PUBLIC;
+GRANT EXECUTE ON FUNCTION krl.requests() TO pg_monitor;
+
+CREATE VIEW krl.waiting AS
+    SELECT request.pid, cached.relation, request.is_in_work
+    FROM krl.requests() AS request LEFT JOIN krl.cached ON key BETWEEN mark AND mark + stripes;
+COMMENT ON VIEW krl.waiting IS
+    'the sessions that wait until rows are taken back; the relation is null if it is of another database';
+GRANT SELECT ON krl.waiting TO pg_monitor;
+
 CREATE FUNCTION krl.skipped() RETURNS bigint
     LANGUAGE C STRICT VOLATILE AS 'MODULE_PATHNAME', 'krl_skipped';
 COMMENT ON FUNCTION krl.skipped() IS
-    'how many stripes were changed of which nobody had kept anything';
+    'how many keys were changed of which nobody had kept anything';
 
 CREATE FUNCTION krl.suspend(krl_server_is_stopped boolean) RETURNS void
     LANGUAGE C STRICT VOLATILE AS 'MODULE_PATHNAME', 'krl_suspend';
@@ -87,7 +102,7 @@ CREATE FUNCTION krl.primary_key(relation regclass) RETURNS name[]
     SELECT array_agg(attname ORDER BY place)
     FROM pg_index, unnest(indkey::smallint[]) WITH ORDINALITY AS part (attnum, place)
         JOIN pg_attribute USING (attnum)
-    WHERE indrelid = relation AND indisprimary AND attrelid = relation
+    WHERE indrelid = relation AND indisprimary AND attrelid = relation AND place <= indnkeyatts
 $$;
 
 -- Reports why the table cannot be cached by these columns, if it cannot.
@@ -156,12 +171,16 @@ CREATE FUNCTION krl.cache(relation regclass, key_columns name[] DEFAULT NULL,
     stripes integer DEFAULT 4096) RETURNS void
     LANGUAGE plpgsql SET search_path = pg_catalog AS $$
 DECLARE
-    columns name[] := coalesce(key_columns, krl.primary_key(relation));
+    columns name[];
     entry krl.cached;
 BEGIN
-    PERFORM krl.require_cacheable(relation, columns);
     SELECT * INTO entry FROM krl.cached WHERE cached.relation = cache.relation;
-    IF NOT FOUND THEN
+    columns := coalesce(key_columns, entry.key_columns, krl.primary_key(relation));
+    PERFORM krl.require_cacheable(relation, columns);
+    IF columns <> entry.key_columns THEN
+        RAISE EXCEPTION 'table "%" is cached by its columns %, and not by %', relation, entry.key_columns, columns
+            USING ERRCODE = 'object_not_in_prerequisite_state', HINT = 'Call krl.uncache first.';
+    ELSIF entry.relation IS NULL THEN
         IF stripes < 1 THEN
             RAISE EXCEPTION 'a table has one stripe or more, and not %', stripes
                 USING ERRCODE = 'invalid_parameter_value';
@@ -169,23 +188,24 @@ BEGIN
         entry := (relation, columns, 0, stripes, cardinality(columns) = 1
             AND (SELECT atttypid IN ('smallint'::regtype, 'integer'::regtype, 'bigint'::regtype)
                 FROM pg_attribute WHERE attrelid = relation AND attname = columns[1]));
-        UPDATE krl.free_stripes SET first = first + cache.stripes
-        RETURNING first - cache.stripes INTO entry.first;
-        PERFORM krl.make(entry.first, stripes);
+        INSERT INTO krl.free_keys AS free (first) VALUES (1 + cache.stripes)
+        ON CONFLICT (is_only) DO UPDATE SET first = free.first + excluded.first
+        RETURNING free.first - cache.stripes - 1 INTO entry.mark;
         INSERT INTO krl.cached SELECT entry.*;
     END IF;
+    PERFORM krl.make(entry.mark, 1 + entry.stripes);
     PERFORM krl.add_triggers(entry);
 END $$;
 REVOKE ALL ON FUNCTION krl.cache(regclass, name[], integer) FROM PUBLIC;
 COMMENT ON FUNCTION krl.cache(regclass, name[], integer) IS
-    'lets readers keep rows of the table; called again, also those of partitions that are new';
+    'lets readers keep rows of the table; called again, also those of new partitions, and by another store of krl';
 
 -- The triggers of a table and of all its partitions, if it lacks them.
 CREATE FUNCTION krl.add_triggers(cached krl.cached) RETURNS void
     LANGUAGE plpgsql SET search_path = pg_catalog AS $$
 DECLARE
     arguments text := (SELECT string_agg(quote_literal(word), ', ') FROM unnest(
-        ARRAY[cached.first::text, cached.stripes::text,
+        ARRAY[cached.mark::text, cached.stripes::text,
             CASE WHEN cached.by_remainder THEN 'remainder' ELSE 'hash' END]
         || cached.key_columns::text[]) AS word);
 BEGIN

@@ -22,8 +22,8 @@ PG_MODULE_MAGIC;
 
 PGDLLEXPORT void _PG_init(void);
 
-/* Fifteen tables of 4,096 stripes, which a server of krl has room for by default. */
-#define DEFAULT_STRIPES (15 * 4096)
+/* Fifteen tables of 4,096 stripes and a mark, which a server of krl has room for by default. */
+#define DEFAULT_STRIPES (15 * 4097)
 
 #define MAX_MS (3600 * 1000)
 
@@ -32,7 +32,9 @@ char	   *krl_table_name;
 char	   *krl_tls_authority;
 char	   *krl_tls_certificate;
 char	   *krl_tls_key;
-static char *lock_directory;
+char	   *krl_server_program;
+char	   *krl_server_users;
+static char *directory;
 int			krl_workers;
 int			krl_first_client;
 int			krl_stripes;
@@ -41,19 +43,20 @@ int			krl_lease;
 int			krl_recall_limit;
 bool		krl_keep_locks;
 
-/* Where the lock files of the workers are: next to the data directory by default. */
+/* Where the lock files of the workers and the store are: next to the data directory by default. */
 char *
-krl_lock_directory_path(void)
+krl_directory_path(void)
 {
-	return lock_directory[0] ? pstrdup(lock_directory) : psprintf("%s.krl", DataDir);
+	return directory[0] ? pstrdup(directory) : psprintf("%s.krl", DataDir);
 }
 
 /*
  * A base backup copies the data directory.  Two processes with copies of one
- * lock file would be the same client of krl, of the same incarnation.
+ * lock file would be the same client of krl, of the same incarnation, and two
+ * servers with copies of one store would give the same locks.
  */
 static bool
-check_lock_directory(char **value, void **extra, GucSource source)
+check_directory(char **value, void **extra, GucSource source)
 {
 	char	   *path;
 	bool		is_within;
@@ -76,8 +79,18 @@ define_connection_settings(void)
 {
 	DefineCustomStringVariable("krl.servers",
 							   "The addresses of krl's servers, with commas between them.",
-							   NULL, &krl_servers, "127.0.0.1:7400",
-							   PGC_POSTMASTER, 0, NULL, NULL, NULL);
+							   "If there is none, a worker starts krl's server.",
+							   &krl_servers, "", PGC_POSTMASTER, 0, NULL, NULL, NULL);
+	DefineCustomStringVariable("krl.server_program",
+							   "The program of krl's server, which a worker starts.",
+							   NULL, &krl_server_program, KRL_SERVER_PROGRAM,
+							   PGC_POSTMASTER, GUC_SUPERUSER_ONLY, NULL, NULL, NULL);
+	DefineCustomStringVariable("krl.server_users",
+							   "The users of this machine who may be clients of the server that a "
+							   "worker starts.",
+							   "As krl-server takes them by its option --users.",
+							   &krl_server_users, "",
+							   PGC_POSTMASTER, GUC_SUPERUSER_ONLY, NULL, NULL, NULL);
 	DefineCustomStringVariable("krl.table",
 							   "The name of krl's table in the certificates of its servers.",
 							   NULL, &krl_table_name, "", PGC_POSTMASTER, 0, NULL, NULL, NULL);
@@ -94,12 +107,13 @@ define_connection_settings(void)
 							   "The file with the key of that certificate.",
 							   NULL, &krl_tls_key, "",
 							   PGC_POSTMASTER, GUC_SUPERUSER_ONLY, NULL, NULL, NULL);
-	DefineCustomStringVariable("krl.lock_directory",
-							   "The directory of the lock files of krl's workers.",
+	DefineCustomStringVariable("krl.directory",
+							   "The directory of the lock files of krl's workers, and of the store "
+							   "of the server that one starts.",
 							   "By default it lies next to the data directory, and has its name "
 							   "with \".krl\".",
-							   &lock_directory, "", PGC_POSTMASTER, GUC_SUPERUSER_ONLY,
-							   check_lock_directory, NULL, NULL);
+							   &directory, "", PGC_POSTMASTER, GUC_SUPERUSER_ONLY,
+							   check_directory, NULL, NULL);
 	DefineCustomIntVariable("krl.lease",
 							"The longest lease that krl's servers grant.",
 							"krl.suspend waits until all leases have ended.",
@@ -112,7 +126,7 @@ define_worker_settings(void)
 {
 	DefineCustomIntVariable("krl.workers",
 							"The number of workers that take rows back from caches.",
-							NULL, &krl_workers, 2, 1, KRL_MAX_WORKERS,
+							NULL, &krl_workers, 4, 1, KRL_MAX_WORKERS,
 							PGC_POSTMASTER, 0, NULL, NULL, NULL);
 	DefineCustomIntVariable("krl.first_client",
 							"The number of the first worker among the clients of krl.",
@@ -123,7 +137,7 @@ define_worker_settings(void)
 							 "Whether workers keep the locks that no reader wants.",
 							 NULL, &krl_keep_locks, true, PGC_POSTMASTER, 0, NULL, NULL, NULL);
 	DefineCustomIntVariable("krl.stripes",
-							"The most stripes of all cached tables together.",
+							"The most stripes of all cached tables together, and one for each.",
 							"krl's servers need room for two rows more.",
 							&krl_stripes, DEFAULT_STRIPES, 1, KRL_MAX_STRIPES,
 							PGC_POSTMASTER, 0, NULL, NULL, NULL);
@@ -133,8 +147,8 @@ define_worker_settings(void)
 							&krl_timeout, 15 * 1000, 1, MAX_MS,
 							PGC_USERSET, GUC_UNIT_MS, NULL, NULL, NULL);
 	DefineCustomIntVariable("krl.recall_limit",
-							"The most stripes that a transaction takes back one by one.",
-							"One that changes more takes everything back from all caches.",
+							"The most stripes of a table that a transaction takes back one by one.",
+							"One that changes more takes all rows of the table back.",
 							&krl_recall_limit, 64, 1, KRL_MAX_STRIPES,
 							PGC_USERSET, 0, NULL, NULL, NULL);
 }

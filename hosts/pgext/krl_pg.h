@@ -5,8 +5,8 @@
  *
  * A transaction notes which rows of cached tables it changes (changes.c).
  * Before it commits it gives notice of them (notice.c) and has them taken
- * back from all caches (ask.c) by background workers, which are clients of
- * krl (worker.c).  A reader that holds rows in krl asks whether somebody has
+ * back from all caches (ask.c, answer.c) by background workers, which are
+ * clients of krl (worker.c).  A reader that holds rows in krl asks whether somebody has
  * given notice of them (sql.c), and keeps what it selects after that only if
  * nobody has.  PROTOCOL.md has the argument that no cache is stale.
  *
@@ -23,22 +23,23 @@
 
 #define KRL_MAX_WORKERS 8
 
-/* One request has so many spans at most. */
+/* One request has so many spans at most: their places have eight bits. */
 #define KRL_MAX_SPANS 64
 
 #define KRL_FAULT_LENGTH 256
 
 /*
- * Keys of krl.  The stripes of all tables lie below krl_stripes, those of one
- * table after those of another.  The mark is a row that each reader holds with
- * each stripe: whoever takes the mark takes everything.  The row before it
- * names the store.
+ * Keys of krl.  Those of a table are its mark and, after it, its stripes; the
+ * keys of all tables lie below krl_stripes.  A reader holds the mark of the
+ * table with each stripe, and the mark of the cluster: whoever takes a mark
+ * takes all rows of the table, or of all tables.  The row before the mark of
+ * the cluster names the store.
  */
-#define KRL_MARK (UINT64CONST(1) << 40)
-#define KRL_STORE_KEY (KRL_MARK - 1)
+#define KRL_CLUSTER_MARK (UINT64CONST(1) << 40)
+#define KRL_STORE_KEY (KRL_CLUSTER_MARK - 1)
 
-/* The most stripes of all tables together. */
-#define KRL_MAX_STRIPES (1 << 20)
+/* The most keys of all tables together: with two rows more they are the most rows of krl. */
+#define KRL_MAX_STRIPES ((1 << 20) - 2)
 
 /* The keys from lo on below hi. */
 typedef struct KrlSpan
@@ -54,40 +55,51 @@ typedef enum KrlRequestKind
 } KrlRequestKind;
 
 /*
- * A backend has one request at each worker.  The backend changes FREE to
- * WAITS, and DONE or FAILED to FREE; the worker changes WAITS to RUNS, and
- * that to DONE or FAILED.  A backend that was canceled may take a request that
- * WAITS back.
+ * A backend has one request, of which workers do one span after another.  Its
+ * state has three parts: its phase; its place, which is the next span, or the
+ * worker that failed; and its number, which grows with each request of the
+ * backend.  The backend changes any phase to FREE, and FREE to WAITS.  A worker
+ * changes WAITS to RUNS, and that to WAITS for the next span, to DONE or to
+ * FAILED, if the number is still the same.
  */
-typedef enum KrlRequestState
+typedef enum KrlPhase
 {
-	KRL_REQUEST_FREE,
-	KRL_REQUEST_WAITS,
-	KRL_REQUEST_RUNS,
-	KRL_REQUEST_DONE,
-	KRL_REQUEST_FAILED
-} KrlRequestState;
+	KRL_FREE,
+	KRL_WAITS,
+	KRL_RUNS,
+	KRL_DONE,
+	KRL_FAILED
+} KrlPhase;
+
+#define KRL_PHASE(state) ((KrlPhase) ((state) & 0xff))
+#define KRL_PLACE(state) ((uint32) ((state) >> 8) & 0xff)
+#define KRL_NUMBER(state) ((uint32) ((state) >> 32))
 
 typedef struct KrlRequest
 {
-	pg_atomic_uint32 state;		/* a KrlRequestState */
+	pg_atomic_uint64 state;
 	KrlRequestKind kind;
-	int			timeout;		/* in milliseconds */
+	TimestampTz end;			/* when the backend no longer waits for it */
 	int			nspans;
 	KrlSpan		spans[KRL_MAX_SPANS];
-	char		fault[KRL_FAULT_LENGTH];
 } KrlRequest;
 
 typedef struct KrlWorker
 {
 	pg_atomic_uint32 procno;	/* KRL_NO_PROCESS if it does not run */
 	pg_atomic_uint32 ready_in;	/* the joining in which it is ready, or KRL_NOT_READY */
-	slock_t		mutex;			/* protects fault */
+	pg_atomic_uint32 sleeps;	/* whether it is to be woken for a request */
+
+	/* The keys that it does, and whether another worker has left them to it: by krl_shared->mutex. */
+	KrlSpan		claimed;
+	bool		is_awaited;
+
+	slock_t		mutex;			/* protects both texts */
 	char		fault[KRL_FAULT_LENGTH];	/* why it is not ready */
-	pg_atomic_uint64 recalls;
-	pg_atomic_uint64 spans;
+	char		failure[KRL_FAULT_LENGTH];	/* why it last failed to do a request */
+	pg_atomic_uint64 spans;		/* that it took back */
 	pg_atomic_uint64 failures;
-	pg_atomic_uint64 microseconds;	/* that its recalls took */
+	pg_atomic_uint64 microseconds;	/* that this took */
 } KrlWorker;
 
 #define KRL_NO_PROCESS PG_UINT32_MAX
@@ -95,7 +107,7 @@ typedef struct KrlWorker
 
 typedef struct KrlShared
 {
-	/* The value of krl's mark since this start, or 0 until it has it. */
+	/* The value of the cluster's mark since this start, or 0 until it has it. */
 	pg_atomic_uint64 nonce;
 
 	/* Readers keep nothing: krl's server is stopped, or is about to be. */
@@ -110,16 +122,22 @@ typedef struct KrlShared
 	 */
 	pg_atomic_uint32 joining;
 
-	/* How many stripes were changed of which nobody had kept anything. */
+	/* Of the worker that starts krl's server: whether that may run, and whether it is to be stopped. */
+	pg_atomic_uint32 server_procno;
+	pg_atomic_uint32 server_runs;
+	pg_atomic_uint32 server_is_stopped;
+
+	/* How many keys were changed of which nobody had kept anything. */
 	pg_atomic_uint64 skipped;
 
+	slock_t		mutex;			/* protects what workers have claimed */
 	int			nbackends;
 	KrlWorker	workers[KRL_MAX_WORKERS];
 
 	/*
-	 * For each stripe twice how often it was taken back, and one more if a
-	 * reader may have kept a row of it since then.  The requests of all
-	 * backends at each worker follow.
+	 * For each key of a table, and for the cluster's mark, twice how often it
+	 * was taken back, and one more if a reader may have kept a row by it since
+	 * then.  The requests of all backends follow.
 	 */
 	pg_atomic_uint32 kept[FLEXIBLE_ARRAY_MEMBER];
 } KrlShared;
@@ -130,6 +148,8 @@ extern char *krl_table_name;
 extern char *krl_tls_authority;
 extern char *krl_tls_certificate;
 extern char *krl_tls_key;
+extern char *krl_server_program;
+extern char *krl_server_users;
 extern int	krl_workers;
 extern int	krl_first_client;
 extern int	krl_stripes;
@@ -137,21 +157,24 @@ extern int	krl_timeout;
 extern int	krl_lease;
 extern int	krl_recall_limit;
 extern bool krl_keep_locks;
-extern char *krl_lock_directory_path(void);
+extern char *krl_directory_path(void);
 
 /* shared.c */
 extern KrlShared *krl_shared;
 extern void krl_shared_init(void);
 extern void krl_require_shared(void);
-extern KrlRequest *krl_request_of(int worker, uint32 procno);
+extern KrlRequest *krl_request_of(uint32 procno);
+extern uint64 krl_state(uint32 number, uint32 place, KrlPhase phase);
 extern uint32 krl_my_procno(void);
 extern void krl_set_latch(uint32 procno);
+extern void krl_wake_workers(int most);
 extern bool krl_is_ready(KrlWorker *worker);
+extern void krl_read_text(KrlWorker *worker, const char *text, char *copy);
 extern void krl_join_again(void);
-extern bool krl_is_kept(uint64 stripe);
-extern uint32 krl_note_kept(uint64 stripe);
-extern uint32 krl_kept_count(uint64 stripe);
-extern void krl_note_recalled(uint64 stripe);
+extern bool krl_is_kept(uint64 key);
+extern uint32 krl_note_kept(uint64 key);
+extern uint32 krl_kept_count(uint64 key);
+extern void krl_note_recalled(uint64 key);
 
 /* notice.c */
 extern void krl_give_notice(uint64 key);
@@ -162,6 +185,15 @@ extern void krl_lock_operators(void);
 extern void krl_wait(long milliseconds);
 extern void krl_recall(const uint64 *keys, int nkeys);
 extern void krl_make_rows(uint64 first, uint64 nrows);
+extern void krl_await_first_worker(void);
+extern void krl_drop_request(void);
+
+/* answer.c */
+extern bool krl_must_end(void);
+extern bool krl_answer_one(krlc_client *client, int number);
+extern void krl_return_request(void);
+extern uint32 krl_insert_rows(krlc_client *client, KrlSpan span, TimestampTz end,
+							  krlc_error *error);
 
 /* store.c */
 extern bool krl_store_is_own(krlc_client *client, int worker, krlc_error *error);
@@ -170,10 +202,14 @@ extern bool krl_store_is_suspended(void);
 extern void krl_store_suspend(void);
 extern void krl_store_resume(void);
 
+/* server.c */
+extern const char *krl_server_address(void);
+extern void krl_stop_server(void);
+extern void krl_let_server_run(void);
+PGDLLEXPORT void krl_server_main(Datum number);
+
 /* worker.c */
 extern void krl_workers_init(void);
-extern uint32 krl_insert_rows(krlc_client *client, KrlSpan span, TimestampTz end,
-							  krlc_error *error);
 PGDLLEXPORT void krl_worker_main(Datum number);
 
 #endif							/* KRL_PG_H */

@@ -40,15 +40,13 @@ static Size
 requests_offset(void)
 {
 	return MAXALIGN(add_size(offsetof(KrlShared, kept),
-							 mul_size(sizeof(pg_atomic_uint32), krl_stripes)));
+							 mul_size(sizeof(pg_atomic_uint32), krl_stripes + 1)));
 }
 
 static Size
 shared_size(void)
 {
-	Size		nrequests = mul_size(max_backends(), krl_workers);
-
-	return add_size(requests_offset(), mul_size(sizeof(KrlRequest), nrequests));
+	return add_size(requests_offset(), mul_size(sizeof(KrlRequest), max_backends()));
 }
 
 static void
@@ -66,9 +64,9 @@ init_worker(KrlWorker *worker)
 {
 	pg_atomic_init_u32(&worker->procno, KRL_NO_PROCESS);
 	pg_atomic_init_u32(&worker->ready_in, KRL_NOT_READY);
+	pg_atomic_init_u32(&worker->sleeps, false);
 	SpinLockInit(&worker->mutex);
 	strlcpy(worker->fault, "it has not started", sizeof(worker->fault));
-	pg_atomic_init_u64(&worker->recalls, 0);
 	pg_atomic_init_u64(&worker->spans, 0);
 	pg_atomic_init_u64(&worker->failures, 0);
 	pg_atomic_init_u64(&worker->microseconds, 0);
@@ -80,19 +78,22 @@ init_shared(void)
 	bool		is_suspended = krl_store_is_suspended();
 
 	memset(krl_shared, 0, shared_size());
+	SpinLockInit(&krl_shared->mutex);
 	krl_shared->nbackends = max_backends();
 	pg_atomic_init_u64(&krl_shared->nonce, 0);
 	pg_atomic_init_u32(&krl_shared->joining, 0);
+	pg_atomic_init_u32(&krl_shared->server_procno, KRL_NO_PROCESS);
+	pg_atomic_init_u32(&krl_shared->server_runs, false);
+	pg_atomic_init_u32(&krl_shared->server_is_stopped, false);
 	pg_atomic_init_u64(&krl_shared->skipped, 0);
 	pg_atomic_init_u32(&krl_shared->is_closed, is_suspended);
 	pg_atomic_init_u32(&krl_shared->is_suspended, is_suspended);
 	for (int worker = 0; worker < KRL_MAX_WORKERS; worker++)
 		init_worker(&krl_shared->workers[worker]);
-	for (int stripe = 0; stripe < krl_stripes; stripe++)
-		pg_atomic_init_u32(&krl_shared->kept[stripe], 0);
-	for (int worker = 0; worker < krl_workers; worker++)
-		for (int procno = 0; procno < krl_shared->nbackends; procno++)
-			pg_atomic_init_u32(&krl_request_of(worker, procno)->state, KRL_REQUEST_FREE);
+	for (int key = 0; key <= krl_stripes; key++)
+		pg_atomic_init_u32(&krl_shared->kept[key], 0);
+	for (int procno = 0; procno < krl_shared->nbackends; procno++)
+		pg_atomic_init_u64(&krl_request_of(procno)->state, krl_state(0, 0, KRL_FREE));
 }
 
 static void
@@ -133,12 +134,16 @@ krl_require_shared(void)
 }
 
 KrlRequest *
-krl_request_of(int worker, uint32 procno)
+krl_request_of(uint32 procno)
 {
-	KrlRequest *requests = (KrlRequest *) ((char *) krl_shared + requests_offset());
+	Assert(procno < (uint32) krl_shared->nbackends);
+	return (KrlRequest *) ((char *) krl_shared + requests_offset()) + procno;
+}
 
-	Assert(worker < krl_workers && procno < (uint32) krl_shared->nbackends);
-	return &requests[(Size) worker * krl_shared->nbackends + procno];
+uint64
+krl_state(uint32 number, uint32 place, KrlPhase phase)
+{
+	return (uint64) number << 32 | place << 8 | phase;
 }
 
 uint32
@@ -159,6 +164,33 @@ krl_set_latch(uint32 procno)
 		SetLatch(&ProcGlobal->allProcs[procno].procLatch);
 }
 
+/*
+ * Wakes so many of the workers that sleep.  The others look for requests when
+ * they have done what they do.
+ */
+void
+krl_wake_workers(int most)
+{
+	for (int number = 0; number < krl_workers && most > 0; number++)
+	{
+		KrlWorker  *worker = &krl_shared->workers[number];
+
+		if (!pg_atomic_read_u32(&worker->sleeps) || !pg_atomic_exchange_u32(&worker->sleeps, false))
+			continue;
+		krl_set_latch(pg_atomic_read_u32(&worker->procno));
+		most--;
+	}
+}
+
+/* Copies the fault of a worker, or its failure. */
+void
+krl_read_text(KrlWorker *worker, const char *text, char *copy)
+{
+	SpinLockAcquire(&worker->mutex);
+	strlcpy(copy, text, KRL_FAULT_LENGTH);
+	SpinLockRelease(&worker->mutex);
+}
+
 /* Whether the worker has joined krl's server, and takes keys back. */
 bool
 krl_is_ready(KrlWorker *worker)
@@ -176,33 +208,40 @@ krl_join_again(void)
 		krl_set_latch(pg_atomic_read_u32(&krl_shared->workers[worker].procno));
 }
 
-/* Whether a reader may have kept a row of the stripe since it was taken back last. */
+/* The count of a key: that of the cluster's mark is the last one. */
+static pg_atomic_uint32 *
+count_of(uint64 key)
+{
+	return &krl_shared->kept[Min(key, (uint64) krl_stripes)];
+}
+
+/* Whether a reader may have kept a row by the key since it was taken back last. */
 bool
-krl_is_kept(uint64 stripe)
+krl_is_kept(uint64 key)
 {
-	return pg_atomic_read_u32(&krl_shared->kept[stripe]) & 1;
+	return pg_atomic_read_u32(count_of(key)) & 1;
 }
 
-/* A reader is about to keep a row of the stripe.  Returns the count from then on. */
+/* A reader is about to keep a row by the key.  Returns the count from then on. */
 uint32
-krl_note_kept(uint64 stripe)
+krl_note_kept(uint64 key)
 {
-	return pg_atomic_fetch_or_u32(&krl_shared->kept[stripe], 1) | 1;
+	return pg_atomic_fetch_or_u32(count_of(key), 1) | 1;
 }
 
 uint32
-krl_kept_count(uint64 stripe)
+krl_kept_count(uint64 key)
 {
-	return pg_atomic_read_u32(&krl_shared->kept[stripe]);
+	return pg_atomic_read_u32(count_of(key));
 }
 
-/* The stripe was taken back from all caches. */
+/* The key was taken back from all caches. */
 void
-krl_note_recalled(uint64 stripe)
+krl_note_recalled(uint64 key)
 {
-	pg_atomic_uint32 *kept = &krl_shared->kept[stripe];
-	uint32		old = pg_atomic_read_u32(kept);
+	pg_atomic_uint32 *count = count_of(key);
+	uint32		old = pg_atomic_read_u32(count);
 
-	while (!pg_atomic_compare_exchange_u32(kept, &old, (old | 1) + 1))
+	while (!pg_atomic_compare_exchange_u32(count, &old, (old | 1) + 1))
 		;
 }

@@ -7,33 +7,33 @@
  */
 #include "postgres.h"
 
-#include "access/htup_details.h"
 #include "access/relation.h"
+#include "access/xact.h"
 #include "access/xlog.h"
 #include "catalog/pg_inherits.h"
 #include "catalog/pg_type.h"
 #include "commands/trigger.h"
 #include "fmgr.h"
-#include "funcapi.h"
 #include "miscadmin.h"
+#include "portability/instr_time.h"
+#include "storage/ipc.h"
 #include "utils/acl.h"
 #include "utils/array.h"
 #include "utils/builtins.h"
 #include "utils/lsyscache.h"
 #include "utils/rel.h"
-#include "utils/timestamp.h"
 
+#include "changes.h"
 #include "stripes.h"
 
 /* Clocks of two machines differ in rate by a quarter at most. */
 #define DRIFT_DIVISOR 4
 
-/* The stripes that a reader wants to keep rows of. */
+/* The keys by which a reader wants to keep rows of a table. */
 typedef struct Wanted
 {
-	uint64		first;			/* of the table */
+	uint64	   *keys;			/* the marks of the cluster and of the table, and its stripes */
 	int			count;
-	Datum	   *stripes;		/* of the table, from 0 on */
 } Wanted;
 
 static const Trigger *
@@ -43,7 +43,8 @@ enabled_trigger(Relation relation, const char *name)
 	{
 		const Trigger *trigger = &relation->trigdesc->triggers[i];
 
-		if (trigger->tgenabled == TRIGGER_FIRES_ALWAYS && strcmp(trigger->tgname, name) == 0)
+		if (trigger->tgenabled == TRIGGER_FIRES_ALWAYS && strcmp(trigger->tgname, name) == 0 &&
+			krl_is_trigger_function(trigger->tgfoid))
 			return trigger;
 	}
 	return NULL;
@@ -61,7 +62,7 @@ is_plain(Relation relation)
 
 /* Whether each change of the relation is noted, and all its readers see the same rows. */
 static bool
-is_guarded(Oid oid, uint64 first)
+is_guarded(Oid oid, uint32 mark)
 {
 	Relation	relation = try_relation_open(oid, AccessShareLock);
 	const Trigger *trigger;
@@ -75,7 +76,7 @@ is_guarded(Oid oid, uint64 first)
 		KrlStripes	stripes;
 
 		krl_read_stripes(trigger, &stripes);
-		result = stripes.first == first;
+		result = stripes.mark == mark;
 	}
 	relation_close(relation, AccessShareLock);
 	return result;
@@ -83,7 +84,7 @@ is_guarded(Oid oid, uint64 first)
 
 /* The same of the table, and of its partitions and the tables that inherit from it. */
 static bool
-is_table_guarded(Oid table, uint64 first)
+is_table_guarded(Oid table, uint32 mark)
 {
 	List	   *relations = list_make1_oid(table);
 	ListCell   *cell;
@@ -91,7 +92,7 @@ is_table_guarded(Oid table, uint64 first)
 	if (has_subclass(table))
 		relations = find_all_inheritors(table, AccessShareLock, NULL);
 	foreach(cell, relations)
-		if (!is_guarded(lfirst_oid(cell), first))
+		if (!is_guarded(lfirst_oid(cell), mark))
 			return false;
 	return true;
 }
@@ -106,55 +107,71 @@ require_select(Oid table)
 }
 
 static Wanted
-read_wanted(int32 first, ArrayType *array)
+read_wanted(int32 mark, ArrayType *array)
 {
-	Wanted		wanted = {.first = first};
+	Wanted		wanted;
+	Datum	   *stripes;
 	bool	   *nulls;
+	int			nstripes;
 
-	deconstruct_array(array, INT4OID, sizeof(int32), true, TYPALIGN_INT,
-					  &wanted.stripes, &nulls, &wanted.count);
-	for (int i = 0; i < wanted.count; i++)
+	if (mark < 0 || mark >= krl_stripes)
+		ereport(ERROR,
+				(errcode(ERRCODE_INVALID_PARAMETER_VALUE),
+				 errmsg("there is no table whose mark is %d", mark),
+				 errdetail("krl.stripes is %d.", krl_stripes)));
+	deconstruct_array(array, INT4OID, sizeof(int32), true, TYPALIGN_INT, &stripes, &nulls,
+					  &nstripes);
+	wanted.keys = palloc(sizeof(uint64) * (nstripes + 2));
+	wanted.keys[0] = KRL_CLUSTER_MARK;
+	wanted.keys[1] = mark;
+	wanted.count = 2;
+	for (int i = 0; i < nstripes; i++)
 	{
-		int32		stripe = nulls[i] ? -1 : DatumGetInt32(wanted.stripes[i]);
+		int32		stripe = nulls[i] ? -1 : DatumGetInt32(stripes[i]);
 
-		if (first < 0 || stripe < 0 || stripe >= krl_stripes - first)
+		if (stripe < 0 || stripe >= krl_stripes - mark - 1)
 			ereport(ERROR,
 					(errcode(ERRCODE_INVALID_PARAMETER_VALUE),
-					 errmsg("there is no stripe %d of a table whose first is %d", stripe, first),
+					 errmsg("there is no stripe %d of a table whose mark is %d", stripe, mark),
 					 errdetail("krl.stripes is %d.", krl_stripes)));
+		wanted.keys[wanted.count++] = (uint64) mark + 1 + stripe;
 	}
 	return wanted;
 }
 
-static uint64
-wanted_stripe(const Wanted *wanted, int i)
+static bool
+has_any_notice(const Wanted *wanted)
 {
-	return wanted->first + (uint64) DatumGetInt32(wanted->stripes[i]);
+	for (int i = 0; i < wanted->count; i++)
+		if (krl_has_notice(wanted->keys[i]))
+			return true;
+	return false;
+}
+
+static bool
+has_same_counts(const Wanted *wanted, const uint32 *counts)
+{
+	pg_memory_barrier();		/* after the look at the notices */
+	for (int i = 0; i < wanted->count; i++)
+		if (krl_kept_count(wanted->keys[i]) != counts[i])
+			return false;
+	return true;
 }
 
 /*
  * Whether no transaction that may still commit has given notice of one of the
- * stripes.  They count as kept from before the look at the notices.  If one was
+ * keys.  They count as kept from before the look at the notices.  If one was
  * taken back after that, the next writer may have found that it is not kept.
  */
 static bool
 are_quiet(const Wanted *wanted)
 {
-	uint32	   *counts = palloc(sizeof(uint32) * Max(wanted->count, 1));
+	uint32	   *counts = palloc(sizeof(uint32) * wanted->count);
 
 	for (int i = 0; i < wanted->count; i++)
-		counts[i] = krl_note_kept(wanted_stripe(wanted, i));
+		counts[i] = krl_note_kept(wanted->keys[i]);
 	pg_memory_barrier();
-	if (krl_has_notice(KRL_MARK))
-		return false;
-	for (int i = 0; i < wanted->count; i++)
-		if (krl_has_notice(wanted_stripe(wanted, i)))
-			return false;
-	pg_memory_barrier();
-	for (int i = 0; i < wanted->count; i++)
-		if (krl_kept_count(wanted_stripe(wanted, i)) != counts[i])
-			return false;
-	return true;
+	return !has_any_notice(wanted) && has_same_counts(wanted, counts);
 }
 
 /* Whether readers may keep rows that they hold by a mark of this nonce. */
@@ -166,20 +183,42 @@ is_open(uint64 nonce)
 		nonce != 0 && nonce == pg_atomic_read_u64(&krl_shared->nonce);
 }
 
+/*
+ * Whether the next statement sees just what is committed as it begins.  The
+ * snapshot of a transaction may be older than the look at the notices.
+ */
+static bool
+is_next_snapshot_new(void)
+{
+	return !IsolationUsesXactSnapshot() && !krl_has_changed();
+}
+
 PG_FUNCTION_INFO_V1(krl_quiet);
 
-/* krl.quiet(nonce bigint, relation regclass, first integer, stripes integer[]) */
+/* krl.quiet(nonce bigint, relation regclass, mark integer, stripes integer[]) */
 Datum
 krl_quiet(PG_FUNCTION_ARGS)
 {
 	uint64		nonce = (uint64) PG_GETARG_INT64(0);
 	Oid			table = PG_GETARG_OID(1);
-	Wanted		wanted = read_wanted(PG_GETARG_INT32(2), PG_GETARG_ARRAYTYPE_P(3));
+	int32		mark = PG_GETARG_INT32(2);
+	Wanted		wanted = read_wanted(mark, PG_GETARG_ARRAYTYPE_P(3));
 
 	require_select(table);
 	/* The triggers are looked at after the notices too: who drops one gives notice first. */
-	PG_RETURN_BOOL(is_open(nonce) && is_table_guarded(table, wanted.first) &&
-				   are_quiet(&wanted) && is_table_guarded(table, wanted.first));
+	PG_RETURN_BOOL(is_open(nonce) && is_next_snapshot_new() &&
+				   is_table_guarded(table, mark) && are_quiet(&wanted) &&
+				   is_table_guarded(table, mark));
+}
+
+PG_FUNCTION_INFO_V1(krl_addresses);
+
+/* krl.servers() */
+Datum
+krl_addresses(PG_FUNCTION_ARGS)
+{
+	krl_require_shared();
+	PG_RETURN_TEXT_P(cstring_to_text(krl_server_address()));
 }
 
 PG_FUNCTION_INFO_V1(krl_nonce);
@@ -194,7 +233,7 @@ krl_nonce(PG_FUNCTION_ARGS)
 
 PG_FUNCTION_INFO_V1(krl_make);
 
-/* krl.make(first integer, stripes integer) */
+/* krl.make(first integer, keys integer) */
 Datum
 krl_make(PG_FUNCTION_ARGS)
 {
@@ -205,7 +244,7 @@ krl_make(PG_FUNCTION_ARGS)
 	if (first < 0 || count < 1 || count > krl_stripes - first)
 		ereport(ERROR,
 				(errcode(ERRCODE_CONFIGURATION_LIMIT_EXCEEDED),
-				 errmsg("%d stripes after %d are more than krl.stripes, which is %d",
+				 errmsg("%d keys after %d are more than krl.stripes, which is %d",
 						count, first, krl_stripes),
 				 errhint("Set krl.stripes to more, and restart the server; or cache the table with "
 						 "fewer stripes.")));
@@ -214,58 +253,41 @@ krl_make(PG_FUNCTION_ARGS)
 	PG_RETURN_VOID();
 }
 
-PG_FUNCTION_INFO_V1(krl_worker);
-
-/* krl.worker(number integer, ..) */
-Datum
-krl_worker(PG_FUNCTION_ARGS)
-{
-	int32		number = PG_GETARG_INT32(0);
-	KrlWorker  *worker;
-	TupleDesc	desc;
-	char		fault[KRL_FAULT_LENGTH];
-	Datum		values[6];
-	bool		nulls[6] = {false};
-
-	krl_require_shared();
-	if (number < 0 || number >= krl_workers)
-		PG_RETURN_NULL();
-	if (get_call_result_type(fcinfo, NULL, &desc) != TYPEFUNC_COMPOSITE)
-		elog(ERROR, "return type must be a row type");
-	worker = &krl_shared->workers[number];
-	SpinLockAcquire(&worker->mutex);
-	strlcpy(fault, worker->fault, sizeof(fault));
-	SpinLockRelease(&worker->mutex);
-	values[0] = BoolGetDatum(krl_is_ready(worker));
-	values[1] = CStringGetTextDatum(fault);
-	nulls[1] = fault[0] == '\0';
-	values[2] = Int64GetDatum((int64) pg_atomic_read_u64(&worker->recalls));
-	values[3] = Int64GetDatum((int64) pg_atomic_read_u64(&worker->spans));
-	values[4] = Int64GetDatum((int64) pg_atomic_read_u64(&worker->failures));
-	values[5] = Float8GetDatum(pg_atomic_read_u64(&worker->microseconds) / 1000.0);
-	PG_RETURN_DATUM(HeapTupleGetDatum(heap_form_tuple(BlessTupleDesc(desc), values, nulls)));
-}
-
-PG_FUNCTION_INFO_V1(krl_skipped);
-
-/* krl.skipped() */
-Datum
-krl_skipped(PG_FUNCTION_ARGS)
-{
-	krl_require_shared();
-	PG_RETURN_INT64((int64) pg_atomic_read_u64(&krl_shared->skipped));
-}
-
-/* By the end of this call the lease of each reader has ended. */
+/* By the end of this call the lease of each reader has ended, whatever is done to the time of day. */
 static void
 await_leases(void)
 {
-	TimestampTz end = TimestampTzPlusMilliseconds(GetCurrentTimestamp(),
-												  krl_lease + krl_lease / DRIFT_DIVISOR + 100);
-	long		left;
+	double		longest = krl_lease + krl_lease / DRIFT_DIVISOR + 100;
+	instr_time	begun;
+	instr_time	passed;
 
-	while ((left = TimestampDifferenceMilliseconds(GetCurrentTimestamp(), end)) > 0)
-		krl_wait(left);
+	INSTR_TIME_SET_CURRENT(begun);
+	for (;;)
+	{
+		double		left;
+
+		INSTR_TIME_SET_CURRENT(passed);
+		INSTR_TIME_SUBTRACT(passed, begun);
+		left = longest - INSTR_TIME_GET_MILLISEC(passed);
+		if (left <= 0)
+			return;
+		krl_wait((long) left + 1);
+	}
+}
+
+/* The cluster was not suspended: transactions still wait for krl, so readers may keep rows again. */
+static void
+open_again(int code, Datum arg)
+{
+	krl_let_server_run();
+	pg_atomic_write_u32(&krl_shared->is_closed, false);
+}
+
+/* The cluster was not resumed: transactions commit without krl as before. */
+static void
+suspend_again(int code, Datum arg)
+{
+	pg_atomic_write_u32(&krl_shared->is_suspended, true);
 }
 
 PG_FUNCTION_INFO_V1(krl_suspend);
@@ -284,19 +306,15 @@ krl_suspend(PG_FUNCTION_ARGS)
 	if (pg_atomic_read_u32(&krl_shared->is_suspended))
 		PG_RETURN_VOID();
 	pg_atomic_write_u32(&krl_shared->is_closed, true);
-	PG_TRY();
+	PG_ENSURE_ERROR_CLEANUP(open_again, (Datum) 0);
 	{
+		krl_stop_server();
 		await_leases();
 		krl_store_suspend();
 	}
-	PG_CATCH();
-	{
-		/* Transactions still wait for krl, so readers may keep rows again. */
-		pg_atomic_write_u32(&krl_shared->is_closed, false);
-		PG_RE_THROW();
-	}
-	PG_END_TRY();
+	PG_END_ENSURE_ERROR_CLEANUP(open_again, (Datum) 0);
 	pg_atomic_write_u32(&krl_shared->is_suspended, true);
+	krl_let_server_run();
 	krl_join_again();
 	PG_RETURN_VOID();
 }
@@ -307,25 +325,22 @@ PG_FUNCTION_INFO_V1(krl_resume);
 Datum
 krl_resume(PG_FUNCTION_ARGS)
 {
-	uint64		mark = KRL_MARK;
+	uint64		mark = KRL_CLUSTER_MARK;
 
 	krl_require_shared();
 	krl_lock_operators();
 	if (!pg_atomic_read_u32(&krl_shared->is_suspended))
 		PG_RETURN_VOID();
+	/* Only while the cluster is suspended, it takes another store. */
+	krl_await_first_worker();
 	/* First transactions wait for krl, then all is taken back, and then readers keep rows again. */
 	pg_atomic_write_u32(&krl_shared->is_suspended, false);
-	PG_TRY();
+	PG_ENSURE_ERROR_CLEANUP(suspend_again, (Datum) 0);
 	{
 		krl_recall(&mark, 1);
 		krl_store_resume();
 	}
-	PG_CATCH();
-	{
-		pg_atomic_write_u32(&krl_shared->is_suspended, true);
-		PG_RE_THROW();
-	}
-	PG_END_TRY();
+	PG_END_ENSURE_ERROR_CLEANUP(suspend_again, (Datum) 0);
 	pg_atomic_write_u32(&krl_shared->is_closed, false);
 	PG_RETURN_VOID();
 }

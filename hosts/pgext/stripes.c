@@ -11,6 +11,7 @@
  */
 #include "postgres.h"
 
+#include "catalog/namespace.h"
 #include "catalog/pg_type.h"
 #include "executor/spi.h"
 #include "fmgr.h"
@@ -26,6 +27,16 @@
 
 /* Stands between the texts of two columns. */
 #define SEPARATOR 0x1f
+
+/* Whether this is krl.changed, by which the triggers of cached tables note changes. */
+bool
+krl_is_trigger_function(Oid function)
+{
+	const char *name = get_func_name(function);
+
+	return name && strcmp(name, "changed") == 0 &&
+		get_func_namespace(function) == get_namespace_oid("krl", true);
+}
 
 /* Returns the stripe of a key that has these texts, which are the same in each session. */
 static uint32
@@ -52,8 +63,8 @@ stripe_of_integer(int64 key, uint32 nstripes)
 }
 
 /*
- * Reads the arguments of a trigger: the first stripe, how many there are,
- * "remainder" or "hash", and the columns of the key.
+ * Reads the arguments of a trigger: the mark of the table, how many stripes it
+ * has, "remainder" or "hash", and the columns of the key.
  */
 void
 krl_read_stripes(const Trigger *trigger, KrlStripes *stripes)
@@ -63,18 +74,18 @@ krl_read_stripes(const Trigger *trigger, KrlStripes *stripes)
 				(errcode(ERRCODE_OBJECT_NOT_IN_PREREQUISITE_STATE),
 				 errmsg("trigger \"%s\" does not have the arguments of krl.cache",
 						trigger->tgname)));
-	stripes->first = strtoul(trigger->tgargs[0], NULL, 10);
+	stripes->mark = strtoul(trigger->tgargs[0], NULL, 10);
 	stripes->count = strtoul(trigger->tgargs[1], NULL, 10);
 	stripes->by_remainder = strcmp(trigger->tgargs[2], "remainder") == 0;
 	stripes->columns = trigger->tgargs + 3;
 	stripes->ncolumns = trigger->tgnargs - 3;
-	if (stripes->count < 1 || stripes->count > (uint32) krl_stripes ||
-		stripes->first > (uint32) krl_stripes - stripes->count)
+	if (stripes->count < 1 || stripes->count >= (uint32) krl_stripes ||
+		stripes->mark >= (uint32) krl_stripes - stripes->count)
 		ereport(ERROR,
 				(errcode(ERRCODE_CONFIGURATION_LIMIT_EXCEEDED),
 				 errmsg("the stripes of trigger \"%s\" are beyond krl.stripes", trigger->tgname),
 				 errhint("Set krl.stripes to %lu at least, and restart the server.",
-						 (unsigned long) stripes->first + stripes->count)));
+						 (unsigned long) stripes->mark + 1 + stripes->count)));
 }
 
 /* Whether equal values of the column have one text, and the same one in each session. */
@@ -119,6 +130,7 @@ integer_of(Datum value, Oid type)
 uint64
 krl_stripe_of_row(const KrlStripes *stripes, HeapTuple row, TupleDesc desc)
 {
+	uint64		first = (uint64) stripes->mark + 1;
 	char	   *texts[INDEX_MAX_KEYS];
 
 	for (int i = 0; i < stripes->ncolumns; i++)
@@ -136,10 +148,9 @@ krl_stripe_of_row(const KrlStripes *stripes, HeapTuple row, TupleDesc desc)
 		column = TupleDescAttr(desc, number - 1);
 		value = SPI_getbinval(row, desc, number, &isnull);
 		if (isnull)
-			return stripes->first;	/* no reader asks for such a row */
+			return first;		/* no reader asks for such a row */
 		if (stripes->by_remainder)
-			return stripes->first +
-				stripe_of_integer(integer_of(value, column->atttypid), stripes->count);
+			return first + stripe_of_integer(integer_of(value, column->atttypid), stripes->count);
 		if (!has_one_text(column))
 			ereport(ERROR,
 					(errcode(ERRCODE_DATATYPE_MISMATCH),
@@ -148,7 +159,7 @@ krl_stripe_of_row(const KrlStripes *stripes, HeapTuple row, TupleDesc desc)
 					 errhint("Call krl.uncache.")));
 		texts[i] = SPI_getvalue(row, desc, number);
 	}
-	return stripes->first + stripe_of_texts(texts, stripes->ncolumns, stripes->count);
+	return first + stripe_of_texts(texts, stripes->ncolumns, stripes->count);
 }
 
 PG_FUNCTION_INFO_V1(krl_stripe);

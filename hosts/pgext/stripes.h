@@ -21,13 +21,14 @@
 /* As the arguments of the triggers have them. */
 typedef struct KrlStripes
 {
-	uint32		first;
-	uint32		count;
+	uint32		mark;
+	uint32		count;			/* their keys follow that of the mark */
 	bool		by_remainder;	/* of a key that is one integer */
 	char	  **columns;		/* of the key */
 	int			ncolumns;
 } KrlStripes;
 
+extern bool krl_is_trigger_function(Oid function);
 extern void krl_read_stripes(const Trigger *trigger, KrlStripes *stripes);
 extern uint64 krl_stripe_of_row(const KrlStripes *stripes, HeapTuple row, TupleDesc desc);
 

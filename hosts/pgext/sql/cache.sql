@@ -27,13 +27,15 @@ SELECT number, is_ready, fault FROM krl.workers;
 
 CREATE TABLE item (id bigint PRIMARY KEY, n bigint NOT NULL DEFAULT 0);
 SELECT krl.cache('item', stripes => 64);
--- A second call changes nothing.
+-- A second call changes nothing, and may not name other columns.
 SELECT krl.cache('item');
+SELECT krl.cache('item', '{n}');
 CREATE TABLE place (country text, code uuid, name text, PRIMARY KEY (country, code));
 SELECT krl.cache('place', stripes => 16);
 CREATE TABLE note (author text, body text);
 SELECT krl.cache('note', '{author}', 16);
-SELECT relation, key_columns, first, stripes, by_remainder FROM krl.cached ORDER BY first;
+SELECT krl.cache('note');
+SELECT relation, key_columns, mark, stripes, by_remainder FROM krl.cached ORDER BY mark;
 SELECT tgrelid::regclass AS relation, tgname, tgenabled, tgtype FROM pg_trigger
     WHERE tgname LIKE 'krl%' ORDER BY 1, 2;
 
@@ -70,6 +72,10 @@ SELECT krl.cache('keyless', '{id}', 0);
 SELECT krl.cache('keyless', '{id}', 2000);
 SELECT krl.uncache('keyless');
 
+-- Columns that an index only includes are not of the key.
+CREATE TABLE covered (id bigint, n bigint, PRIMARY KEY (id) INCLUDE (n));
+SELECT krl.primary_key('covered');
+
 -- Partitions.
 CREATE TABLE part (id bigint PRIMARY KEY, n bigint) PARTITION BY RANGE (id);
 CREATE TABLE part0 PARTITION OF part FOR VALUES FROM (0) TO (10);
@@ -82,7 +88,7 @@ SELECT tgrelid::regclass AS relation, tgname, tgenabled FROM pg_trigger
 SELECT krl.uncache('note');
 SELECT tgname FROM pg_trigger WHERE tgrelid = 'note'::regclass;
 SELECT krl.cache('note', '{author}', 16);
-SELECT first FROM krl.cached WHERE relation = 'note'::regclass;
+SELECT mark FROM krl.cached WHERE relation = 'note'::regclass;
 
 -- The triggers of cached tables need the extension.
 \set VERBOSITY terse

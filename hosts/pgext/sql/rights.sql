@@ -20,30 +20,56 @@ RESET ROLE;
 
 -- SELECT on the table is the right to keep its rows.
 GRANT SELECT ON part TO reader;
-SELECT krl.nonce() AS nonce, first FROM krl.cached WHERE relation = 'part'::regclass \gset
+SELECT krl.nonce() AS nonce, mark FROM krl.cached WHERE relation = 'part'::regclass \gset
 SET ROLE reader;
-SELECT krl.quiet(:nonce, 'part', :first, '{0}');
+SELECT krl.quiet(:nonce, 'part', :mark, '{0}');
 -- Another start of the database, and other stripes.
-SELECT krl.quiet(:nonce + 1, 'part', :first, '{0}');
-SELECT krl.quiet(0, 'part', :first, '{0}');
-SELECT krl.quiet(:nonce, 'part', :first + 1, '{0}');
-SELECT krl.quiet(:nonce, 'part', :first, '{0,NULL}');
+SELECT krl.quiet(:nonce + 1, 'part', :mark, '{0}');
+SELECT krl.quiet(0, 'part', :mark, '{0}');
+SELECT krl.quiet(:nonce, 'part', :mark + 1, '{0}');
+SELECT krl.quiet(:nonce, 'part', :mark, '{0,NULL}');
 SELECT krl.quiet(:nonce, 'part', -1, '{0}');
 RESET ROLE;
 
 -- Who loses the right keeps nothing any longer.
+SELECT quiet('part', 0);
 SELECT FROM since();
 GRANT SELECT ON part TO PUBLIC;
 SELECT * FROM since();
 REVOKE SELECT ON part FROM PUBLIC, reader;
 SELECT * FROM since();
+SELECT quiet('part', 0);
+REVOKE SELECT ON ALL TABLES IN SCHEMA public FROM reader;
+SELECT * FROM since();
+SELECT quiet('part', 0);
+REVOKE CREATE ON SCHEMA public FROM reader;
+SELECT * FROM since();
+CREATE ROLE readers ROLE reader;
+SELECT quiet('part', 0);
+REVOKE readers FROM reader;
+SELECT * FROM since();
+SELECT quiet('part', 0);
+DROP OWNED BY readers;
+SELECT * FROM since();
 SET ROLE reader;
-SELECT krl.quiet(:nonce, 'part', :first, '{0}');
+SELECT krl.quiet(:nonce, 'part', :mark, '{0}');
 RESET ROLE;
 
 -- Tables that are not cached.
-SELECT krl.quiet(:nonce, 'parent', :first, '{0}');
-SELECT krl.quiet(:nonce, 4000000000::oid, :first, '{0}');
+SELECT krl.quiet(:nonce, 'parent', :mark, '{0}');
+SELECT krl.quiet(:nonce, 4000000000::oid, :mark, '{0}');
+
+-- Triggers of the same names that note nothing.
+CREATE FUNCTION nothing() RETURNS trigger LANGUAGE plpgsql AS 'BEGIN RETURN NULL; END';
+CREATE TABLE feigned (id bigint PRIMARY KEY);
+CREATE TRIGGER krl_changed AFTER INSERT OR UPDATE OR DELETE ON feigned
+    FOR EACH ROW EXECUTE FUNCTION nothing('0', '64', 'remainder', 'id');
+CREATE TRIGGER krl_truncated AFTER TRUNCATE ON feigned
+    FOR EACH STATEMENT EXECUTE FUNCTION nothing('0', '64', 'remainder', 'id');
+ALTER TABLE feigned ENABLE ALWAYS TRIGGER krl_changed;
+ALTER TABLE feigned ENABLE ALWAYS TRIGGER krl_truncated;
+SELECT krl.quiet(:nonce, 'feigned', 0, '{0}');
+DROP TABLE feigned;
 
 -- Lock files that a base backup would copy.
-ALTER SYSTEM SET krl.lock_directory = 'krl';
+ALTER SYSTEM SET krl.directory = 'krl';

@@ -2,8 +2,8 @@
 \set SHOW_CONTEXT never
 SET client_min_messages = warning;
 CREATE FUNCTION quiet(kept regclass, VARIADIC keys bigint[]) RETURNS boolean LANGUAGE sql AS $$
-    SELECT krl.quiet(krl.nonce(), relation, first, array_agg((key % stripes)::integer))
-    FROM krl.cached, unnest(keys) AS key WHERE relation = kept GROUP BY relation, first
+    SELECT krl.quiet(krl.nonce(), relation, mark, array_agg((key % stripes)::integer))
+    FROM krl.cached, unnest(keys) AS key WHERE relation = kept GROUP BY relation, mark
 $$;
 CREATE TABLE counted (spans bigint, skipped bigint);
 INSERT INTO counted VALUES (0, 0);
@@ -100,10 +100,30 @@ SELECT quiet('item', 20);
 ROLLBACK PREPARED 'two';
 SELECT quiet('item', 20);
 
+-- So does one that has changed all rows of a table, for them only.
+SET krl.recall_limit = 10;
+BEGIN;
+INSERT INTO item SELECT generate_series(100, 140);
+PREPARE TRANSACTION 'three';
+SELECT quiet('item', 21), quiet('part', 1);
+COMMIT PREPARED 'three';
+RESET krl.recall_limit;
+SELECT quiet('item', 21);
+
+-- A snapshot that may be older than the look at the notices, and changes of the reader's own transaction.
+BEGIN ISOLATION LEVEL REPEATABLE READ;
+SELECT quiet('item', 21);
+COMMIT;
+BEGIN;
+SELECT quiet('item', 21);
+INSERT INTO item VALUES (21);
+SELECT quiet('item', 22);
+ROLLBACK;
+
 -- A row whose key is not an integer, and one of a partition.
 INSERT INTO place VALUES ('at', 'a0eebc99-9c0b-4ef8-bb6d-6bb9bd380a11', 'Wien');
 SELECT FROM since();
-SELECT krl.quiet(krl.nonce(), relation, first,
+SELECT krl.quiet(krl.nonce(), relation, mark,
     ARRAY[krl.stripe(stripes, 'at', 'a0eebc99-9c0b-4ef8-bb6d-6bb9bd380a11')])
     FROM krl.cached WHERE relation = 'place'::regclass;
 UPDATE place SET name = 'Vienna';

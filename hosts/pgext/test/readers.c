@@ -23,7 +23,7 @@
 #define KEYS 64
 #define READERS 3
 #define WRITERS 4
-#define MARK (UINT64_C(1) << 40)
+#define CLUSTER_MARK (UINT64_C(1) << 40)
 #define WAIT_MS 500
 #define LONGEST 120
 
@@ -32,12 +32,17 @@ static atomic_bool is_over;
 /* The greatest number of each key that a writer knows to be committed, or that a read has returned. */
 static _Atomic int64_t known[KEYS];
 static atomic_llong from_memory, kept, loaded, stale, written, refused;
-static int64_t first, stripes;
+static int64_t mark, stripes;
+
+/* The tenures of a key's stripe, and of the marks of its table and of the cluster. */
+typedef struct {
+    uint64_t of_stripe, of_table, of_cluster;
+} key_tenures;
 
 /* A row in memory, and the tenures by which it is valid. */
 typedef struct {
     bool is_there;
-    uint64_t of_stripe, of_mark;
+    key_tenures tenures;
     int64_t n;
 } kept_row;
 
@@ -87,24 +92,36 @@ static int64_t number_at(const PGresult *result, int row, int column) {
     return strtoll(PQgetvalue(result, row, column), NULL, 10);
 }
 
-/* Reads the tenures of the key's stripe and of the mark: false if the client does not hold both. */
-static bool tenures(reader *self, int key, uint64_t *of_stripe, uint64_t *of_mark) {
-    uint64_t stripe = (uint64_t)(first + key % stripes);
-    return krlc_tenure(self->client, stripe, stripe + 1, of_stripe) == KRLC_OK &&
-           krlc_tenure(self->client, MARK, MARK + 1, of_mark) == KRLC_OK;
+static uint64_t stripe_of(int key) {
+    return (uint64_t)(mark + 1 + key % stripes);
 }
 
-/* Holds the key's stripe and the mark, and reads the nonce that the mark has while it is held by that tenure. */
-static bool hold(reader *self, int key, kept_row *row, int64_t *nonce) {
-    uint64_t stripe = (uint64_t)(first + key % stripes);
+static bool tenure(reader *self, uint64_t key, uint64_t *of_key) {
+    return krlc_tenure(self->client, key, key + 1, of_key) == KRLC_OK;
+}
+
+/* Reads the tenures of a key of the table: false if the client does not hold all of them. */
+static bool tenures(reader *self, int key, key_tenures *of_key) {
+    return tenure(self, stripe_of(key), &of_key->of_stripe) && tenure(self, (uint64_t)mark, &of_key->of_table) &&
+           tenure(self, CLUSTER_MARK, &of_key->of_cluster);
+}
+
+static bool is_same(const key_tenures *a, const key_tenures *b) {
+    return a->of_stripe == b->of_stripe && a->of_table == b->of_table && a->of_cluster == b->of_cluster;
+}
+
+/* Holds what a key needs, and reads the nonce that the cluster's mark has while it is held by that tenure. */
+static bool hold(reader *self, int key, key_tenures *of_key, int64_t *nonce) {
+    uint64_t keys[] = {CLUSTER_MARK, (uint64_t)mark, stripe_of(key)};
     krlc_rows *rows = krlc_rows_new();
-    krlc_row mark;
-    bool is_held = rows && krlc_read(self->client, MARK, MARK + 1, rows, WAIT_MS, NULL) == KRLC_OK &&
-                   krlc_read(self->client, stripe, stripe + 1, rows, WAIT_MS, NULL) == KRLC_OK &&
-                   tenures(self, key, &row->of_stripe, &row->of_mark) &&
-                   krlc_cached_row(self->client, MARK, &mark) == KRLC_OK && mark.length == sizeof *nonce;
+    krlc_row row;
+    bool is_held = rows != NULL;
+    for (size_t i = 0; i < sizeof keys / sizeof *keys; i++)
+        is_held = is_held && krlc_read(self->client, keys[i], keys[i] + 1, rows, WAIT_MS, NULL) == KRLC_OK;
+    is_held = is_held && tenures(self, key, of_key) &&
+              krlc_cached_row(self->client, CLUSTER_MARK, &row) == KRLC_OK && row.length == sizeof *nonce;
     if (is_held)
-        memcpy(nonce, mark.bytes, sizeof *nonce);
+        memcpy(nonce, row.bytes, sizeof *nonce);
     krlc_rows_free(rows);
     return is_held;
 }
@@ -112,7 +129,7 @@ static bool hold(reader *self, int key, kept_row *row, int64_t *nonce) {
 static bool is_quiet(reader *self, int key, int64_t nonce) {
     char statement[200];
     snprintf(statement, sizeof statement, "SELECT krl.quiet(%" PRId64 ", 'item', %" PRId64 ", '{%" PRId64 "}')",
-             nonce, first, key % stripes);
+             nonce, mark, key % stripes);
     PGresult *result = run(&self->database, statement);
     bool is_quiet = has_rows(result) && PQgetvalue(result, 0, 0)[0] == 't';
     PQclear(result);
@@ -133,15 +150,14 @@ static bool load(reader *self, int key, int64_t *n) {
 /* Reads a key: from memory if the row there is valid, otherwise from the database. */
 static bool read_key(reader *self, int key, int64_t *n) {
     kept_row *row = &self->rows[key], next = {0};
-    uint64_t of_stripe, of_mark;
+    key_tenures now;
     int64_t nonce;
-    if (row->is_there && tenures(self, key, &of_stripe, &of_mark) && of_stripe == row->of_stripe &&
-        of_mark == row->of_mark) {
+    if (row->is_there && tenures(self, key, &now) && is_same(&now, &row->tenures)) {
         *n = row->n;
         atomic_fetch_add(&from_memory, 1);
         return true;
     }
-    next.is_there = hold(self, key, &next, &nonce) && is_quiet(self, key, nonce);
+    next.is_there = hold(self, key, &next.tenures, &nonce) && is_quiet(self, key, nonce);
     if (!load(self, key, n))
         return false;
     next.n = *n;
@@ -256,12 +272,12 @@ static void *write_all_the_time(void *number) {
 
 static void read_stripes(void) {
     PGconn *database = connect_to_database();
-    PGresult *result = run(&database, "SELECT first, stripes FROM krl.cached WHERE relation = 'item'::regclass");
+    PGresult *result = run(&database, "SELECT mark, stripes FROM krl.cached WHERE relation = 'item'::regclass");
     if (!has_rows(result)) {
         fprintf(stderr, "readers: the table item is not cached: %s", PQerrorMessage(database));
         exit(2);
     }
-    first = number_at(result, 0, 0);
+    mark = number_at(result, 0, 0);
     stripes = number_at(result, 0, 1);
     PQclear(result);
     PQfinish(database);

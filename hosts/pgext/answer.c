@@ -1,0 +1,322 @@
+/*-------------------------------------------------------------------------
+ *
+ * answer.c
+ *	  The requests of backends, as workers do them.
+ *
+ * To take keys back from all caches a worker holds them in krl so that nobody
+ * else may read them, at one moment after the notice of their change.  Nothing
+ * has to hold after that moment: from the notice on nobody begins to keep them.
+ *
+ * A client of krl waits for one lock at a time, for a lease if a reader that
+ * has stopped holds it.  So a worker does one span of one request, and any
+ * other worker does the others meanwhile, unless they have keys of this span.
+ *
+ *-------------------------------------------------------------------------
+ */
+#include "postgres.h"
+
+#include "miscadmin.h"
+#include "postmaster/interrupt.h"
+#include "storage/pmsignal.h"
+#include "utils/timestamp.h"
+
+#include "krl_pg.h"
+
+/* How long one call of krl's client waits before the worker looks again whether it has to end. */
+#define ATTEMPT_MS 1000
+#define ROWS_MS 5000
+
+#define RETRY_MS 10
+
+/* How many rows one call makes. */
+#define ROWS_OF_A_CALL 1024
+
+/* The span of a request that this worker does. */
+typedef struct Task
+{
+	KrlRequest *request;		/* null if it does none */
+	uint32		procno;			/* of the backend */
+	uint64		state;			/* of the request, which runs */
+	KrlRequestKind kind;
+	TimestampTz end;
+	KrlSpan		span;
+	bool		is_last;
+} Task;
+
+static Task task;
+static int	my_number;
+static KrlWorker *my_worker;
+
+/* A server that is gone cannot be started again before its last process has ended. */
+bool
+krl_must_end(void)
+{
+	return ShutdownRequestPending || !PostmasterIsAlive();
+}
+
+/* Holds the span at one moment of the call so that nobody else may read it. */
+static uint32
+hold_once(krlc_client *client, KrlSpan span, long milliseconds, krlc_error *error)
+{
+	krlc_pin   *pin;
+	uint32		code = krlc_pin_for_write(client, span.lo, span.hi, NULL, &pin, milliseconds, error);
+
+	if (code != KRLC_OK)
+		return code;
+	code = krlc_pin_holds(pin);
+	krlc_pin_free(pin);
+	if (code != KRLC_OK)
+		strlcpy(error->sentence, "the lease of the worker ended", sizeof(error->sentence));
+	return code;
+}
+
+/* The same, again and again until the end. */
+static uint32
+hold(krlc_client *client, KrlSpan span, TimestampTz end, krlc_error *error)
+{
+	for (;;)
+	{
+		long		left = TimestampDifferenceMilliseconds(GetCurrentTimestamp(), end);
+		long		waits = Max(Min(left, ATTEMPT_MS), 1);
+		uint32		code = hold_once(client, span, waits, error);
+
+		if (code == KRLC_OK || left <= 0 || krl_must_end())
+			return code;
+		if (code != KRLC_TIMED_OUT && code != KRLC_UNSERVED && code != KRLC_PIN_IS_VOID)
+			pg_usleep(RETRY_MS * 1000L);
+	}
+}
+
+/*
+ * The client still waits for a lock, and cannot ask for another one before it
+ * has this one.  Meanwhile other workers do what waits.
+ */
+static void
+await_lock(krlc_client *client, KrlSpan span)
+{
+	krlc_error	error;
+
+	while (!krl_must_end() && krl_is_ready(my_worker) &&
+		   hold_once(client, span, ATTEMPT_MS, &error) == KRLC_TIMED_OUT)
+		;
+}
+
+static uint32
+recall(krlc_client *client, KrlSpan span, TimestampTz end, krlc_error *error)
+{
+	uint32		code = hold(client, span, end, error);
+
+	/* If it fails, the next reader calls the keys back. */
+	if (code == KRLC_OK && !krl_keep_locks)
+		(void) !krlc_forget(client, span.lo, span.hi, ATTEMPT_MS, NULL);
+	return code;
+}
+
+static uint32
+insert_once(krlc_client *client, krlc_write *writes, KrlSpan span, krlc_error *error)
+{
+	int			count = (int) (span.hi - span.lo);
+	uint32		code;
+
+	for (int i = 0; i < count; i++)
+		writes[i] = (krlc_write) {.kind = KRLC_INSERT,.row = {.key = span.lo + i}};
+	code = krlc_write_all(client, writes, count, ROWS_MS, error);
+	for (int i = 0; i < count && code == KRLC_OK; i++)
+		if (writes[i].outcome == KRLC_FULL)
+			code = KRLC_FULL;
+	if (code == KRLC_FULL)
+		strlcpy(error->sentence, "krl's server has no room for so many rows: start it with a "
+				"greater --room", sizeof(error->sentence));
+	return code;
+}
+
+/*
+ * Inserts a row for each key that has none.  What fails is tried again until
+ * the end: an insert of a row that is there changes nothing.
+ */
+uint32
+krl_insert_rows(krlc_client *client, KrlSpan span, TimestampTz end, krlc_error *error)
+{
+	krlc_write *writes = palloc0(sizeof(krlc_write) * ROWS_OF_A_CALL);
+	uint32		code = KRLC_OK;
+
+	while (span.lo < span.hi && code != KRLC_FULL && !krl_must_end())
+	{
+		KrlSpan		part = {span.lo, Min(span.lo + ROWS_OF_A_CALL, span.hi)};
+
+		code = insert_once(client, writes, part, error);
+		if (code == KRLC_OK)
+			span.lo = part.hi;
+		else if (GetCurrentTimestamp() >= end)
+			break;
+		else if (code != KRLC_FULL)
+			pg_usleep(RETRY_MS * 1000L);
+	}
+	pfree(writes);
+	return code == KRLC_OK && span.lo < span.hi ? KRLC_STOPPED : code;
+}
+
+static bool
+overlap(const KrlSpan *a, const KrlSpan *b)
+{
+	return a->lo < b->hi && b->lo < a->hi;
+}
+
+/* Notes that this worker does these keys, unless another one does some of them. */
+static bool
+claim(KrlSpan span)
+{
+	bool		is_free = true;
+
+	SpinLockAcquire(&krl_shared->mutex);
+	for (int number = 0; number < krl_workers; number++)
+	{
+		KrlWorker  *other = &krl_shared->workers[number];
+
+		if (other == my_worker || !overlap(&other->claimed, &span))
+			continue;
+		other->is_awaited = true;
+		is_free = false;
+	}
+	if (is_free)
+		my_worker->claimed = span;
+	SpinLockRelease(&krl_shared->mutex);
+	return is_free;
+}
+
+/* What other workers have left to this one may be done by any of them from now on. */
+static void
+end_claim(void)
+{
+	bool		is_awaited;
+
+	SpinLockAcquire(&krl_shared->mutex);
+	my_worker->claimed = (KrlSpan) {0, 0};
+	is_awaited = my_worker->is_awaited;
+	my_worker->is_awaited = false;
+	SpinLockRelease(&krl_shared->mutex);
+	if (is_awaited)
+		krl_wake_workers(krl_workers);
+}
+
+/* Begins the next span of a backend's request, if that waits and no other worker does keys of the span. */
+static bool
+begin_task(uint32 procno)
+{
+	KrlRequest *request = krl_request_of(procno);
+	uint64		state = pg_atomic_read_u64(&request->state);
+	uint32		place = KRL_PLACE(state);
+
+	if (KRL_PHASE(state) != KRL_WAITS)
+		return false;
+	pg_read_barrier();
+	task.procno = procno;
+	task.kind = request->kind;
+	task.end = request->end;
+	task.span = request->spans[place];
+	task.is_last = (int) place + 1 >= request->nspans;
+	if (!claim(task.span))
+		return false;
+	/* If the backend has begun another request meanwhile, its number differs. */
+	task.state = krl_state(KRL_NUMBER(state), place, KRL_RUNS);
+	if (!pg_atomic_compare_exchange_u64(&request->state, &state, task.state))
+	{
+		end_claim();
+		return false;
+	}
+	task.request = request;
+	return true;
+}
+
+/* Gives the request its next state, if the backend still waits for it. */
+static void
+settle(uint32 place, KrlPhase phase)
+{
+	uint64		running = task.state;
+	uint64		next = krl_state(KRL_NUMBER(running), place, phase);
+
+	if (pg_atomic_compare_exchange_u64(&task.request->state, &running, next) && phase != KRL_WAITS)
+		krl_set_latch(task.procno);
+	task.request = NULL;
+}
+
+static void
+fail(uint32 code, const krlc_error *error)
+{
+	pg_atomic_fetch_add_u64(&my_worker->failures, 1);
+	SpinLockAcquire(&my_worker->mutex);
+	strlcpy(my_worker->failure, error->sentence[0] ? error->sentence : krlc_code_name(code),
+			sizeof(my_worker->failure));
+	SpinLockRelease(&my_worker->mutex);
+	settle(my_number, KRL_FAILED);
+}
+
+static void
+do_task(krlc_client *client)
+{
+	krlc_error	error = {0};
+	TimestampTz begun = GetCurrentTimestamp();
+	uint32		code;
+
+	if (task.kind == KRL_MAKE_ROWS)
+		code = krl_insert_rows(client, task.span, task.end, &error);
+	else
+	{
+		code = recall(client, task.span, task.end, &error);
+		pg_atomic_fetch_add_u64(&my_worker->spans, 1);
+		pg_atomic_fetch_add_u64(&my_worker->microseconds, GetCurrentTimestamp() - begun);
+	}
+	if (code != KRLC_OK)
+		fail(code, &error);
+	else if (task.is_last)
+		settle(KRL_PLACE(task.state), KRL_DONE);
+	else
+		settle(KRL_PLACE(task.state) + 1, KRL_WAITS);
+	if (code == KRLC_TIMED_OUT)
+		await_lock(client, task.span);
+	end_claim();
+}
+
+static bool
+do_next_task(krlc_client *client)
+{
+	static uint32 first = 0;	/* the backends take turns */
+
+	for (int i = 0; i < krl_shared->nbackends && !krl_must_end(); i++)
+	{
+		uint32		procno = (first + i) % krl_shared->nbackends;
+
+		if (!begin_task(procno))
+			continue;
+		do_task(client);
+		first = task.is_last ? procno + 1 : procno;
+		return true;
+	}
+	return false;
+}
+
+/*
+ * Does one span of a request that waits.  If there is none, returns false, and
+ * the worker is woken for the next one.
+ */
+bool
+krl_answer_one(krlc_client *client, int number)
+{
+	my_number = number;
+	my_worker = &krl_shared->workers[number];
+	if (do_next_task(client))
+		return true;
+	pg_atomic_write_u32(&my_worker->sleeps, true);
+	pg_memory_barrier();
+	return do_next_task(client);
+}
+
+/* This worker ends: another one does what it was about to do. */
+void
+krl_return_request(void)
+{
+	if (task.request)
+		settle(KRL_PLACE(task.state), KRL_WAITS);
+	if (my_worker)
+		end_claim();
+}

@@ -1,0 +1,1 @@
+"""The checks of the extension for PostgreSQL, by subject: hosts/pgext/check runs them."""

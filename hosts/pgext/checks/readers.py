@@ -1,0 +1,48 @@
+"""Readers that keep rows in memory next to writers, while workers, krl's server and PostgreSQL end."""
+import os
+import signal
+import subprocess
+import time
+
+from checks.cluster import Cluster, KrlServer
+from checks.processes import Failed
+
+# How long the readers read, and how long they may take, in seconds.
+READ, RUN = 10, 600
+# A commit that is not flushed is lost with PostgreSQL.
+SETTINGS = ["synchronous_commit = off", "krl.recall_limit = 8", "krl.lease = 3s"]
+
+
+def end_servers(cluster, krl):
+    """Ends workers and servers, one after another, while the readers read."""
+    time.sleep(READ / 10)
+    for worker in cluster.workers():
+        os.kill(worker, signal.SIGTERM)
+    time.sleep(READ / 10)
+    cluster.control("-m", "immediate", "restart")
+    time.sleep(READ / 10)
+    krl.end()
+    krl.start()
+
+
+def check(installation):
+    """Runs readers and writers."""
+    krl = KrlServer(installation)
+    cluster = Cluster(installation, "readers", 5432, f"krl.servers = '{krl.address}'", *SETTINGS)
+    cluster.sql("CREATE EXTENSION krl")
+    cluster.sql("CREATE TABLE item (id bigint PRIMARY KEY, n bigint NOT NULL)",
+                "INSERT INTO item SELECT id, 0 FROM generate_series(0, 63) AS id",
+                "SELECT krl.cache('item', stripes => 16)")
+    words = [f"host={cluster.folder} user=postgres dbname=checks", krl.address, cluster.folder, READ]
+    how = {"stdin": subprocess.DEVNULL, "stdout": subprocess.PIPE, "stderr": subprocess.STDOUT, "text": True}
+    program = installation.source / "test/readers"
+    reading = subprocess.Popen([str(word) for word in (program, *words)], errors="replace", **how)
+    try:
+        for _ in range(2):
+            end_servers(cluster, krl)
+        printed, _ = reading.communicate(timeout=RUN)
+    finally:
+        reading.kill()
+    if reading.returncode != 0:
+        raise Failed(printed.strip())
+    print(f"check: {printed.strip()}", flush=True)

@@ -1,0 +1,67 @@
+"""A reader that has stopped delays only commits of rows that it keeps."""
+from checks.cluster import Cluster, KrlServer, expect_refused
+from checks.processes import expect
+
+# Longer than the check takes: what waits for the reader waits until it continues.
+LEASE = "300s"
+WORKERS = 4
+
+
+def write_others(cluster, reader, session):
+    """Writes rows that another reader keeps, which has to do as without the one that has stopped."""
+    for _ in range(3):
+        cluster.keep(reader, "item", 20, 21)
+        expect("a write of other rows", session.run("UPDATE item SET n = n + 1 WHERE id IN (20, 21)"), "")
+
+
+def expect_waiting(cluster, sessions):
+    """Fails unless each session waits."""
+    expect("which commits wait", [cluster.is_busy(session) for session in sessions], [True] * len(sessions))
+
+
+def check_one_stripe(cluster, stopped, other):
+    """Any number of commits of one stripe occupy one worker."""
+    keys = cluster.keep(stopped, "item", 5)
+    sessions = [cluster.session() for _ in range(WORKERS)]
+    session = cluster.session()
+    stopped.stop()
+    for row, waiting in enumerate(sessions):
+        waiting.send(f"UPDATE item SET n = n + 1 WHERE id = {5 + 64 * row}")
+        cluster.await_commit(waiting)
+    write_others(cluster, other, session)
+    expect_waiting(cluster, sessions)
+    shown = "SELECT count(*), count(*) FILTER (WHERE is_in_work) FROM krl.waiting WHERE relation = 'item'::regclass"
+    expect("which sessions wait, and which are in work", cluster.sql(shown), f"{WORKERS}|1")
+    stopped.resume()
+    for waiting in sessions:
+        expect("a commit that has waited", waiting.result(), "")
+        waiting.end()
+    expect("what the reader has after that", stopped.held(keys), keys[:2])
+
+
+def check_late_requests(cluster, stopped, other):
+    """A worker whose client waits for a lock leaves other requests to the others, after its own has timed out too."""
+    stripes = range(30, 30 + WORKERS - 1)
+    cluster.keep(stopped, "item", *stripes)
+    session = cluster.session()
+    stopped.stop()
+    session.run("SET krl.timeout = '500ms'")
+    for stripe in stripes:
+        expect_refused("a commit", session.run(f"UPDATE item SET n = n + 1 WHERE id = {stripe}"))
+    session.run("RESET krl.timeout")
+    write_others(cluster, other, session)
+    stopped.resume()
+    expect("a commit of a row of the reader", session.run("UPDATE item SET n = n + 1 WHERE id = 30"), "")
+
+
+def check(installation):
+    """Checks all of these."""
+    krl = KrlServer(installation, lease=LEASE)
+    settings = [f"krl.servers = '{krl.address}'", f"krl.lease = {LEASE}", f"krl.workers = {WORKERS}"]
+    cluster = Cluster(installation, "stuck", 5432, *settings)
+    cluster.sql("CREATE EXTENSION krl")
+    cluster.make_table("item")
+    cluster.await_workers()
+    stopped, other = cluster.reader(krl.address, 0), cluster.reader(krl.address, 1)
+    check_one_stripe(cluster, stopped, other)
+    check_late_requests(cluster, stopped, other)
