@@ -3,6 +3,7 @@ import os
 import shutil
 import signal
 import subprocess
+from contextlib import suppress
 from pathlib import Path
 
 from checks.processes import CLUSTER_MARK, Failed, Reader, Session, children_of, expect, is_running, stop_process, \
@@ -90,7 +91,8 @@ class Installation:
     def end(self):
         """Ends all that was started."""
         for it in reversed(self.started):
-            it.end()
+            with suppress(Failed):
+                it.end()
 
 
 class KrlServer:
