@@ -11,7 +11,8 @@ from checks.processes import CLUSTER_MARK, Failed, Reader, Session, children_of,
 
 # How long the servers may take to start, in seconds.
 START = 300
-LEASE = "3s"
+# A reader keeps its lease on a busy machine too, and some checks wait until one ends.
+LEASE = "5s"
 SETTINGS = """
 listen_addresses = ''
 unix_socket_directories = '{folder}'

@@ -3,7 +3,7 @@ import os
 import signal
 from pathlib import Path
 
-from checks.cluster import Cluster
+from checks.cluster import LEASE, Cluster
 from checks.processes import expect, is_running, running, wait_until
 
 
@@ -65,7 +65,7 @@ def refuses_store(cluster):
 
 def check_copy(installation, cluster):
     """A copy of the cluster has another store, and refuses it: readers may keep rows by the server of the first."""
-    copy = Cluster(installation, "copy", 5433, "krl.lease = 3s", copy_of=cluster)
+    copy = Cluster(installation, "backup", 5433, f"krl.lease = {LEASE}", copy_of=cluster)
     copy.control("promote")
     expect("whether the copy refuses the store of its server", refuses_store(copy), True)
     copy.stop()
@@ -96,7 +96,7 @@ def check_end(cluster):
 
 def check(installation):
     """Checks all of these."""
-    cluster = Cluster(installation, "server", 5432, "krl.lease = 3s")
+    cluster = Cluster(installation, "server", 5432, f"krl.lease = {LEASE}")
     cluster.sql("CREATE EXTENSION krl")
     cluster.make_table("item")
     cluster.await_workers()
