@@ -3,6 +3,7 @@ import os
 import shutil
 import signal
 import subprocess
+from contextlib import suppress
 from pathlib import Path
 
 from checks.processes import CLUSTER_MARK, Failed, Reader, Session, children_of, expect, is_running, stop_process, \
@@ -10,7 +11,8 @@ from checks.processes import CLUSTER_MARK, Failed, Reader, Session, children_of,
 
 # How long the servers may take to start, in seconds.
 START = 300
-LEASE = "3s"
+# A reader keeps its lease on a busy machine too, and some checks wait until one ends.
+LEASE = "5s"
 SETTINGS = """
 listen_addresses = ''
 unix_socket_directories = '{folder}'
@@ -90,7 +92,8 @@ class Installation:
     def end(self):
         """Ends all that was started."""
         for it in reversed(self.started):
-            it.end()
+            with suppress(Failed):
+                it.end()
 
 
 class KrlServer:

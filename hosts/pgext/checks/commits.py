@@ -1,5 +1,5 @@
 """Commits that are canceled, time out, are prepared, or are in progress while servers end."""
-from checks.cluster import Cluster, KrlServer, expect_refused
+from checks.cluster import LEASE, Cluster, KrlServer, expect_refused
 from checks.processes import expect, wait_until
 
 
@@ -78,8 +78,15 @@ def check_timeout(cluster, krl, reader):
     cluster.await_workers()
 
 
+def set_lease(cluster, lease):
+    """Changes the lease for which krl.suspend waits."""
+    cluster.sql(f"ALTER SYSTEM SET krl.lease = '{lease}'", "SELECT pg_reload_conf()")
+    wait_until("the lease is changed", lambda: cluster.sql("SHOW krl.lease") == lease)
+
+
 def check_suspension_ended(cluster):
     """If the session of krl.suspend is ended, transactions wait for krl, and readers may keep rows."""
+    set_lease(cluster, "10min")
     session = cluster.session()
     session.send("SELECT krl.suspend(true)")
     cluster.await_commit(session)
@@ -89,6 +96,7 @@ def check_suspension_ended(cluster):
     there = f"SELECT count(*) FROM pg_stat_activity WHERE pid = {session.pid}"
     wait_until("the session has ended", lambda: cluster.sql(there) == "0")
     expect("whether rows may be kept after that", cluster.quiet("item", 5), True)
+    set_lease(cluster, LEASE)
 
 
 def check_suspended_crash(cluster, krl):
@@ -123,7 +131,7 @@ def check_killed(cluster, krl, reader):
 def check(installation):
     """Checks all of these."""
     krl = KrlServer(installation)
-    cluster = Cluster(installation, "commits", 5432, f"krl.servers = '{krl.address}'", "krl.lease = 3s")
+    cluster = Cluster(installation, "commits", 5432, f"krl.servers = '{krl.address}'", f"krl.lease = {LEASE}")
     cluster.sql("CREATE EXTENSION krl")
     cluster.make_table("item")
     cluster.await_workers()

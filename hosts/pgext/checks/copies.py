@@ -1,11 +1,11 @@
 """Clusters that are copies: a standby that is promoted, a subscription, and a dump that is restored."""
-from checks.cluster import Cluster, KrlServer, expect_refused, run
+from checks.cluster import LEASE, Cluster, KrlServer, expect_refused, run
 from checks.processes import expect, wait_until
 
 
 def make_standby(installation, primary, krl):
     """Makes a standby of the primary, and waits until it has all of its changes."""
-    standby = Cluster(installation, "standby", 5433, f"krl.servers = '{krl.address}'", "krl.lease = 3s",
+    standby = Cluster(installation, "standby", 5433, f"krl.servers = '{krl.address}'", f"krl.lease = {LEASE}",
                       "hot_standby_feedback = on", copy_of=primary)
     place = primary.sql("SELECT pg_current_wal_flush_lsn()")
     replayed = f"SELECT pg_last_wal_replay_lsn() >= '{place}'"
@@ -68,7 +68,7 @@ def check_dump(installation, cluster, reader_number):
     where = ["-h", cluster.folder, "-p", cluster.port, "-U", "postgres"]
     installation.run("pg_dump", *where, "-f", dump, "checks")
     krl = KrlServer(installation, "second")
-    copy = Cluster(installation, "copy", 5433, f"krl.servers = '{krl.address}'", "krl.lease = 3s")
+    copy = Cluster(installation, "copy", 5433, f"krl.servers = '{krl.address}'", f"krl.lease = {LEASE}")
     run(*copy.psql(), "-v", "ON_ERROR_STOP=1", "-f", dump)
     copy.await_workers()
     tables = "SELECT relation, key_columns, mark, stripes, by_remainder FROM krl.cached ORDER BY mark"
@@ -87,7 +87,7 @@ def check_dump(installation, cluster, reader_number):
 def check(installation):
     """Checks all of these."""
     krl = KrlServer(installation)
-    primary = Cluster(installation, "primary", 5432, f"krl.servers = '{krl.address}'", "krl.lease = 3s")
+    primary = Cluster(installation, "primary", 5432, f"krl.servers = '{krl.address}'", f"krl.lease = {LEASE}")
     primary.sql("CREATE EXTENSION krl")
     primary.make_table("item")
     primary.await_workers()

@@ -1,5 +1,5 @@
 """What a reader may keep if a stripe is taken back in the middle of its krl.quiet."""
-from checks.cluster import Cluster, KrlServer
+from checks.cluster import LEASE, Cluster, KrlServer
 from checks.processes import expect, wait_until
 
 # The lock that counts.edit has krl.quiet wait for, after it has looked at the notices.
@@ -10,7 +10,7 @@ def check(installation):
     """Builds an extension that waits there, and takes a stripe back meanwhile: the next writer may leave it."""
     installation.make(installation.source / "checks/counts.edit")
     krl = KrlServer(installation)
-    cluster = Cluster(installation, "counts", 5432, f"krl.servers = '{krl.address}'", "krl.lease = 3s")
+    cluster = Cluster(installation, "counts", 5432, f"krl.servers = '{krl.address}'", f"krl.lease = {LEASE}")
     cluster.sql("CREATE EXTENSION krl")
     cluster.make_table("item")
     cluster.await_workers()

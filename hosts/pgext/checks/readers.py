@@ -27,7 +27,7 @@ def end_servers(cluster, krl):
 
 def check(installation):
     """Runs readers and writers."""
-    krl = KrlServer(installation)
+    krl = KrlServer(installation, lease="3s")
     cluster = Cluster(installation, "readers", 5432, f"krl.servers = '{krl.address}'", *SETTINGS)
     cluster.sql("CREATE EXTENSION krl")
     cluster.sql("CREATE TABLE item (id bigint PRIMARY KEY, n bigint NOT NULL)",

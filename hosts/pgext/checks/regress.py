@@ -26,7 +26,7 @@ def regress(installation, cluster, *tests):
 
 def check(installation):
     """Runs them, and one after krl's server has another store."""
-    krl = KrlServer(installation)
+    krl = KrlServer(installation, lease="3s")
     cluster = Cluster(installation, "regress", 5432, f"krl.servers = '{krl.address}'", "krl.lease = 3s",
                       "krl.workers = 2")
     regress(installation, cluster, *TESTS)

@@ -3,7 +3,7 @@ import os
 import signal
 from pathlib import Path
 
-from checks.cluster import Cluster
+from checks.cluster import LEASE, Cluster
 from checks.processes import expect, is_running, running, wait_until
 
 
@@ -56,14 +56,28 @@ def check_suspended(cluster):
     expect("whether rows may be kept again", cluster.quiet("item", 5), True)
 
 
+def refuses_store(cluster):
+    """Waits until the workers have joined a server. Returns whether all of them refuse its store."""
+    found = "SELECT count(*) FILTER (WHERE is_ready), count(*) FILTER (WHERE fault = " \
+        "'krl''s server does not have the store of this cluster') FROM krl.workers"
+    return wait_until("the workers have joined", lambda: {"4|0": "no", "0|4": "yes"}.get(cluster.sql(found))) == "yes"
+
+
+def check_copy(installation, cluster):
+    """A copy of the cluster has another store, and refuses it: readers may keep rows by the server of the first."""
+    copy = Cluster(installation, "backup", 5433, f"krl.lease = {LEASE}", copy_of=cluster)
+    copy.control("promote")
+    expect("whether the copy refuses the store of its server", refuses_store(copy), True)
+    copy.stop()
+
+
 def check_lost_store(cluster):
     """If its store is lost, the cluster takes another one only after it was suspended."""
     cluster.stop("fast")
     for file in Path(f"{cluster.data}.krl").glob("krl.db*"):
         file.unlink()
     cluster.start()
-    other = "SELECT count(*) FROM krl.workers WHERE fault = 'krl''s server does not have the store of this cluster'"
-    wait_until("the workers refuse the store", lambda: cluster.sql(other) == "4")
+    expect("whether the cluster refuses the other store", refuses_store(cluster), True)
     cluster.sql("SELECT krl.suspend(true)", "SELECT krl.resume()")
     cluster.await_workers()
     expect("whether rows may be kept again", cluster.quiet("item", 5), True)
@@ -82,12 +96,13 @@ def check_end(cluster):
 
 def check(installation):
     """Checks all of these."""
-    cluster = Cluster(installation, "server", 5432, "krl.lease = 3s")
+    cluster = Cluster(installation, "server", 5432, f"krl.lease = {LEASE}")
     cluster.sql("CREATE EXTENSION krl")
     cluster.make_table("item")
     cluster.await_workers()
     reader = cluster.reader(cluster.sql("SELECT krl.servers()"))
     check_use(cluster, reader)
+    check_copy(installation, cluster)
     check_killed(cluster, reader)
     check_suspended(cluster)
     check_lost_store(cluster)

@@ -110,6 +110,36 @@ COMMIT PREPARED 'three';
 RESET krl.recall_limit;
 SELECT quiet('item', 21);
 
+-- A deferred trigger, a block that catches an error, and a serializable transaction.
+CREATE FUNCTION touch() RETURNS trigger LANGUAGE plpgsql AS $$
+BEGIN
+    UPDATE item SET n = n + 1 WHERE id = 19;
+    RETURN NULL;
+END $$;
+CREATE CONSTRAINT TRIGGER touch AFTER INSERT ON parent DEFERRABLE INITIALLY DEFERRED
+    FOR EACH ROW EXECUTE FUNCTION touch();
+SELECT FROM since();
+SELECT quiet('item', 19);
+INSERT INTO parent VALUES (2);
+SELECT * FROM since();
+SELECT quiet('item', 19);
+DO $$
+BEGIN
+    UPDATE item SET n = 5 WHERE id = 19;
+    BEGIN
+        UPDATE item SET n = 6 WHERE id = 19;
+        RAISE division_by_zero;
+    EXCEPTION WHEN division_by_zero THEN
+    END;
+END $$;
+SELECT * FROM since();
+SELECT quiet('item', 19);
+BEGIN ISOLATION LEVEL SERIALIZABLE;
+UPDATE item SET n = n + 1 WHERE id = 19;
+COMMIT;
+SELECT * FROM since();
+SELECT id, n FROM item WHERE id = 19;
+
 -- A snapshot that may be older than the look at the notices, and changes of the reader's own transaction.
 BEGIN ISOLATION LEVEL REPEATABLE READ;
 SELECT quiet('item', 21);
