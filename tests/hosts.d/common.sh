@@ -5,8 +5,8 @@ top=$(CDPATH='' cd -- "$(dirname -- "$0")/../.." && pwd)
 CARGO_TARGET_DIR=${CARGO_TARGET_DIR-$top/hosts/target}
 export CARGO_TARGET_DIR
 unset KRL_LIBRARY
-profile=release
-programs=$CARGO_TARGET_DIR/release
+profile=${KRL_PROFILE-release}
+programs=$CARGO_TARGET_DIR/$profile
 drive=$programs/krl_drive
 simulation=$programs/krl-simulation
 work=$(mktemp -d)
