@@ -20,6 +20,13 @@ try_wrong_body_in_c() {
         "$(diff "$work/log" "$top/hosts/c/leases.txt" | grep -c '^>')" >&2
 }
 
+# Whether a compiler of C++ makes a program with this sanitizer, which may need a package of its own.
+has_sanitizer() {
+    echo 'int main() {}' >"$work/empty.cpp"
+    # shellcheck disable=SC2086
+    "$1" $2 "$work/empty.cpp" -o "$work/empty" >/dev/null 2>&1
+}
+
 # The handles of krl.h as classes of C++: `try_handles COMPILER SANITIZER`.
 try_handles() {
     # shellcheck disable=SC2086
@@ -45,7 +52,11 @@ part_c() {
     for compiler in g++ clang++; do
         has $compiler || continue
         for sanitizer in '' -fsanitize=address,undefined -fsanitize=thread; do
-            try_handles $compiler "$sanitizer"
+            if has_sanitizer $compiler "$sanitizer"; then
+                try_handles $compiler "$sanitizer"
+            else
+                lacks "$compiler makes no program with $sanitizer: the handles for C++"
+            fi
         done
     done
 }

@@ -8,6 +8,7 @@ use std::fs;
 use std::io::{BufRead, BufReader};
 use std::path::{Path, PathBuf};
 use std::process::{Command, Stdio};
+use std::thread;
 use std::time::Duration;
 
 /// The folder of the package.
@@ -304,11 +305,25 @@ fn the_lines_of_the_pages() {
 
 /// Each compiler of C++ that is there. One has to be, if all has to be run.
 fn compilers() -> Vec<&'static str> {
-    let is_there = |name: &&str| Command::new(name).arg("--version").output().is_ok();
-    let found: Vec<&str> = ["g++", "clang++"].into_iter().filter(is_there).collect();
+    compilers_with(&[])
+}
+
+/// Each compiler of C++ that makes a program by these words: what a sanitizer needs may be lacking.
+fn compilers_with(words: &[&str]) -> Vec<&'static str> {
+    let folder = folder_of(&format!("compilers-{:?}", thread::current().id()));
+    let source = folder.join("empty.cpp");
+    fs::write(&source, "int main() {}\n").unwrap();
+    let makes = |name: &&str| {
+        let mut compiler = Command::new(name);
+        let made = compiler.args(words).arg(&source).arg("-o").arg(folder.join("empty")).output();
+        made.is_ok_and(|made| made.status.success())
+    };
+    let found: Vec<&str> = ["g++", "clang++"].into_iter().filter(makes).collect();
+    let _ = fs::remove_dir_all(&folder);
     if found.is_empty() {
-        assert!(std::env::var_os("KRL_ALL").is_none(), "there is no compiler of C++");
-        eprintln!("NOT RUN: there is no compiler of C++");
+        let what = format!("there is no compiler of C++ {}", words.join(" "));
+        assert!(std::env::var_os("KRL_ALL").is_none(), "{what}");
+        eprintln!("NOT RUN: {what}");
     }
     found
 }
@@ -330,7 +345,7 @@ fn the_classes_for_cpp_without_exceptions() {
 
 #[test]
 fn the_classes_for_cpp_with_sanitizers_of_memory() {
-    for compiler in compilers().into_iter().take(1) {
+    for compiler in compilers_with(MEMORY).into_iter().take(1) {
         World::new("cpp-memory").runs(compiler, "tests/programs/wrapper.cpp", MEMORY);
     }
 }
