@@ -118,7 +118,7 @@ typedef struct KrlShared
 
 	/*
 	 * Greater each time that the workers should leave krl's server and join
-	 * again.  A worker is ready in the joining of now.
+	 * again.  A worker is ready in the current joining.
 	 */
 	pg_atomic_uint32 joining;
 

@@ -83,7 +83,7 @@ impl OpenRequests {
                     timings.granted(now.saturating_duration_since(asked.since));
                 }
             }
-            // It answers the request that waits.
+            // The request that waits is answered by this.
             (Kind::Absent, _) => self.asked[place] = None,
             // A callback that is sent again is as old as it was.
             (Kind::Callback, _) => {
