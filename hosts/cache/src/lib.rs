@@ -63,6 +63,8 @@ mod outcome;
 mod pinned;
 #[cfg(feature = "postgres")]
 mod postgres;
+#[cfg(feature = "postgres")]
+pub mod reader;
 mod reads;
 mod repair;
 mod replacing;
