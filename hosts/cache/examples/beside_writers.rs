@@ -123,8 +123,8 @@ impl Writer {
             0 => "UPDATE item SET n = n + 1".to_string(),
             1 => format!("BEGIN; {update}; ROLLBACK"),
             2 => format!(
-                "BEGIN; DELETE FROM item WHERE id = {left}; UPDATE item SET n = n + 1 WHERE id = \
-                 {right}; INSERT INTO item SELECT {left}, n FROM item WHERE id = {right}; COMMIT"
+                "WITH gone AS (DELETE FROM item WHERE id IN ({left}, {right}) RETURNING id, n)
+                 INSERT INTO item (id, n) SELECT id, n + 1 FROM gone"
             ),
             3 => format!("ALTER TABLE item ADD COLUMN of{pair} integer; {update}"),
             4 => format!("ALTER TABLE item DROP COLUMN IF EXISTS of{pair}; {update}"),
