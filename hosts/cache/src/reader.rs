@@ -28,7 +28,8 @@
 //! Rows are read by the columns that `krl.cache` was given: by default the primary key. An integer
 //! is a key of a column of type `smallint`, `integer` or `bigint`; a text one of `text` or
 //! `varchar`; sixteen bytes are one of `uuid`; and tuples, or [`Key::new`], are keys of several
-//! columns. That a key has no row is kept in memory too.
+//! columns. That a key has no row is kept in memory too. A text is a key only in a database whose
+//! encoding is UTF8.
 //!
 //! # What a miss costs
 //!

@@ -28,7 +28,7 @@ const NUMBERS: Range<u8> = 0..56;
 const MOST_IDLE: usize = 16;
 
 /// So many misses wait for the loader. It learns of no further ones.
-const MOST_ERRANDS: usize = 1024;
+const MOST_ERRANDS: usize = 256;
 
 /// The tables that a process reads: it is one client of krl.
 ///

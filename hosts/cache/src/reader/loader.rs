@@ -18,6 +18,9 @@ use std::time::{Duration, Instant};
 /// The pause before another attempt to join krl.
 const PAUSE: Duration = Duration::from_millis(500);
 
+/// So many rows are loaded at once. Others are, when they are missed again.
+const MOST_KEYS: usize = 4096;
+
 /// Of so many stripes that were lost rows are loaded with a miss, and so many rows.
 const MOST_AHEAD: usize = 32;
 const MOST_KEYS_AHEAD: usize = 256;
@@ -91,7 +94,8 @@ impl Loader {
         keys.extend(self.lost(&locks, &definition));
         let wanted = keys.iter().filter_map(|key| definition.locate(key).ok());
         // A row that was missed twice may be here by now.
-        let wanted: Vec<Wanted<'_>> = wanted.filter(|wanted| !definition.has(wanted)).collect();
+        let wanted = wanted.filter(|wanted| !definition.has(wanted)).take(MOST_KEYS);
+        let wanted: Vec<Wanted<'_>> = wanted.collect();
         if wanted.is_empty() {
             return Ok(());
         }
