@@ -192,6 +192,11 @@ impl Shared {
         self.definitions.fetch_add(1, Ordering::Relaxed)
     }
 
+    /// Whether krl or the extension is away.
+    pub fn is_away(&self) -> bool {
+        self.fault().is_some()
+    }
+
     /// Why rows are not kept, or this, if it is not known.
     pub fn fault_or(&self, other: &str) -> String {
         self.fault().clone().unwrap_or_else(|| other.to_string())

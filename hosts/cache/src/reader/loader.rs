@@ -74,9 +74,8 @@ impl Loader {
                 all.extend(keys);
             }
             for (table, keys) in missed.into_values() {
-                let fault = self.load(&table, keys).err().map(|Away(why)| why);
-                table.counters.away.add(usize::from(fault.is_some()));
-                self.shared.note_fault(fault);
+                let loaded = self.load(&table, keys);
+                self.shared.note_fault(loaded.err().map(|Away(why)| why));
             }
         }
     }

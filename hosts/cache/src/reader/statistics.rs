@@ -40,8 +40,8 @@ pub struct Statistics {
     /// Keys whose rows were not kept: a transaction was about to change them, or others had taken
     /// them back.
     pub unkept: u64,
-    /// How many times nothing was kept as krl or the extension was away. [`Cache::fault`] reports
-    /// why.
+    /// Keys that were answered by the database while krl or the extension was away: they are among
+    /// the misses. [`Cache::fault`] reports why.
     ///
     /// [`Cache::fault`]: crate::reader::Cache::fault
     pub away: u64,

@@ -167,8 +167,12 @@ impl Read<'_> {
             return Ok(rows);
         }
         let selection = self.selection();
-        let rows = self.table.inner.select(self.definition, &selection)?;
-        self.table.inner.counters.misses.add(self.wanted.len());
+        let inner = &self.table.inner;
+        let rows = inner.select(self.definition, &selection)?;
+        inner.counters.misses.add(self.wanted.len());
+        if inner.shared.is_away() {
+            inner.counters.away.add(self.wanted.len());
+        }
         Ok(selection.by_key(rows))
     }
 
