@@ -21,6 +21,9 @@ const PAIRS: i64 = 32;
 const READERS: u64 = 2;
 const WRITERS: u64 = 3;
 
+/// A writer's pause between two transactions. Without it little is in memory.
+const PAUSE: Duration = Duration::from_millis(3);
+
 /// On a busy machine it takes longer until something is in memory.
 const LONGEST: Duration = Duration::from_secs(120);
 
@@ -151,6 +154,7 @@ fn write_all_the_time(database: &str, seen: &Seen, mut random: Random) {
             seen.known(pair).fetch_max(number, Ordering::SeqCst);
             seen.written.fetch_add(1, Ordering::Relaxed);
             writer = Some(connected);
+            thread::sleep(PAUSE);
         }
     }
 }
