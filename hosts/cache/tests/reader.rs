@@ -5,7 +5,7 @@ mod site;
 
 use krl_cache::reader::{Cache, Key, ReadError, Row, Table};
 use krl_testing::database::Database;
-use site::{Site, from_memory, name, name_of, wait_until};
+use site::{MARK, Site, from_memory, name, name_of, wait_until};
 use std::thread;
 
 const UUID: [u8; 16] = [0xa0; 16];
@@ -193,6 +193,27 @@ fn a_changed_definition_is_found() {
     site.sql.run("UPDATE item SET name = 'changed'");
     assert_eq!(name_of(&items, 3).unwrap(), "changed");
     assert_eq!(items.statistics().hits, kept);
+    cache.close();
+}
+
+#[test]
+fn a_definition_that_is_about_to_change_is_found_again() {
+    let Some(site) = Site::start() else { return };
+    let cache = site.cache();
+    let items = cache.table("item").unwrap();
+    from_memory(&items, |items| items.get(3).unwrap());
+    // A transaction has given notice and taken the mark, and has not committed yet.
+    site.sql.run("INSERT INTO krl.notices VALUES (199)");
+    site.take_back(MARK..MARK + 1);
+    let unkept = items.statistics().unkept;
+    wait_until("the loader looks at the table", || {
+        assert_eq!(name_of(&items, 3).unwrap(), "item 3");
+        items.statistics().unkept > unkept
+    });
+    site.sql.run("ALTER TABLE item ADD COLUMN weight bigint; DELETE FROM krl.notices");
+    let columns = |row: Option<Row>| row.unwrap().columns().len();
+    wait_until("the new column is read", || columns(items.get(3).unwrap()) == 4);
+    from_memory(&items, |items| items.get(3).unwrap());
     cache.close();
 }
 

@@ -27,6 +27,9 @@ const CACHED: &str = "
         JOIN pg_namespace ON pg_namespace.oid = relnamespace
     WHERE relation = $1::text::regclass";
 
+/// Reports whether nobody is about to change the definition of a table.
+const QUIET_DEFINITION: &str = "SELECT krl.quiet($1, $2::text::regclass, $3, '{}')";
+
 /// A table as it was defined at a moment. It is found again if krl's mark was lost since: each
 /// change of a definition takes the mark. The rows in memory are of one definition.
 #[derive(Debug)]
@@ -64,7 +67,8 @@ pub(super) struct Look<'d> {
 pub(super) type Loaded = (Arc<Rows>, Option<Held>);
 
 impl Definition {
-    /// Finds the definition of the table of this name. Rows are kept by what is held.
+    /// Finds the definition of the table of this name. Rows are kept by what is held, unless a
+    /// transaction is about to change the definition: then it has to be found again.
     pub fn find(
         session: &mut Session,
         name: &str,
@@ -72,37 +76,20 @@ impl Definition {
         memory: usize,
         holding: Option<Holding>,
     ) -> Result<Definition, ReadError> {
-        let found = session.query(CACHED, &[&name]).map_err(without_extension)?;
-        let row = found.first().ok_or_else(|| ReadError::NotCached(name.to_string()))?;
-        let read = || -> Result<_, tokio_postgres::Error> {
-            let (first, count): (i32, i32) = (row.try_get(1)?, row.try_get(2)?);
-            let by_remainder = row.try_get(3)?;
-            let (encoding, columns): (&str, Vec<String>) = (row.try_get(4)?, row.try_get(5)?);
-            let (key, types): (Vec<String>, Option<Vec<u32>>) = (row.try_get(6)?, row.try_get(7)?);
-            let numbers = (u32::try_from(first).ok(), u32::try_from(count).ok());
-            Ok((row.try_get(0)?, numbers, by_remainder, encoding, columns, key, types))
-        };
-        let read = read().map_err(|error| ReadError::of_database(&error))?;
-        let (table, numbers, by_remainder, encoding, columns, key, types) = read;
-        let (Some(first), Some(count)) = numbers else { return Err(not_as_cached(name)) };
-        let count = NonZeroU32::new(count).ok_or_else(|| not_as_cached(name))?;
-        let types = types.unwrap_or_default().into_iter().map(KeyType::of);
-        let types: Option<Vec<KeyType>> = types.collect();
-        let types = types.filter(|types| types.len() == key.len());
-        let types = types.ok_or_else(|| not_as_cached(name))?;
-        if types.contains(&KeyType::Text) && !ENCODINGS.contains(&encoding) {
-            return Err(ReadError::Key(format!(
-                "the key of {name} is a text, and the encoding of the database is {encoding}: it has \
-                 to be UTF8"
-            )));
+        let (mut sql, mut stripes) = read(session, name)?;
+        let mut held = None;
+        if let Some(holding) = holding {
+            let (nonce, first) = (holding.mark.nonce, stripes.first.cast_signed());
+            let asked = session.query(QUIET_DEFINITION, &[&nonce, &sql.table, &first])?;
+            // What is read after the question shows each change that was made before it.
+            let (sql_then, stripes_then) = (sql, stripes);
+            (sql, stripes) = read(session, name)?;
+            let is_quiet = asked.first().is_some_and(|row| row.try_get(0).unwrap_or(false));
+            let is_same = sql == sql_then && stripes == stripes_then;
+            held = (is_quiet && is_same).then_some(holding);
         }
-        Ok(Definition {
-            number,
-            sql: TableSql::new(table, &columns, &key, types),
-            stripes: Stripes { first, count, by_remainder },
-            memory: Memory::new(count.get(), memory),
-            holding,
-        })
+        let memory = Memory::new(stripes.count.get(), memory);
+        Ok(Definition { number, sql, stripes, memory, holding: held })
     }
 
     /// The place of a key, if it is one of this table.
@@ -188,6 +175,36 @@ impl Look<'_> {
         let stripe = locks.tenure(definition.stripes.key_of_krl(stripe))?;
         Some(Held { definition: definition.number, mark, stripe })
     }
+}
+
+/// Reads how the table of this name is selected, and by which stripes it is cached.
+fn read(session: &Session, name: &str) -> Result<(TableSql, Stripes), ReadError> {
+    let found = session.query(CACHED, &[&name]).map_err(without_extension)?;
+    let row = found.first().ok_or_else(|| ReadError::NotCached(name.to_string()))?;
+    let read = || -> Result<_, tokio_postgres::Error> {
+        let (first, count): (i32, i32) = (row.try_get(1)?, row.try_get(2)?);
+        let by_remainder = row.try_get(3)?;
+        let (encoding, columns): (&str, Vec<String>) = (row.try_get(4)?, row.try_get(5)?);
+        let (key, types): (Vec<String>, Option<Vec<u32>>) = (row.try_get(6)?, row.try_get(7)?);
+        let numbers = (u32::try_from(first).ok(), u32::try_from(count).ok());
+        Ok((row.try_get(0)?, numbers, by_remainder, encoding, columns, key, types))
+    };
+    let read = read().map_err(|error| ReadError::of_database(&error))?;
+    let (table, numbers, by_remainder, encoding, columns, key, types) = read;
+    let (Some(first), Some(count)) = numbers else { return Err(not_as_cached(name)) };
+    let count = NonZeroU32::new(count).ok_or_else(|| not_as_cached(name))?;
+    let types = types.unwrap_or_default().into_iter().map(KeyType::of);
+    let types: Option<Vec<KeyType>> = types.collect();
+    let types = types.filter(|types| types.len() == key.len());
+    let types = types.ok_or_else(|| not_as_cached(name))?;
+    if types.contains(&KeyType::Text) && !ENCODINGS.contains(&encoding) {
+        return Err(ReadError::Key(format!(
+            "the key of {name} is a text, and the encoding of the database is {encoding}: it has \
+             to be UTF8"
+        )));
+    }
+    let stripes = Stripes { first, count, by_remainder };
+    Ok((TableSql::new(table, &columns, &key, types), stripes))
 }
 
 /// What the database reports if it lacks the extension.

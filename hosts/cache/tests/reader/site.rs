@@ -14,13 +14,13 @@ use std::time::{Duration, Instant};
 /// No wait of a test is longer.
 pub const LONG: Duration = Duration::from_secs(60);
 
-const MARK: u64 = 1 << 40;
+pub const MARK: u64 = 1 << 40;
 
 /// The keys of krl of all stripes.
 const STRIPES: Range<u64> = 0..200;
 
 /// The functions and the table by which readers know the extension. A stripe of `krl.notices` is not
-/// quiet; `touches` is a statement that the question makes. The user has the name of the schema, in
+/// quiet, and with the last one nothing is; `touches` is a statement that the question makes. The user has the name of the schema, in
 /// which tables would be made.
 const EXTENSION: &str = "
     ALTER DATABASE postgres SET search_path = public;
@@ -40,6 +40,7 @@ const EXTENSION: &str = "
             EXECUTE state.touches;
         END IF;
         RETURN state.nonce = nonce
+            AND NOT EXISTS (SELECT FROM krl.notices WHERE stripe = 199)
             AND EXISTS (SELECT FROM krl.cached WHERE relation = kept AND cached.first = quiet.first)
             AND NOT EXISTS (SELECT FROM krl.notices WHERE stripe - quiet.first = ANY (asked));
     END $$;";
