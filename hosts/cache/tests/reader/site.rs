@@ -20,8 +20,8 @@ pub const MARK: u64 = 1 << 40;
 const STRIPES: Range<u64> = 0..200;
 
 /// The functions and the table by which readers know the extension. A stripe of `krl.notices` is not
-/// quiet, and with the last one nothing is; `touches` is a statement that the question makes. The user has the name of the schema, in
-/// which tables would be made.
+/// quiet, and with the last one nothing is; `touches` is a statement that the question makes. The
+/// user has the name of the schema, in which tables would be made.
 const EXTENSION: &str = "
     ALTER DATABASE postgres SET search_path = public;
     SET search_path = public;
