@@ -93,7 +93,8 @@ typedef enum krlh_purpose { KRLH_FOR_READ = 0, KRLH_FOR_UPDATE = 1, KRLH_FOR_WRI
 
 /* The client and its connection. */
 
-/* Opens a client, which has its lock file from then on. Errors: KRLC_MISUSE, KRLC_BAD_NUMBER, KRLC_LOCK_FILE,
+/* Opens a client, which has its lock file from then on, and keeps all that it reads until another client wants to write
+ * it. Errors: KRLC_MISUSE, KRLC_BAD_NUMBER, KRLC_LOCK_FILE,
  * KRLC_LOCK_FILE_TAKEN, KRLC_OUT_OF_MEMORY. Then `client` is null. */
 KRLC_NODISCARD uint32_t krlh_open(const krlh_options *options, uint64_t now, krlh_client **client, krlc_error *error);
 

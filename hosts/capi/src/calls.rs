@@ -150,6 +150,17 @@ pub unsafe extern "C" fn krlc_set_timeout(
 }
 
 #[unsafe(no_mangle)]
+pub unsafe extern "C" fn krlc_keep_all(client: *mut Client, error: *mut ErrorRoom) -> u32 {
+    let keep = || {
+        // SAFETY: the caller frees the client after this call.
+        unsafe { own(client) }?.client().keep_all();
+        Ok(Code::Ok)
+    };
+    // SAFETY: the caller vouches for the room of the error.
+    unsafe { answer(error, keep) }
+}
+
+#[unsafe(no_mangle)]
 pub unsafe extern "C" fn krlc_reload_tls(client: *mut Client, error: *mut ErrorRoom) -> u32 {
     let reload = || {
         // SAFETY: the caller frees the client after this call.

@@ -119,7 +119,7 @@ class LeavingTest(Served):
         self.assertEqual(other.insert(10, b"1"), Outcome.APPLIED)
         calls: list[Callable[[], object]] = [client.read, client.leave, client.epoch]
         calls += [client.forget, lambda: client.put(10, b""), lambda: client.pin(5, 6)]
-        calls += [lambda: client.wait_for_change(0, 5, [], 1), client.reload_tls]
+        calls += [lambda: client.wait_for_change(0, 5, [], 1), client.reload_tls, client.keep_all]
         for call in calls:
             with self.assertRaisesRegex(krl.Closed, "The client has left"):
                 call()

@@ -110,7 +110,7 @@ fn serve_file(
     new_store::judge_file(path, settings.may_make_store).map_err(fails)?;
     SqliteStore::judge_first_bytes(path).map_err(fails)?;
     let _owner = Owner::take(path, &settings.listen)?;
-    let store = SqliteStore::open(path).map_err(fails)?;
+    let store = SqliteStore::open_with(path, settings.store_writes).map_err(fails)?;
     serve_store(settings, store, access, signal, role)
 }
 

@@ -58,6 +58,41 @@ fn a_signal_under_load_loses_nothing_that_was_applied() {
     }
 }
 
+/// How many times the process has written to files so far.
+fn writes_of(process: u32) -> u64 {
+    let counts = std::fs::read_to_string(format!("/proc/{process}/io")).unwrap();
+    let count = counts.lines().find_map(|line| line.strip_prefix("syscw: "));
+    count.and_then(|count| count.parse().ok()).expect(&counts)
+}
+
+#[test]
+fn a_killed_server_has_lost_nothing_whichever_way_it_writes_its_log() {
+    const COUNT: u64 = 100;
+    let folder = tempfile::tempdir().unwrap();
+    let store = folder.path().join("krl.db");
+    let mut writes = Vec::new();
+    for (turn, how) in ["joined", "single", "joined"].into_iter().enumerate() {
+        let mut command = program();
+        command.arg("serve").arg("--store").arg(&store).args(["--store-writes", how]);
+        let serving = Serving::start_by(&mut command);
+        let client = serving.join(folder.path(), 0);
+        let keys = COUNT * turn as u64..COUNT * (turn as u64 + 1);
+        assert_eq!(client.read(..).unwrap().len() as u64, keys.start);
+        let before = writes_of(serving.process.id());
+        for key in keys {
+            assert_eq!(client.insert(key, Value::from(key)), Ok(Outcome::Applied));
+        }
+        writes.push(writes_of(serving.process.id()) - before);
+        client.leave().unwrap();
+        serving.signal(&["KILL"]);
+        assert_eq!(serving.ended().status.signal(), Some(9));
+    }
+    let rows = SqliteStore::read(&store).unwrap().snapshot.rows;
+    assert!(rows.into_keys().eq(0..3 * COUNT));
+    // Each commit has a page at least, which takes two calls by SQLite itself.
+    assert!(writes[1] >= writes[0] + COUNT / 2, "{writes:?}");
+}
+
 #[test]
 fn a_signal_ends_a_server_within_a_second() {
     let folder = tempfile::tempdir().unwrap();

@@ -45,7 +45,15 @@ impl Joined {
         let mut others = clients.into_iter();
         let first = others.next()?;
         let (others, timeout) = (others.collect(), Timeout::new(timeout));
-        Some(Joined { map: Some(map), first_shard, first, others, timeout })
+        let joined = Joined { map: Some(map), first_shard, first, others, timeout };
+        // A read of several shards is answered by what all of them know after it.
+        joined.keep_all();
+        Some(joined)
+    }
+
+    /// The clients keep what they read.
+    pub fn keep_all(&self) {
+        self.clients().for_each(|(_, client)| client.link().with_state(State::keep_all));
     }
 
     pub fn map(&self) -> Option<&ShardMap> {

@@ -10,6 +10,7 @@ use crate::model::row::Row;
 use crate::proved::ffi;
 use crate::proved::gate::{Owner, Reader, Reading};
 use crate::proved::handle::{Handle, code, done};
+use crate::proved::hits::Hits;
 use crate::proved::losses::{Losses, Tenure};
 use crate::wire::message::Message;
 use std::io;
@@ -59,11 +60,13 @@ pub(crate) struct ClientHandle {
     is_kept: bool,
 }
 
-/// What an incarnation knows, and the end of its lease; and what all of them have lost.
+/// What an incarnation knows, and the end of its lease; and what all of them have lost, and how many
+/// scans they have answered.
 struct Incarnation {
     handle: Handle,
     end: Arc<End>,
     losses: Losses,
+    hits: Hits,
 }
 
 /// What a client knows, for threads that only read it.
@@ -82,7 +85,7 @@ impl Cache {
         rows: &mut Vec<Row>,
         clock: impl FnOnce() -> io::Result<Moment>,
     ) -> Result<Scan, Code> {
-        self.0.read(|incarnation| incarnation.scan(keys, rows, clock))
+        self.0.read(|incarnation| incarnation.scan_and_count(keys, rows, clock))
     }
 
     /// The tenure of a range that is not empty, if the client holds it: both at one moment. It uses
@@ -94,7 +97,7 @@ impl Cache {
         clock: impl FnOnce() -> io::Result<Moment>,
     ) -> Result<Option<Tenure>, Code> {
         self.0.read(|incarnation| {
-            let is_held = incarnation.scan(keys, room, clock)? == Scan::Rows;
+            let is_held = incarnation.scan_and_count(keys, room, clock)? == Scan::Rows;
             Ok(is_held.then(|| incarnation.losses.tenure(keys)))
         })
     }
@@ -172,7 +175,8 @@ impl ClientHandle {
     }
 
     fn of(handle: Handle, lease: Lease) -> ClientHandle {
-        let incarnation = Incarnation { handle, end: lease.end(), losses: Losses::default() };
+        let (losses, hits) = (Losses::default(), Hits::default());
+        let incarnation = Incarnation { handle, end: lease.end(), losses, hits };
         ClientHandle { handle: Owner::new(incarnation), lease, has_spoken: true, is_kept: false }
     }
 
@@ -195,6 +199,11 @@ impl ClientHandle {
 
     pub fn cache(&self) -> Cache {
         Cache(self.handle.reader())
+    }
+
+    /// The scans that its caches have answered.
+    pub fn hits(&self) -> &Hits {
+        &self.handle.get().hits
     }
 
     /// Makes a call that takes the handle, when nobody scans the cache.
@@ -404,11 +413,26 @@ impl ClientHandle {
 }
 
 impl Incarnation {
-    /// The losses stay with this one: readers compare their numbers over all incarnations.
+    /// The losses and the hits stay with this one: their numbers are compared over all incarnations.
     fn become_other(&mut self, other: &mut Incarnation) {
         mem::swap(self, other);
         mem::swap(&mut self.losses, &mut other.losses);
+        mem::swap(&mut self.hits, &mut other.hits);
         self.losses.note_all();
+    }
+
+    /// The scan of a reader: that the cache answers it is what it is there for.
+    fn scan_and_count(
+        &self,
+        keys: &Range<u64>,
+        rows: &mut Vec<Row>,
+        clock: impl FnOnce() -> io::Result<Moment>,
+    ) -> Result<Scan, Code> {
+        let found = self.scan(keys, rows, clock)?;
+        if found == Scan::Rows {
+            self.hits.count(keys);
+        }
+        Ok(found)
     }
 
     fn scan(

@@ -11,7 +11,7 @@ use std::thread;
 use std::time::Duration;
 
 /// Threads that read count themselves in one of this many places.
-const PLACES: usize = 16;
+pub(crate) const PLACES: usize = 16;
 
 /// A thread that waits spins at first, then it lets others run, and then it sleeps again and again.
 const SPINS: u64 = 200;
@@ -24,7 +24,7 @@ const COURTESY: u64 = SPINS + 20;
 
 /// What shares no cache line with anything else.
 #[repr(align(128))]
-struct Alone<T>(T);
+pub(crate) struct Alone<T>(pub T);
 
 struct Gate<T> {
     value: UnsafeCell<T>,
@@ -204,7 +204,7 @@ fn wait(turns: impl Iterator<Item = u64>, is_so: impl Fn() -> bool) {
 }
 
 /// The place of this thread. Threads beyond that many share places.
-fn place() -> usize {
+pub(crate) fn place() -> usize {
     static NEXT: AtomicUsize = AtomicUsize::new(0);
     thread_local!(static PLACE: usize = NEXT.fetch_add(1, Ordering::Relaxed) % PLACES);
     PLACE.with(|place| *place)

@@ -157,6 +157,16 @@ settings! {
                one serves, and the others stand by; or a database, such as \
                <postgres://krl@10.0.0.1/orders?sslmode=verify-full>",
     };
+    STORE_WRITES = Key {
+        name: "store-writes",
+        word: "WRITES",
+        kind: Kind::Text,
+        default: "joined",
+        expected: "joined or single",
+        help: "How a commit is written to the log of SQLite: joined, up to 64 KiB by one call of the \
+               system, or single, by two calls for each page, as SQLite does by itself. The file is \
+               the same",
+    };
     CREATE = Key {
         name: "create",
         word: "YES",

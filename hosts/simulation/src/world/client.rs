@@ -5,6 +5,7 @@ use crate::lock_file::LockFile;
 use crate::network::{Carried, PREFIX, Side};
 use crate::record::{Delivery, Fate, Happened, Node};
 use crate::timer::Timer;
+use crate::weather::Keeps;
 use krl::sans_io::{Call, Client, Incarnations};
 use krl::simulated::{self, FrameKind};
 use std::io::{self, ErrorKind};
@@ -58,7 +59,10 @@ impl World {
         let (servers, incarnation) = (self.sites.len(), lock_file.current());
         let machine = &mut self.machines[client];
         let started = Client::of(lock_file, servers, None, seed, machine.time(self.now));
-        machine.client = Some(started.expect("there is memory"));
+        let started = machine.client.insert(started.expect("there is memory"));
+        if self.weather.keeps == Keeps::All {
+            started.keep_all();
+        }
         self.happened += 1;
         machine.life += 1;
         machine.frozen_until = Duration::ZERO;
