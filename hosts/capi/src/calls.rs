@@ -230,7 +230,7 @@ pub unsafe extern "C" fn krlc_cached_into(
         let mut found = 0;
         let copy = |row: &Row| {
             if found < room {
-                // SAFETY: the caller vouches for so much room. Nothing of it is read.
+                // SAFETY: the caller vouches for this much room. Nothing of it is read.
                 unsafe { at.add(found).write(*row) };
             }
             found += 1;

@@ -223,9 +223,10 @@ mod tests {
 
     #[test]
     fn a_cause_is_reported_once() {
-        let told = krl::ShardMap::from_file("/nowhere/map.toml").map_err(|error| sentence(&error));
-        let told = told.unwrap_err();
-        assert_eq!(told.matches("No such file").count(), 1, "{told}");
+        let message =
+            krl::ShardMap::from_file("/nowhere/map.toml").map_err(|error| sentence(&error));
+        let message = message.unwrap_err();
+        assert_eq!(message.matches("No such file").count(), 1, "{message}");
     }
 
     #[test]

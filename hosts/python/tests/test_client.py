@@ -518,8 +518,8 @@ class BadInputTest(Served):
             calls += [client.pin, client.pin_for_read, client.changes]
             calls += [lambda start, stop: client.wait_for_change(start, stop, [], 1)]
             for call in calls:
-                told = "0 <= start <= stop <= 2.63" if is_integer else "as an integer"
-                with self.assertRaisesRegex(krl.BadRange if is_integer else TypeError, told):
+                message = "0 <= start <= stop <= 2.63" if is_integer else "as an integer"
+                with self.assertRaisesRegex(krl.BadRange if is_integer else TypeError, message):
                     call(start, stop)
         with self.assertRaises(krl.BadRange):
             client.pin(5, 5)

@@ -160,12 +160,12 @@ fn credulous(setup: &Setup, names: Option<&[&str]>) -> SslConnectorBuilder {
 }
 
 /// What a peer receives that sends this by TLS, if its hand-shake succeeds.
-fn received_by_tls(connector: SslConnectorBuilder, at: SocketAddr, said: &[u8]) -> Vec<u8> {
+fn received_by_tls(connector: SslConnectorBuilder, at: SocketAddr, request: &[u8]) -> Vec<u8> {
     let stream = TcpStream::connect(at).unwrap();
     stream.set_read_timeout(Some(AT_ONCE)).unwrap();
     let mut heard = Vec::new();
     if let Ok(mut tls) = connector.build().connect("krl", stream) {
-        let _ = tls.write_all(said);
+        let _ = tls.write_all(request);
         let _ = tls.read_to_end(&mut heard);
     }
     heard

@@ -116,10 +116,10 @@ mod tests {
     #[test]
     fn rows_that_are_there_are_refused_kept_or_replaced() {
         let lines = || vec![line(2, 1), line(3, 2)];
-        let told = add(store(), lines(), Existing::Refuse).unwrap_err();
+        let message = add(store(), lines(), Existing::Refuse).unwrap_err();
         assert!(
-            told.starts_with("line 1: the store has a row of key 2: --existing keep"),
-            "{told}"
+            message.starts_with("line 1: the store has a row of key 2: --existing keep"),
+            "{message}"
         );
         let kept = add(store(), lines(), Existing::Keep).unwrap();
         assert_eq!((kept.kept, &kept.written), (1, &vec![line(3, 2)]));
@@ -146,7 +146,7 @@ mod tests {
         let most = Room::MAX.rows() as u64;
         let lines = |count| (10..10 + count).map(|key| line(key, key)).collect();
         assert!(add(store(), lines(most - 2), Existing::Refuse).is_ok());
-        let told = add(store(), lines(most - 1), Existing::Refuse).unwrap_err();
-        assert!(told.ends_with("1048577 rows, and a table has at most 1048576"), "{told}");
+        let message = add(store(), lines(most - 1), Existing::Refuse).unwrap_err();
+        assert!(message.ends_with("1048577 rows, and a table has at most 1048576"), "{message}");
     }
 }

@@ -174,7 +174,7 @@ mod tests {
         assert_eq!(Question::of_query("limit=64&hi=20"), Ok(question(0..20, 64)));
         let last = question(END..TOP, LIMIT);
         assert_eq!(Question::of_query(&last.path()[PATH.len() + 1..]), Ok(last));
-        for (query, said) in [
+        for (query, message) in [
             ("lo=20&hi=20", "begin below its end"),
             ("lo=21&hi=20", "begin below its end"),
             ("hi=9223372036854775809", "9223372036854775808 at most"),
@@ -186,7 +186,7 @@ mod tests {
             ("low=1", "'low' is unknown: there is lo, hi and limit"),
         ] {
             let refused = Question::of_query(query).unwrap_err();
-            assert!(refused.contains(said), "{query}: {refused}");
+            assert!(refused.contains(message), "{query}: {refused}");
         }
     }
 

@@ -324,8 +324,8 @@ async fn locks_page(query: &str, as_json: bool, monitor: Monitor) -> Page {
         Err(text) => return Page::text(StatusCode::BAD_REQUEST, format!("{text}\n")),
     };
     let (points, limit) = (question.points.clone(), question.limit);
-    let told = tokio::task::spawn_blocking(move || monitor.locks(points, limit)).await;
-    match told {
+    let locks = tokio::task::spawn_blocking(move || monitor.locks(points, limit)).await;
+    match locks {
         Ok(Ok(locks)) if as_json => Page::new(StatusCode::OK, JSON, question.as_json(&locks)),
         Ok(Ok(locks)) => Page::text(StatusCode::OK, question.as_text(&locks)),
         Ok(Err(error)) => Page::text(StatusCode::SERVICE_UNAVAILABLE, format!("{error}\n")),

@@ -108,7 +108,7 @@ impl Settings {
         self.others.iter().map(String::as_str).map(port).collect()
     }
 
-    /// Whether a file that says the same has a line of this setting. A file can't say that a
+    /// Whether an equivalent file has a line of this setting. A file can't express that a
     /// setting is left out, and only servers over a cluster elect one of them.
     fn has_line(&self, key: &Key) -> bool {
         let (text, _) = self.given.text(key);

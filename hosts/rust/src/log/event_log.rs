@@ -9,7 +9,7 @@
     )
 )]
 use crate::access::identity::Identity;
-use crate::log::seldom::Seldom;
+use crate::log::rate_limit::RateLimit;
 use crate::model::change::{Change, Record};
 use crate::model::history::Mark;
 use crate::model::room::Room;
@@ -44,15 +44,15 @@ pub(crate) struct EventLog {
     evicting: BTreeMap<u8, u64>,
     is_serving: Option<bool>,
     missing: Vec<u8>,
-    bad_messages: Seldom,
-    other_shards: Seldom,
-    other_stores: Seldom,
-    other_versions: Seldom,
-    strangers: Seldom,
-    denials: Seldom,
-    far_ahead: Seldom,
-    alarms: Seldom,
-    store_alarms: Seldom,
+    bad_messages: RateLimit,
+    other_shards: RateLimit,
+    other_stores: RateLimit,
+    other_versions: RateLimit,
+    strangers: RateLimit,
+    denials: RateLimit,
+    far_ahead: RateLimit,
+    alarms: RateLimit,
+    store_alarms: RateLimit,
 }
 
 impl EventLog {
@@ -65,15 +65,15 @@ impl EventLog {
             evicting: BTreeMap::new(),
             is_serving: None,
             missing: Vec::new(),
-            bad_messages: Seldom::default(),
-            other_shards: Seldom::default(),
-            other_stores: Seldom::default(),
-            other_versions: Seldom::default(),
-            strangers: Seldom::default(),
-            denials: Seldom::default(),
-            far_ahead: Seldom::default(),
-            alarms: Seldom::default(),
-            store_alarms: Seldom::default(),
+            bad_messages: RateLimit::default(),
+            other_shards: RateLimit::default(),
+            other_stores: RateLimit::default(),
+            other_versions: RateLimit::default(),
+            strangers: RateLimit::default(),
+            denials: RateLimit::default(),
+            far_ahead: RateLimit::default(),
+            alarms: RateLimit::default(),
+            store_alarms: RateLimit::default(),
         }
     }
 
@@ -166,7 +166,7 @@ impl EventLog {
 
     /// The client of a connection takes the server for another shard's, and is closed.
     pub fn other_shard(&mut self, at: &At, other: &OtherShard) {
-        if let Some(passed_over) = self.other_shards.lets(Instant::now()) {
+        if let Some(passed_over) = self.other_shards.admits(Instant::now()) {
             tell!(
                 warn,
                 connection = at.connection,
@@ -179,7 +179,7 @@ impl EventLog {
 
     /// A connection sent what is not a message, and is closed.
     pub fn bad_message(&mut self, at: &At, length: usize) {
-        if let Some(passed_over) = self.bad_messages.lets(Instant::now()) {
+        if let Some(passed_over) = self.bad_messages.admits(Instant::now()) {
             tell!(
                 warn,
                 connection = at.connection,
@@ -193,7 +193,7 @@ impl EventLog {
 
     /// A message names an incarnation that is not the client's.
     pub fn stranger(&mut self, at: &At, client: u8, incarnation: u64) {
-        if let Some(passed_over) = self.strangers.lets(Instant::now()) {
+        if let Some(passed_over) = self.strangers.admits(Instant::now()) {
             let registered = self.clients.get(&client).map(|(incarnation, _)| *incarnation);
             tell!(
                 warn,
@@ -210,7 +210,7 @@ impl EventLog {
 
     /// A client is not registered: its incarnation is too far ahead of this machine's clock.
     pub fn far_ahead(&mut self, at: &At, client: u8, incarnation: u64) {
-        if let Some(passed_over) = self.far_ahead.lets(Instant::now()) {
+        if let Some(passed_over) = self.far_ahead.admits(Instant::now()) {
             tell!(
                 warn,
                 connection = at.connection,
@@ -225,7 +225,7 @@ impl EventLog {
 
     /// A client has seen another store, and is refused.
     pub fn other_store(&mut self, at: &At) {
-        if let Some(passed_over) = self.other_stores.lets(Instant::now()) {
+        if let Some(passed_over) = self.other_stores.admits(Instant::now()) {
             tell!(
                 warn,
                 connection = at.connection,
@@ -238,7 +238,7 @@ impl EventLog {
 
     /// A client's host is of another version of the stream, and is refused.
     pub fn other_version(&mut self, at: &At) {
-        if let Some(passed_over) = self.other_versions.lets(Instant::now()) {
+        if let Some(passed_over) = self.other_versions.admits(Instant::now()) {
             tell!(
                 warn,
                 connection = at.connection,
@@ -251,7 +251,7 @@ impl EventLog {
 
     /// A connection sent what its identity may not send, and is closed.
     pub fn denied(&mut self, at: &At, identity: &Identity, client: Option<u8>) {
-        if let Some(passed_over) = self.denials.lets(Instant::now()) {
+        if let Some(passed_over) = self.denials.admits(Instant::now()) {
             tell!(
                 warn,
                 connection = at.connection,
@@ -266,7 +266,7 @@ impl EventLog {
 
     /// The store lacks what a client's host has seen of it.
     pub fn store_alarm(&mut self, at: &At, seen: Mark) {
-        if let Some(passed_over) = self.store_alarms.lets(Instant::now()) {
+        if let Some(passed_over) = self.store_alarms.admits(Instant::now()) {
             tell!(
                 error,
                 connection = at.connection,
@@ -280,7 +280,7 @@ impl EventLog {
 
     /// A report contradicts what the server knows.
     pub fn alarm(&mut self, client: Option<u8>) {
-        if let Some(passed_over) = self.alarms.lets(Instant::now()) {
+        if let Some(passed_over) = self.alarms.admits(Instant::now()) {
             tell!(
                 error,
                 client,
@@ -352,8 +352,8 @@ pub(crate) fn closed_by_server(at: &At, reason: &str, why: &dyn Display, passed_
 }
 
 /// The system gives no connection just now.
-pub(crate) fn not_accepted(seldom: &mut Seldom, error: &dyn Display) {
-    if let Some(passed_over) = seldom.lets(Instant::now()) {
+pub(crate) fn not_accepted(limit: &mut RateLimit, error: &dyn Display) {
+    if let Some(passed_over) = limit.admits(Instant::now()) {
         tell!(warn, %error, passed_over, "the system gives no connection");
     }
 }
