@@ -10,7 +10,7 @@ use crate::lease::terms::Older;
 use crate::model::client_number::ClientNumber;
 use crate::model::error::{ErrorKind, JoinErrorKind};
 use crate::model::refusal::Refusal;
-use crate::net::connect_fault::{NoServer, NotTaken, Rejection};
+use crate::net::connect_fault::{NoServer, Rejection};
 use crate::net::servers::Servers;
 use crate::proved::client_handle::ClientHandle;
 use std::io;
@@ -111,7 +111,7 @@ fn not_joined(client: &ShardClient, refused: ErrorKind) -> JoinErrorKind {
         ErrorKind::Unserved(refusal) => JoinErrorKind::Unserved(refusal),
         ErrorKind::OtherShard(other) => JoinErrorKind::OtherShard(other),
         ErrorKind::TurnedAway => JoinErrorKind::TurnedAway(match rejection {
-            Some(Rejection::NotTaken(NotTaken(why))) => why,
+            Some(Rejection::NotTaken(why)) => why,
             _ => String::new(),
         }),
         refused => JoinErrorKind::Refused(refused),

@@ -10,7 +10,7 @@ pub use certificate::Certificate;
 pub use config::{TlsConfig, TlsError};
 
 use crate::access::identity::{Identity, Role, TableName};
-use crate::net::connect_fault::NotTaken;
+use crate::net::connect_fault::Rejection;
 use crate::wire::frames::{Frames, GULP};
 use openssl::error::ErrorStack;
 use openssl::ssl::{Error, ErrorCode, Ssl, SslRef, SslStream, SslVerifyMode};
@@ -361,7 +361,7 @@ fn is_about_certificate(code: c_ulong) -> bool {
 }
 
 fn not_taken(why: &str) -> io::Error {
-    NotTaken(why.into()).into()
+    Rejection::NotTaken(why.into()).into()
 }
 
 /// Puts what came after the frames.
