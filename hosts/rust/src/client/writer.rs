@@ -147,7 +147,7 @@ mod tests {
     /// A writer, and the end of its connection that reads.
     fn pair() -> (Writer, UnixStream) {
         let (ours, theirs) = UnixStream::pair().unwrap();
-        let carrier = Carrier::over(Stream::Unix(ours), None).unwrap();
+        let carrier = Carrier::over(Stream::from(ours), None).unwrap();
         theirs.set_read_timeout(Some(Duration::from_millis(200))).unwrap();
         let writer = Writer::default();
         writer.open(carrier, Vec::new());

@@ -205,7 +205,7 @@ mod tests {
         assert_eq!(second.wait(longest).unwrap(), Some(Ready::Woken));
         assert_eq!(second.wait(Duration::ZERO).unwrap(), None, "an event is reported once");
         let (ours, mut theirs) = UnixStream::pair().unwrap();
-        let ours = Stream::Unix(ours);
+        let ours = Stream::from(ours);
         poller.add(7, &ours).unwrap();
         let next = || match second.wait(longest).unwrap() {
             Some(Ready::Connection(7, readiness)) => readiness,
