@@ -297,7 +297,7 @@ impl Connection {
     /// and none to a host that takes no host frames.
     pub fn refuse(&mut self, refusal: Refusal, now: Instant) {
         let Some(host) = &mut self.host else { return };
-        if host.refusals[refusal.reason()].admits(now).is_some() {
+        if host.refusals[usize::from(refusal.reason())].admits(now).is_some() {
             self.host_frames.put(&FromServer::Refused(refusal).frame());
         }
     }
