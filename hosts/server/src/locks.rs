@@ -4,7 +4,6 @@ use crate::http::{self, StatusPort};
 use crate::pages;
 use crate::settings::BadSetting;
 use form_urlencoded::parse;
-use hyper::StatusCode;
 use krl::operate::Locks;
 use krl::{END, HeldSlot, Wait};
 use serde_json::json;
@@ -147,15 +146,7 @@ pub fn whom(wait: &Wait) -> String {
 pub fn ask(options: &LocksOptions) -> Result<String, Box<dyn Error>> {
     let question = Question::of_words(options)?;
     let port = StatusPort::new(&options.status, &options.tls)?;
-    let kind = options.format.kind();
-    let reply = http::get(&port, &question.path(), kind, WAIT)?;
-    match reply.status {
-        StatusCode::OK => Ok(reply.text),
-        StatusCode::NOT_FOUND => {
-            Err(format!("{port} is no status port that reports who holds what").into())
-        }
-        _ => Err(format!("{port} answers with an error: {}", reply.text.trim_end()).into()),
-    }
+    http::page(&port, &question.path(), options.format, WAIT)
 }
 
 #[cfg(test)]

@@ -36,7 +36,7 @@ mod visitors;
 mod watchdog;
 
 use clap::Parser;
-use command_line::{Command, CommandLine, TlsOptions};
+use command_line::{Command, CommandLine, PageOptions, TlsOptions};
 use health::Asked;
 use http::StatusPort;
 use krl::{Servers, ShardBounds, StoreError};
@@ -79,15 +79,11 @@ fn run(command: Command) -> Result<ExitCode, Box<dyn Error>> {
             settings.access.tls()?;
             output::print(&settings.to_string())?;
         }
-        Command::Status { address, tls, format } => {
-            output::print(&pages::fetch(&StatusPort::new(&address, &tls)?, format)?)?;
-        }
-        Command::Clients { address, tls, format } => {
-            output::print(&clients::ask(&StatusPort::new(&address, &tls)?, format)?)?;
-        }
-        Command::Health { address, tls, ready } => {
+        Command::Status(options) => print_page(&options, pages::STATUS_PATH)?,
+        Command::Clients(options) => print_page(&options, clients::PATH)?,
+        Command::Health { port, ready } => {
             let asked = if ready { Asked::Ready } else { Asked::Alive };
-            return health::ask(&StatusPort::new(&address, &tls)?, asked);
+            return health::ask(&port.port()?, asked);
         }
         Command::Locks(options) => output::print(&locks::ask(&options)?)?,
         Command::Evict { address, tls, number, lock_file, shard } => {
@@ -115,6 +111,11 @@ fn run(command: Command) -> Result<ExitCode, Box<dyn Error>> {
     Ok(ExitCode::SUCCESS)
 }
 
+fn print_page(options: &PageOptions, path: &str) -> Result<(), Box<dyn Error>> {
+    let page = http::page(&options.port.port()?, path, options.format, http::WAIT)?;
+    Ok(output::print(&page)?)
+}
+
 fn evict(
     (address, shard): (&str, Option<ShardBounds>),
     tls: &TlsOptions,
@@ -127,7 +128,7 @@ fn evict(
     ));
     let mut servers: Servers =
         address.parse().map_err(|error| BadSetting::new(format!("'{address}': {error}")))?;
-    if let Some(config) = TlsFiles::of(tls)?.read()? {
+    if let Some(config) = TlsFiles::of(&tls.given)?.read()? {
         servers = servers.with_tls(config);
     }
     if let Some(shard) = shard {

@@ -3,16 +3,16 @@ mod access;
 mod given;
 pub mod key;
 mod store_place;
-mod value;
+pub mod value;
 
 pub use access::AccessSettings;
+pub use given::Given;
 pub use key::Key;
 pub use store_place::StorePlace;
 pub use value::{Drift, LeaseLength, LogFormat, StatusAddress};
 
 use crate::command_line::ServeOptions;
 use crate::http::StatusPort;
-use given::Given;
 use krl::{Address, Reach, Room, ShardBounds};
 use std::fmt;
 use std::path::PathBuf;
