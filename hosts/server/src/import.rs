@@ -3,10 +3,8 @@ use crate::cause;
 use crate::output;
 use crate::reshard;
 use crate::settings::{BadSetting, StorePlace};
-use crate::stand_by;
+use crate::stores;
 use krl::{Room, Snapshot, SqliteStore, Store};
-use krl_etcd::EtcdStore;
-use krl_postgres::PostgresStore;
 use krl_rows::{Existing, FileFormat, Line, ValueForm, read_file};
 use std::error::Error;
 use std::path::Path;
@@ -41,7 +39,7 @@ pub fn import(file: &Path, is_json: bool, place: &StorePlace, existing: Existing
 fn into_store(path: &Path, lines: Vec<Line>, existing: Existing) -> Result<Added, Box<dyn Error>> {
     let _owner = reshard::own(path)?;
     let added = add(reshard::read(path)?, lines, existing)?;
-    judge(&added.store)?;
+    stores::judge(&path.display(), &added.store)?;
     let mut file = SqliteStore::open(path).map_err(|error| cause(&error))?;
     file.load().map_err(|error| cause(&error))?;
     let rows = added.written.iter().map(|line| line.row);
@@ -51,23 +49,9 @@ fn into_store(path: &Path, lines: Vec<Line>, existing: Existing) -> Result<Added
 
 fn into_new_store(place: &StorePlace, lines: Vec<Line>) -> Result<Added, Box<dyn Error>> {
     let added = add(Snapshot::default(), lines, Existing::Refuse)?;
-    judge(&added.store)?;
-    let made = match place {
-        StorePlace::File(path) => SqliteStore::create(path, &added.store),
-        StorePlace::Etcd(address) => {
-            EtcdStore::create(address, &stand_by::credentials_of_environment(), &added.store)
-        }
-        StorePlace::Postgres(address) => {
-            PostgresStore::create(address, stand_by::user().as_ref(), &added.store)
-        }
-    };
-    made.map_err(|error| cause(&error))?;
+    stores::judge(place, &added.store)?;
+    stores::create(place, &added.store)?;
     Ok(added)
-}
-
-fn judge(store: &Snapshot) -> Done {
-    let judged = store.judge();
-    Ok(judged.map_err(|code| format!("no server could start on the store then: {code}"))?)
 }
 
 /// Adds the rows of the lines to what a store has. If it has all of them already, the import is a

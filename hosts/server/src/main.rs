@@ -30,6 +30,7 @@ mod serve;
 mod settings;
 mod stand_by;
 mod status_port;
+mod stores;
 mod tls_files;
 mod tls_stream;
 mod visitors;
