@@ -4,7 +4,7 @@ use crate::database::Database;
 use crate::failure::{Failure, not_done};
 use krl::{Client, Room, Snapshot, SqliteStore};
 use krl_cache::{Cache, CacheError, EarlierServer, Origin, StoreFilling};
-use krl_rows::Progress;
+use krl_cli::Progress;
 use std::fmt;
 use std::fs;
 use std::path::{Path, PathBuf};

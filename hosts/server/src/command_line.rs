@@ -5,7 +5,7 @@ use crate::pages::{JSON, TEXT};
 use crate::settings::{BadSetting, Given, Key, StorePlace, key};
 use clap::{ArgMatches, Args, FromArgMatches, Parser, Subcommand, ValueEnum};
 use clap_complete::Shell;
-use krl_rows::Existing;
+use krl_cli::Existing;
 use std::marker::PhantomData;
 use std::path::PathBuf;
 

@@ -2,7 +2,7 @@
 use crate::output;
 use crate::stores;
 use krl::Row;
-use krl_rows::{FileFormat, RowWriter, ValueForm};
+use krl_cli::{FileFormat, RowWriter, ValueForm};
 use std::error::Error;
 use std::path::Path;
 

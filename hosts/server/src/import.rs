@@ -5,7 +5,7 @@ use crate::reshard;
 use crate::settings::{BadSetting, StorePlace};
 use crate::stores;
 use krl::{Room, Snapshot, SqliteStore, Store};
-use krl_rows::{Existing, FileFormat, Line, ValueForm, read_file};
+use krl_cli::{Existing, FileFormat, Line, ValueForm, read_file};
 use std::error::Error;
 use std::path::Path;
 

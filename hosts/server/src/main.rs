@@ -5,7 +5,6 @@ mod certificates;
 mod check;
 mod clients;
 mod command_line;
-mod completion;
 mod export;
 mod health;
 mod http;
@@ -36,11 +35,12 @@ mod tls_stream;
 mod visitors;
 mod watchdog;
 
-use clap::Parser;
+use clap::{CommandFactory, Parser};
 use command_line::{Command, CommandLine, PageOptions, TlsOptions};
 use health::Asked;
 use http::StatusPort;
 use krl::{Servers, ShardBounds, StoreError};
+use krl_cli::{print_completion, sentence};
 use output::NotPrinted;
 use settings::{BadSetting, Settings};
 use std::error::Error;
@@ -107,7 +107,9 @@ fn run(command: Command) -> Result<ExitCode, Box<dyn Error>> {
         }
         Command::Export { file, json } => export::export(&file, json)?,
         Command::Check { file, days } => return check::check(&file, days),
-        Command::Completion { shell } => completion::print(shell)?,
+        Command::Completion { shell } => {
+            print_completion(shell, CommandLine::command()).map_err(NotPrinted::before_work)?;
+        }
     }
     Ok(ExitCode::SUCCESS)
 }
@@ -138,21 +140,6 @@ fn evict(
     krl::evict(servers, number, lock_file)?;
     output::report(&format!("client {number} has left"));
     Ok(())
-}
-
-/// An error and what caused it, as one line. A cause that the error's own text includes is not
-/// repeated.
-fn sentence(error: &dyn Error) -> String {
-    let mut text = error.to_string();
-    let mut cause = error.source();
-    while let Some(error) = cause {
-        let more = error.to_string();
-        if !text.contains(&more) {
-            text = format!("{text}: {more}");
-        }
-        cause = error.source();
-    }
-    text
 }
 
 /// What made a store fail, without naming the store again.

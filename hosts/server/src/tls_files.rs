@@ -34,7 +34,7 @@ impl TlsFiles {
             (None, None, None) => Ok(None),
             (Some(authority), Some(certificate), Some(key)) => {
                 let read = TlsConfig::from_files(authority, certificate, key);
-                let read = read.map_err(|error| BadSetting::new(crate::sentence(&error)))?;
+                let read = read.map_err(|error| BadSetting::new(krl_cli::sentence(&error)))?;
                 Ok(Some(match table {
                     Some(table) => read.for_table(table),
                     None => read,
