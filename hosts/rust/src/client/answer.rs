@@ -91,15 +91,15 @@ impl<T> Answer<T> {
     /// The answer, or nothing if none comes any more. Until then the task is woken when it has
     /// something to see here.
     pub fn poll(&self, context: &Context<'_>) -> Poll<Option<T>> {
-        let mut content = self.0.lock();
-        if let State::Open(waker) = &mut content.state {
+        let mut guard = self.0.lock();
+        if let State::Open(waker) = &mut guard.state {
             let known = waker.replace(context.waker().clone());
             // It may be the last of a task, whose own calls end then.
-            drop(content);
+            drop(guard);
             drop(known);
             return Poll::Pending;
         }
-        Poll::Ready(content.state.take().ok())
+        Poll::Ready(guard.state.take().ok())
     }
 }
 

@@ -158,10 +158,11 @@ fn spelled(refusal: Refusal) -> Vec<u8> {
         Refusal::OtherShard(served) => return shard_frame::spelled(served),
         Refusal::Version { read } => [read.into(), 0],
         Refusal::ClientNumber { number } => [number, 0],
-        Refusal::Incarnation { client, registered } => [client.into(), registered],
+        Refusal::Incarnation { client, registered } | Refusal::LeaseRuns { client, registered } => {
+            [client.into(), registered]
+        }
         Refusal::Full { connections } => [connections, 0],
         Refusal::Missing(clients) => [clients.bits(), 0],
-        Refusal::LeaseRuns { client, registered } => [client.into(), registered],
         Refusal::FarAhead { client, latest } => [client.into(), latest],
         Refusal::Denied | Refusal::OtherStore => [0, 0],
     })
