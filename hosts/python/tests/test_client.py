@@ -451,7 +451,7 @@ class LeasesTest(Served):
         there = self.folder / "another machine"
         there.mkdir()
         with krl.join(self.address, 3, there / "client-3.lock", PATIENCE) as first:
-            # The server hears no second process while the first one's lease runs.
+            # The server takes no second process while the first one's lease runs.
             with krl.join(self.address, range(3, 5), self.folder, PATIENCE) as second:
                 self.assertEqual((first.number, second.number), (3, 4))
 

@@ -49,7 +49,7 @@ const READ_PAUSE: Duration = Duration::from_millis(1);
 const SERVER: &str = "server";
 const LEASED_SERVER: &str = "server leased";
 
-/// How long a node answers from its cache if it hears nothing from a server with leases.
+/// How long a node answers from its cache if it receives nothing from a server with leases.
 const LEASE: Duration = Duration::from_secs(2);
 
 type Done = Result<(), Box<dyn Error>>;

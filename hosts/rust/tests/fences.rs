@@ -90,7 +90,7 @@ fn a_client_of_the_same_shard_is_served_and_every_other_one_is_refused() {
             assert_eq!((ours, theirs), (expected.map(bounds), served.map(bounds)));
         }
         let records = server.monitor().snapshot().unwrap().records;
-        assert_eq!(records.len(), 1, "the library hears only the served client");
+        assert_eq!(records.len(), 1, "the library takes only the served client");
     }
 }
 
@@ -170,9 +170,9 @@ fn a_client_sends_nothing_of_the_library_to_a_server_that_confirms_no_shard() {
     let refused = builder.timeout(LONG).join().unwrap_err();
     let JoinErrorKind::OtherShard(other) = &refused.kind else { panic!("{refused:?}") };
     assert_eq!((other.expected, other.served), (Some(bounds("0..9@3")), None));
-    let heard: Vec<Vec<u8>> = frames.try_iter().collect();
-    assert!(heard.iter().all(|frame| frame.starts_with(&[0])), "{heard:?}");
-    assert!(heard[1].starts_with(&[0, 2, 0, 0, 0, 0, 0, 0, 0, 0, 9]), "{heard:?}");
+    let received: Vec<Vec<u8>> = frames.try_iter().collect();
+    assert!(received.iter().all(|frame| frame.starts_with(&[0])), "{received:?}");
+    assert!(received[1].starts_with(&[0, 2, 0, 0, 0, 0, 0, 0, 0, 0, 9]), "{received:?}");
 }
 
 #[test]

@@ -52,13 +52,13 @@ fn answer_to(server: &Server, sent: &[Vec<u8>]) -> Vec<u8> {
     for frame in sent {
         peer.send(frame);
     }
-    let heard = peer.receive(SHORT);
+    let received = peer.receive(SHORT);
     assert_eq!(
-        heard.get(..HOST_ANSWER.len()),
+        received.get(..HOST_ANSWER.len()),
         Some(&HOST_ANSWER[..]),
         "the host's answer comes first"
     );
-    heard[HOST_ANSWER.len()..].to_vec()
+    received[HOST_ANSWER.len()..].to_vec()
 }
 
 fn of_version(version: u8) -> Vec<u8> {
@@ -92,7 +92,7 @@ fn a_host_of_another_version() {
         assert_eq!(peer.receive(LONG), refused(0, [3, 0]), "{hello:?}");
         assert!(begun.elapsed() < LONG, "the connection ends");
     }
-    assert_eq!(server.status().taken, 0, "the library hears nothing");
+    assert_eq!(server.status().taken, 0, "the library takes nothing");
     let is_counted = || server.status().closed.counts().any(|it| it == ("other_version", 3));
     let end = Instant::now() + LONG;
     while !is_counted() {

@@ -447,7 +447,7 @@ impl fmt::Debug for Session {
 fn bad_message(code: Code) -> io::Error {
     io::Error::new(
         io::ErrorKind::InvalidData,
-        format!("the server says what no server says: {code}"),
+        format!("the server sends what no server sends: {code}"),
     )
 }
 

@@ -226,7 +226,7 @@ fn a_client_that_has_joined_waits_for_its_server_whatever_else_answers_there() {
     assert!(read.answer.try_recv().is_err());
     let after_a_frame = [&terms(&connect(&mut session)), OF_HTTP].concat();
     let end = receive(&mut session, &after_a_frame).unwrap_err().to_string();
-    assert!(end.contains("the server says what no server says"), "{end}");
+    assert!(end.contains("the server sends what no server sends"), "{end}");
 }
 
 /// An attempt to connect that is refused, and the pause after it.
