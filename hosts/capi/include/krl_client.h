@@ -299,7 +299,7 @@ typedef struct krlc_status {
     uint64_t epoch;
     /* The client's incarnation: each is greater than the one before, and each end of a lease begins another. */
     uint64_t incarnation;
-    /* For how many milliseconds the client may still answer from its cache if it hears nothing more from the server, or
+    /* For how many milliseconds the client may still answer from its cache if nothing more comes from the server, or
      * KRLC_FOR_EVER from a server without leases. */
     uint64_t lease_left_ms;
     /* Whether there is a connection at this moment. */

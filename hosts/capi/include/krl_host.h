@@ -126,7 +126,7 @@ uint64_t krlh_due(krlh_client *client);
  * connection. Calls that were begun may have something to send: ask again after them. */
 const void *krlh_output(krlh_client *client, uint64_t now, size_t *length);
 
-/* So many bytes of that were sent. */
+/* Reports that this many of those bytes were sent. */
 void krlh_sent(krlh_client *client, size_t length);
 
 /* The connection has ended, or was not made. Returns the moment at which to make the next one. */

@@ -31,7 +31,7 @@ JOIN_ERRORS |= dict.fromkeys((MISUSE, 17, 20, 21, 22, BAD_TLS), BadOption)
 NUMBERS, FOR_EVER = 64, (1 << 64) - 1
 END, TOP = (1 << 63) - 1, 1 << 63
 """One past the greatest key, and the end of the widest range."""
-# So many calls wait at once. A client has one lock request at a time on its way, and one write.
+# The most calls that wait at once. A client has one lock request at a time on its way, and one write.
 MOST = 32
 
 # Types by letters. "p" is any pointer: ctypes takes a handle, a reference or an array for it.

@@ -29,6 +29,8 @@ pub use crate::client::incarnations::Incarnations;
 pub use crate::client::lock_file::LockFile;
 pub use crate::client::state::{Held, Purpose};
 pub use crate::lease::terms::Older;
+#[cfg(feature = "tls")]
+pub use crate::net::tls::TlsSession;
 
 /// A client. A moment is a time by a clock that continues while the machine is suspended, and never
 /// goes back.

@@ -3,16 +3,16 @@ mod access;
 mod given;
 pub mod key;
 mod store_place;
-mod value;
+pub mod value;
 
 pub use access::AccessSettings;
+pub use given::Given;
 pub use key::Key;
 pub use store_place::StorePlace;
 pub use value::{Drift, LeaseLength, LogFormat, StatusAddress};
 
 use crate::command_line::ServeOptions;
 use crate::http::StatusPort;
-use given::Given;
 use krl::{Address, LogWrites, Reach, Room, ShardBounds};
 use std::fmt;
 use std::path::PathBuf;
@@ -110,8 +110,8 @@ impl Settings {
         self.others.iter().map(String::as_str).map(port).collect()
     }
 
-    /// Whether a file with the same settings has a line of this one. A file can't state that a
-    /// setting is left out.
+    /// Whether an equivalent file has a line of this setting. A file can't express that a setting
+    /// is left out.
     fn has_line(&self, key: &Key) -> bool {
         let (text, _) = self.given.text(key);
         let is_left_out = text.is_empty() || key.kind == key::Kind::YesNo && text == "no";

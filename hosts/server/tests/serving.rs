@@ -177,16 +177,16 @@ fn pages_of_the_status_port() {
     assert_eq!(serving.get("/").0, 200);
     assert_eq!(serving.ask("POST /status HTTP/1.1\r\nHost: localhost\r\n\r\n").0, 405);
     assert_eq!(serving.get("/backup").0, 405);
-    let said = run(&["status", &serving.status]);
-    assert!(common::text(&said).starts_with("epoch 1, serving\n"));
-    let said = run(&["status", &serving.status, "--json"]);
-    assert!(common::text(&said).starts_with("{\n"));
+    let output = run(&["status", &serving.status]);
+    assert!(common::text(&output).starts_with("epoch 1, serving\n"));
+    let output = run(&["status", &serving.status, "--json"]);
+    assert!(common::text(&output).starts_with("{\n"));
     serving.signal(&["TERM"]);
     let address = serving.status.clone();
     serving.ended();
-    let said = run(&["status", &address]);
-    assert_eq!(said.status.code(), Some(1));
-    assert!(errors(&said).contains(&address));
+    let output = run(&["status", &address]);
+    assert_eq!(output.status.code(), Some(1));
+    assert!(errors(&output).contains(&address));
 }
 
 #[test]
@@ -288,14 +288,14 @@ fn is_moment(file: &Path, least: u64, most: u64) {
     assert_eq!(record.last, Some((rows, Outcome::Applied)));
     let check = run(&["check", file.to_str().unwrap()]);
     assert_eq!(check.status.code(), Some(0), "{}", errors(&check));
-    let said = text(&check);
+    let printed = text(&check);
     for line in [
         &format!("rows: {rows}"),
         "page size: 1024 bytes",
         "epoch: 1",
         "clients that have not left: 9",
     ] {
-        assert!(said.lines().any(|it| it == line), "no {line} in {said}");
+        assert!(printed.lines().any(|it| it == line), "no {line} in {printed}");
     }
 }
 
@@ -306,10 +306,10 @@ fn a_backup_that_cannot_be_made_is_reported() {
     let taken = folder.path().join("taken");
     std::fs::write(&taken, "mine").unwrap();
     let nowhere = folder.path().join("none").join("copy.db");
-    for (file, said) in [(&taken, "there is a file"), (&nowhere, "No such file")] {
+    for (file, message) in [(&taken, "there is a file"), (&nowhere, "No such file")] {
         let output = run(&["backup", &serving.status, file.to_str().unwrap()]);
         assert_eq!(output.status.code(), Some(1));
-        assert!(errors(&output).contains(said), "{}", errors(&output));
+        assert!(errors(&output).contains(message), "{}", errors(&output));
     }
     assert_eq!(std::fs::read(&taken).unwrap(), b"mine");
     let order = |kind: &str, body: &str| {
@@ -386,10 +386,10 @@ fn a_restore_that_cannot_be_made_is_reported() {
     let [text, store, new] = [path("text"), path("store.db"), path("new.db")];
     std::fs::write(&text, "no database").unwrap();
     SqliteStore::create(&store, &Snapshot { epoch: END - 1, ..Snapshot::default() }).unwrap();
-    for (file, said) in [(&text, "can't be read as a store"), (&store, "the last one")] {
+    for (file, message) in [(&text, "can't be read as a store"), (&store, "the last one")] {
         let output = run(&["restore", file, "--store", &new, "--clients-are-stopped"]);
         assert_eq!(output.status.code(), Some(1));
-        assert!(errors(&output).contains(said), "{}", errors(&output));
+        assert!(errors(&output).contains(message), "{}", errors(&output));
         assert!(!Path::new(&new).exists());
     }
     let output = run(&["restore", &store, "--clients-are-stopped"]);
@@ -450,8 +450,8 @@ fn a_store_that_holds_nothing_is_served_only_if_it_is_asked_for() {
     ] {
         let refused = output_within_a_minute(program().args(words).arg(store));
         assert_eq!(refused.status.code(), Some(1), "{}", errors(&refused));
-        for told in [why, "give --create at the first start"] {
-            assert!(errors(&refused).contains(told), "{told}: {}", errors(&refused));
+        for message in [why, "give --create at the first start"] {
+            assert!(errors(&refused).contains(message), "{message}: {}", errors(&refused));
         }
     }
     assert!(!missing.exists() && !folder.path().join("missing.db.lock").exists());

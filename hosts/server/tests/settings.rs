@@ -25,10 +25,10 @@ fn file(folder: &Path, text: &str) -> String {
 
 /// The status is 2, nothing is printed, and the sentence has all of these words.
 fn is_refused(output: &Output, words: &[&str]) {
-    let said = errors(output);
-    assert_eq!(output.status.code(), Some(2), "{said}");
+    let message = errors(output);
+    assert_eq!(output.status.code(), Some(2), "{message}");
     assert_eq!(text(output), "");
-    assert!(words.iter().all(|word| said.contains(word)), "{words:?} are not in: {said}");
+    assert!(words.iter().all(|word| message.contains(word)), "{words:?} are not in: {message}");
 }
 
 #[test]
@@ -176,9 +176,14 @@ fn the_packaged_file_sets_each_key() {
     let path = concat!(env!("CARGO_MANIFEST_DIR"), "/../packaging/krl.toml");
     let output = run(&["config", "--config", path]);
     let end = format!("# from the file {path}");
-    let said = text(&output);
-    assert_eq!((said.lines().count(), output.status.code()), (9, Some(0)), "{}", errors(&output));
-    assert!(said.lines().all(|line| line.ends_with(&end)), "{said}");
+    let printed = text(&output);
+    assert_eq!(
+        (printed.lines().count(), output.status.code()),
+        (9, Some(0)),
+        "{}",
+        errors(&output)
+    );
+    assert!(printed.lines().all(|line| line.ends_with(&end)), "{printed}");
 }
 
 #[test]

@@ -8,7 +8,7 @@ use crate::model::code::Code;
 use crate::model::lock::Mode;
 use crate::model::row::Row;
 use crate::proved::ffi;
-use crate::proved::gate::{Owner, Reader, Reading};
+use crate::proved::gate::{Owner, ReadGuard, Reader};
 use crate::proved::handle::{Handle, code, done};
 use crate::proved::hits::Hits;
 use crate::proved::losses::{Losses, Tenure};
@@ -55,7 +55,7 @@ pub(crate) struct ClientHandle {
     handle: Owner<Incarnation>,
     lease: Lease,
     /// A call was made since the last `take`, and may have sent something.
-    has_spoken: bool,
+    may_have_output: bool,
     /// Its incarnation is on the disk. Until then nothing of it may be sent.
     is_kept: bool,
 }
@@ -73,7 +73,7 @@ struct Incarnation {
 pub(crate) struct Cache(Reader<Incarnation>);
 
 /// A cache that stays what it is.
-pub(crate) struct HeldCache<'c>(Reading<'c, Incarnation>);
+pub(crate) struct CacheGuard<'c>(ReadGuard<'c, Incarnation>);
 
 impl Cache {
     /// Scans the cache into `rows`, in place of what they are. Nothing is sent. It waits for one
@@ -104,8 +104,8 @@ impl Cache {
 
     /// Keeps the cache as it is, as long as the answer lives: the client takes no message and no
     /// call meanwhile. A thread that holds several has to take them in the order of their shards.
-    pub fn hold(&self) -> HeldCache<'_> {
-        HeldCache(self.0.enter())
+    pub fn hold(&self) -> CacheGuard<'_> {
+        CacheGuard(self.0.enter())
     }
 }
 
@@ -117,7 +117,7 @@ impl Cache {
     }
 }
 
-impl HeldCache<'_> {
+impl CacheGuard<'_> {
     /// Scans the cache, and puts the rows after those that are there. The clock of leases is read
     /// after them.
     pub fn scan_after(
@@ -177,7 +177,12 @@ impl ClientHandle {
     fn of(handle: Handle, lease: Lease) -> ClientHandle {
         let (losses, hits) = (Losses::default(), Hits::default());
         let incarnation = Incarnation { handle, end: lease.end(), losses, hits };
-        ClientHandle { handle: Owner::new(incarnation), lease, has_spoken: true, is_kept: false }
+        ClientHandle {
+            handle: Owner::new(incarnation),
+            lease,
+            may_have_output: true,
+            is_kept: false,
+        }
     }
 
     /// Becomes another client, and has lost all. What was cached from this one is cached from the
@@ -186,7 +191,7 @@ impl ClientHandle {
         other.handle.change(|other| self.handle.change(|this| this.become_other(other)));
         self.lease = other.lease;
         self.is_kept = other.is_kept;
-        self.has_spoken = true;
+        self.may_have_output = true;
     }
 
     pub fn lease(&self) -> &Lease {
@@ -208,7 +213,7 @@ impl ClientHandle {
 
     /// Makes a call that takes the handle, when nobody scans the cache.
     fn call(&mut self, call: impl FnOnce(*mut ffi::Handle) -> ffi::Reply) -> Result<u64, Code> {
-        self.has_spoken = true;
+        self.may_have_output = true;
         done(self.handle.change(|it| call(it.handle.raw())))
     }
 
@@ -219,7 +224,7 @@ impl ClientHandle {
         keys: &Range<u64>,
         call: impl FnOnce(*mut ffi::Handle) -> ffi::Reply,
     ) -> Result<(), Code> {
-        self.has_spoken = true;
+        self.may_have_output = true;
         let reply = self.handle.change(|it| {
             it.losses.note(keys);
             call(it.handle.raw())
@@ -404,9 +409,9 @@ impl ClientHandle {
     /// Appends what waits to be sent, as frames. If nothing can wait, nobody's scan is held up.
     /// Nothing leaves before the incarnation is kept.
     pub fn take(&mut self, frames: &mut Vec<u8>) -> Result<(), Code> {
-        if self.has_spoken && self.is_kept {
+        if self.may_have_output && self.is_kept {
             self.handle.change(|it| it.handle.take(frames))?;
-            self.has_spoken = false;
+            self.may_have_output = false;
         }
         Ok(())
     }

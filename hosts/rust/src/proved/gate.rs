@@ -47,7 +47,7 @@ pub(crate) struct Owner<T>(Arc<Gate<T>>);
 pub(crate) struct Reader<T>(Arc<Gate<T>>);
 
 /// The value, while it is read. A change waits as long as this lives.
-pub(crate) struct Reading<'g, T> {
+pub(crate) struct ReadGuard<'g, T> {
     gate: &'g Gate<T>,
     _inside: Counted<'g>,
 }
@@ -105,8 +105,8 @@ impl<T> Reader<T> {
     ///
     /// A thread may be inside several gates, if all threads enter these in one order: one that
     /// waits at a gate keeps the changes of those before it waiting.
-    pub fn enter(&self) -> Reading<'_, T> {
-        Reading { gate: &self.0, _inside: self.0.enter() }
+    pub fn enter(&self) -> ReadGuard<'_, T> {
+        ReadGuard { gate: &self.0, _inside: self.0.enter() }
     }
 }
 
@@ -119,7 +119,7 @@ impl<T> Reader<T> {
     }
 }
 
-impl<T> Deref for Reading<'_, T> {
+impl<T> Deref for ReadGuard<'_, T> {
     type Target = T;
 
     fn deref(&self) -> &T {

@@ -73,7 +73,7 @@ fn a_client_has_left_when_the_server_confirms_it() {
     world.settle();
     assert!(world.clients[0].are_open() && left.answer.try_recv().is_err());
     world.clients[0].tick();
-    assert_eq!(world.messages_of(0).len(), 1, "it says Bye again");
+    assert_eq!(world.messages_of(0).len(), 1, "it sends Bye again");
     world.clients[0].receive(&[]).unwrap();
     assert_eq!(left.answer.try_recv(), Ok(Ok(())));
     assert!(!world.clients[0].are_open());

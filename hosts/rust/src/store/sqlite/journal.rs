@@ -130,7 +130,7 @@ fn each_change(connection: &Connection, mut take: impl FnMut(Change)) -> Result<
     let mut rows = all.query([])?;
     while let Some(row) = rows.next()? {
         let changes = row.get_ref(0)?.as_blob().ok().and_then(batch::from_bytes);
-        let damaged = || StoreError::says("the journal of the store is damaged");
+        let damaged = || StoreError::failed("the journal of the store is damaged");
         changes.ok_or_else(damaged)?.into_iter().for_each(&mut take);
     }
     Ok(())
