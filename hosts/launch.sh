@@ -86,13 +86,13 @@ run() {
     serve)
         is_there krl-server || ! asks_for_help "$@" ||
             tell_without_help krl-server './krl serve' docs/OPERATING.md
-        build_if_older krl-server "$hosts/rust" "$hosts/server" "$hosts/etcd" "$hosts/postgres" "$hosts/rows"
+        build_if_older krl-server "$hosts/rust" "$hosts/server" "$hosts/etcd" "$hosts/postgres" "$hosts/cli"
         ;;
     *)
         shift
         is_there krl-client || ! asks_for_help "$@" ||
             tell_without_help krl-client './krl client' hosts/client/README.md
-        build_if_older krl-client "$hosts/rust" "$hosts/client" "$hosts/rows"
+        build_if_older krl-client "$hosts/rust" "$hosts/client" "$hosts/cli"
         ;;
     esac
     rm -rf "$work"

@@ -60,10 +60,10 @@ def read_uses():
 def kit_folder():
     """Where the kit lies."""
     try:
-        said = subprocess.run(["rt", "doc"], stdout=subprocess.PIPE, text=True, check=True)
+        printed = subprocess.run(["rt", "doc"], stdout=subprocess.PIPE, text=True, check=True)
     except (OSError, subprocess.CalledProcessError):
         stop("'rt', the command of the Rattle kit, is not on the PATH")
-    return pathlib.Path(said.stdout.strip()).parent
+    return pathlib.Path(printed.stdout.strip()).parent
 
 
 def libraries(name, uses, kit):

@@ -35,6 +35,9 @@ pub struct Builder<O> {
 
 impl<O: Origin> Builder<O> {
     pub(crate) fn new(reader: Client, writer: Client, origin: O) -> Builder<O> {
+        // What is in memory counts as long as its reader keeps what it has read of krl.
+        reader.keep_all();
+        writer.keep_all();
         let (memory, timeout, earlier_server) = (MEMORY, TIMEOUT, EarlierServer::default());
         Builder { reader, writer, origin, memory, timeout, earlier_server, on_step: None }
     }

@@ -44,6 +44,10 @@
 //! the key: under a pin, and a lock in the database, it puts into krl what the database has.
 //!
 //! `docs/CACHE.md` has the promise, its premises, and what each failure does.
+//!
+//! # Tables that any SQL may write
+//!
+//! The module `reader` has another cache, for databases with the extension of `hosts/pgext`.
 mod accept;
 mod bodies;
 mod builder;
@@ -63,6 +67,8 @@ mod outcome;
 mod pinned;
 #[cfg(feature = "postgres")]
 mod postgres;
+#[cfg(feature = "postgres")]
+pub mod reader;
 mod reads;
 mod repair;
 mod replacing;

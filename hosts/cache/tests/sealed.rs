@@ -1,12 +1,18 @@
-//! A cache that speaks by TLS to krl and to the database. It starts a server of PostgreSQL.
+//! Caches that speak by TLS to krl and to the database. They start a server of PostgreSQL.
+#[path = "reader/site.rs"]
+mod site;
+
 use krl::{Access, Client, Listener, MemoryStore, Server, Servers, TlsConfig};
 use krl_cache::tokio_postgres::types::ToSql;
 use krl_cache::tokio_postgres::{Error, Row};
-use krl_cache::{Cache, PostgresAddress, PostgresOrigin, PostgresRow, Table};
+use krl_cache::{Cache, PostgresAddress, PostgresOrigin, PostgresRow, Table, reader};
 use krl_testing::authority::Authority;
 use krl_testing::certificates;
-use krl_testing::database::Database;
+use krl_testing::database::{Database, Sql};
 use std::path::PathBuf;
+use std::sync::atomic::{AtomicU32, Ordering};
+
+static COUNT: AtomicU32 = AtomicU32::new(0);
 
 #[derive(Debug, PartialEq, Eq)]
 struct Item(String);
@@ -32,7 +38,9 @@ struct Krl {
 
 impl Krl {
     fn start() -> Krl {
-        let folder = std::env::temp_dir().join(format!("krl-sealed-{}", std::process::id()));
+        let count = COUNT.fetch_add(1, Ordering::Relaxed);
+        let name = format!("krl-sealed-{}-{count}", std::process::id());
+        let folder = std::env::temp_dir().join(name);
         std::fs::create_dir_all(&folder).unwrap();
         let authority = certificates::Authority::new("cache");
         let files = authority.certify(&folder, &["krl:server"], 5);
@@ -89,7 +97,26 @@ fn a_cache_uses_tls_to_krl_and_to_the_database() {
     let cache = builder(0).open().unwrap();
     assert!(cache.update(1, |item| Some(Item(format!("{}b", item.0)))).unwrap());
     assert_eq!(*cache.get(1).unwrap().unwrap().body, Item("ab".to_string()));
-    // All connections of the cache are sealed, and that of the test is not.
+    wait_until_sealed(&sql);
+}
+
+#[test]
+fn a_reader_uses_tls_to_krl_and_to_the_database() {
+    let Some(authority) = Authority::make() else { return };
+    let Some((database, address)) = sealed(&authority) else { return };
+    let (sql, krl) = (database.connect(), Krl::start());
+    site::create_extension(&sql, &krl.join(60), &krl.server.address().to_string());
+    let files = krl.authority.certify(&krl.folder, &["krl:client:0"], 5);
+    let builder = reader::Cache::builder(address, krl.folder.join("locks"));
+    let cache = builder.numbers(0..1).tls(shown(&files)).open().unwrap();
+    let items = cache.table("item").unwrap();
+    assert_eq!(site::from_memory(&items, |items| site::name_of(items, 3)).unwrap(), "item 3");
+    wait_until_sealed(&sql);
+    cache.close();
+}
+
+/// Waits until all connections of caches are sealed, and there is one. That of the test is not.
+fn wait_until_sealed(sql: &Sql) {
     sql.wait_until("SELECT count(*) FROM pg_stat_ssl WHERE ssl", |count| count > 0);
     let open = "SELECT count(*) FROM pg_stat_ssl JOIN pg_stat_activity AS it USING (pid)
         WHERE NOT ssl AND it.client_port IS NOT NULL AND pid <> pg_backend_pid()";

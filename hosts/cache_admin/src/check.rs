@@ -2,7 +2,6 @@
 use crate::arguments::TableWords;
 use crate::database::Database;
 use crate::failure::Failure;
-use crate::output;
 use krl_cache::TableFault;
 use std::fmt::Write;
 use std::process::ExitCode;
@@ -19,7 +18,7 @@ pub fn check(
     let faults = database.open(words.table())?.faults(role)?;
     let name = &words.name;
     if faults.is_empty() {
-        output::print(&format!("{name}: nothing is missing\n"))?;
+        krl_cli::print(&format!("{name}: nothing is missing\n"))?;
         return Ok(ExitCode::SUCCESS);
     }
     let mut text = String::new();
@@ -40,6 +39,6 @@ pub fn check(
             }
         };
     }
-    output::print(&text)?;
+    krl_cli::print(&text)?;
     Ok(ExitCode::from(MISSING))
 }

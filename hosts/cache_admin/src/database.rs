@@ -4,8 +4,8 @@ use crate::fill::{self, Filled};
 use clap::builder::ValueParserFactory;
 use krl::Client;
 use krl_cache::{
-    Cache, EarlierServer, OriginError, PostgresAddress, PostgresOrigin, SqliteOrigin, Table,
-    TableFault,
+    Cache, EarlierServer, Origin, OriginError, PostgresAddress, PostgresOrigin, SqliteOrigin,
+    Table, TableFault,
 };
 use krl_postgres::UrlWord;
 use std::path::{Path, PathBuf};
@@ -113,7 +113,16 @@ pub trait CachedTable {
     fn fill_store(&self, path: &Path, earlier: EarlierServer) -> Result<Filled, Failure>;
 }
 
-impl CachedTable for PostgresOrigin<()> {
+/// What differs from one kind of database to another.
+pub trait Prepared: Origin {
+    /// See [`CachedTable::set_up`].
+    fn set_up(&self) -> Result<(), OriginError>;
+
+    /// See [`CachedTable::faults`].
+    fn faults(&self, role: Option<&str>) -> Result<Vec<TableFault>, OriginError>;
+}
+
+impl Prepared for PostgresOrigin<()> {
     fn set_up(&self) -> Result<(), OriginError> {
         PostgresOrigin::set_up(self)
     }
@@ -125,32 +134,25 @@ impl CachedTable for PostgresOrigin<()> {
         }
         Ok(faults)
     }
-
-    fn fill_server(
-        self: Box<Self>,
-        reader: Client,
-        writer: Client,
-        earlier: EarlierServer,
-    ) -> Result<Filled, Failure> {
-        fill::server(*self, reader, writer, earlier)
-    }
-
-    fn accept(self: Box<Self>, reader: Client, writer: Client) -> Result<(), Failure> {
-        Ok(Cache::builder(reader, writer, *self).accept_and_open()?.close()?)
-    }
-
-    fn fill_store(&self, path: &Path, earlier: EarlierServer) -> Result<Filled, Failure> {
-        fill::store(self, path, earlier)
-    }
 }
 
-impl CachedTable for SqliteOrigin<()> {
+impl Prepared for SqliteOrigin<()> {
     fn set_up(&self) -> Result<(), OriginError> {
         SqliteOrigin::set_up(self)
     }
 
     fn faults(&self, _: Option<&str>) -> Result<Vec<TableFault>, OriginError> {
         self.check()
+    }
+}
+
+impl<O: Prepared> CachedTable for O {
+    fn set_up(&self) -> Result<(), OriginError> {
+        Prepared::set_up(self)
+    }
+
+    fn faults(&self, role: Option<&str>) -> Result<Vec<TableFault>, OriginError> {
+        Prepared::faults(self, role)
     }
 
     fn fill_server(

@@ -1,12 +1,10 @@
 //! Why a command failed, and its exit status.
 use krl_cache::{CacheError, OriginError};
+use krl_cli::{BROKEN_PIPE, sentence};
 use std::error::Error;
 use std::fmt;
 use std::io::{self, ErrorKind, Write};
 use std::process::ExitCode;
-
-/// The exit status of a command whose output nobody reads any more, as of one that SIGPIPE ended.
-const BROKEN_PIPE: u8 = 128 + 13;
 
 /// The exit status of a command that could not do what it was asked to do.
 const NOT_DONE: u8 = 1;
@@ -35,7 +33,7 @@ impl Failure {
         })
     }
 
-    /// Reports the failure on standard error. That nobody reads the output is no news.
+    /// Reports the failure on standard error. A closed pipe is not reported.
     pub fn report(&self) {
         if !self.is_broken_pipe() {
             // If it cannot be written, the exit status has to do.
@@ -89,14 +87,5 @@ fn with_remedy(why: String) -> String {
 
 /// An error with its causes, as one sentence.
 pub fn not_done(error: &dyn Error) -> Failure {
-    let mut sentence = error.to_string();
-    let mut cause = error.source();
-    while let Some(error) = cause {
-        let why = error.to_string();
-        if !sentence.contains(&why) {
-            sentence = format!("{sentence}: {why}");
-        }
-        cause = error.source();
-    }
-    Failure::NotDone(sentence)
+    Failure::NotDone(sentence(error))
 }

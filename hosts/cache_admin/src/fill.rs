@@ -4,12 +4,12 @@ use crate::database::Database;
 use crate::failure::{Failure, not_done};
 use krl::{Client, Room, Snapshot, SqliteStore};
 use krl_cache::{Cache, CacheError, EarlierServer, Origin, StoreFilling};
-use krl_rows::Progress;
+use krl_cli::Progress;
 use std::fmt;
 use std::fs;
 use std::path::{Path, PathBuf};
 
-/// A table may become so many times as large before its new store is full.
+/// A table may become this many times as large before its new store is full.
 const GROWTH: usize = 2;
 
 /// What was filled.
@@ -29,7 +29,7 @@ impl fmt::Display for Filled {
     }
 }
 
-/// The room of a new store of so many rows, which a server has that is given no other one.
+/// The room of a new store with this many rows, unless the server is given another.
 fn room_for(rows: usize) -> Room {
     let room = Room::of(rows.saturating_mul(GROWTH)).unwrap_or(Room::MAX);
     room.max(Room::default())

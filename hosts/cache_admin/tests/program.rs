@@ -247,16 +247,16 @@ fn a_new_store_is_filled_at_once() {
     assert!(text.contains("--clients-are-stopped"), "{text}");
     let words = [&words[..], &["--clients-are-stopped"]].concat();
     let filled = ended(folder, &words);
-    let told = "item: krl has the versions of 2 rows, and room for 65536\n".to_string();
-    assert_eq!(filled, (0, told));
+    let message = "item: krl has the versions of 2 rows, and room for 65536\n".to_string();
+    assert_eq!(filled, (0, message));
     let files: Vec<_> = std::fs::read_dir(folder).unwrap().flatten().collect();
     assert_eq!(files.len(), 1, "{files:?}");
-    let told = "krl-cache: the file krl.db exists already. To fill a running server again, give its \
+    let message = "krl-cache: the file krl.db exists already. To fill a running server again, give its \
                 address by --krl in place of --store; to begin again with a new store, stop all \
                 programs and the server, move the file away, and add --replaces-server\n";
     for more in [&[][..], &["--replaces-server"]] {
         let (status, text) = ended(folder, &[&words[..], more].concat());
-        assert_eq!((status, text.as_str()), (1, told));
+        assert_eq!((status, text.as_str()), (1, message));
     }
     let words = ["fill", &at, "item", "--store", "other.db", "--clients-are-stopped"];
     let (status, text) = ended(folder, &words);
@@ -287,8 +287,8 @@ fn a_large_table_may_grow() {
     connection.execute_batch(&[table, rows].concat()).unwrap();
     assert_eq!(ended(folder, &["set-up", "shop.db", "item"]).0, 0);
     let words = ["fill", "shop.db", "item", "--store", "krl.db", "--clients-are-stopped"];
-    let told = "item: krl has the versions of 70000 rows, and room for 140004\n".to_string();
-    assert_eq!(ended(folder, &words), (0, told));
+    let message = "item: krl has the versions of 70000 rows, and room for 140004\n".to_string();
+    assert_eq!(ended(folder, &words), (0, message));
     assert_eq!(serve(&folder.join("krl.db")).room().rows(), 140_004);
 }
 

@@ -461,9 +461,7 @@ class client {
     }
     /* The same, into rows that were there before. */
     answer<void> read(std::uint64_t lo, std::uint64_t hi, krl::rows &into, timeout time = {}) {
-        krlc_error failed;
-        std::uint32_t code = krlc_read(client_.get(), lo, hi, into.get(), detail::milliseconds(time), &failed);
-        return detail::answered(code, failed, [] {});
+        return done(krlc_read, lo, hi, into.get(), detail::milliseconds(time));
     }
     /* Reads from the cache only, without a message: false if that does not have the whole range. */
     [[nodiscard]] answer<bool> cached(std::uint64_t lo, std::uint64_t hi, krl::rows &into) {
@@ -490,10 +488,7 @@ class client {
 
     /* Makes the writes of the batch in one wait: `batch::at` shows what became of each, also after an error. */
     answer<void> write_all(batch &writes, timeout time = {}) {
-        krlc_error failed;
-        const auto waits = detail::milliseconds(time);
-        const auto code = krlc_write_all(client_.get(), writes.data(), writes.size(), waits, &failed);
-        return detail::answered(code, failed, [] {});
+        return done(krlc_write_all, writes.data(), writes.size(), detail::milliseconds(time));
     }
 
     /* Pins what the client holds of the range, without reading it. */
@@ -531,8 +526,7 @@ class client {
     }
     /* Gives back what the client holds of the range. */
     answer<void> forget(std::uint64_t lo, std::uint64_t hi, timeout time = {}) {
-        krlc_error failed;
-        return detail::answered(krlc_forget(client_.get(), lo, hi, detail::milliseconds(time), &failed), failed, [] {});
+        return done(krlc_forget, lo, hi, detail::milliseconds(time));
     }
 
     /* The client's number, which one of `numbers` was free. */
@@ -547,23 +541,22 @@ class client {
         return detail::answered(code, failed, [&] { return std::move(shown); });
     }
     /* How long calls wait from now on that are given no timeout. */
-    answer<void> set_timeout(timeout time) {
-        krlc_error failed;
-        return detail::answered(krlc_set_timeout(client_.get(), detail::milliseconds(time), &failed), failed, [] {});
-    }
-    answer<void> reload_tls() {
-        krlc_error failed;
-        return detail::answered(krlc_reload_tls(client_.get(), &failed), failed, [] {});
-    }
+    answer<void> set_timeout(timeout time) { return done(krlc_set_timeout, detail::milliseconds(time)); }
+    /* From now on the client keeps what it reads until another client wants to write it: see `krlc_keep_all`. */
+    answer<void> keep_all() { return done(krlc_keep_all); }
+    answer<void> reload_tls() { return done(krlc_reload_tls); }
     /* Gives back all that the client holds, and waits until each server has that on its disk. */
-    answer<void> leave(timeout time = {}) {
-        krlc_error failed;
-        return detail::answered(krlc_leave(client_.get(), detail::milliseconds(time), &failed), failed, [] {});
-    }
+    answer<void> leave(timeout time = {}) { return done(krlc_leave, detail::milliseconds(time)); }
 
     krlc_client *get() const noexcept { return client_.get(); }
 
   private:
+    /* A call of C that answers nothing. */
+    template <class Call, class... Words> answer<void> done(Call call, Words... words) {
+        krlc_error failed;
+        return detail::answered(call(client_.get(), words..., &failed), failed, [] {});
+    }
+
     using write_call = std::uint32_t (*)(krlc_client *, std::uint64_t, const void *, std::size_t, std::uint64_t,
                                          krlc_error *);
 

@@ -299,7 +299,7 @@ typedef struct krlc_status {
     uint64_t epoch;
     /* The client's incarnation: each is greater than the one before, and each end of a lease begins another. */
     uint64_t incarnation;
-    /* For how many milliseconds the client may still answer from its cache if it hears nothing more from the server, or
+    /* For how many milliseconds the client may still answer from its cache if nothing more comes from the server, or
      * KRLC_FOR_EVER from a server without leases. */
     uint64_t lease_left_ms;
     /* Whether there is a connection at this moment. */
@@ -346,6 +346,13 @@ void krlc_free(krlc_client *client);
 /* From now on, calls whose `timeout_ms` is 0 wait for this many milliseconds, from 1 to a year: greater numbers count
  * as a year. Errors: KRLC_MISUSE for 0. */
 KRLC_NODISCARD uint32_t krlc_set_timeout(krlc_client *client, uint64_t timeout_ms, krlc_error *error);
+
+/* From now on the client keeps what it reads until another client wants to write it. Otherwise, where others have
+ * written more of its rows than its cache has answered scans, it gives back what it has just read or written: each read
+ * there asks the server, also while that is down, and `krlc_cached` returns KRLC_MISS, until the client has tried again
+ * after some hundred reads. What was pinned, or watched for changes, it keeps; and so does a client of a map. A tenure
+ * counts as a scan. Call this to read while the server is down. Errors: KRLC_MISUSE. */
+KRLC_NODISCARD uint32_t krlc_keep_all(krlc_client *client, krlc_error *error);
 
 /* Reads the files for TLS again: connections that are made from now on use them. Errors: KRLC_BAD_TLS, also if the
  * client has none. Then the earlier ones stay. */

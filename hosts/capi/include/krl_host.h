@@ -93,7 +93,8 @@ typedef enum krlh_purpose { KRLH_FOR_READ = 0, KRLH_FOR_UPDATE = 1, KRLH_FOR_WRI
 
 /* The client and its connection. */
 
-/* Opens a client, which has its lock file from then on. Errors: KRLC_MISUSE, KRLC_BAD_NUMBER, KRLC_LOCK_FILE,
+/* Opens a client, which has its lock file from then on, and keeps all that it reads until another client wants to write
+ * it. Errors: KRLC_MISUSE, KRLC_BAD_NUMBER, KRLC_LOCK_FILE,
  * KRLC_LOCK_FILE_TAKEN, KRLC_OUT_OF_MEMORY. Then `client` is null. */
 KRLC_NODISCARD uint32_t krlh_open(const krlh_options *options, uint64_t now, krlh_client **client, krlc_error *error);
 
@@ -125,7 +126,7 @@ uint64_t krlh_due(krlh_client *client);
  * connection. Calls that were begun may have something to send: ask again after them. */
 const void *krlh_output(krlh_client *client, uint64_t now, size_t *length);
 
-/* So many bytes of that were sent. */
+/* Reports that this many of those bytes were sent. */
 void krlh_sent(krlh_client *client, size_t length);
 
 /* The connection has ended, or was not made. Returns the moment at which to make the next one. */

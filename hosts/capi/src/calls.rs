@@ -2,6 +2,27 @@
 //! are the conditions under which each is safe. Each examines what C gives it, and hands on values.
 #![allow(clippy::missing_safety_doc, reason = "the header has it")]
 #![allow(missing_docs, reason = "the header has it")]
+
+/// Defines a call by which this owner, a client or a pin, writes a row.
+macro_rules! row_call {
+    ($row_call:ident, $owner:ty, $write:ident) => {
+        #[unsafe(no_mangle)]
+        pub unsafe extern "C" fn $row_call(
+            owner: *mut $owner,
+            key: u64,
+            bytes: *const c_void,
+            length: usize,
+            timeout_ms: u64,
+            error: *mut ErrorRoom,
+        ) -> u32 {
+            // SAFETY: the caller vouches for this many bytes.
+            let value = || unsafe { input::value(bytes.cast(), length) };
+            // SAFETY: the caller vouches for the owner and the room.
+            unsafe { write(owner, timeout_ms, error, |owner| Ok(owner.$write(key, value()?)?)) }
+        }
+    };
+}
+
 mod host;
 mod pins;
 mod room;
@@ -150,6 +171,17 @@ pub unsafe extern "C" fn krlc_set_timeout(
 }
 
 #[unsafe(no_mangle)]
+pub unsafe extern "C" fn krlc_keep_all(client: *mut Client, error: *mut ErrorRoom) -> u32 {
+    let keep = || {
+        // SAFETY: the caller frees the client after this call.
+        unsafe { own(client) }?.client().keep_all();
+        Ok(Code::Ok)
+    };
+    // SAFETY: the caller vouches for the room of the error.
+    unsafe { answer(error, keep) }
+}
+
+#[unsafe(no_mangle)]
 pub unsafe extern "C" fn krlc_reload_tls(client: *mut Client, error: *mut ErrorRoom) -> u32 {
     let reload = || {
         // SAFETY: the caller frees the client after this call.
@@ -230,7 +262,7 @@ pub unsafe extern "C" fn krlc_cached_into(
         let mut found = 0;
         let copy = |row: &Row| {
             if found < room {
-                // SAFETY: the caller vouches for so much room. Nothing of it is read.
+                // SAFETY: the caller vouches for this much room. Nothing of it is read.
                 unsafe { at.add(found).write(*row) };
             }
             found += 1;
@@ -368,50 +400,9 @@ unsafe fn write(
     unsafe { answer(error, write) }
 }
 
-#[unsafe(no_mangle)]
-pub unsafe extern "C" fn krlc_insert(
-    client: *mut Client,
-    key: u64,
-    bytes: *const c_void,
-    length: usize,
-    timeout_ms: u64,
-    error: *mut ErrorRoom,
-) -> u32 {
-    // SAFETY: the caller vouches for this many bytes.
-    let value = || unsafe { input::value(bytes.cast(), length) };
-    // SAFETY: the caller vouches for the client and the room.
-    unsafe { write(client, timeout_ms, error, |client| Ok(client.insert(key, value()?)?)) }
-}
-
-#[unsafe(no_mangle)]
-pub unsafe extern "C" fn krlc_put(
-    client: *mut Client,
-    key: u64,
-    bytes: *const c_void,
-    length: usize,
-    timeout_ms: u64,
-    error: *mut ErrorRoom,
-) -> u32 {
-    // SAFETY: the caller vouches for this many bytes.
-    let value = || unsafe { input::value(bytes.cast(), length) };
-    // SAFETY: the caller vouches for the client and the room.
-    unsafe { write(client, timeout_ms, error, |client| Ok(client.put(key, value()?)?)) }
-}
-
-#[unsafe(no_mangle)]
-pub unsafe extern "C" fn krlc_set(
-    client: *mut Client,
-    key: u64,
-    bytes: *const c_void,
-    length: usize,
-    timeout_ms: u64,
-    error: *mut ErrorRoom,
-) -> u32 {
-    // SAFETY: the caller vouches for this many bytes.
-    let value = || unsafe { input::value(bytes.cast(), length) };
-    // SAFETY: the caller vouches for the client and the room.
-    unsafe { write(client, timeout_ms, error, |client| Ok(client.set(key, value()?)?)) }
-}
+row_call!(krlc_insert, Client, insert);
+row_call!(krlc_put, Client, put);
+row_call!(krlc_set, Client, set);
 
 #[unsafe(no_mangle)]
 pub unsafe extern "C" fn krlc_delete(

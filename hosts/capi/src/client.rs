@@ -7,7 +7,7 @@ use std::sync::Arc;
 use std::time::Duration;
 
 /// How long a client that is freed waits until its servers have kept that it left.
-const FAREWELL: Duration = Duration::from_secs(1);
+const LEAVE_TIMEOUT: Duration = Duration::from_secs(1);
 
 /// A client that has joined. Its pins share it.
 #[derive(Debug)]
@@ -44,7 +44,7 @@ impl Joined {
     /// Leaves. While it has pins the client stays, so it has to leave before.
     pub fn end(self) {
         if Arc::strong_count(&self.client) > 1 {
-            let _ = self.client.within(FAREWELL).leave();
+            let _ = self.client.within(LEAVE_TIMEOUT).leave();
         }
     }
 }

@@ -1,6 +1,6 @@
 //! Why a call failed, and how C learns it.
 use crate::code::Code;
-use crate::reason::Reason;
+use crate::reason::{self, NO_REASON};
 use krl::{Error, ErrorKind, JoinError};
 use std::borrow::Cow;
 use std::fmt::Display;
@@ -15,7 +15,7 @@ pub const MAX_SENTENCE_BYTES: usize = 500;
 pub struct Fault {
     pub code: Code,
     shard: Option<u8>,
-    reason: Reason,
+    reason: i32,
     sentence: Cow<'static, str>,
 }
 
@@ -32,7 +32,7 @@ pub struct ErrorRoom {
 
 impl Fault {
     pub fn new(code: Code, sentence: impl Into<Cow<'static, str>>) -> Fault {
-        Fault { code, shard: None, reason: Reason::None, sentence: sentence.into() }
+        Fault { code, shard: None, reason: NO_REASON, sentence: sentence.into() }
     }
 
     pub fn misuse(sentence: impl Into<Cow<'static, str>>) -> Fault {
@@ -49,7 +49,7 @@ impl Fault {
         let end = self.sentence.floor_of(MAX_SENTENCE_BYTES - 1);
         sentence[..end].copy_from_slice(&self.sentence.as_bytes()[..end]);
         let shard = self.shard.map_or(-1, i32::from);
-        ErrorRoom { code: self.code as u32, shard, reason: self.reason as i32, sentence }
+        ErrorRoom { code: self.code as u32, shard, reason: self.reason, sentence }
     }
 }
 
@@ -77,13 +77,13 @@ impl From<Error> for Fault {
             Code::Left => Cow::Borrowed("the client has left"),
             _ => Cow::Owned(refused.to_string()),
         };
-        Fault { code, shard: refused.shard, reason: Reason::of_call(&refused.kind), sentence }
+        Fault { code, shard: refused.shard, reason: reason::of_call(&refused.kind), sentence }
     }
 }
 
 impl From<JoinError> for Fault {
     fn from(error: JoinError) -> Fault {
-        let (code, reason) = (Code::from(&error.kind), Reason::of_join(&error.kind));
+        let (code, reason) = (Code::from(&error.kind), reason::of_join(&error.kind));
         Fault { code, shard: error.shard, reason, sentence: Cow::Owned(error.to_string()) }
     }
 }

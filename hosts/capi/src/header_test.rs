@@ -7,9 +7,10 @@ use crate::host::{Answer, CallBack, NEVER, NO_PIN};
 use crate::host_options::HostOptions;
 use crate::input::GivenRow;
 use crate::options::{NUMBERS, Options};
-use crate::reason::Reason;
+use crate::reason::{self, NO_REASON};
 use crate::status::Status;
 use crate::writes::GivenWrite;
+use krl::{ClientSet, ErrorKind, Refusal};
 use std::collections::{BTreeMap, BTreeSet};
 use std::fmt::Write as _;
 use std::io::Write as _;
@@ -68,21 +69,36 @@ fn c_type(rust: &str) -> &'static str {
 
 /// The calls that are exported, with the pointer type of each in C.
 fn exports() -> BTreeMap<String, String> {
-    let mut found = BTreeMap::new();
-    for source in SOURCES {
-        for call in source.split("#[unsafe(no_mangle)]").skip(1) {
-            let (name, rest) = call.split_once("fn ").unwrap().1.split_once('(').unwrap();
-            let (parameters, rest) = rest.split_once(')').unwrap();
-            let result = rest.split_once('{').unwrap().0.trim().strip_prefix("->");
-            let parameters = parameters.split(',').filter_map(|it| it.split_once(':'));
-            let parameters: Vec<&str> = parameters.map(|(_, kind)| c_type(kind.trim())).collect();
-            let result = result.map_or("void", |kind| c_type(kind.trim()));
-            let parameters =
-                if parameters.is_empty() { "void".into() } else { parameters.join(", ") };
-            found.insert(name.to_string(), format!("{result} (*)({parameters})"));
-        }
-    }
-    found
+    let source = SOURCES.concat();
+    let calls = source.split("#[unsafe(no_mangle)]").skip(1);
+    calls.flat_map(|call| calls_of(call, &source)).collect()
+}
+
+/// The call that this text begins with, by its name; or, if that is a parameter of a macro, each that
+/// the macro of the same name defines, of an owner.
+fn calls_of(call: &str, source: &str) -> Vec<(String, String)> {
+    let (name, rest) = call.split_once("fn ").unwrap().1.split_once('(').unwrap();
+    let Some(name) = name.strip_prefix('$') else {
+        return vec![(name.to_string(), pointer_type(rest, ""))];
+    };
+    let call_of_macro = format!("\n{name}!(");
+    let defined = source.split(&call_of_macro).skip(1).map(|words| {
+        let mut words = words.split(", ");
+        (words.next().unwrap().to_string(), pointer_type(rest, words.next().unwrap()))
+    });
+    defined.collect()
+}
+
+/// The type in C of a pointer to a call with these parameters and this result, of this owner.
+fn pointer_type(call: &str, owner: &str) -> String {
+    let (parameters, rest) = call.split_once(')').unwrap();
+    let result = rest.split_once('{').unwrap().0.trim().strip_prefix("->");
+    let parameters = parameters.split(',').filter_map(|it| it.split_once(':'));
+    let kinds = parameters.map(|(_, kind)| kind.trim().replace("$owner", owner));
+    let kinds: Vec<_> = kinds.map(|kind| c_type(&kind)).collect();
+    let result = result.map_or("void", |kind| c_type(kind.trim()));
+    let kinds = if kinds.is_empty() { "void".into() } else { kinds.join(", ") };
+    format!("{result} (*)({kinds})")
 }
 
 fn without_comments(header: &str) -> String {
@@ -126,22 +142,22 @@ fn program(header: &str) -> String {
         writeln!(program, "_Static_assert({name} == {number}, \"{name}\");").unwrap();
     }
     let reasons = [
-        ("NO_REASON", Reason::None),
-        ("REASON_VERSION", Reason::Version),
-        ("REASON_CLIENT_NUMBER", Reason::ClientNumber),
-        ("REASON_INCARNATION", Reason::Incarnation),
-        ("REASON_FULL", Reason::Full),
-        ("REASON_MISSING", Reason::Missing),
-        ("REASON_LEASE_RUNS", Reason::LeaseRuns),
-        ("REASON_DENIED", Reason::Denied),
-        ("REASON_OTHER_SHARD", Reason::OtherShard),
-        ("REASON_FAR_AHEAD", Reason::FarAhead),
-        ("REASON_OTHER_STORE", Reason::OtherStore),
+        ("VERSION", Refusal::Version { read: 1 }),
+        ("CLIENT_NUMBER", Refusal::ClientNumber { number: 64 }),
+        ("INCARNATION", Refusal::Incarnation { client: 1, registered: 2 }),
+        ("FULL", Refusal::Full { connections: 1 }),
+        ("MISSING", Refusal::Missing(ClientSet::default())),
+        ("LEASE_RUNS", Refusal::LeaseRuns { client: 1, registered: 2 }),
+        ("DENIED", Refusal::Denied),
+        ("OTHER_SHARD", Refusal::OtherShard(None)),
+        ("FAR_AHEAD", Refusal::FarAhead { client: 1, latest: 2 }),
+        ("OTHER_STORE", Refusal::OtherStore),
     ];
-    for (name, reason) in reasons {
-        let is_same = format!("KRLC_{name} == {}", reason as i32);
-        writeln!(program, "_Static_assert({is_same}, \"{name}\");").unwrap();
+    for (name, refusal) in reasons {
+        let reason = reason::of_call(&ErrorKind::Unserved(refusal));
+        writeln!(program, "_Static_assert(KRLC_REASON_{name} == {reason}, \"{name}\");").unwrap();
     }
+    writeln!(program, "_Static_assert(KRLC_NO_REASON == {NO_REASON}, \"none\");").unwrap();
     let numbers = [
         ("KRLC_VERSION", u64::from(krlc_version())),
         ("KRLC_END", krl::END),

@@ -1,16 +1,8 @@
 //! Without the feature `tls` a client shows nothing, and files for TLS are refused.
 use crate::code::Code;
 use crate::fault::Fault;
+use crate::options::TlsTexts;
 use krl::{ClientBuilder, Servers};
-
-/// The files for TLS, and the table, as far as they are named.
-#[derive(Clone, Copy, Debug)]
-pub struct TlsTexts<'o> {
-    pub authority: Option<&'o str>,
-    pub certificate: Option<&'o str>,
-    pub key: Option<&'o str>,
-    pub table: Option<&'o str>,
-}
 
 /// Nothing.
 #[derive(Debug)]

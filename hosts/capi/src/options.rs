@@ -3,7 +3,7 @@ use crate::client::Joined;
 use crate::code::Code;
 use crate::fault::Fault;
 use crate::input::{range, text};
-use crate::tls::{Tls, TlsTexts};
+use crate::tls::Tls;
 use krl::{Client, END, Place, ShardMap, evict};
 use std::ffi::c_char;
 use std::mem::MaybeUninit;
@@ -50,6 +50,15 @@ pub struct Wish<'o> {
     wait_if_in_use: Option<Duration>,
     keys: Range<u64>,
     tls: Tls,
+}
+
+/// The files for TLS, and the table, as far as they are named.
+#[derive(Clone, Copy, Debug)]
+pub struct TlsTexts<'o> {
+    pub authority: Option<&'o str>,
+    pub certificate: Option<&'o str>,
+    pub key: Option<&'o str>,
+    pub table: Option<&'o str>,
 }
 
 /// One number; or several, of which the first free one is taken.

@@ -1,17 +1,9 @@
 //! What a client shows to servers by TLS, and whom it believes.
 use crate::code::Code;
 use crate::fault::Fault;
+use crate::options::TlsTexts;
 use krl::{ClientBuilder, Servers, TableName, TlsConfig, TlsError};
 use std::error::Error;
-
-/// The files for TLS, and the table, as far as they are named.
-#[derive(Clone, Copy, Debug)]
-pub struct TlsTexts<'o> {
-    pub authority: Option<&'o str>,
-    pub certificate: Option<&'o str>,
-    pub key: Option<&'o str>,
-    pub table: Option<&'o str>,
-}
 
 /// What was read of the files, if there are some.
 #[derive(Debug)]

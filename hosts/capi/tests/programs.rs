@@ -354,8 +354,8 @@ fn the_classes_for_cpp_with_sanitizers_of_memory() {
 fn the_example_in_c() {
     let world = World::new("hello");
     world.build("cc", "examples/hello.c", &[]);
-    let said = world.run(&[&world.place, &text(&world.folder.join("hello.lock"))]);
-    assert_eq!(said, "15=hello\n");
+    let printed = world.run(&[&world.place, &text(&world.folder.join("hello.lock"))]);
+    assert_eq!(printed, "15=hello\n");
 }
 
 /// The example ends when another client changes what it watches.
@@ -383,7 +383,7 @@ fn the_example_of_a_storage_engine() {
     for compiler in compilers() {
         let world = World::new(&format!("engine-{compiler}"));
         world.build(compiler, "examples/storage_engine.cpp", &[]);
-        let said = world.run(&[&world.place, &text(&world.folder)]);
-        assert_eq!(said, "12 extents taken\n");
+        let printed = world.run(&[&world.place, &text(&world.folder)]);
+        assert_eq!(printed, "12 extents taken\n");
     }
 }

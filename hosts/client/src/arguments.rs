@@ -1,13 +1,13 @@
 //! The words of the command line.
 mod bench_words;
 
-use crate::failure::{Failure, sentence};
+use crate::failure::Failure;
 use crate::words::{self, Numbers};
 pub use bench_words::{BenchWords, Mix, Skew};
 use clap::{Args, CommandFactory, FromArgMatches, Parser, Subcommand, ValueEnum};
 use clap_complete::Shell;
 use krl::{Servers, TableName, TlsConfig};
-use krl_rows::{Existing, ValueForm};
+use krl_cli::{Existing, ValueForm, sentence};
 use std::ffi::OsString;
 use std::ops::Range;
 use std::path::PathBuf;

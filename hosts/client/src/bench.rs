@@ -6,7 +6,7 @@ mod workload;
 use crate::arguments::{BenchWords, Options};
 use crate::failure::Failure;
 use crate::session::Session;
-use crate::signals::{FAREWELL, Signals, Taken};
+use crate::signals::{LEAVE_TIMEOUT, Signals, Taken};
 use crate::waiting::note_at_terminal;
 use krl::{Client, END, Outcome};
 use rand::SeedableRng;
@@ -27,7 +27,7 @@ pub fn run(options: &Options, words: &BenchWords, signals: &Signals) -> Result<u
     }
     let taken = signals.to_loop();
     let ended = measure_all(&sessions, &keys, words, &taken);
-    let timeout = if taken.is_ended() { FAREWELL } else { options.timeout };
+    let timeout = if taken.is_ended() { LEAVE_TIMEOUT } else { options.timeout };
     Session::leave_all(sessions, timeout);
     let (measured, took) = ended?;
     report::print(options.format(), words, &measured, took)?;
@@ -84,7 +84,7 @@ fn measure_all(
         measure(sessions, keys, words, signals)
     });
     if signals.is_ended() {
-        maker.set_timeout(FAREWELL.min(maker.timeout()));
+        maker.set_timeout(LEAVE_TIMEOUT.min(maker.timeout()));
     }
     note_at_terminal("deletes the rows");
     let deleted = delete_rows(maker, made);

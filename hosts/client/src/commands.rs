@@ -1,11 +1,11 @@
 //! The commands that ask once.
-use crate::arguments::{ClientCommand, KeyOrRange};
+use crate::arguments::{ClientCommand, KeyOrRange, RowWords};
 use crate::failure::Failure;
 use crate::output::Printer;
 use crate::session::Session;
 use crate::signals::Signals;
 use crate::{deleting, exporting, holding, pinging, watching, words};
-use krl::{Error, Outcome, Row};
+use krl::{Client, Error, Outcome, Row, Value};
 
 /// What commands run with.
 pub struct Context<'c> {
@@ -22,11 +22,11 @@ impl Context<'_> {
             ClientCommand::Scan { range } => {
                 self.printer.rows(&self.session.client.read(range.range()?)?)?;
             }
-            ClientCommand::Insert { row } => self.insert(&row.row(self.printer.values)?)?,
-            ClientCommand::Put { row } => self.put(&row.row(self.printer.values)?)?,
-            ClientCommand::Set { row } => self.set(&row.row(self.printer.values)?)?,
+            ClientCommand::Insert { row } => self.write(Client::insert, row)?,
+            ClientCommand::Put { row } => self.write(Client::put, row)?,
+            ClientCommand::Set { row } => self.write(Client::set, row)?,
             ClientCommand::Delete { keys } => match keys.parse()? {
-                KeyOrRange::Key(key) => self.delete(key)?,
+                KeyOrRange::Key(key) => self.judged(self.session.client.delete(key), key)?,
                 KeyOrRange::Range(keys) => deleting::delete(self, keys)?,
             },
             ClientCommand::Export { range } => exporting::export(self, range.range()?)?,
@@ -47,24 +47,13 @@ impl Context<'_> {
         if rows.is_empty() { Err(no_row(key)) } else { Ok(()) }
     }
 
-    fn insert(&self, row: &Row) -> Result<(), Failure> {
-        let outcome = self.session.client.insert(row.key, row.value);
-        self.judged(outcome, row.key)
-    }
-
-    fn put(&self, row: &Row) -> Result<(), Failure> {
-        let outcome = self.session.client.put(row.key, row.value);
-        self.judged(outcome, row.key)
-    }
-
-    fn set(&self, row: &Row) -> Result<(), Failure> {
-        let outcome = self.session.client.set(row.key, row.value);
-        self.judged(outcome, row.key)
-    }
-
-    fn delete(&self, key: u64) -> Result<(), Failure> {
-        let outcome = self.session.client.delete(key);
-        self.judged(outcome, key)
+    fn write(
+        &self,
+        write: fn(&Client, u64, Value) -> Result<Outcome, Error>,
+        row: &RowWords,
+    ) -> Result<(), Failure> {
+        let Row { key, value } = row.row(self.printer.values)?;
+        self.judged(write(&self.session.client, key, value), key)
     }
 
     fn judged(&self, outcome: Result<Outcome, Error>, key: u64) -> Result<(), Failure> {

@@ -2,7 +2,7 @@
 use crate::commands::{Context, applied};
 use crate::failure::Failure;
 use krl::Outcome;
-use krl_rows::Progress;
+use krl_cli::Progress;
 use std::ops::Range;
 
 /// Deletes the rows that the range has at one moment, one after the other. Those that others delete

@@ -2,7 +2,7 @@
 use crate::arguments::Format;
 use crate::commands::Context;
 use crate::failure::Failure;
-use krl_rows::{FileFormat, RowWriter};
+use krl_cli::{FileFormat, RowWriter};
 use std::io::{self, BufWriter};
 use std::ops::Range;
 

@@ -1,15 +1,13 @@
 //! Why a command did not do what it should, and the exit status that reports it.
 use crate::output;
 use krl::{Error, ErrorKind, JoinErrorKind, LockFileError, Refusal, Unsent};
-use krl_rows::{BadFile, BadValue};
+use krl_cli::{BROKEN_PIPE, BadFile, BadValue};
 use std::fmt;
 use std::io;
 use std::process::ExitStatus;
 
 /// The status of a process that a signal ended, less the signal's number.
 pub const SIGNALLED: u8 = 128;
-
-const SIGPIPE: u8 = 13;
 
 /// A command that failed.
 #[derive(Debug)]
@@ -37,9 +35,7 @@ impl Failure {
             Failure::Usage(_) => 2,
             Failure::NoAnswer(_) => 3,
             Failure::NotJoined(_) => 4,
-            Failure::Output(error) if error.kind() == io::ErrorKind::BrokenPipe => {
-                SIGNALLED + SIGPIPE
-            }
+            Failure::Output(error) if error.kind() == io::ErrorKind::BrokenPipe => BROKEN_PIPE,
             Failure::Refused(_) | Failure::Output(_) => 1,
             Failure::NotStarted(_, io::ErrorKind::NotFound) => 127,
             Failure::NotStarted(..) => 126,
@@ -203,30 +199,9 @@ impl Failure {
     }
 }
 
-/// An error and what caused it, as one line. Some errors include their causes themselves.
-pub fn sentence(error: &dyn std::error::Error) -> String {
-    let mut text = error.to_string();
-    let mut cause = error.source();
-    while let Some(error) = cause {
-        let why = error.to_string();
-        if !text.contains(&why) {
-            text = format!("{text}: {why}");
-        }
-        cause = error.source();
-    }
-    text
-}
-
 #[cfg(test)]
 mod tests {
     use super::*;
-
-    #[test]
-    fn a_cause_is_reported_once() {
-        let told = krl::ShardMap::from_file("/nowhere/map.toml").map_err(|error| sentence(&error));
-        let told = told.unwrap_err();
-        assert_eq!(told.matches("No such file").count(), 1, "{told}");
-    }
 
     #[test]
     fn each_failure_has_its_status() {

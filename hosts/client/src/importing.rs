@@ -7,7 +7,7 @@ use crate::session::Session;
 use crate::signals::Signals;
 use crate::words;
 use krl::{Outcome, Row};
-use krl_rows::{Existing, FileFormat, Line, Progress, read_file};
+use krl_cli::{Existing, FileFormat, Line, Progress, read_file};
 use std::sync::atomic::{AtomicUsize, Ordering};
 use std::sync::{Mutex, MutexGuard, PoisonError};
 use std::thread;

@@ -3,7 +3,6 @@ mod arguments;
 mod bench;
 mod commands;
 mod completing;
-mod completion;
 mod deleting;
 mod exporting;
 mod failure;
@@ -27,6 +26,7 @@ use crate::output::Printer;
 use crate::session::Session;
 use crate::signals::Signals;
 use clap::CommandFactory;
+use clap_complete::Shell;
 use std::ops::Range;
 use std::process::ExitCode;
 
@@ -59,7 +59,7 @@ fn run(arguments: &Arguments) -> Result<u8, Failure> {
     match &arguments.command {
         Some(Command::Bench(words)) => return bench::run(options, words, &signals),
         Some(Command::Import(words)) => return importing::import(options, words, &signals),
-        Some(Command::Completion { shell }) => return completion::print(*shell),
+        Some(Command::Completion { shell }) => return print_completion(*shell),
         Some(Command::Client(_)) | None => {}
     }
     let session = Session::join(options, &keys_of(arguments.command.as_ref())?)?;
@@ -83,12 +83,17 @@ fn keys_of(command: Option<&Command>) -> Result<Range<u64>, Failure> {
     }
 }
 
+fn print_completion(shell: Shell) -> Result<u8, Failure> {
+    krl_cli::print_completion(shell, Arguments::command())?;
+    Ok(0)
+}
+
 fn run_one(command: &Command, options: &Options, context: &Context<'_>) -> Result<u8, Failure> {
     let ended = match command {
         Command::Client(command) => context.run(command),
         Command::Bench(words) => bench::run(options, words, context.signals),
         Command::Import(words) => importing::import(options, words, context.signals),
-        Command::Completion { shell } => completion::print(*shell),
+        Command::Completion { shell } => print_completion(*shell),
     };
     context.signals.settle();
     ended

@@ -2,7 +2,7 @@
 use crate::arguments::{Format, Options};
 use crate::failure::Failure;
 use krl::{Outcome, Row};
-use krl_rows::{ValueForm, digits_of};
+use krl_cli::{ValueForm, digits_of};
 use serde_json::{Value as Json, json};
 use std::io::{self, Write};
 
@@ -95,10 +95,7 @@ pub fn print_note(sentence: &str) {
 
 /// Prints a text, whole and at once.
 pub fn print(text: &str) -> Result<(), Failure> {
-    let mut out = io::stdout().lock();
-    out.write_all(text.as_bytes())?;
-    out.flush()?;
-    Ok(())
+    Ok(krl_cli::print(text)?)
 }
 
 /// Prints a JSON value in a line.

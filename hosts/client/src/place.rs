@@ -1,7 +1,8 @@
 //! Where a table is: at one server, or at the servers of a map.
 use crate::arguments::Options;
-use crate::failure::{Failure, sentence};
+use crate::failure::Failure;
 use krl::{ClientBuilder, END, Servers, Shard, ShardMap, TlsConfig};
+use krl_cli::sentence;
 use std::fmt;
 use std::ops::Range;
 

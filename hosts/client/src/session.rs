@@ -5,11 +5,9 @@ use crate::output::print_note;
 use crate::place::Place;
 use crate::waiting::with_note_if_long;
 use krl::{Client, ClientBuilder, JoinError, JoinErrorKind, LockFileError, Refusal};
+use krl_cli::lock_folder;
 use std::collections::VecDeque;
-use std::env;
-use std::fs::DirBuilder;
 use std::ops::Range;
-use std::os::unix::fs::DirBuilderExt;
 use std::path::PathBuf;
 use std::sync::Arc;
 use std::thread;
@@ -171,18 +169,7 @@ impl LockFiles {
 
 /// The user's folder of lock files and of the prompt's history. It is made if there is none.
 pub fn folder() -> Result<PathBuf, Failure> {
-    let absolute = |name: &str| env::var_os(name).map(PathBuf::from).filter(|at| at.is_absolute());
-    let state = absolute("XDG_STATE_HOME")
-        .or_else(|| absolute("HOME").map(|home| home.join(".local/state")));
-    let folder = state.map(|state| state.join("krl")).ok_or_else(|| {
-        Failure::NotJoined(
-            "there is no folder for lock files: set HOME or XDG_STATE_HOME to an absolute path, or \
-             give --number and --lock-file"
-                .into(),
-        )
-    })?;
-    DirBuilder::new().recursive(true).mode(0o700).create(&folder).map_err(|error| {
-        Failure::NotJoined(format!("the folder {} can't be made: {error}", folder.display()))
-    })?;
-    Ok(folder)
+    lock_folder().map_err(|why| {
+        Failure::NotJoined(format!("{why}; or give the lock file by --number and --lock-file"))
+    })
 }

@@ -13,7 +13,7 @@ use std::thread;
 use std::time::{Duration, Instant};
 
 /// How long a process that a signal ends waits for each thing that it still has to do.
-pub const FAREWELL: Duration = Duration::from_secs(1);
+pub const LEAVE_TIMEOUT: Duration = Duration::from_secs(1);
 
 /// What takes the signals.
 #[derive(Clone, Copy, Debug)]
@@ -99,7 +99,7 @@ impl Signals {
     }
 
     fn end_process(&self, signal: i32) -> ! {
-        let end = Instant::now() + FAREWELL;
+        let end = Instant::now() + LEAVE_TIMEOUT;
         let clients: Vec<_> = lock(&self.0.clients).iter().filter_map(Weak::upgrade).collect();
         // All send Bye before one is waited for; and the process ends in any case.
         for client in &clients {

@@ -88,8 +88,8 @@ mod tests {
         for word in
             ["", "-1", "+1", "1.5", "ten", "END", "9223372036854775807", "99999999999999999999"]
         {
-            let said = key(word).unwrap_err().to_string();
-            assert!(said.contains(&format!("'{word}' is no key")), "{said}");
+            let message = key(word).unwrap_err().to_string();
+            assert!(message.contains(&format!("'{word}' is no key")), "{message}");
         }
     }
 
@@ -110,8 +110,8 @@ mod tests {
             ("a", Some("b")),
             ("1..2", Some("3")),
         ] {
-            let said = range(first, second).unwrap_err().to_string();
-            assert!(said.contains("is no range"), "{said}");
+            let message = range(first, second).unwrap_err().to_string();
+            assert!(message.contains("is no range"), "{message}");
         }
     }
 

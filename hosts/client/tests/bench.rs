@@ -27,27 +27,31 @@ const WORDS: [&str; 13] = [
 fn a_benchmark_prints_calls_rates_and_quantiles() {
     let world = World::new("bench");
     let words = [&WORDS[..], &["--skew", "zipf:0.9", "--json"]].concat();
-    let said: serde_json::Value = serde_json::from_str(&world.prints(&words)).unwrap();
+    let report: serde_json::Value = serde_json::from_str(&world.prints(&words)).unwrap();
     for kind in ["cached_scans", "reads_that_asked", "writes"] {
-        let times = &said[kind];
-        assert!(times["calls"].as_u64().unwrap() > 0, "{said}");
-        assert!(times["per_second"].as_f64().unwrap() > 0.0, "{said}");
+        let times = &report[kind];
+        assert!(times["calls"].as_u64().unwrap() > 0, "{report}");
+        assert!(times["per_second"].as_f64().unwrap() > 0.0, "{report}");
         let names = ["p50_seconds", "p99_seconds", "p99.9_seconds", "max_seconds"];
         let quantiles = names.map(|name| times[name].as_f64().unwrap());
-        assert!(quantiles[0] > 0.0 && quantiles.is_sorted(), "{said}");
+        assert!(quantiles[0] > 0.0 && quantiles.is_sorted(), "{report}");
     }
-    assert_eq!((&said["clients"], &said["failed"]), (&2.into(), &0.into()), "{said}");
-    assert_eq!((&said["skew"], &said["value_size"]), (&"zipf:0.9".into(), &8.into()), "{said}");
+    assert_eq!((&report["clients"], &report["failed"]), (&2.into(), &0.into()), "{report}");
+    assert_eq!(
+        (&report["skew"], &report["value_size"]),
+        (&"zipf:0.9".into(), &8.into()),
+        "{report}"
+    );
     assert_eq!(world.prints(&["scan", ".."]), "", "its rows are gone");
 }
 
 #[test]
 fn a_benchmark_prints_a_table() {
     let world = World::new("table");
-    let said = world.prints(&[&WORDS[..], &["--rows", "5"]].concat());
-    let heads: Vec<&str> = said.lines().map(|line| line.split("  ").next().unwrap()).collect();
-    assert!(heads[0].starts_with("clients 2, threads of each 2, "), "{said}");
-    assert_eq!(heads[2..], ["cached scans", "reads that asked", "writes", "failed"], "{said}");
+    let report = world.prints(&[&WORDS[..], &["--rows", "5"]].concat());
+    let heads: Vec<&str> = report.lines().map(|line| line.split("  ").next().unwrap()).collect();
+    assert!(heads[0].starts_with("clients 2, threads of each 2, "), "{report}");
+    assert_eq!(heads[2..], ["cached scans", "reads that asked", "writes", "failed"], "{report}");
 }
 
 #[test]
@@ -66,16 +70,20 @@ fn rows_that_are_there_are_left_alone() {
 fn a_warm_up_is_no_part_of_the_time() {
     let world = World::new("warm");
     let words = ["bench", "--json", "--warm-up", "1", "--seconds", "1", "--keys", "20"];
-    let said = world.prints(&[&words[..], &["--value-size", "32", "--rate", "40"]].concat());
-    let said: serde_json::Value = serde_json::from_str(&said).unwrap();
+    let report = world.prints(&[&words[..], &["--value-size", "32", "--rate", "40"]].concat());
+    let report: serde_json::Value = serde_json::from_str(&report).unwrap();
     // With the warm-up there are two seconds, and a busy machine adds to both.
-    assert!(said["seconds"].as_f64().unwrap() >= 1.0, "{said}");
-    assert_eq!((&said["warm_up_seconds"], &said["value_size"]), (&1.into(), &32.into()), "{said}");
-    assert_eq!((&said["failed"], &said["rate"]), (&0.into(), &40.into()), "{said}");
-    let calls = |kind: &str| said[kind]["calls"].as_u64().unwrap();
+    assert!(report["seconds"].as_f64().unwrap() >= 1.0, "{report}");
+    assert_eq!(
+        (&report["warm_up_seconds"], &report["value_size"]),
+        (&1.into(), &32.into()),
+        "{report}"
+    );
+    assert_eq!((&report["failed"], &report["rate"]), (&0.into(), &40.into()), "{report}");
+    let calls = |kind: &str| report[kind]["calls"].as_u64().unwrap();
     let calls = calls("cached_scans") + calls("reads_that_asked") + calls("writes");
-    let most = 40.0 * said["seconds"].as_f64().unwrap() + 1.0;
-    assert!(calls > 0 && f64::from(u32::try_from(calls).unwrap()) <= most, "{said}");
+    let most = 40.0 * report["seconds"].as_f64().unwrap() + 1.0;
+    assert!(calls > 0 && f64::from(u32::try_from(calls).unwrap()) <= most, "{report}");
 }
 
 #[test]
@@ -88,9 +96,9 @@ fn nothing_of_the_warm_up_is_counted() {
     signal(&program, Signal::SIGINT);
     let ended = Ended::from(program.wait_with_output().unwrap());
     assert_eq!(ended.status, 0, "{ended:?}");
-    let said: serde_json::Value = serde_json::from_str(&ended.out).unwrap();
+    let report: serde_json::Value = serde_json::from_str(&ended.out).unwrap();
     for kind in ["cached_scans", "reads_that_asked", "writes"] {
-        assert_eq!((&said[kind]["calls"], &said["failed"]), (&0.into(), &0.into()), "{said}");
+        assert_eq!((&report[kind]["calls"], &report["failed"]), (&0.into(), &0.into()), "{report}");
     }
     assert_eq!(world.prints(&["scan", ".."]), "", "its rows are gone");
 }

@@ -99,15 +99,15 @@ fn answers_as_json() {
 #[test]
 fn ping_prints_the_server_and_the_epoch() {
     let world = World::new("ping");
-    let said = world.prints(&["ping"]);
+    let printed = world.prints(&["ping"]);
     let head = format!("{} answered in ", world.server.address());
-    assert!(said.starts_with(&head) && said.ends_with(", epoch 1\n"), "{said}");
+    assert!(printed.starts_with(&head) && printed.ends_with(", epoch 1\n"), "{printed}");
 }
 
 #[test]
 fn words_that_cannot_be_understood_are_status_2() {
     let world = World::new("words");
-    for (words, told) in [
+    for (words, message) in [
         (&["get", "ten"][..], "'ten' is no key: a number from 0 to 2^63 - 2 is expected"),
         (&["get", "9223372036854775807"], "is no key"),
         (&["scan", "20", "10"], "'20 10' is no range: LO HI or LO..HI is expected"),
@@ -134,7 +134,7 @@ fn words_that_cannot_be_understood_are_status_2() {
     ] {
         let ended = world.run(words);
         assert_eq!((ended.status, ended.out.as_str()), (2, ""), "{words:?}: {ended:?}");
-        assert!(ended.errors.contains(told), "{words:?}: {}", ended.errors);
+        assert!(ended.errors.contains(message), "{words:?}: {}", ended.errors);
     }
 }
 
@@ -173,23 +173,26 @@ fn help_lists_the_statuses_and_the_forms() {
 #[test]
 fn a_server_that_does_not_answer_is_status_3() {
     let world = World::new("nobody");
-    let told = world.run(&["--server", "127.0.0.1:1", "--timeout", "300ms", "get", "1"]);
-    assert_eq!(told.status, 3, "{told:?}");
+    let ended = world.run(&["--server", "127.0.0.1:1", "--timeout", "300ms", "get", "1"]);
+    assert_eq!(ended.status, 3, "{ended:?}");
     assert!(
-        told.errors.contains("the server at 127.0.0.1:1 can't be reached: Connection refused"),
-        "{told:?}"
+        ended.errors.contains("the server at 127.0.0.1:1 can't be reached: Connection refused"),
+        "{ended:?}"
     );
-    let told = world.run(&["--server", "127.0.0.1:1", "--timeout", "60s", "get", "1"]);
-    assert_eq!(told.status, 3, "{told:?}");
-    assert!(told.errors.contains("nothing listens at 127.0.0.1:1: Connection refused"), "{told:?}");
+    let ended = world.run(&["--server", "127.0.0.1:1", "--timeout", "60s", "get", "1"]);
+    assert_eq!(ended.status, 3, "{ended:?}");
+    assert!(
+        ended.errors.contains("nothing listens at 127.0.0.1:1: Connection refused"),
+        "{ended:?}"
+    );
     let client = world.client(1);
     assert_eq!(client.insert(15, Value::from(1)), Ok(Outcome::Applied));
     let (_, pin) = client.pin_for_read(10..20).unwrap();
-    let told = world.run(&["--timeout", "300ms", "put", "15", "a"]);
-    assert_eq!((told.status, told.out.as_str()), (3, ""), "{told:?}");
-    assert!(told.errors.contains("the write was not made"), "{told:?}");
-    assert!(told.errors.contains("another client holds what it needs"), "{told:?}");
-    assert!(!told.errors.contains("may have been applied"), "{told:?}");
+    let ended = world.run(&["--timeout", "300ms", "put", "15", "a"]);
+    assert_eq!((ended.status, ended.out.as_str()), (3, ""), "{ended:?}");
+    assert!(ended.errors.contains("the write was not made"), "{ended:?}");
+    assert!(ended.errors.contains("another client holds what it needs"), "{ended:?}");
+    assert!(!ended.errors.contains("may have been applied"), "{ended:?}");
     drop(pin);
     assert_eq!(world.prints(&["put", "15", "a"]), "applied\n");
 }
@@ -201,16 +204,16 @@ fn a_client_that_cannot_join_is_status_4() {
     let lock_file = file.to_str().unwrap();
     let client = world.client(5);
     let words = ["--number", "5", "--lock-file", lock_file, "get", "1"];
-    let told = world.run(&words);
-    assert_eq!(told.status, 4, "{told:?}");
-    assert!(told.errors.contains("another process is the client of number 5"), "{told:?}");
+    let ended = world.run(&words);
+    assert_eq!(ended.status, 4, "{ended:?}");
+    assert!(ended.errors.contains("another process is the client of number 5"), "{ended:?}");
     client.leave().unwrap();
     // A process that another test starts just now has the file open too, for a moment.
     wait_for("the lock file is free", || world.run(&words).status == 1);
     std::fs::write(&file, "mine").unwrap();
-    let told = world.run(&words);
-    assert_eq!(told.status, 4, "{told:?}");
-    assert!(told.errors.contains("no lock file of this client number"), "{told:?}");
+    let ended = world.run(&words);
+    assert_eq!(ended.status, 4, "{ended:?}");
+    assert!(ended.errors.contains("no lock file of this client number"), "{ended:?}");
     let blocked = world.command(&["get", "1"]).env("XDG_STATE_HOME", &file).output().unwrap();
     let blocked = Ended::from(blocked);
     assert_eq!(blocked.status, 4, "{blocked:?}");
@@ -222,8 +225,8 @@ fn the_greatest_free_number_is_taken() {
     let world = World::new("numbers");
     let number = |range: &str| -> (i32, String) {
         let ended = world.run(&["--number", range, "--format", "json", "ping"]);
-        let said: serde_json::Value = serde_json::from_str(&ended.out).unwrap_or_default();
-        (ended.status, said["client"].to_string())
+        let printed: serde_json::Value = serde_json::from_str(&ended.out).unwrap_or_default();
+        (ended.status, printed["client"].to_string())
     };
     // What is held ends here.
     world.prints(&["insert", "3=a"]);
@@ -232,15 +235,15 @@ fn the_greatest_free_number_is_taken() {
     assert_eq!(number("56-63"), (0, "62".into()));
     assert_eq!(number("40-47"), (0, "47".into()));
     assert_eq!(number("7"), (0, "7".into()));
-    let told = world.run(&["--number", "63-63", "ping"]);
-    assert_eq!(told.status, 4, "{told:?}");
+    let ended = world.run(&["--number", "63-63", "ping"]);
+    assert_eq!(ended.status, 4, "{ended:?}");
     let rows = world.folder.join("rows.csv");
     std::fs::write(&rows, "key,value\n5,a\n6,b\n").unwrap();
     let words = ["--number", "61-63", "import", rows.to_str().unwrap(), "--clients", "2"];
     assert_eq!(world.prints(&words), "imported 2 rows\n");
-    let told = world.run(&["--number", "62-63", "bench", "--clients", "2"]);
-    assert_eq!(told.status, 4, "{told:?}");
-    assert!(told.errors.contains("too few of the client numbers 62 to 63 are free"), "{told:?}");
+    let ended = world.run(&["--number", "62-63", "bench", "--clients", "2"]);
+    assert_eq!(ended.status, 4, "{ended:?}");
+    assert!(ended.errors.contains("too few of the client numbers 62 to 63 are free"), "{ended:?}");
     support::signal(&first, nix::sys::signal::Signal::SIGTERM);
     first.wait().unwrap();
     assert_eq!(number("56-63"), (0, "63".into()));
@@ -258,9 +261,9 @@ fn a_number_that_another_user_has_is_reported_and_the_next_one_is_tried() {
     let pinged = run(&["--format", "json", "--timeout", "25s", "ping"]);
     assert_eq!(pinged.status, 0, "{pinged:?}");
     assert!(pinged.out.contains(r#""client":62"#), "{pinged:?}");
-    let told = run(&["--number", "63", "--timeout", "2s", "get", "1"]);
-    assert_eq!(told.status, 3, "{told:?}");
-    assert!(told.errors.starts_with("krl-client: number 63 is in use: give another"), "{told:?}");
+    let ended = run(&["--number", "63", "--timeout", "2s", "get", "1"]);
+    assert_eq!(ended.status, 3, "{ended:?}");
+    assert!(ended.errors.starts_with("krl-client: number 63 is in use: give another"), "{ended:?}");
     signal(&hold, Signal::SIGTERM);
     hold.wait().unwrap();
     std::fs::remove_dir_all(other).unwrap();
@@ -276,11 +279,11 @@ fn a_number_whose_clock_was_wrong_is_left_for_the_next_one() {
     std::fs::write(&file, "krl client 63 incarnation 02426388266503144698\n").unwrap();
     let pinged = world.run(&["--format", "json", "ping"]);
     assert!(pinged.status == 0 && pinged.out.contains(r#""client":62"#), "{pinged:?}");
-    let told = world.run(&["--number", "63", "ping"]);
-    assert_eq!(told.status, 3, "{told:?}");
+    let ended = world.run(&["--number", "63", "ping"]);
+    assert_eq!(ended.status, 3, "{ended:?}");
     let file = format!("Its lock file is {}", file.display());
     for why in ["more than a day ahead of the server's clock", &file] {
-        assert!(told.errors.contains(why), "{why}: {told:?}");
+        assert!(ended.errors.contains(why), "{why}: {ended:?}");
     }
 }
 

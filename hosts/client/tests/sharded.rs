@@ -90,12 +90,12 @@ fn a_command_joins_only_the_shards_of_its_keys() {
 #[test]
 fn each_server_is_pinged() {
     let shards = Shards::new("pings");
-    let said = shards.prints(&["ping"]);
-    let lines: Vec<&str> = said.lines().collect();
-    assert_eq!(lines.len(), 2, "{said}");
+    let printed = shards.prints(&["ping"]);
+    let lines: Vec<&str> = printed.lines().collect();
+    assert_eq!(lines.len(), 2, "{printed}");
     for (shard, server) in [&shards.world.server, &shards.upper].into_iter().enumerate() {
         let expected = format!("shard {shard} at {} answered in ", server.address());
-        assert!(lines[shard].starts_with(&expected), "{said}");
+        assert!(lines[shard].starts_with(&expected), "{printed}");
     }
     let json = shards.prints(&["ping", "--json"]);
     assert!(json.lines().nth(1).unwrap().contains("\"shard\":1"), "{json}");
@@ -173,11 +173,11 @@ fn a_lock_file_of_a_wrong_clock_is_named() {
     let file = folder.join("shard-100-client-63.lock");
     // Of the year 2046.
     std::fs::write(&file, "krl client 63 incarnation 02426388266503144698\n").unwrap();
-    let told = shards.run(&["--number", "63", "get", "105"]);
-    assert_eq!(told.status, 3, "{told:?}");
+    let ended = shards.run(&["--number", "63", "get", "105"]);
+    assert_eq!(ended.status, 3, "{ended:?}");
     let file = format!("Its lock file is {}", file.display());
     for why in ["shard 1: ", "more than a day ahead of the server's clock", &file] {
-        assert!(told.errors.contains(why), "{why}: {told:?}");
+        assert!(ended.errors.contains(why), "{why}: {ended:?}");
     }
 }
 

@@ -97,8 +97,8 @@ fn ctrl_c_ends_a_watch_with_status_0_and_gives_the_range_back() {
     let client = world.client(1);
     for ending in [Signal::SIGINT, Signal::SIGTERM] {
         let (mut program, mut lines) = watch(&world, &["10", "20", "--format", "json"]);
-        let said: serde_json::Value = serde_json::from_str(&next(&mut lines, 1)[0]).unwrap();
-        assert_eq!(said, serde_json::json!({ "change": 0, "rows": [] }));
+        let first: serde_json::Value = serde_json::from_str(&next(&mut lines, 1)[0]).unwrap();
+        assert_eq!(first, serde_json::json!({ "change": 0, "rows": [] }));
         signal(&program, ending);
         assert_eq!(program.wait().unwrap().code(), Some(0));
         // A client that had ended without a Bye would keep this one waiting.

@@ -48,9 +48,9 @@ fn the_rows_of_a_range_are_deleted() {
     assert_eq!(world.prints(&["scan", ".."]), "16=a\n17=a\n18=a\n");
     let client = world.client(1);
     let (_, pin) = client.pin_for_read(18..19).unwrap();
-    let told = world.run(&["--timeout", "5s", "del", "16..19"]);
-    assert_eq!((told.status, told.out.as_str()), (3, ""), "{told:?}");
-    assert!(told.errors.ends_with("; rows deleted before: 1\n"), "{told:?}");
+    let ended = world.run(&["--timeout", "5s", "del", "16..19"]);
+    assert_eq!((ended.status, ended.out.as_str()), (3, ""), "{ended:?}");
+    assert!(ended.errors.ends_with("; rows deleted before: 1\n"), "{ended:?}");
     drop(pin);
     world.prints(&["del", ".."]);
     assert_eq!(world.prints(&["scan", ".."]), "");
@@ -89,8 +89,8 @@ fn standard_input_is_imported() {
     let path = file(&world, "bad", "1,\"one\n2,two\n");
     let mut command = world.command(&["import", "-", "--existing", "replace"]);
     let ended = Ended::from(command.stdin(std::fs::File::open(path).unwrap()).output().unwrap());
-    let told = "standard input, line 1 can't be read: it opens a quote that is never closed";
-    assert!(ended.status == 2 && ended.errors.contains(told), "{ended:?}");
+    let message = "standard input, line 1 can't be read: it opens a quote that is never closed";
+    assert!(ended.status == 2 && ended.errors.contains(message), "{ended:?}");
 }
 
 #[test]
@@ -110,13 +110,13 @@ fn rows_that_are_there_are_refused_kept_or_replaced() {
     let world = World::new("existing");
     world.prints(&["set", "5", "old"]);
     let path = file(&world, "rows.csv", "key,value\n4,a\n5,b\n6,c\n");
-    let told = import(&world, &path, &[]);
-    assert_eq!((told.status, told.out.as_str()), (1, ""), "{told:?}");
+    let ended = import(&world, &path, &[]);
+    assert_eq!((ended.status, ended.out.as_str()), (1, ""), "{ended:?}");
     for why in [
         "line 3: there is a row of key 5 already: --existing keep leaves such rows as they are",
         "; rows written before: 1, and --existing keep writes the rest\n",
     ] {
-        assert!(told.errors.contains(why), "{told:?}");
+        assert!(ended.errors.contains(why), "{ended:?}");
     }
     assert_eq!(world.prints(&["scan", ".."]), "4=a\n5=old\n");
     let kept = import(&world, &path, &["--existing", "keep"]);
@@ -133,7 +133,7 @@ fn rows_that_are_there_are_refused_kept_or_replaced() {
 #[test]
 fn a_bad_file_is_reported_and_nothing_is_written() {
     let world = World::new("bad-file");
-    for (text, told) in [
+    for (text, message) in [
         ("1,a\nx,b\n", "line 2: 'x' is no key"),
         ("1,a\n2\n", "line 2: it has 1 columns, and two are expected: key,value"),
         ("1,a\n2,b\n1,c\n", "line 3: the key 1 has a row in line 1 already"),
@@ -141,7 +141,7 @@ fn a_bad_file_is_reported_and_nothing_is_written() {
     ] {
         let ended = import(&world, &file(&world, "rows.csv", text), &[]);
         assert_eq!((ended.status, ended.out.as_str()), (2, ""), "{ended:?}");
-        assert!(ended.errors.contains(told), "{ended:?}");
+        assert!(ended.errors.contains(message), "{ended:?}");
     }
     for (path, why) in [("/nowhere.csv", "can't be read"), ("/dev/zero", "more than 4096 bytes")] {
         let ended = import(&world, Path::new(path), &[]);
@@ -196,19 +196,19 @@ fn any_free_number_is_taken() {
 fn a_wrong_word_gets_a_suggestion() {
     let world = World::new("suggestion");
     for (word, meant) in [("isnert", "insert"), ("dlete", "delete"), ("imprt", "import")] {
-        let told = world.run(&[word, "15"]);
-        assert_eq!(told.status, 2, "{told:?}");
-        assert!(told.errors.contains(&format!("'{meant}'")), "{told:?}");
+        let ended = world.run(&[word, "15"]);
+        assert_eq!(ended.status, 2, "{ended:?}");
+        assert!(ended.errors.contains(&format!("'{meant}'")), "{ended:?}");
     }
-    let told = world.run(&["gte", "15"]);
-    assert_eq!((told.status, told.out.as_str()), (2, ""));
-    assert!(told.errors.ends_with("krl-client: did you mean 'get'?\n"), "{told:?}");
-    let told = world.run_lines(&[], "gte 15\n");
-    assert!(told.errors.contains("did you mean 'get'?"), "{told:?}");
-    let told = world.run(&["get", "15", "--jsn"]);
-    assert!(told.errors.contains("--json"), "{told:?}");
-    let told = world.run_lines(&[], "isnert 15\n");
-    assert!(told.errors.contains("'insert'"), "{told:?}");
+    let ended = world.run(&["gte", "15"]);
+    assert_eq!((ended.status, ended.out.as_str()), (2, ""));
+    assert!(ended.errors.ends_with("krl-client: did you mean 'get'?\n"), "{ended:?}");
+    let ended = world.run_lines(&[], "gte 15\n");
+    assert!(ended.errors.contains("did you mean 'get'?"), "{ended:?}");
+    let ended = world.run(&["get", "15", "--jsn"]);
+    assert!(ended.errors.contains("--json"), "{ended:?}");
+    let ended = world.run_lines(&[], "isnert 15\n");
+    assert!(ended.errors.contains("'insert'"), "{ended:?}");
 }
 
 #[test]

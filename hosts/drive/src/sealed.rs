@@ -1,7 +1,7 @@
 //! One side of a connection by TLS, for a network that reads what is sent over it: it shows each
 //! side the certificate of the other one.
 use crate::certificates;
-use krl::TlsSession;
+use krl::sans_io::TlsSession;
 use std::collections::VecDeque;
 use std::error::Error;
 use std::io::{self, ErrorKind, Read, Write};

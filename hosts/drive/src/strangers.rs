@@ -32,7 +32,7 @@ const ATTACKS: [(&str, Attack); 9] = [
     ("one that sends no Hello of its host", |at| is_shut(at, &HELLO)),
     ("a message that is none", |at| is_shut(at, &[&HOST_HELLO[..], &NO_MESSAGE].concat())),
     ("a hundred connections", |at| (0..100).map(|_| connect(at)).collect()),
-    ("one that sends Hello forever and hears nothing", stall),
+    ("one that sends Hello forever and reads nothing", stall),
 ];
 
 pub fn run() -> Found {

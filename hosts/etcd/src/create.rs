@@ -31,7 +31,7 @@ pub(crate) fn create(
     credentials: &Credentials,
     snapshot: &Snapshot,
 ) -> Result<(), StoreError> {
-    let mut etcd = Etcd::new(address, credentials).map_err(|why| StoreError::says(&why))?;
+    let mut etcd = Etcd::new(address, credentials).map_err(StoreError::failed)?;
     transaction::probe(&mut etcd, &address.prefix, Instant::now() + TIMEOUT)?;
     let mark = format!("{UNFINISHED}{:032x}", u128::from_ne_bytes(fence::draw()?));
     let mut place = Place { etcd: &mut etcd, prefix: &address.prefix, mark };

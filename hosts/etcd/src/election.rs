@@ -83,7 +83,7 @@ impl Election {
     }
 
     /// Waits until the server has the place. Each time that another server's address is found in
-    /// the place, `tell` gets it, and returns whether to continue. None if it is not to continue.
+    /// the place, `report` gets it, and returns whether to continue. None if it is not to continue.
     ///
     /// # Errors
     ///
@@ -91,16 +91,16 @@ impl Election {
     /// does not answer, it is asked again.
     pub fn campaign(
         &self,
-        mut tell: impl FnMut(Standing<'_>) -> bool,
+        mut report: impl FnMut(Standing<'_>) -> bool,
     ) -> Result<Option<Term>, ElectionError> {
         let mut etcd = Etcd::new(&self.address, &self.credentials).map_err(ElectionError)?;
         let mut lease = None;
-        while tell(Standing::Waits) {
-            match self.try_once(&mut etcd, &mut lease, &mut tell) {
+        while report(Standing::Waits) {
+            match self.try_once(&mut etcd, &mut lease, &mut report) {
                 Ok(Some(lease)) => return Ok(Some(self.term(etcd, lease))),
                 Ok(None) => {}
                 Err(Failure::Unknown(why)) => {
-                    tell(Standing::Unanswered(&why));
+                    report(Standing::Unanswered(&why));
                 }
                 Err(refused @ Failure::Refused(_)) => return Err(refused.into()),
             }
@@ -116,7 +116,7 @@ impl Election {
         &self,
         etcd: &mut Etcd,
         kept: &mut Option<Lease>,
-        tell: &mut impl FnMut(Standing<'_>) -> bool,
+        report: &mut impl FnMut(Standing<'_>) -> bool,
     ) -> Result<Option<Lease>, Failure> {
         let asked = request::range_of_one(&key(&self.address));
         let answer = etcd.call("kv/range", &asked, Instant::now() + self.lease)?;
@@ -128,7 +128,7 @@ impl Election {
             return lease.kept_alive(etcd, self.lease);
         }
         if let Some(leader) = found.get("value").and_then(text_of) {
-            tell(Standing::StandsBy(&leader));
+            report(Standing::StandsBy(&leader));
             return Ok(None);
         }
         let now = Instant::now();

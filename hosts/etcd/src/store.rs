@@ -67,7 +67,7 @@ impl EtcdStore {
     /// If the credentials can't be used.
     pub fn open(address: &EtcdAddress, credentials: &Credentials) -> Result<EtcdStore, StoreError> {
         Ok(EtcdStore {
-            etcd: Etcd::new(address, credentials).map_err(|why| StoreError::says(&why))?,
+            etcd: Etcd::new(address, credentials).map_err(StoreError::failed)?,
             prefix: address.prefix.clone(),
             load_timeout: LOAD_TIMEOUT,
             commit_timeout: COMMIT_TIMEOUT,

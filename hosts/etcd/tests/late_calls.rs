@@ -58,13 +58,13 @@ fn a_change_that_comes_after_its_own_repetition_is_not_made() {
 #[test]
 fn a_change_that_comes_after_another_start_is_not_made() {
     let Some(cluster) = Cluster::start() else { return };
-    let (relay, address) = relayed(&cluster, "behind");
+    let (relay, address) = relayed(&cluster, "late");
     let mut old = loaded(&address).with_commit_timeout(Duration::from_millis(1500));
     old.commit(&BEGIN).unwrap();
     relay.hold(Holds::Changes);
     let lost = old.commit(&[put(1, 1)]);
     assert!(matches!(lost, Err(StoreError::Unanswered(_))), "{lost:?}");
-    let mut new = loaded(&cluster.address("behind"));
+    let mut new = loaded(&cluster.address("late"));
     new.commit(&[Change::Started { epoch: 2 }]).unwrap();
     new.commit(&[put(1, 2)]).unwrap();
     relay.let_go();

@@ -1,8 +1,10 @@
-"""Readers that keep rows in memory next to writers, while workers, krl's server and PostgreSQL end."""
+"""Readers that keep rows in memory next to writers, while workers, krl's server and PostgreSQL end: over the client for
+C, and over krl-cache."""
 import os
 import signal
 import subprocess
 import time
+from urllib.parse import quote
 
 from checks.cluster import Cluster, KrlServer
 from checks.processes import Failed
@@ -25,18 +27,18 @@ def end_servers(cluster, krl):
     krl.start()
 
 
-def check(installation):
-    """Runs readers and writers."""
-    krl = KrlServer(installation, lease="3s")
-    cluster = Cluster(installation, "readers", 5432, f"krl.servers = '{krl.address}'", *SETTINGS)
-    cluster.sql("CREATE EXTENSION krl")
+def make_table(cluster, database):
+    """Makes a database with the table that readers and writers use."""
+    cluster.sql("CREATE EXTENSION krl", database=database)
     cluster.sql("CREATE TABLE item (id bigint PRIMARY KEY, n bigint NOT NULL)",
                 "INSERT INTO item SELECT id, 0 FROM generate_series(0, 63) AS id",
-                "SELECT krl.cache('item', stripes => 16)")
-    words = [f"host={cluster.folder} user=postgres dbname=checks", krl.address, cluster.folder, READ]
+                "SELECT krl.cache('item', stripes => 16)", database=database)
+
+
+def read(cluster, krl, *words):
+    """Runs readers and writers, and ends servers meanwhile."""
     how = {"stdin": subprocess.DEVNULL, "stdout": subprocess.PIPE, "stderr": subprocess.STDOUT, "text": True}
-    program = installation.source / "test/readers"
-    reading = subprocess.Popen([str(word) for word in (program, *words)], errors="replace", **how)
+    reading = subprocess.Popen([str(word) for word in (*words, READ)], errors="replace", **how)
     try:
         for _ in range(2):
             end_servers(cluster, krl)
@@ -46,3 +48,16 @@ def check(installation):
     if reading.returncode != 0:
         raise Failed(printed.strip())
     print(f"check: {printed.strip()}", flush=True)
+
+
+def check(installation):
+    """Runs readers and writers."""
+    krl = KrlServer(installation, lease="3s")
+    cluster = Cluster(installation, "readers", 5432, f"krl.servers = '{krl.address}'", *SETTINGS)
+    make_table(cluster, "checks")
+    words = f"host={cluster.folder} user=postgres dbname=checks"
+    read(cluster, krl, installation.source / "test/readers", words, krl.address, cluster.folder)
+    cluster.sql("CREATE DATABASE cache", database="postgres")
+    make_table(cluster, "cache")
+    words = f"postgres://postgres@{quote(str(cluster.folder), safe='')}/cache"
+    read(cluster, krl, installation.top / "bin/beside_writers", words, cluster.folder / "locks")

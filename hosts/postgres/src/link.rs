@@ -266,13 +266,13 @@ fn columns(head: &Fence) -> ([i64; 3], String) {
 }
 
 fn failure_of(error: &Error) -> Failure {
-    let Some(told) = error.as_db_error() else {
+    let Some(reported) = error.as_db_error() else {
         let why = error.to_string();
         let is_refused = REFUSED_BY_TLS.iter().any(|sign| why.contains(sign));
         return if is_refused { Failure::Refused(why) } else { Failure::Unknown(why) };
     };
-    let why = format!("{}: {}", told.severity(), told.message());
-    if leaves_it_open(told.code()) { Failure::Unknown(why) } else { Failure::Refused(why) }
+    let why = format!("{}: {}", reported.severity(), reported.message());
+    if leaves_it_open(reported.code()) { Failure::Unknown(why) } else { Failure::Refused(why) }
 }
 
 /// Whether an error of the database leaves open what became of the request, or passes by itself:

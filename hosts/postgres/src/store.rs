@@ -61,10 +61,10 @@ impl PostgresStore {
         address: &PostgresAddress,
         user: Option<&(String, String)>,
     ) -> Result<PostgresStore, StoreError> {
-        let connector = Connector::new(address, user).map_err(|why| StoreError::says(&why))?;
+        let connector = Connector::new(address, user).map_err(StoreError::failed)?;
         let link = Link::new(connector);
         Ok(PostgresStore {
-            link: link.map_err(|error| StoreError::Failed(error.into()))?,
+            link: link.map_err(StoreError::failed)?,
             commit_timeout: COMMIT_TIMEOUT,
             ownership: Ownership::default(),
             head: Fence::default(),
@@ -111,7 +111,7 @@ impl PostgresStore {
                 return Ok(());
             }
             let why = format!("the database of {address} has a store of krl already");
-            return Err(StoreError::says(&why));
+            return Err(StoreError::failed(why));
         }
         let next = Fence { epoch: snapshot.epoch, ..store.next };
         let next = next.after_batch().after_transaction();

@@ -31,7 +31,7 @@ JOIN_ERRORS |= dict.fromkeys((MISUSE, 17, 20, 21, 22, BAD_TLS), BadOption)
 NUMBERS, FOR_EVER = 64, (1 << 64) - 1
 END, TOP = (1 << 63) - 1, 1 << 63
 """One past the greatest key, and the end of the widest range."""
-# So many calls wait at once. A client has one lock request at a time on its way, and one write.
+# The most calls that wait at once. A client has one lock request at a time on its way, and one write.
 MOST = 32
 
 # Types by letters. "p" is any pointer: ctypes takes a handle, a reference or an array for it.
@@ -42,9 +42,9 @@ _TYPES |= {"s": c_char_p, "p": c_void_p}
 # while the others wait, other threads of the program continue.
 _AT_ONCE = """version:i is_unknown_outcome:?i number:ip joined:np status_at:ipnpp cached:ipqqp
     cached_row:ipqp pin_holds:ip rows_new:p rows_get:ppp rows_free:-p"""
-_WAITING = """join:ippp evict:ipp leave:ipqp free:-p reload_tls:ipp read:ipqqpqp forget:ipqqqp
-    wait_for_change:ipqqsnqp write_all:ippnqp pin_write_all:ippnqp pin_held:ipqqpqp pin_free:-p
-    pin_for_read:ipqqppqp pin_for_update:ipqqppqp pin_for_write:ipqqppqp"""
+_WAITING = """join:ippp evict:ipp leave:ipqp free:-p keep_all:ipp reload_tls:ipp read:ipqqpqp
+    forget:ipqqqp wait_for_change:ipqqsnqp write_all:ippnqp pin_write_all:ippnqp pin_held:ipqqpqp
+    pin_free:-p pin_for_read:ipqqppqp pin_for_update:ipqqppqp pin_for_write:ipqqppqp"""
 _OPTIONS = """size:n servers:s map:s lock_file:s number:i numbers:q timeout_ms:q wait_if_in_use_ms:q
     tls_authority:s tls_certificate:s tls_key:s table:s lo:q hi:q"""
 

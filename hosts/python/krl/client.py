@@ -260,6 +260,13 @@ class Client(_Writer):
         """The epoch in the first ``status``."""
         return self.status()[0].epoch
 
+    def keep_all(self) -> None:
+        """From now on the client keeps what it reads until another client wants to write it.
+        Otherwise, where others have written more of its rows than its cache has answered scans, it
+        gives back what it has just read: there each read asks the server, also while that is down,
+        and ``cached`` returns ``None``, until it has tried again after some hundred reads."""
+        call("keep_all", self._handle)
+
     def reload_tls(self) -> None:
         """Reads the TLS files again for new connections. After ``BadOption`` the old ones stay."""
         call("reload_tls", self._handle)

@@ -66,10 +66,10 @@ class Answering:
 
 def answer(call: Callable[..., dict[str, Any]], *words: Any) -> None:
     try:
-        told = call(*words)
+        answered = call(*words)
     except krl.Error as error:
-        told = {"error": type(error).__name__}
-    print(json.dumps(told), flush=True)
+        answered = {"error": type(error).__name__}
+    print(json.dumps(answered), flush=True)
 
 
 def main() -> None:

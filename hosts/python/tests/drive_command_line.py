@@ -74,13 +74,13 @@ class CommandLine:
         except BrokenPipeError:
             answer = ""
         if answer:
-            told = json.loads(answer)
-            if told.get("outcome", "applied") == "applied":
-                return told
+            result = json.loads(answer)
+            if result.get("outcome", "applied") == "applied":
+                return result
         status = self._process.wait()
         self._process = self._start()
         if answer:
-            return told
+            return result
         if status in UNANSWERED:
             raise krl.TimedOut("krl-client has no answer")
         raise SystemExit(f"krl-client ended with status {status}: {line}")

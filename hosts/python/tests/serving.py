@@ -52,9 +52,9 @@ def in_child(call: Callable[[], object]) -> str:
             os._exit(0)
     os.close(writes)
     with os.fdopen(reads) as came:
-        said = came.read()
+        text = came.read()
     os.waitpid(child, 0)
-    return said
+    return text
 
 
 def free_port() -> int:

@@ -450,7 +450,7 @@ class LeasesTest(Served):
         there = self.folder / "another machine"
         there.mkdir()
         with krl.join(self.address, 3, there / "client-3.lock", PATIENCE) as first:
-            # The server hears no second process while the first one's lease runs.
+            # The server takes no second process while the first one's lease runs.
             with krl.join(self.address, range(3, 5), self.folder, PATIENCE) as second:
                 self.assertEqual((first.number, second.number), (3, 4))
 
@@ -517,8 +517,8 @@ class BadInputTest(Served):
             calls += [client.pin, client.pin_for_read, client.changes]
             calls += [lambda start, stop: client.wait_for_change(start, stop, [], 1)]
             for call in calls:
-                told = "0 <= start <= stop <= 2.63" if is_integer else "as an integer"
-                with self.assertRaisesRegex(krl.BadRange if is_integer else TypeError, told):
+                message = "0 <= start <= stop <= 2.63" if is_integer else "as an integer"
+                with self.assertRaisesRegex(krl.BadRange if is_integer else TypeError, message):
                     call(start, stop)
         with self.assertRaises(krl.BadRange):
             client.pin(5, 5)

@@ -136,8 +136,8 @@ class LoadingTest(unittest.TestCase):
         lines = ("try: krl.join('unix:none', 0, 'none.lock')", "except krl.LibraryError as error:")
         command = lines_of(*lines, "    print(error)")
         ended = subprocess.run(command, capture_output=True, text=True, env=variables)
-        told = f"cannot be loaded: .* {lib.NAMED_BY}.* /nowhere/libkrl_client.so"
-        self.assertRegex(ended.stdout, told)
+        message = f"cannot be loaded: .* {lib.NAMED_BY}.* /nowhere/libkrl_client.so"
+        self.assertRegex(ended.stdout, message)
         # Nothing is freed that was not made.
         self.assertEqual(ended.stderr, "")
 

@@ -50,18 +50,18 @@ class ForkTest(Served):
         pin = client.pin(0, 5)
 
         def looks() -> list[str]:
-            told = []
+            results = []
             calls: list[Callable[[], object]] = [client.cached, client.epoch, pin.holds]
             calls += [lambda: client.pin(6, 7), lambda: client.read(0, 20), client.leave]
             for call in calls:
                 try:
-                    told.append(repr(call()))
+                    results.append(repr(call()))
                 except krl.Forked as forked:
-                    told.append(str(forked))
-            return told
+                    results.append(str(forked))
+            return results
 
-        told = "A client does not survive a fork: join in the child process."
-        self.assertEqual(in_child(looks), repr(6 * [told]))
+        message = "A client does not survive a fork: join in the child process."
+        self.assertEqual(in_child(looks), repr(6 * [message]))
         pin.free()
         self.assertEqual(client.cached(0, 20), [Row(10, b"1")])
         self.assertEqual(other.put(10, b"2"), Outcome.APPLIED)
@@ -119,7 +119,7 @@ class LeavingTest(Served):
         self.assertEqual(other.insert(10, b"1"), Outcome.APPLIED)
         calls: list[Callable[[], object]] = [client.read, client.leave, client.epoch]
         calls += [client.forget, lambda: client.put(10, b""), lambda: client.pin(5, 6)]
-        calls += [lambda: client.wait_for_change(0, 5, [], 1), client.reload_tls]
+        calls += [lambda: client.wait_for_change(0, 5, [], 1), client.reload_tls, client.keep_all]
         for call in calls:
             with self.assertRaisesRegex(krl.Closed, "The client has left"):
                 call()
@@ -128,20 +128,20 @@ class LeavingTest(Served):
 
     def test_a_call_that_waits_ends_when_another_thread_leaves(self) -> None:
         client, other = self.join(0), self.join(1)
-        told: list[BaseException] = []
+        errors: list[BaseException] = []
 
         def waits() -> None:
             try:
                 client.read(0, 20)
             except krl.Refused as error:
-                told.append(error)
+                errors.append(error)
 
         with other.pin_for_write(0, 20):
             waiting = threading.Thread(target=waits)
             waiting.start()
             client.leave()
             waiting.join(PATIENCE)
-        self.assertEqual([type(error) for error in told], [krl.Closed])
+        self.assertEqual([type(error) for error in errors], [krl.Closed])
         self.join(0)
 
     def test_an_error_goes_through_a_with(self) -> None:

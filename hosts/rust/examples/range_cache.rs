@@ -49,7 +49,7 @@ const READ_PAUSE: Duration = Duration::from_millis(1);
 const SERVER: &str = "server";
 const LEASED_SERVER: &str = "server leased";
 
-/// How long a node answers from its cache if it hears nothing from a server with leases.
+/// How long a node answers from its cache if it receives nothing from a server with leases.
 const LEASE: Duration = Duration::from_secs(2);
 
 type Done = Result<(), Box<dyn Error>>;
@@ -101,7 +101,7 @@ fn join(number: u8, folder: &Path) -> Result<Client, Box<dyn Error>> {
 fn node(number: u8, folder: &Path) -> Done {
     let keys = RANGES.get(usize::from(number)).ok_or("there is no such node")?;
     let client = join(number, folder)?;
-    let (mut cached, mut fetched, mut told) = (0, 0, Instant::now());
+    let (mut cached, mut fetched, mut printed) = (0, 0, Instant::now());
     loop {
         let rows = if let Some(rows) = client.cached(keys.clone())? {
             cached += 1;
@@ -115,8 +115,8 @@ fn node(number: u8, folder: &Path) -> Done {
                 Err(refused) => return Err(refused.into()),
             }
         };
-        if told.elapsed() > Duration::from_secs(1) {
-            told = Instant::now();
+        if printed.elapsed() > Duration::from_secs(1) {
+            printed = Instant::now();
             let id = std::process::id();
             println!(
                 "node {number} ({id}): {cached} reads cached, {fetched} asked: {}",

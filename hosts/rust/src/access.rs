@@ -4,11 +4,10 @@ pub(crate) mod identity;
 
 use crate::access::identity::Identity;
 use crate::net::address::Address;
-use crate::net::stream::{Accepted, Stream};
+use crate::net::stream::{Accepted, PeerAddress};
 use crate::net::tls::{Side, TlsConfig, TlsSession};
-use crate::net::unix_peer::{own_user, user_at};
+use crate::net::unix_peer::own_user;
 use std::io::{self, ErrorKind};
-use std::os::unix::net::UnixStream;
 
 /// The superuser.
 const ROOT: u32 = 0;
@@ -101,18 +100,14 @@ impl Access {
 
     /// Who is at the other end of a new connection, or how that is found out.
     pub(crate) fn enter(&self, accepted: &Accepted) -> io::Result<Entry> {
-        match (&accepted.stream, &self.tls) {
-            (Stream::Tcp(_), Some(tls)) if accepted.is_tls => {
+        match (accepted.peer, &self.tls) {
+            (_, Some(tls)) if accepted.is_tls => {
                 TlsSession::new(tls, Side::Accepts).map(|session| Entry::Unknown(Box::new(session)))
             }
-            _ if accepted.is_tls => Err(ErrorKind::PermissionDenied.into()),
-            (Stream::Tcp(_), _) => Ok(Entry::Known(Identity::everybody())),
-            (Stream::Unix(stream), _) => self.user_of(stream).map(Entry::Known),
+            (PeerAddress::Tcp(_), _) if !accepted.is_tls => Ok(Entry::Known(Identity::everybody())),
+            (PeerAddress::Unix(Some(user)), _) => Ok(Entry::Known(self.of_user(user, own_user()))),
+            _ => Err(ErrorKind::PermissionDenied.into()),
         }
-    }
-
-    fn user_of(&self, stream: &UnixStream) -> io::Result<Identity> {
-        Ok(self.of_user(user_at(stream)?, own_user()))
     }
 
     /// What this user may send to a server of the own user.

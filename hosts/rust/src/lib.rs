@@ -13,6 +13,7 @@
 //! | bring a store of your own | [`Store`] |
 //! | see what a server does, and who holds a range | [`Server::monitor`], [`operate`] |
 //! | back up, check and cut a store's file | [`operate`] |
+//! | serve a port of your own next to a server's | [`operate`] |
 //!
 //! The protocol's rules are the library's, `krl_embed`, whose functions are proved. This crate is
 //! the host around it: it has the sockets, the threads and the disk. Nothing of it is proved.
@@ -45,7 +46,7 @@
 //! | `serde` | `Row`, `Value`, `Status` and others as `serde` has them |
 //! | `fence` | what a store needs that several servers may open at once |
 //! | `store-tests` | the tests that every store has to pass |
-//! | `unstable`, `sans-io` | for the programs of this repository: not stable |
+//! | `sans-io` | for the interface for C and the tests of this repository: not stable |
 mod access;
 mod client;
 mod lease;
@@ -117,11 +118,3 @@ pub use store::sqlite::{LogWrites, SqliteStore};
 #[cfg(feature = "store-tests")]
 pub use store::store_tests;
 pub use store::{MemoryStore, Store, StoreError};
-
-// What only the programs of this repository need: it may change in any release.
-#[cfg(feature = "unstable")]
-pub use log::seldom::Seldom;
-#[cfg(all(feature = "tls", feature = "unstable"))]
-pub use net::tls::{PeerCheck, TlsSession};
-#[cfg(feature = "unstable")]
-pub use server::strangers::Strangers;

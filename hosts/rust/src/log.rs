@@ -1,4 +1,4 @@
 //! What is logged.
 pub(crate) mod event_log;
-pub(crate) mod seldom;
+pub(crate) mod rate_limit;
 pub(crate) mod span;

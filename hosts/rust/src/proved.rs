@@ -3,6 +3,7 @@ pub(crate) mod client_handle;
 pub(crate) mod ffi;
 pub(crate) mod gate;
 pub(crate) mod handle;
+pub(crate) mod hits;
 pub(crate) mod losses;
 pub(crate) mod partition;
 #[cfg(krl_rules)]

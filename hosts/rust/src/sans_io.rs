@@ -29,6 +29,8 @@ pub use crate::client::incarnations::Incarnations;
 pub use crate::client::lock_file::LockFile;
 pub use crate::client::state::{Held, Purpose};
 pub use crate::lease::terms::Older;
+#[cfg(feature = "tls")]
+pub use crate::net::tls::TlsSession;
 
 /// A client. A moment is a time by a clock that continues while the machine is suspended, and never
 /// goes back.
@@ -107,7 +109,7 @@ impl CacheView {
 }
 
 impl Client {
-    /// A client with a lock file, which is not connected.
+    /// A client with a lock file, which is not connected. It keeps all that it reads.
     ///
     /// # Errors
     ///
@@ -121,7 +123,9 @@ impl Client {
         let taken = LockFile::take(lock_file, number);
         let (lock_file, _) = taken.map_err(JoinErrorKind::of_lock_file(lock_file))?;
         let client = Client::of(lock_file, servers, shard, seed, now);
-        client.map_err(|refused| JoinErrorKind::Refused(refused.kind).into())
+        let mut client = client.map_err(|refused| JoinErrorKind::Refused(refused.kind))?;
+        client.keep_all();
+        Ok(client)
     }
 }
 
@@ -291,6 +295,11 @@ impl<N: Incarnations> Client<N> {
     /// Asks for the rows of a range that is not empty, and pins it.
     pub fn hold(&mut self, now: Duration, keys: Range<u64>, purpose: Purpose) -> Call<Held> {
         Call(self.at(now).state().hold(keys, purpose))
+    }
+
+    /// From now on it keeps what it reads, however often others write that.
+    pub fn keep_all(&mut self) {
+        self.session.state().keep_all();
     }
 
     /// Whether the pin holds.

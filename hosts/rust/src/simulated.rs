@@ -7,7 +7,7 @@ pub use server::{Next, Sent, Server, Start};
 use crate::lease::terms::Answer;
 use crate::lease::terms::Sign;
 use crate::model::refusal::Refusal;
-use crate::net::connect_fault::NotTaken;
+use crate::net::connect_fault::Rejection;
 use crate::wire::host_frame::{self, FromClient, FromServer};
 use crate::wire::message::Message;
 use std::io;
@@ -76,5 +76,5 @@ pub fn describe(frame: &[u8]) -> String {
 /// Why a connection ends if one side does not take the other.
 #[must_use]
 pub fn not_taken() -> io::Error {
-    NotTaken("the certificate has expired".into()).into()
+    Rejection::NotTaken("the certificate has expired".into()).into()
 }

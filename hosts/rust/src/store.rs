@@ -137,10 +137,10 @@ pub enum StoreError {
 }
 
 impl StoreError {
-    /// A failure that is just a sentence.
+    /// A failure for this reason: a sentence or another error.
     #[must_use]
-    pub fn says(what: &str) -> StoreError {
-        StoreError::Failed(what.into())
+    pub fn failed(why: impl Into<Box<dyn std::error::Error + Send + Sync>>) -> StoreError {
+        StoreError::Failed(why.into())
     }
 }
 

@@ -4,4 +4,5 @@ pub(crate) mod host_frame;
 pub(crate) mod incoming;
 pub(crate) mod lease_frame;
 pub(crate) mod message;
+mod numbers;
 pub(crate) mod shard_frame;

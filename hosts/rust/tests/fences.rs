@@ -90,7 +90,7 @@ fn a_client_of_the_same_shard_is_served_and_every_other_one_is_refused() {
             assert_eq!((ours, theirs), (expected.map(bounds), served.map(bounds)));
         }
         let records = server.monitor().snapshot().unwrap().records;
-        assert_eq!(records.len(), 1, "the library hears only the served client");
+        assert_eq!(records.len(), 1, "the library takes only the served client");
     }
 }
 
@@ -139,16 +139,16 @@ fn next_frame(stream: &mut TcpStream) -> Option<Vec<u8>> {
 /// A server that answers signs and knows nothing of shards, and the frames that its clients send.
 fn heedless_server() -> (SocketAddr, Receiver<Vec<u8>>) {
     let listener = TcpListener::bind("127.0.0.1:0").unwrap();
-    let (address, (tell, said)) = (listener.local_addr().unwrap(), channel());
+    let (address, (sender, frames)) = (listener.local_addr().unwrap(), channel());
     thread::spawn(move || {
         for stream in listener.incoming().flatten() {
-            heed_no_shard(stream, &tell);
+            heed_no_shard(stream, &sender);
         }
     });
-    (address, said)
+    (address, frames)
 }
 
-fn heed_no_shard(mut stream: TcpStream, tell: &Sender<Vec<u8>>) {
+fn heed_no_shard(mut stream: TcpStream, sender: &Sender<Vec<u8>>) {
     let _ = stream.write_all(&HOST_ANSWER);
     while let Some(frame) = next_frame(&mut stream) {
         if frame.starts_with(&[0, 1]) {
@@ -157,22 +157,22 @@ fn heed_no_shard(mut stream: TcpStream, tell: &Sender<Vec<u8>>) {
             let terms = [&kind[..], incarnation, moment, &u64::MAX.to_le_bytes()].concat();
             let _ = stream.write_all(&terms);
         }
-        let _ = tell.send(frame);
+        let _ = sender.send(frame);
     }
 }
 
 #[test]
 fn a_client_sends_nothing_of_the_library_to_a_server_that_confirms_no_shard() {
     let folder = Folder::new("heedless");
-    let (address, said) = heedless_server();
+    let (address, frames) = heedless_server();
     let servers = krl::Servers::from(address).of_shard(bounds("0..9@3"));
     let builder = Client::builder(servers, 3, folder.0.join("client.lock"));
     let refused = builder.timeout(LONG).join().unwrap_err();
     let JoinErrorKind::OtherShard(other) = &refused.kind else { panic!("{refused:?}") };
     assert_eq!((other.expected, other.served), (Some(bounds("0..9@3")), None));
-    let heard: Vec<Vec<u8>> = said.try_iter().collect();
-    assert!(heard.iter().all(|frame| frame.starts_with(&[0])), "{heard:?}");
-    assert!(heard[1].starts_with(&[0, 2, 0, 0, 0, 0, 0, 0, 0, 0, 9]), "{heard:?}");
+    let received: Vec<Vec<u8>> = frames.try_iter().collect();
+    assert!(received.iter().all(|frame| frame.starts_with(&[0])), "{received:?}");
+    assert!(received[1].starts_with(&[0, 2, 0, 0, 0, 0, 0, 0, 0, 0, 9]), "{received:?}");
 }
 
 #[test]

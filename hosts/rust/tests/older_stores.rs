@@ -90,7 +90,7 @@ fn a_server_over_an_older_copy_ends_and_serves_when_it_is_started_again() {
     let mut place = Place::new("older-copy", 71);
     let client = place.client_of_a_later_store(3);
     place.copy("copy.db", "table.db");
-    assert_eq!(client.cached(1..2), Ok(Some(vec![row(2)])), "it has heard nothing");
+    assert_eq!(client.cached(1..2), Ok(Some(vec![row(2)])), "it has received nothing");
     ends_by_the_word_of(3, place.serve());
     assert!(wait_until(|| client.cached(1..2).unwrap().is_none()), "it was notified");
     let server = place.serve();

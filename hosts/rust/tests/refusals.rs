@@ -46,19 +46,19 @@ fn refused(reason: u8, numbers: [u64; 2]) -> Vec<u8> {
 }
 
 /// What a peer receives that sends these frames after its host's Hello.
-fn answer_to(server: &Server, said: &[Vec<u8>]) -> Vec<u8> {
+fn answer_to(server: &Server, sent: &[Vec<u8>]) -> Vec<u8> {
     let mut peer = Peer::new(server);
     peer.send(&HOST_HELLO);
-    for frame in said {
+    for frame in sent {
         peer.send(frame);
     }
-    let heard = peer.receive(SHORT);
+    let received = peer.receive(SHORT);
     assert_eq!(
-        heard.get(..HOST_ANSWER.len()),
+        received.get(..HOST_ANSWER.len()),
         Some(&HOST_ANSWER[..]),
         "the host's answer comes first"
     );
-    heard[HOST_ANSWER.len()..].to_vec()
+    received[HOST_ANSWER.len()..].to_vec()
 }
 
 fn of_version(version: u8) -> Vec<u8> {
@@ -92,7 +92,7 @@ fn a_host_of_another_version() {
         assert_eq!(peer.receive(LONG), refused(0, [3, 0]), "{hello:?}");
         assert!(begun.elapsed() < LONG, "the connection ends");
     }
-    assert_eq!(server.status().taken, 0, "the library hears nothing");
+    assert_eq!(server.status().taken, 0, "the library takes nothing");
     let is_counted = || server.status().closed.counts().any(|it| it == ("other_version", 3));
     let end = Instant::now() + LONG;
     while !is_counted() {
@@ -146,8 +146,8 @@ fn a_number_that_no_client_has() {
 #[test]
 fn each_reason_is_sent_once_a_second() {
     let server = server(store(&[]));
-    let said: Vec<_> = (0..50).map(|turn| frame(HELLO, 64 + turn % 2, 1, &[])).collect();
-    assert_eq!(answer_to(&server, &said), refused(1, [64, 0]));
+    let sent: Vec<_> = (0..50).map(|turn| frame(HELLO, 64 + turn % 2, 1, &[])).collect();
+    assert_eq!(answer_to(&server, &sent), refused(1, [64, 0]));
 }
 
 #[test]
@@ -236,9 +236,9 @@ fn a_server_that_misses_reports() {
     // reported nothing yet at a timeout.
     let (client, end) = (client.timeout(LONG).join().unwrap(), Instant::now() + LONG);
     client.set_timeout(SHORT);
-    let told = || client.read(0..9).unwrap_err().to_string();
-    while !told().contains("waits for the reports of the clients 3, 7,") {
-        assert!(Instant::now() < end, "{}", told());
+    let refusal = || client.read(0..9).unwrap_err().to_string();
+    while !refusal().contains("waits for the reports of the clients 3, 7,") {
+        assert!(Instant::now() < end, "{}", refusal());
     }
     std::fs::remove_file(lock).unwrap();
 }

@@ -93,7 +93,7 @@ fn fails(name: &str, fail: fn() -> StoreError) -> (String, ServeError) {
 
 #[test]
 fn a_server_whose_store_fails_reports_it() {
-    let (shown, error) = fails("fails", || StoreError::says("the disk is gone"));
+    let (shown, error) = fails("fails", || StoreError::failed("the disk is gone"));
     assert_eq!(shown, "the store failed: the disk is gone");
     assert!(matches!(error, ServeError::Store(_)), "{error:?}");
 }

@@ -29,10 +29,10 @@ fn fails_to_join(server: SocketAddr, name: &str, timeout: Duration) -> (JoinErro
 /// A server that takes each connection, sends this on it and ends it, and when it did.
 fn ends_all(bytes: &'static [u8]) -> (SocketAddr, Receiver<Instant>) {
     let listener = TcpListener::bind("127.0.0.1:0").unwrap();
-    let (address, (told, times)) = (listener.local_addr().unwrap(), channel());
+    let (address, (sender, times)) = (listener.local_addr().unwrap(), channel());
     thread::spawn(move || {
         for mut stream in listener.incoming().flatten() {
-            let _ = told.send(Instant::now());
+            let _ = sender.send(Instant::now());
             thread::spawn(move || {
                 let _ = stream.write_all(bytes);
                 let _ = stream.shutdown(Shutdown::Write);
@@ -95,11 +95,11 @@ fn a_server_that_takes_nothing_holds_no_call_beyond_its_timeout() {
     assert!(timeout <= took && took < timeout + LATE, "{took:?}");
     // Its host has sent Hello and a sign, and both again. It waits for terms before it sends more.
     let (mut stream, _) = listener.accept().unwrap();
-    let mut said = Vec::new();
-    stream.read_to_end(&mut said).unwrap();
+    let mut received = Vec::new();
+    stream.read_to_end(&mut received).unwrap();
     let (hello, sign) = ([3, 0, 0, 0, 0, 0, 0, 0, 0, 0, 3], [42, 0, 0, 0, 0, 0, 0, 0, 0, 1, 5]);
-    assert!(said.len() >= 61 && said.len() % 61 == 0, "{said:?}");
-    for greeting in said.chunks(61) {
+    assert!(received.len() >= 61 && received.len() % 61 == 0, "{received:?}");
+    for greeting in received.chunks(61) {
         assert_eq!((&greeting[..11], &greeting[11..22]), (&hello[..], &sign[..]));
     }
 }
@@ -113,9 +113,9 @@ fn an_incarnation_is_in_the_lock_file_before_it_is_sent() {
         scope.spawn(|| client.timeout(Duration::from_millis(300)).join());
         let (mut stream, _) = listener.accept().unwrap();
         // A Hello, and a sign with the client's number and its incarnation.
-        let mut said = [0; 61];
-        stream.read_exact(&mut said).unwrap();
-        let incarnation = u64::from_le_bytes(said[29..37].try_into().unwrap());
+        let mut received = [0; 61];
+        stream.read_exact(&mut received).unwrap();
+        let incarnation = u64::from_le_bytes(received[29..37].try_into().unwrap());
         let kept = std::fs::read_to_string(&lock).unwrap();
         assert_eq!(kept, format!("krl client 05 incarnation {incarnation:020}\n"));
     });

@@ -61,13 +61,13 @@ fn each_call_that_waits_is_in_a_span_and_a_cached_read_is_in_none() {
         drop(client.pin_for_read(10..14).unwrap());
         client.leave().unwrap();
     });
-    let told = [
+    let expected = [
         "call=\"insert\" client=3 lo=15 hi=16",
         "call=\"read\" client=3 lo=10 hi=20",
         "call=\"write_all\" client=3 lo=12 hi=16",
         "call=\"pin\" client=3 lo=10 hi=14",
         "call=\"leave\" client=3 lo=0 hi=9223372036854775808",
     ];
-    assert_eq!(*spans.0.lock().unwrap(), told);
+    assert_eq!(*spans.0.lock().unwrap(), expected);
     std::fs::remove_dir_all(&folder).unwrap();
 }

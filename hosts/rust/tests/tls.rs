@@ -160,15 +160,15 @@ fn credulous(setup: &Setup, names: Option<&[&str]>) -> SslConnectorBuilder {
 }
 
 /// What a peer receives that sends this by TLS, if its hand-shake succeeds.
-fn received_by_tls(connector: SslConnectorBuilder, at: SocketAddr, said: &[u8]) -> Vec<u8> {
+fn received_by_tls(connector: SslConnectorBuilder, at: SocketAddr, request: &[u8]) -> Vec<u8> {
     let stream = TcpStream::connect(at).unwrap();
     stream.set_read_timeout(Some(AT_ONCE)).unwrap();
-    let mut heard = Vec::new();
+    let mut received = Vec::new();
     if let Ok(mut tls) = connector.build().connect("krl", stream) {
-        let _ = tls.write_all(said);
-        let _ = tls.read_to_end(&mut heard);
+        let _ = tls.write_all(request);
+        let _ = tls.read_to_end(&mut received);
     }
-    heard
+    received
 }
 
 #[test]
@@ -186,9 +186,9 @@ fn tls_of_another_kind_and_what_is_no_tls_are_refused() {
     let mut stream = TcpStream::connect(at).unwrap();
     stream.set_read_timeout(Some(AT_ONCE)).unwrap();
     stream.write_all(&hello).unwrap();
-    let mut heard = Vec::new();
-    let _ = stream.read_to_end(&mut heard);
-    assert!(heard.len() < 32, "an alert at most: {heard:?}");
+    let mut received = Vec::new();
+    let _ = stream.read_to_end(&mut received);
+    assert!(received.len() < 32, "an alert at most: {received:?}");
     assert_eq!(settled(&server).taken, 0);
     // The same bytes by the right TLS are taken: they are answered by nothing for a while.
     let mut right = credulous(&setup, Some(&["krl:client:3"])).build();
@@ -214,8 +214,8 @@ type Recorded = Arc<Mutex<Vec<Vec<u8>>>>;
 fn eavesdrop(server: SocketAddr) -> (SocketAddr, Recorded) {
     let listener = TcpListener::bind("127.0.0.1:0").unwrap();
     let at = listener.local_addr().unwrap();
-    let heard = Recorded::default();
-    let noted = Arc::clone(&heard);
+    let recorded = Recorded::default();
+    let noted = Arc::clone(&recorded);
     thread::spawn(move || {
         for client in listener.incoming().flatten() {
             let place = noted.lock().unwrap().len();
@@ -223,7 +223,7 @@ fn eavesdrop(server: SocketAddr) -> (SocketAddr, Recorded) {
             pass_on(client, server, place, &noted);
         }
     });
-    (at, heard)
+    (at, recorded)
 }
 
 fn pass_on(mut client: TcpStream, server: SocketAddr, place: usize, noted: &Recorded) {
@@ -246,7 +246,7 @@ fn pass_on(mut client: TcpStream, server: SocketAddr, place: usize, noted: &Reco
 fn what_is_replayed_is_no_message() {
     let setup = Setup::new("replay");
     let server = serve(&setup);
-    let (between, heard) = eavesdrop(at(&server));
+    let (between, recorded) = eavesdrop(at(&server));
     let servers = krl::Servers::from(Address::Tls(between));
     let servers = servers.with_tls(setup.config(&["krl:client:3"]));
     let client = Client::join(&servers, 3, setup.lock(3)).unwrap();
@@ -256,7 +256,7 @@ fn what_is_replayed_is_no_message() {
     );
     client.leave().unwrap();
     let before = settled(&server);
-    let recorded = heard.lock().unwrap().clone();
+    let recorded = recorded.lock().unwrap().clone();
     assert!(recorded.iter().map(Vec::len).sum::<usize>() > 500);
     for bytes in &recorded {
         assert!(!bytes.windows(5).any(|window| window == b"value"), "it was encrypted");

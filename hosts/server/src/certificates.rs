@@ -63,10 +63,10 @@ mod tests {
 
     #[test]
     fn lengths_for_people() {
-        for (seconds, told) in
+        for (seconds, message) in
             [(5, "5 seconds"), (HOUR, "1 hour"), (DAY - 1, "23 hours"), (2 * DAY, "2 days")]
         {
-            assert_eq!(length(seconds), told);
+            assert_eq!(length(seconds), message);
         }
     }
 

@@ -1,10 +1,9 @@
 //! What a store holds, and whether a server can start on it; and until when certificates last.
-use crate::cause;
 use crate::certificates;
 use crate::output;
-use crate::owner;
+use crate::stores;
 use krl::operate::Checksum;
-use krl::{Certificate, Record, SqliteStore};
+use krl::{Certificate, Record};
 use std::error::Error;
 use std::fs::{self, File};
 use std::io::{self, Read};
@@ -40,12 +39,8 @@ fn check_certificates(path: &Path, days: u32) -> Result<ExitCode, Box<dyn Error>
 }
 
 fn check_store(path: &Path) -> Result<ExitCode, Box<dyn Error>> {
-    if let Some(by) = owner::served_by(path) {
-        return Err(format!("the store {} is served, by {by}", path.display()).into());
-    }
-    let file = SqliteStore::read(path).map_err(|error| {
-        format!("{} can't be read as a store: {}", path.display(), cause(&error))
-    })?;
+    stores::refuse_served(path)?;
+    let file = stores::read(path)?;
     let snapshot = &file.snapshot;
     let (gone, there): (Vec<_>, Vec<_>) = snapshot.records.iter().partition(|it| it.left);
     let (judgment, status) = match (file.checksum, snapshot.judge()) {

@@ -1,14 +1,9 @@
-//! Which clients are there: the page on clients as text and as JSON, and the command that asks for
-//! it.
-use crate::command_line::FormatOptions;
-use crate::http::{self, StatusPort};
+//! Which clients are there: the page on clients as text and as JSON.
 use crate::locks;
-use crate::pages::{self, WAIT};
-use hyper::StatusCode;
+use crate::pages;
 use krl::operate::ClientStatus;
 use krl::{LeaseLeft, Status, Wait};
 use serde_json::{Value, json};
-use std::error::Error;
 use std::time::Duration;
 
 /// The path at which a status port lists them.
@@ -62,18 +57,6 @@ pub fn as_text(status: &Status) -> String {
     let width = |column: usize| rows.iter().map(|row| row[column].len()).max().unwrap_or(0);
     let widths: [usize; HEADS.len()] = std::array::from_fn(width);
     rows.iter().map(|row| line(row, &widths)).collect()
-}
-
-/// Asks a status port for its page on clients.
-pub fn ask(port: &StatusPort, format: FormatOptions) -> Result<String, Box<dyn Error>> {
-    let reply = http::get(port, PATH, format.kind(), WAIT)?;
-    match reply.status {
-        StatusCode::OK => Ok(reply.text),
-        StatusCode::NOT_FOUND => {
-            Err(format!("{port} is no status port that lists its clients").into())
-        }
-        _ => Err(format!("{port} refuses: {}", reply.text.trim_end()).into()),
-    }
 }
 
 impl Shown<'_> {

@@ -1,12 +1,12 @@
 //! The words of the command line.
+use crate::http::StatusPort;
 use crate::next_map::{MergeMap, SplitMap};
 use crate::pages::{JSON, TEXT};
-use crate::settings::{Key, Source, StorePlace, key};
-use clap::parser::ValueSource;
+use crate::settings::{BadSetting, Given, Key, StorePlace, key};
 use clap::{ArgMatches, Args, FromArgMatches, Parser, Subcommand, ValueEnum};
 use clap_complete::Shell;
-use krl_rows::Existing;
-use std::collections::BTreeMap;
+use krl_cli::Existing;
+use std::marker::PhantomData;
 use std::path::PathBuf;
 
 /// A key-range lock server over a file of SQLite, a cluster of etcd, or PostgreSQL.
@@ -25,19 +25,25 @@ pub struct CommandLine {
     pub command: Command,
 }
 
-const STATUSES: &str = "\
+/// The help ends with the exit statuses, and the long help with examples too.
+macro_rules! statuses_and {
+    ($more:literal) => {
+        concat!(
+            "\
 Exit statuses:
   0  it is done; a server that was stopped has stopped in order
   1  it failed, and standard error has the reason
   2  the command line, the environment, the configuration file or a certificate is wrong
-  3  the store of a server lacks what a client has seen of it: see docs/STORES.md";
+  3  the store of a server lacks what a client has seen of it: see docs/STORES.md",
+            $more
+        )
+    };
+}
 
-const MORE: &str = "\
-Exit statuses:
-  0  it is done; a server that was stopped has stopped in order
-  1  it failed, and standard error has the reason
-  2  the command line, the environment, the configuration file or a certificate is wrong
-  3  the store of a server lacks what a client has seen of it: see docs/STORES.md
+const STATUSES: &str = statuses_and!("");
+
+const MORE: &str = statuses_and!(
+    "
 
 Examples:
   krl-server serve --create
@@ -58,7 +64,8 @@ Examples:
   krl-server export /var/lib/krl/monday.db
   krl-server check server.crt --days 14
   krl-server split /var/lib/krl/krl.db 500000 /var/lib/krl/upper.db
-  krl-server evict 127.0.0.1:7400 3 client-3.lock";
+  krl-server evict 127.0.0.1:7400 3 client-3.lock"
+);
 
 #[derive(Debug, Subcommand)]
 pub enum Command {
@@ -67,15 +74,7 @@ pub enum Command {
     /// Print the settings that `serve` would use, and where each comes from
     Config(ServeOptions),
     /// Print what a server shows of itself
-    Status {
-        /// The server's status port, with tls: before it if it serves by TLS
-        #[arg(env = "KRL_STATUS", default_value = key::STATUS.default)]
-        address: String,
-        #[command(flatten)]
-        tls: TlsOptions,
-        #[command(flatten)]
-        format: FormatOptions,
-    },
+    Status(PageOptions),
     /// List the clients: who is connected, since when each is silent, and what it waits for
     #[command(long_about = "\
 List the clients: who is connected, since when each is silent, and what it waits for.
@@ -83,15 +82,7 @@ List the clients: who is connected, since when each is silent, and what it waits
 A client is listed from its registration until it leaves or is evicted, also while it has no
 connection. Its columns are its number, its peer's address, how long its connection has been open,
 how long ago something last came from it, how long its lease still runs, and what it waits for.")]
-    Clients {
-        /// The server's status port, with tls: before it if it serves by TLS
-        #[arg(env = "KRL_STATUS", default_value = key::STATUS.default)]
-        address: String,
-        #[command(flatten)]
-        tls: TlsOptions,
-        #[command(flatten)]
-        format: FormatOptions,
-    },
+    Clients(PageOptions),
     /// Ask whether a server is alive or ready: the exit status is the answer
     #[command(long_about = "\
 Ask whether a server is alive or ready: the exit status is the answer.
@@ -99,11 +90,8 @@ Ask whether a server is alive or ready: the exit status is the answer.
 It is 0 if the server is, and 1 if not, or if the server gives no answer within five seconds. A
 server that stands by, or waits for reports of clients, is alive and not ready.")]
     Health {
-        /// The server's status port, with tls: before it if it serves by TLS
-        #[arg(env = "KRL_STATUS", default_value = key::STATUS.default)]
-        address: String,
         #[command(flatten)]
-        tls: TlsOptions,
+        port: PortOptions,
         /// Ask whether it answers clients' requests, and not only whether its loop runs
         #[arg(long)]
         ready: bool,
@@ -272,6 +260,31 @@ valid now and for that many days.")]
     },
 }
 
+/// Which status port is asked.
+#[derive(Args, Debug)]
+pub struct PortOptions {
+    /// The server's status port, with tls: before it if it serves by TLS
+    #[arg(env = "KRL_STATUS", default_value = key::STATUS.default)]
+    address: String,
+    #[command(flatten)]
+    tls: TlsOptions,
+}
+
+impl PortOptions {
+    pub fn port(&self) -> Result<StatusPort, BadSetting> {
+        StatusPort::new(&self.address, &self.tls)
+    }
+}
+
+/// Which status port is asked for a page, and how the page is printed.
+#[derive(Args, Debug)]
+pub struct PageOptions {
+    #[command(flatten)]
+    pub port: PortOptions,
+    #[command(flatten)]
+    pub format: FormatOptions,
+}
+
 /// Whose locks are printed, and how.
 #[derive(Args, Debug)]
 pub struct LocksOptions {
@@ -318,43 +331,6 @@ impl FormatOptions {
     }
 }
 
-/// What is shown by TLS, and whom it believes.
-#[derive(Debug)]
-pub struct TlsOptions {
-    pub authority: Option<String>,
-    pub certificate: Option<String>,
-    pub key: Option<String>,
-    pub table: Option<String>,
-}
-
-impl FromArgMatches for TlsOptions {
-    fn from_arg_matches(matches: &ArgMatches) -> Result<TlsOptions, clap::Error> {
-        let text = |key: &Key| matches.get_one::<String>(key.name).cloned();
-        Ok(TlsOptions {
-            authority: text(&key::TLS_AUTHORITY),
-            certificate: text(&key::TLS_CERTIFICATE),
-            key: text(&key::TLS_KEY),
-            table: text(&key::TABLE),
-        })
-    }
-
-    fn update_from_arg_matches(&mut self, matches: &ArgMatches) -> Result<(), clap::Error> {
-        *self = TlsOptions::from_arg_matches(matches)?;
-        Ok(())
-    }
-}
-
-impl Args for TlsOptions {
-    fn augment_args(command: clap::Command) -> clap::Command {
-        let keys = [key::TLS_AUTHORITY, key::TLS_CERTIFICATE, key::TLS_KEY, key::TABLE];
-        command.args(keys.map(|key| key.argument()))
-    }
-
-    fn augment_args_for_update(command: clap::Command) -> clap::Command {
-        TlsOptions::augment_args(command)
-    }
-}
-
 /// How an answer is printed.
 #[derive(Clone, Copy, Debug, PartialEq, Eq, ValueEnum)]
 pub enum Format {
@@ -367,45 +343,61 @@ pub enum Format {
 #[derive(Args, Debug)]
 pub struct ServeOptions {
     #[command(flatten)]
-    pub given: GivenSettings,
+    pub flags: Flags<OfServer>,
     /// A configuration file in TOML. Its keys are the names of these options
     #[arg(long, env = "KRL_CONFIG", value_name = "FILE")]
     pub config: Option<PathBuf>,
 }
 
-/// The settings that are given by flags or by the environment: the text of each by its name, and
-/// where it comes from.
-#[derive(Debug)]
-pub struct GivenSettings(pub BTreeMap<&'static str, (String, Source)>);
+/// What is shown by TLS, and whom it believes.
+pub type TlsOptions = Flags<OfTls>;
 
-impl FromArgMatches for GivenSettings {
-    fn from_arg_matches(matches: &ArgMatches) -> Result<GivenSettings, clap::Error> {
-        let given = |key: &'static Key| {
-            let text = matches.get_one::<String>(key.name)?.clone();
-            let source = match matches.value_source(key.name) {
-                Some(ValueSource::EnvVariable) => Source::Environment(key),
-                _ => Source::Flag(key),
-            };
-            Some((key.name, (text, source)))
-        };
-        Ok(GivenSettings(key::ALL.iter().copied().filter_map(given).collect()))
+/// The settings that are given by these flags, or by the environment.
+#[derive(Debug)]
+pub struct Flags<K> {
+    pub given: Given,
+    keys: PhantomData<K>,
+}
+
+/// Which settings have flags.
+pub trait Keys {
+    const KEYS: &'static [&'static Key];
+}
+
+/// Those of a server: all.
+#[derive(Debug)]
+pub enum OfServer {}
+
+/// Those of a connection by TLS.
+#[derive(Debug)]
+pub enum OfTls {}
+
+impl Keys for OfServer {
+    const KEYS: &'static [&'static Key] = key::ALL;
+}
+
+impl Keys for OfTls {
+    const KEYS: &'static [&'static Key] =
+        &[&key::TLS_AUTHORITY, &key::TLS_CERTIFICATE, &key::TLS_KEY, &key::TABLE];
+}
+
+impl<K: Keys> FromArgMatches for Flags<K> {
+    fn from_arg_matches(matches: &ArgMatches) -> Result<Flags<K>, clap::Error> {
+        Ok(Flags { given: Given::of_words(K::KEYS, matches), keys: PhantomData })
     }
 
     fn update_from_arg_matches(&mut self, matches: &ArgMatches) -> Result<(), clap::Error> {
-        *self = GivenSettings::from_arg_matches(matches)?;
+        *self = Flags::from_arg_matches(matches)?;
         Ok(())
     }
 }
 
-impl Args for GivenSettings {
+impl<K: Keys> Args for Flags<K> {
     fn augment_args(command: clap::Command) -> clap::Command {
-        command
-            .args(key::ALL.iter().map(|key| key.argument()))
-            .mut_arg(key::STORE_CERTIFICATE.name, |it| it.requires(key::STORE_KEY.name))
-            .mut_arg(key::STORE_KEY.name, |it| it.requires(key::STORE_CERTIFICATE.name))
+        command.args(K::KEYS.iter().map(|key| key.argument()))
     }
 
     fn augment_args_for_update(command: clap::Command) -> clap::Command {
-        GivenSettings::augment_args(command)
+        Flags::<K>::augment_args(command)
     }
 }

@@ -1,7 +1,7 @@
 //! Whether a server is well, as a command asks.
-use crate::http::{self, StatusPort};
+use crate::http::{self, StatusPort, WAIT};
 use crate::output;
-use crate::pages::{TEXT, WAIT};
+use crate::pages::TEXT;
 use hyper::StatusCode;
 use std::error::Error;
 use std::process::ExitCode;

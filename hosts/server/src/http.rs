@@ -1,5 +1,5 @@
 //! One request to a status port.
-use crate::command_line::TlsOptions;
+use crate::command_line::{FormatOptions, TlsOptions};
 use crate::settings::{BadSetting, key};
 use crate::tls_files::TlsFiles;
 use crate::tls_stream;
@@ -7,12 +7,15 @@ use hyper::body::HttpBody;
 use hyper::client::conn;
 use hyper::header::{ACCEPT, CONTENT_TYPE, HOST};
 use hyper::{Body, Method, Request, StatusCode};
-use krl::{PeerCheck, TlsConfig};
+use krl::TlsConfig;
+use krl::operate::PeerCheck;
 use std::error::Error;
 use std::fmt;
+use std::io;
 use std::time::Duration;
 use tokio::io::{AsyncRead, AsyncWrite};
 use tokio::net::TcpStream;
+use tokio::runtime::{Builder, Runtime};
 use tokio::time::timeout;
 
 /// What the address of a status port begins with that serves by TLS, and by plain TCP.
@@ -24,6 +27,9 @@ const NAMED_HOST: &str = "localhost";
 
 /// The most bytes of an answer. No page of a status port has as many.
 const MAX_ANSWER: usize = 1 << 24;
+
+/// How long a command waits for an answer.
+pub const WAIT: Duration = Duration::from_secs(5);
 
 /// Any error of a request, which another thread may have.
 type Failure = Box<dyn Error + Send + Sync>;
@@ -39,7 +45,7 @@ pub struct StatusPort {
 impl StatusPort {
     /// The status port at this address, to which these files are shown if it is one of TLS.
     pub fn new(address: &str, options: &TlsOptions) -> Result<StatusPort, BadSetting> {
-        StatusPort::with(address, || TlsFiles::of(options)?.read())
+        StatusPort::with(address, || TlsFiles::of(&options.given)?.read())
     }
 
     /// The status port at this address, to which this is shown if it is one of TLS.
@@ -96,6 +102,29 @@ pub struct Reply {
     pub text: String,
 }
 
+impl Reply {
+    /// The text of a page of the port, or a sentence that explains why there is none.
+    pub fn page_of(self, port: &StatusPort) -> Result<String, String> {
+        match self.status {
+            StatusCode::OK => Ok(self.text),
+            StatusCode::BAD_REQUEST | StatusCode::FORBIDDEN | StatusCode::SERVICE_UNAVAILABLE => {
+                Err(format!("{port} refuses: {}", self.text.trim_end()))
+            }
+            status => Err(format!("{port} is no status port of krl: it answered {status}")),
+        }
+    }
+}
+
+/// Asks for a page, and returns its text.
+pub fn page(
+    port: &StatusPort,
+    path: &str,
+    format: FormatOptions,
+    wait: Duration,
+) -> Result<String, Box<dyn Error>> {
+    Ok(get(port, path, format.kind(), wait)?.page_of(port)?)
+}
+
 /// Asks for a page.
 pub fn get(
     port: &StatusPort,
@@ -103,24 +132,7 @@ pub fn get(
     accept: &str,
     wait: Duration,
 ) -> Result<Reply, Box<dyn Error>> {
-    let request = Request::builder().uri(path).header(ACCEPT, accept);
-    ask(port, request.header(HOST, NAMED_HOST).body(Body::empty())?, wait)
-}
-
-/// Sends JSON to a path.
-pub fn post(
-    port: &StatusPort,
-    path: &str,
-    json: String,
-    wait: Duration,
-) -> Result<Reply, Box<dyn Error>> {
-    let request = Request::builder().method(Method::POST).uri(path).header(HOST, NAMED_HOST);
-    ask(port, request.header(CONTENT_TYPE, "application/json").body(json.into())?, wait)
-}
-
-fn ask(port: &StatusPort, request: Request<Body>, wait: Duration) -> Result<Reply, Box<dyn Error>> {
-    let runtime = tokio::runtime::Builder::new_current_thread().enable_all().build()?;
-    Ok(runtime.block_on(answered(port, request, wait))?)
+    Ok(runtime()?.block_on(fetch(port, path, accept, wait))?)
 }
 
 /// Asks for a page, in a runtime that continues.
@@ -133,6 +145,22 @@ pub async fn fetch(
     let request = Request::builder().uri(path).header(ACCEPT, accept);
     let request = request.header(HOST, NAMED_HOST).body(Body::empty());
     answered(port, request.map_err(|error| error.to_string())?, wait).await
+}
+
+/// Sends JSON to a path.
+pub fn post(
+    port: &StatusPort,
+    path: &str,
+    json: String,
+    wait: Duration,
+) -> Result<Reply, Box<dyn Error>> {
+    let request = Request::builder().method(Method::POST).uri(path).header(HOST, NAMED_HOST);
+    let request = request.header(CONTENT_TYPE, "application/json").body(json.into())?;
+    Ok(runtime()?.block_on(answered(port, request, wait))?)
+}
+
+fn runtime() -> io::Result<Runtime> {
+    Builder::new_current_thread().enable_all().build()
 }
 
 /// The answer, or a sentence that explains why there is none.

@@ -3,11 +3,9 @@ use crate::cause;
 use crate::output;
 use crate::reshard;
 use crate::settings::{BadSetting, StorePlace};
-use crate::stand_by;
+use crate::stores;
 use krl::{Room, Snapshot, SqliteStore, Store};
-use krl_etcd::EtcdStore;
-use krl_postgres::PostgresStore;
-use krl_rows::{Existing, FileFormat, Line, ValueForm, read_file};
+use krl_cli::{Existing, FileFormat, Line, ValueForm, read_file};
 use std::error::Error;
 use std::path::Path;
 
@@ -41,7 +39,7 @@ pub fn import(file: &Path, is_json: bool, place: &StorePlace, existing: Existing
 fn into_store(path: &Path, lines: Vec<Line>, existing: Existing) -> Result<Added, Box<dyn Error>> {
     let _owner = reshard::own(path)?;
     let added = add(reshard::read(path)?, lines, existing)?;
-    judge(&added.store)?;
+    stores::judge(&path.display(), &added.store)?;
     let mut file = SqliteStore::open(path).map_err(|error| cause(&error))?;
     file.load().map_err(|error| cause(&error))?;
     let rows = added.written.iter().map(|line| line.row);
@@ -51,23 +49,9 @@ fn into_store(path: &Path, lines: Vec<Line>, existing: Existing) -> Result<Added
 
 fn into_new_store(place: &StorePlace, lines: Vec<Line>) -> Result<Added, Box<dyn Error>> {
     let added = add(Snapshot::default(), lines, Existing::Refuse)?;
-    judge(&added.store)?;
-    let made = match place {
-        StorePlace::File(path) => SqliteStore::create(path, &added.store),
-        StorePlace::Etcd(address) => {
-            EtcdStore::create(address, &stand_by::credentials_of_environment(), &added.store)
-        }
-        StorePlace::Postgres(address) => {
-            PostgresStore::create(address, stand_by::user().as_ref(), &added.store)
-        }
-    };
-    made.map_err(|error| cause(&error))?;
+    stores::judge(place, &added.store)?;
+    stores::create(place, &added.store)?;
     Ok(added)
-}
-
-fn judge(store: &Snapshot) -> Done {
-    let judged = store.judge();
-    Ok(judged.map_err(|code| format!("no server could start on the store then: {code}"))?)
 }
 
 /// Adds the rows of the lines to what a store has. If it has all of them already, the import is a
@@ -116,10 +100,10 @@ mod tests {
     #[test]
     fn rows_that_are_there_are_refused_kept_or_replaced() {
         let lines = || vec![line(2, 1), line(3, 2)];
-        let told = add(store(), lines(), Existing::Refuse).unwrap_err();
+        let message = add(store(), lines(), Existing::Refuse).unwrap_err();
         assert!(
-            told.starts_with("line 1: the store has a row of key 2: --existing keep"),
-            "{told}"
+            message.starts_with("line 1: the store has a row of key 2: --existing keep"),
+            "{message}"
         );
         let kept = add(store(), lines(), Existing::Keep).unwrap();
         assert_eq!((kept.kept, &kept.written), (1, &vec![line(3, 2)]));
@@ -146,7 +130,7 @@ mod tests {
         let most = Room::MAX.rows() as u64;
         let lines = |count| (10..10 + count).map(|key| line(key, key)).collect();
         assert!(add(store(), lines(most - 2), Existing::Refuse).is_ok());
-        let told = add(store(), lines(most - 1), Existing::Refuse).unwrap_err();
-        assert!(told.ends_with("1048577 rows, and a table has at most 1048576"), "{told}");
+        let message = add(store(), lines(most - 1), Existing::Refuse).unwrap_err();
+        assert!(message.ends_with("1048577 rows, and a table has at most 1048576"), "{message}");
     }
 }

@@ -4,7 +4,6 @@ use crate::http::{self, StatusPort};
 use crate::pages;
 use crate::settings::BadSetting;
 use form_urlencoded::parse;
-use hyper::StatusCode;
 use krl::operate::Locks;
 use krl::{END, HeldSlot, Wait};
 use serde_json::json;
@@ -147,15 +146,7 @@ pub fn whom(wait: &Wait) -> String {
 pub fn ask(options: &LocksOptions) -> Result<String, Box<dyn Error>> {
     let question = Question::of_words(options)?;
     let port = StatusPort::new(&options.status, &options.tls)?;
-    let kind = options.format.kind();
-    let reply = http::get(&port, &question.path(), kind, WAIT)?;
-    match reply.status {
-        StatusCode::OK => Ok(reply.text),
-        StatusCode::NOT_FOUND => {
-            Err(format!("{port} is no status port that reports who holds what").into())
-        }
-        _ => Err(format!("{port} answers with an error: {}", reply.text.trim_end()).into()),
-    }
+    http::page(&port, &question.path(), options.format, WAIT)
 }
 
 #[cfg(test)]
@@ -174,7 +165,7 @@ mod tests {
         assert_eq!(Question::of_query("limit=64&hi=20"), Ok(question(0..20, 64)));
         let last = question(END..TOP, LIMIT);
         assert_eq!(Question::of_query(&last.path()[PATH.len() + 1..]), Ok(last));
-        for (query, said) in [
+        for (query, message) in [
             ("lo=20&hi=20", "begin below its end"),
             ("lo=21&hi=20", "begin below its end"),
             ("hi=9223372036854775809", "9223372036854775808 at most"),
@@ -186,7 +177,7 @@ mod tests {
             ("low=1", "'low' is unknown: there is lo, hi and limit"),
         ] {
             let refused = Question::of_query(query).unwrap_err();
-            assert!(refused.contains(said), "{query}: {refused}");
+            assert!(refused.contains(message), "{query}: {refused}");
         }
     }
 

@@ -3,7 +3,7 @@
 //! A thread of its own writes it. So logging never waits for the reader of the log, and a line
 //! that can't be written is lost and counted: the server continues.
 use crate::settings::{LogFormat, Settings};
-use krl::Seldom;
+use krl::operate::RateLimit;
 use std::io::{self, Write};
 use std::sync::atomic::{AtomicU64, Ordering};
 use std::sync::mpsc::{Receiver, SyncSender, TrySendError, sync_channel};
@@ -139,14 +139,14 @@ fn write_all(orders: &Receiver<Order>, mut output: impl Write) {
 #[derive(Default)]
 struct Losses {
     reported: u64,
-    seldom: Seldom,
+    limit: RateLimit,
 }
 
 impl Losses {
     /// The log can be written again.
     fn report(&mut self) {
         let lost = lost();
-        if lost > self.reported && self.seldom.lets(Instant::now()).is_some() {
+        if lost > self.reported && self.limit.admits(Instant::now()).is_some() {
             self.reported = lost;
             tracing::warn!(lost, "lines of the log were lost");
         }

@@ -5,7 +5,6 @@ mod certificates;
 mod check;
 mod clients;
 mod command_line;
-mod completion;
 mod export;
 mod health;
 mod http;
@@ -30,16 +29,18 @@ mod serve;
 mod settings;
 mod stand_by;
 mod status_port;
+mod stores;
 mod tls_files;
 mod tls_stream;
 mod visitors;
 mod watchdog;
 
-use clap::Parser;
-use command_line::{Command, CommandLine, TlsOptions};
+use clap::{CommandFactory, Parser};
+use command_line::{Command, CommandLine, PageOptions, TlsOptions};
 use health::Asked;
 use http::StatusPort;
 use krl::{Servers, ShardBounds, StoreError};
+use krl_cli::{print_completion, sentence};
 use output::NotPrinted;
 use settings::{BadSetting, Settings};
 use std::error::Error;
@@ -79,15 +80,11 @@ fn run(command: Command) -> Result<ExitCode, Box<dyn Error>> {
             settings.access.tls()?;
             output::print(&settings.to_string())?;
         }
-        Command::Status { address, tls, format } => {
-            output::print(&pages::fetch(&StatusPort::new(&address, &tls)?, format)?)?;
-        }
-        Command::Clients { address, tls, format } => {
-            output::print(&clients::ask(&StatusPort::new(&address, &tls)?, format)?)?;
-        }
-        Command::Health { address, tls, ready } => {
+        Command::Status(options) => print_page(&options, pages::STATUS_PATH)?,
+        Command::Clients(options) => print_page(&options, clients::PATH)?,
+        Command::Health { port, ready } => {
             let asked = if ready { Asked::Ready } else { Asked::Alive };
-            return health::ask(&StatusPort::new(&address, &tls)?, asked);
+            return health::ask(&port.port()?, asked);
         }
         Command::Locks(options) => output::print(&locks::ask(&options)?)?,
         Command::Evict { address, tls, number, lock_file, shard } => {
@@ -110,9 +107,16 @@ fn run(command: Command) -> Result<ExitCode, Box<dyn Error>> {
         }
         Command::Export { file, json } => export::export(&file, json)?,
         Command::Check { file, days } => return check::check(&file, days),
-        Command::Completion { shell } => completion::print(shell)?,
+        Command::Completion { shell } => {
+            print_completion(shell, CommandLine::command()).map_err(NotPrinted::before_work)?;
+        }
     }
     Ok(ExitCode::SUCCESS)
+}
+
+fn print_page(options: &PageOptions, path: &str) -> Result<(), Box<dyn Error>> {
+    let page = http::page(&options.port.port()?, path, options.format, http::WAIT)?;
+    Ok(output::print(&page)?)
 }
 
 fn evict(
@@ -127,7 +131,7 @@ fn evict(
     ));
     let mut servers: Servers =
         address.parse().map_err(|error| BadSetting::new(format!("'{address}': {error}")))?;
-    if let Some(config) = TlsFiles::of(tls)?.read()? {
+    if let Some(config) = TlsFiles::of(&tls.given)?.read()? {
         servers = servers.with_tls(config);
     }
     if let Some(shard) = shard {
@@ -136,21 +140,6 @@ fn evict(
     krl::evict(servers, number, lock_file)?;
     output::report(&format!("client {number} has left"));
     Ok(())
-}
-
-/// An error and what caused it, as one line. A cause that the error's own text includes is not
-/// repeated.
-fn sentence(error: &dyn Error) -> String {
-    let mut text = error.to_string();
-    let mut cause = error.source();
-    while let Some(error) = cause {
-        let more = error.to_string();
-        if !text.contains(&more) {
-            text = format!("{text}: {more}");
-        }
-        cause = error.source();
-    }
-    text
 }
 
 /// What made a store fail, without naming the store again.

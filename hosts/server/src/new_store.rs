@@ -65,7 +65,7 @@ pub fn judge_file(path: &Path, may_be_new: bool) -> Result<(), StoreError> {
 }
 
 fn missing(what: &str) -> StoreError {
-    StoreError::says(&format!(
+    StoreError::failed(format!(
         "{what}. Is this the right place, and is its disk mounted? To make a new store there, give \
          --create at the first start"
     ))

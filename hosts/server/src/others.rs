@@ -3,7 +3,6 @@
 //! While somebody watches the page of a server, that server asks the status ports of the others for
 //! their state. A slow or silent one keeps neither the page nor the others waiting.
 use crate::http::{self, StatusPort};
-use hyper::StatusCode;
 use serde::de::IgnoredAny;
 use serde::{Deserialize, Deserializer};
 use std::sync::{Arc, Mutex, MutexGuard, PoisonError};
@@ -137,12 +136,8 @@ impl Seen {
 
 async fn ask(port: &StatusPort) -> Answer {
     let reply = http::fetch(port, "/status.json", crate::pages::JSON, WAIT).await?;
-    match reply.status {
-        StatusCode::OK => report_of(&reply.text)
-            .map_err(|error| format!("{port} is no status port of krl: {error}")),
-        StatusCode::FORBIDDEN => Err(format!("{port} refuses: {}", reply.text.trim_end())),
-        status => Err(format!("{port} is no status port of krl: it answered {status}")),
-    }
+    let text = reply.page_of(port)?;
+    report_of(&text).map_err(|error| format!("{port} is no status port of krl: {error}"))
 }
 
 fn report_of(text: &str) -> serde_json::Result<Report> {

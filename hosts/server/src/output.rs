@@ -1,12 +1,9 @@
 //! What a command prints.
+use krl_cli::BROKEN_PIPE;
 use std::error::Error;
 use std::fmt;
 use std::io::{self, ErrorKind, Write};
 use std::process::ExitCode;
-
-/// The exit status of a command whose output nobody reads any more, like that of one that SIGPIPE
-/// ended.
-const BROKEN_PIPE: u8 = 128 + 13;
 
 /// Standard output can't be written.
 #[derive(Debug)]
@@ -18,18 +15,12 @@ pub struct NotPrinted {
 
 /// Prints what a command has found.
 pub fn print(text: &str) -> Result<(), NotPrinted> {
-    write(text).map_err(|error| NotPrinted { error, is_done: false })
+    krl_cli::print(text).map_err(NotPrinted::before_work)
 }
 
 /// Prints what a command has done.
 pub fn print_done(text: &str) -> Result<(), NotPrinted> {
-    write(text).map_err(|error| NotPrinted { error, is_done: true })
-}
-
-fn write(text: &str) -> io::Result<()> {
-    let mut output = io::stdout().lock();
-    output.write_all(text.as_bytes())?;
-    output.flush()
+    krl_cli::print(text).map_err(|error| NotPrinted { error, is_done: true })
 }
 
 /// Writes a line to standard error. If that can't be written, it is lost.
@@ -38,6 +29,11 @@ pub fn report(text: &str) {
 }
 
 impl NotPrinted {
+    /// Of a command that has nothing else to do.
+    pub fn before_work(error: io::Error) -> NotPrinted {
+        NotPrinted { error, is_done: false }
+    }
+
     /// The exit status, and whether to report why: that nobody reads the output is not reported.
     pub fn exit_status(&self) -> (ExitCode, bool) {
         match self.error.kind() {

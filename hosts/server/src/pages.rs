@@ -1,8 +1,6 @@
 //! What the status port answers.
 use crate::backup::{self, Order};
 use crate::clients;
-use crate::command_line::FormatOptions;
-use crate::http::{self, StatusPort};
 use crate::locks::{self, Question};
 use crate::log;
 use crate::origin;
@@ -19,7 +17,7 @@ use krl::operate::Liveness;
 use krl::{Certificate, HeldSlots, Identity, Monitor, ShardBounds, Status, TlsConfig, Wait};
 use serde_json::json;
 use std::collections::BTreeMap;
-use std::error::Error;
+use std::fmt::Display;
 use std::net::IpAddr;
 use std::time::{Duration, Instant, SystemTime, UNIX_EPOCH};
 use tokio::time::timeout;
@@ -31,6 +29,9 @@ const SVG: &str = "image/svg+xml";
 const METRICS: &str = "text/plain; version=0.0.4; charset=utf-8";
 const METRICS_PATH: &str = "/metrics";
 
+/// The path of a server's status.
+pub const STATUS_PATH: &str = "/status";
+
 const PATHS: &str = "there is /, /healthz, /readyz, /status, /status.json, /clients, /locks, /locks.svg and /metrics\n";
 
 /// The most bytes of an order.
@@ -38,9 +39,6 @@ const MAX_ORDER: u64 = 1 << 16;
 
 /// How long an order may take to come after its head.
 const BODY: Duration = Duration::from_secs(5);
-
-/// How long a command waits for an answer.
-pub const WAIT: Duration = Duration::from_secs(5);
 
 /// A page and its status.
 #[derive(Debug, PartialEq, Eq)]
@@ -57,16 +55,6 @@ impl Page {
 
     fn text(status: StatusCode, text: impl Into<String>) -> Page {
         Page::new(status, TEXT, text.into())
-    }
-}
-
-/// The status of the server whose status port this is.
-pub fn fetch(port: &StatusPort, format: FormatOptions) -> Result<String, Box<dyn Error>> {
-    let reply = http::get(port, "/status", format.kind(), WAIT)?;
-    match reply.status {
-        StatusCode::OK => Ok(reply.text),
-        StatusCode::FORBIDDEN => Err(format!("{port} refuses: {}", reply.text.trim_end()).into()),
-        status => Err(format!("{port} is no status port of krl: it answered {status}").into()),
     }
 }
 
@@ -198,8 +186,8 @@ fn without_a_server(path: &str, accepts: &str, state: &State) -> Page {
     let text = format!("role: {state}\n");
     match path {
         "/healthz" => Page::text(StatusCode::OK, "ok\n"),
-        "/status" if accepts.contains(JSON) => role_as_json(state),
-        "/status" => Page::text(StatusCode::OK, text),
+        STATUS_PATH if accepts.contains(JSON) => role_as_json(state),
+        STATUS_PATH => Page::text(StatusCode::OK, text),
         "/status.json" => role_as_json(state),
         "/readyz" | clients::PATH | locks::PATH | page::PICTURE_PATH | backup::PATH => {
             Page::text(StatusCode::SERVICE_UNAVAILABLE, text)
@@ -239,36 +227,32 @@ pub fn seconds_left(certificate: &Certificate, now: SystemTime) -> i64 {
 }
 
 fn certificate_as_metrics(certificate: &Certificate, now: SystemTime) -> String {
-    let left = seconds_left(certificate, now);
-    format!(
-        "# HELP krl_certificate_expires_seconds How long the server's certificate is still valid; \
-         negative once it has expired\n\
-         # TYPE krl_certificate_expires_seconds gauge\n\
-         krl_certificate_expires_seconds {left}\n\
-         # HELP krl_certificate_reloads_refused_total How often SIGHUP found certificates that \
-         can't be used\n\
-         # TYPE krl_certificate_reloads_refused_total counter\n\
-         krl_certificate_reloads_refused_total {}\n",
-        reload::refused()
-    )
+    let expires = "How long the server's certificate is still valid; negative once it has expired";
+    let refused = "How often SIGHUP found certificates that can't be used";
+    let left = Some(seconds_left(certificate, now));
+    metric("krl_certificate_expires_seconds", "gauge", expires, left)
+        + &metric(
+            "krl_certificate_reloads_refused_total",
+            "counter",
+            refused,
+            Some(reload::refused()),
+        )
 }
 
 fn process_as_metrics(state: &State) -> String {
     let serves = u8::from(matches!(state, State::Serves { .. }));
-    format!(
-        "# HELP krl_leader Whether this process serves: 1, or stands by: 0.\n\
-         # TYPE krl_leader gauge\n\
-         krl_leader {serves}\n\
-         # HELP krl_log_lost_total Lines of the log that could not be written\n\
-         # TYPE krl_log_lost_total counter\n\
-         krl_log_lost_total {}\n\
-         # HELP krl_last_backup_timestamp_seconds When this process last made a backup, in seconds \
-         since 1970\n\
-         # TYPE krl_last_backup_timestamp_seconds gauge\n{}",
-        log::lost(),
-        backup::last()
-            .map_or(String::new(), |at| format!("krl_last_backup_timestamp_seconds {at}\n"))
-    )
+    let leader = "Whether this process serves: 1, or stands by: 0.";
+    let lost = "Lines of the log that could not be written";
+    let backup = "When this process last made a backup, in seconds since 1970";
+    metric("krl_leader", "gauge", leader, Some(serves))
+        + &metric("krl_log_lost_total", "counter", lost, Some(log::lost()))
+        + &metric("krl_last_backup_timestamp_seconds", "gauge", backup, backup::last())
+}
+
+/// A metric as Prometheus reads it, which may have no value yet.
+fn metric(name: &str, kind: &str, help: &str, value: Option<impl Display>) -> String {
+    let line = value.map_or_else(String::new, |value| format!("{name} {value}\n"));
+    format!("# HELP {name} {help}\n# TYPE {name} {kind}\n{line}")
 }
 
 fn page(path: &str, accepts: &str, shown: &Shown, monitor: &Monitor) -> Page {
@@ -276,8 +260,8 @@ fn page(path: &str, accepts: &str, shown: &Shown, monitor: &Monitor) -> Page {
     match path {
         "/healthz" => health(monitor.liveness()),
         "/readyz" => readiness(&monitor.status()),
-        "/status" if wants_json => status_as_json(shown, monitor),
-        "/status" => Page::text(StatusCode::OK, monitor.status().to_string()),
+        STATUS_PATH if wants_json => status_as_json(shown, monitor),
+        STATUS_PATH => Page::text(StatusCode::OK, monitor.status().to_string()),
         "/status.json" => status_as_json(shown, monitor),
         clients::PATH if wants_json => {
             Page::new(StatusCode::OK, JSON, clients::page_as_json(&monitor.status()))
@@ -324,8 +308,8 @@ async fn locks_page(query: &str, as_json: bool, monitor: Monitor) -> Page {
         Err(text) => return Page::text(StatusCode::BAD_REQUEST, format!("{text}\n")),
     };
     let (points, limit) = (question.points.clone(), question.limit);
-    let told = tokio::task::spawn_blocking(move || monitor.locks(points, limit)).await;
-    match told {
+    let locks = tokio::task::spawn_blocking(move || monitor.locks(points, limit)).await;
+    match locks {
         Ok(Ok(locks)) if as_json => Page::new(StatusCode::OK, JSON, question.as_json(&locks)),
         Ok(Ok(locks)) => Page::text(StatusCode::OK, question.as_text(&locks)),
         Ok(Err(error)) => Page::text(StatusCode::SERVICE_UNAVAILABLE, format!("{error}\n")),

@@ -36,7 +36,7 @@ fn reload(tls: Option<&TlsConfig>) {
         Ok(()) => log_certificate(tls, "the certificates are read again"),
         Err(error) => {
             REFUSED.fetch_add(1, Ordering::Relaxed);
-            let why = crate::sentence(&error);
+            let why = krl_cli::sentence(&error);
             tracing::error!(why, "the certificates can't be used: the old ones stay");
         }
     }

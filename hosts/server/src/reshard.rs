@@ -5,6 +5,7 @@ use crate::cause;
 use crate::next_map::{MergeMap, NextMap, SplitMap};
 use crate::output;
 use crate::owner::Owner;
+use crate::stores;
 use krl::operate::{Checksum, StoreFile};
 use krl::{END, Snapshot, SqliteStore, Store};
 use std::error::Error;
@@ -33,8 +34,8 @@ pub fn split(store: &Path, at: u64, new: &Path, is_empty_allowed: bool, map: &Sp
         )
         .into());
     }
-    judge(store, &lower)?;
-    judge(new, &upper)?;
+    stores::judge(&store.display(), &lower)?;
+    stores::judge(&new.display(), &upper)?;
     create(new, &upper)?;
     cut_off(store, at, &upper).map_err(|error| {
         format!("{} may have all its rows still: {error}. Split it again", store.display())
@@ -72,7 +73,7 @@ pub fn merge(lower: &Path, upper: &Path, new: &Path, map: &MergeMap) -> Done {
     let (lower, upper) = (read(lower)?, read(upper)?);
     let next = map.next(&lower, &upper)?;
     let whole = lower.merge(upper)?;
-    judge(new, &whole)?;
+    stores::judge(&new.display(), &whole)?;
     create(new, &whole)?;
     let (rows, epoch) = (whole.rows.len(), whole.epoch);
     print_done_with_map(&format!("{}: {rows} rows, epoch {epoch}\n", new.display()), next.as_ref())
@@ -100,9 +101,7 @@ pub fn read(store: &Path) -> Result<Snapshot, Box<dyn Error>> {
 }
 
 fn read_file(store: &Path) -> Result<StoreFile, Box<dyn Error>> {
-    let file = SqliteStore::read(store).and_then(StoreFile::undamaged).map_err(|error| {
-        format!("{} can't be read as a store: {}", store.display(), cause(&error))
-    })?;
+    let file = stores::read_undamaged(store)?;
     let present = file.snapshot.present();
     if present.is_empty() {
         return Ok(file);
@@ -114,12 +113,6 @@ fn read_file(store: &Path) -> Result<StoreFile, Box<dyn Error>> {
          or evict it if its process is dead"
     )
     .into())
-}
-
-fn judge(path: &Path, snapshot: &Snapshot) -> Done {
-    let judged = snapshot.judge();
-    judged.map_err(|code| format!("no server could start on {}: {code}", path.display()))?;
-    Ok(())
 }
 
 fn create(new: &Path, snapshot: &Snapshot) -> Done {

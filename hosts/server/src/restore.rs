@@ -1,13 +1,8 @@
 //! A new store from a backup, for a server that takes up work again.
-use crate::cause;
 use crate::output;
-use crate::owner;
 use crate::settings::{BadSetting, StorePlace};
-use crate::stand_by;
-use krl::operate::StoreFile;
-use krl::{END, LeaseRecord, Snapshot, SqliteStore};
-use krl_etcd::EtcdStore;
-use krl_postgres::PostgresStore;
+use crate::stores;
+use krl::{END, LeaseRecord, Snapshot};
 use std::error::Error;
 use std::path::Path;
 
@@ -31,28 +26,13 @@ pub fn restore(backup: &Path, store: &StorePlace, are_stopped: bool) -> Result<(
         StorePlace::Etcd(_) | StorePlace::Postgres(_) => None,
     };
     for path in [Some(backup), file].into_iter().flatten() {
-        if let Some(by) = owner::served_by(path) {
-            return Err(format!("the store {} is served, by {by}", path.display()).into());
-        }
+        stores::refuse_served(path)?;
     }
-    let file = SqliteStore::read(backup).and_then(StoreFile::undamaged).map_err(|error| {
-        format!("{} can't be read as a store: {}", backup.display(), cause(&error))
-    })?;
+    let file = stores::read_undamaged(backup)?;
     let before = file.snapshot.epoch;
     let snapshot = restored(file.snapshot)?;
-    snapshot
-        .judge()
-        .map_err(|code| format!("no server can start on {}: {code}", backup.display()))?;
-    let made = match store {
-        StorePlace::File(path) => SqliteStore::create(path, &snapshot),
-        StorePlace::Etcd(address) => {
-            EtcdStore::create(address, &stand_by::credentials_of_environment(), &snapshot)
-        }
-        StorePlace::Postgres(address) => {
-            PostgresStore::create(address, stand_by::user().as_ref(), &snapshot)
-        }
-    };
-    made.map_err(|error| cause(&error))?;
+    stores::judge(store, &snapshot)?;
+    stores::create(store, &snapshot)?;
     let Snapshot { epoch, rows, records, .. } = snapshot;
     let (rows, records) = (rows.len(), records.len());
     output::print_done(&format!(

@@ -9,7 +9,8 @@ use crate::pages::Table;
 use crate::role::Role;
 use crate::settings::{BadSetting, Settings, StatusAddress, StorePlace};
 use crate::{long_waits, reload, stand_by, status_port, watchdog};
-use krl::{Access, Listener, Seldom, ServeError, Server, SqliteStore, Store, StoreError};
+use krl::operate::RateLimit;
+use krl::{Access, Listener, ServeError, Server, SqliteStore, Store, StoreError};
 use krl_postgres::{PostgresAddress, PostgresStore};
 use sd_notify::NotifyState;
 use signal_hook::consts::{SIGINT, SIGTERM};
@@ -110,7 +111,7 @@ fn serve_file(
     new_store::judge_file(path, settings.may_make_store).map_err(fails)?;
     SqliteStore::judge_first_bytes(path).map_err(fails)?;
     let _owner = Owner::take(path, &settings.listen)?;
-    let store = SqliteStore::open(path).map_err(fails)?;
+    let store = SqliteStore::open_with(path, settings.store_writes).map_err(fails)?;
     serve_store(settings, store, access, signal, role)
 }
 
@@ -136,11 +137,11 @@ fn serve_database(
 
 /// Logs now and then that the store does not answer.
 #[derive(Debug, Default)]
-pub struct Unanswered(Seldom);
+pub struct Unanswered(RateLimit);
 
 impl Unanswered {
     pub fn log(&mut self, why: &str) {
-        if let Some(passed_over) = self.0.lets(Instant::now()) {
+        if let Some(passed_over) = self.0.admits(Instant::now()) {
             tracing::warn!(%why, passed_over, "the store does not answer");
         }
     }

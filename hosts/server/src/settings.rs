@@ -3,17 +3,17 @@ mod access;
 mod given;
 pub mod key;
 mod store_place;
-mod value;
+pub mod value;
 
 pub use access::AccessSettings;
+pub use given::Given;
 pub use key::Key;
 pub use store_place::StorePlace;
 pub use value::{Drift, LeaseLength, LogFormat, StatusAddress};
 
 use crate::command_line::ServeOptions;
 use crate::http::StatusPort;
-use given::Given;
-use krl::{Address, Reach, Room, ShardBounds};
+use krl::{Address, LogWrites, Reach, Room, ShardBounds};
 use std::fmt;
 use std::path::PathBuf;
 use std::time::Duration;
@@ -38,6 +38,7 @@ pub struct Settings {
     pub listen: Address,
     pub access: AccessSettings,
     pub store: StorePlace,
+    pub store_writes: LogWrites,
     /// Whether a store that holds nothing may be served.
     pub may_make_store: bool,
     pub store_authority: Option<PathBuf>,
@@ -70,6 +71,7 @@ impl Settings {
             store: given.judged(&key::STORE, |text| {
                 text.parse().map_err(|bad: BadStorePlace| format!(": {bad}"))
             })?,
+            store_writes: given.value(&key::STORE_WRITES, value::parse_log_writes)?,
             may_make_store: given.value(&key::CREATE, value::parse_yes_no)?,
             store_authority: given.optional(&key::STORE_AUTHORITY, value::parsed)?,
             store_certificate: given.optional(&key::STORE_CERTIFICATE, value::parsed)?,
@@ -108,14 +110,21 @@ impl Settings {
         self.others.iter().map(String::as_str).map(port).collect()
     }
 
-    /// Whether a file that says the same has a line of this setting. A file can't say that a
-    /// setting is left out, and only servers over a cluster elect one of them.
+    /// Whether an equivalent file has a line of this setting. A file can't express that a setting
+    /// is left out.
     fn has_line(&self, key: &Key) -> bool {
         let (text, _) = self.given.text(key);
-        let is_of_cluster = [key::ADVERTISE.name, key::ELECTION_LEASE.name].contains(&key.name);
-        let counts = !is_of_cluster || matches!(self.store, StorePlace::Etcd(_));
         let is_left_out = text.is_empty() || key.kind == key::Kind::YesNo && text == "no";
-        key.is_in_files() && counts && !is_left_out
+        key.is_in_files() && self.counts(key) && !is_left_out
+    }
+
+    /// Whether the setting counts over this store. Only servers over a cluster elect one of them,
+    /// and only a file of SQLite has its log.
+    fn counts(&self, key: &Key) -> bool {
+        if [key::ADVERTISE.name, key::ELECTION_LEASE.name].contains(&key.name) {
+            return matches!(self.store, StorePlace::Etcd(_));
+        }
+        key.name != key::STORE_WRITES.name || matches!(self.store, StorePlace::File(_))
     }
 }
 

@@ -9,7 +9,8 @@ use crate::visitors::{Visit, Visitors};
 use hyper::server::conn::Http;
 use hyper::service::service_fn;
 use hyper::{Body, Request};
-use krl::{Address, Identity, Listener, PeerCheck, Seldom, TlsConfig};
+use krl::operate::{PeerCheck, RateLimit};
+use krl::{Address, Identity, Listener, TlsConfig};
 use std::convert::Infallible;
 use std::future::ready;
 use std::io::{self, ErrorKind};
@@ -87,7 +88,7 @@ async fn serve(listener: TcpListener, tls: Option<TlsConfig>, shown: Shown) -> i
     let listener = tokio::net::TcpListener::from_std(listener)?;
     tokio::spawn(sample(shown.clone()));
     let visitors = Visitors::default();
-    let refused = Arc::new(Mutex::new(Seldom::default()));
+    let refused = Arc::new(Mutex::new(RateLimit::default()));
     loop {
         let Ok((stream, peer)) = listener.accept().await else {
             sleep(PAUSE).await;
@@ -121,7 +122,7 @@ async fn attend(
     stream: TcpStream,
     guest: Guest,
     tls: Option<TlsConfig>,
-    refused: Arc<Mutex<Seldom>>,
+    refused: Arc<Mutex<RateLimit>>,
 ) {
     let visit = Arc::clone(&guest.visit);
     let answered = async {
@@ -141,7 +142,7 @@ async fn answer_operator(
     stream: TcpStream,
     tls: &TlsConfig,
     guest: Guest,
-    refused: &Mutex<Seldom>,
+    refused: &Mutex<RateLimit>,
 ) {
     let Ok(session) = PeerCheck::of_client(tls) else { return };
     let address = guest.peer;
@@ -161,8 +162,8 @@ async fn answer_operator(
 }
 
 /// Logs who was refused, now and then.
-fn log_refused(address: SocketAddr, why: &str, refused: &Mutex<Seldom>) {
-    let due = refused.lock().unwrap_or_else(PoisonError::into_inner).lets(Instant::now());
+fn log_refused(address: SocketAddr, why: &str, refused: &Mutex<RateLimit>) {
+    let due = refused.lock().unwrap_or_else(PoisonError::into_inner).admits(Instant::now());
     if let Some(passed_over) = due {
         tracing::warn!(peer = %address, %why, passed_over, "the status port refused a connection");
     }

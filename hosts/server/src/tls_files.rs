@@ -1,30 +1,30 @@
-//! The files of TLS, as a command names them.
-use crate::command_line::TlsOptions;
-use crate::settings::{BadSetting, key};
+//! The files of TLS, as settings name them.
+use crate::settings::{BadSetting, Given, key, value};
 use krl::{TableName, TlsConfig};
 use std::path::PathBuf;
 
 /// The files of one side of a connection, as far as they are named, and the table whose names count.
-#[derive(Debug)]
+#[derive(Clone, Debug)]
 pub struct TlsFiles {
-    pub authority: Option<PathBuf>,
-    pub certificate: Option<PathBuf>,
-    pub key: Option<PathBuf>,
-    pub table: Option<TableName>,
+    authority: Option<PathBuf>,
+    certificate: Option<PathBuf>,
+    key: Option<PathBuf>,
+    table: Option<TableName>,
 }
 
 impl TlsFiles {
-    /// Those of a command that takes no configuration file.
-    pub fn of(options: &TlsOptions) -> Result<TlsFiles, BadSetting> {
-        let path = |text: &Option<String>| text.as_ref().map(PathBuf::from);
-        let table = options.table.as_ref().map(|text| text.parse()).transpose();
-        let bad_table = |error| BadSetting::new(format!("{}: {error}", key::TABLE.flag()));
+    pub fn of(given: &Given) -> Result<TlsFiles, BadSetting> {
         Ok(TlsFiles {
-            authority: path(&options.authority),
-            certificate: path(&options.certificate),
-            key: path(&options.key),
-            table: table.map_err(bad_table)?,
+            authority: given.optional(&key::TLS_AUTHORITY, value::parsed)?,
+            certificate: given.optional(&key::TLS_CERTIFICATE, value::parsed)?,
+            key: given.optional(&key::TLS_KEY, value::parsed)?,
+            table: given.optional(&key::TABLE, value::parsed)?,
         })
+    }
+
+    /// Whether all three files are named.
+    pub fn are_named(&self) -> bool {
+        [&self.authority, &self.certificate, &self.key].iter().all(|file| file.is_some())
     }
 
     /// Reads them, if they are named: all three or none.
@@ -34,18 +34,20 @@ impl TlsFiles {
             (None, None, None) => Ok(None),
             (Some(authority), Some(certificate), Some(key)) => {
                 let read = TlsConfig::from_files(authority, certificate, key);
-                let read = read.map_err(|error| BadSetting::new(crate::sentence(&error)))?;
+                let read = read.map_err(|error| BadSetting::new(krl_cli::sentence(&error)))?;
                 Ok(Some(match table {
                     Some(table) => read.for_table(table),
                     None => read,
                 }))
             }
-            _ => Err(BadSetting::new(format!(
-                "TLS needs all of {}, {} and {}",
-                key::TLS_AUTHORITY.flag(),
-                key::TLS_CERTIFICATE.flag(),
-                key::TLS_KEY.flag()
-            ))),
+            _ => Err(BadSetting::new(all_are_needed())),
         }
     }
+}
+
+/// That TLS needs all files, as a sentence.
+pub fn all_are_needed() -> String {
+    let [authority, certificate, key] =
+        [&key::TLS_AUTHORITY, &key::TLS_CERTIFICATE, &key::TLS_KEY].map(key::Key::flag);
+    format!("TLS needs all of {authority}, {certificate} and {key}")
 }

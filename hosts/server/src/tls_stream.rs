@@ -1,5 +1,6 @@
 //! Connections by TLS, for HTTP.
-use krl::{Identity, PeerCheck};
+use krl::Identity;
+use krl::operate::PeerCheck;
 use openssl::ssl::Ssl;
 use std::io::{self, ErrorKind};
 use std::pin::Pin;

@@ -4,7 +4,7 @@
 //! operator's certificate. For one connection too many the oldest is closed, and never the newest
 //! refused: a probe sends its request in a few milliseconds, and is answered next to any number of
 //! connections that send nothing.
-use krl::Strangers;
+use krl::operate::Strangers;
 use std::collections::{HashMap, VecDeque};
 use std::net::IpAddr;
 use std::sync::{Arc, Mutex, MutexGuard, PoisonError};
@@ -49,7 +49,7 @@ impl Visitors {
         let mut connections = self.lock();
         let (number, closer) = (connections.next, Arc::new(Notify::new()));
         connections.next += 1;
-        let gone = connections.strangers.comes(number, Some(from), now);
+        let gone = connections.strangers.add(number, Some(from), now);
         connections.closers.insert(number, Arc::clone(&closer));
         connections.close(gone);
         drop(connections);
@@ -72,7 +72,7 @@ impl Connections {
         if self.placed.contains(&number) {
             return;
         }
-        self.strangers.closed(number);
+        self.strangers.remove(number);
         if self.placed.len() >= MAX_PLACES {
             let gone = self.placed.iter().find(|it| !self.ordering.contains(it)).copied();
             self.placed.retain(|it| Some(*it) != gone);
@@ -90,7 +90,7 @@ impl Connections {
     }
 
     fn forget(&mut self, number: u64) {
-        self.strangers.closed(number);
+        self.strangers.remove(number);
         self.placed.retain(|it| *it != number);
         self.ordering.retain(|it| *it != number);
         self.closers.remove(&number);

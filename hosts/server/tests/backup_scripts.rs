@@ -52,8 +52,8 @@ fn a_backup_has_a_date_and_is_restored_in_a_rehearsal() {
     std::fs::write(backups_at.join("krl-2001-01-01T00-00-00Z.db"), "an older one").unwrap();
     let rehearsed = rehearse(&backups_at);
     assert!(rehearsed.status.success(), "{}", errors(&rehearsed));
-    let said = format!("{}: a server has served its 50 rows, after ", backup.display());
-    assert!(text(&rehearsed).starts_with(&said), "{}", text(&rehearsed));
+    let message = format!("{}: a server has served its 50 rows, after ", backup.display());
+    assert!(text(&rehearsed).starts_with(&message), "{}", text(&rehearsed));
     assert_eq!(client.read(..).unwrap().len(), 50, "the server that runs is not touched");
 
     let mut bytes = std::fs::read(backup).unwrap();

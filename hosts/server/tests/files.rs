@@ -47,8 +47,8 @@ fn a_new_store_has_the_rows_of_a_file_and_a_server_serves_them() {
     let folder = Folder::new();
     let (store, file) = (folder.name("krl.db"), "key,value\n5,five\n3,\"a,b\"\n9,u64:9\n");
     let csv = folder.file("rows.csv", file);
-    let said = format!("{store}: imported 3 rows; it has 3\n");
-    assert_eq!(ended(&import(&csv, &store, &[])), (Some(0), said));
+    let printed = format!("{store}: imported 3 rows; it has 3\n");
+    assert_eq!(ended(&import(&csv, &store, &[])), (Some(0), printed));
     let serving = Serving::start(Path::new(&store));
     let refused = run(&["export", &store]);
     assert!(errors(&refused).contains("`krl-client export` asks a server"), "{refused:?}");
@@ -79,23 +79,23 @@ fn a_store_that_is_there_takes_all_rows_or_none() {
     serving.ended();
     let before = SqliteStore::read(&store).unwrap();
     let new = folder.file("new.csv", "key,value\n6,new\n7,new\n");
-    let (status, said) = ended(&import(&new, &store, &[]));
+    let (status, printed) = ended(&import(&new, &store, &[]));
     assert_eq!(status, Some(1));
-    assert!(said.contains("line 3: the store has a row of key 7: --existing keep"), "{said}");
+    assert!(printed.contains("line 3: the store has a row of key 7: --existing keep"), "{printed}");
     assert_eq!(SqliteStore::read(&store).unwrap(), before);
-    let said = format!("{store}: imported 1 rows, 1 were there and stay; it has 3\n");
-    assert_eq!(ended(&import(&new, &store, &["--existing", "keep"])), (Some(0), said));
+    let printed = format!("{store}: imported 1 rows, 1 were there and stay; it has 3\n");
+    assert_eq!(ended(&import(&new, &store, &["--existing", "keep"])), (Some(0), printed));
     assert_eq!(text(&run(&["export", &store])), "key,value\n5,old\n6,new\n7,old\n");
     assert_eq!(import(&new, &store, &["--existing", "replace"]).status.code(), Some(0));
     assert_eq!(text(&run(&["export", &store])), "key,value\n5,old\n6,new\n7,new\n");
     let after = SqliteStore::read(&store).unwrap().snapshot;
     assert_eq!((after.epoch, after.first_start), (1, before.snapshot.first_start));
-    for (text, told) in
+    for (text, message) in
         [("1,a\nx,b\n", "line 2: 'x' is no key"), ("1,a\n1,b\n", "line 2: the key 1")]
     {
-        let (status, said) = ended(&import(&folder.file("bad.csv", text), &store, &[]));
+        let (status, printed) = ended(&import(&folder.file("bad.csv", text), &store, &[]));
         assert_eq!(status, Some(2));
-        assert!(said.contains(told), "{said}");
+        assert!(printed.contains(message), "{printed}");
     }
     assert_eq!(rows(Path::new(&store)).len(), 3);
 }
@@ -107,10 +107,10 @@ fn a_store_whose_clients_may_still_answer_is_not_changed() {
     let record = Record { client: 3, incarnation: 5, last: None, left: false };
     let snapshot = Snapshot { epoch: 1, records: vec![record], ..Snapshot::default() };
     SqliteStore::create(&store, &snapshot).unwrap();
-    let (status, said) =
+    let (status, printed) =
         ended(&import(&folder.file("a.csv", "1,a\n"), &folder.name("krl.db"), &[]));
     assert_eq!(status, Some(1));
-    assert!(said.contains("has clients that have not left: 3"), "{said}");
+    assert!(printed.contains("has clients that have not left: 3"), "{printed}");
     assert_eq!(rows(&store), []);
 }
 
@@ -121,8 +121,8 @@ fn a_store_may_have_more_rows_than_a_server_by_default() {
     let text =
         (0..rows).map(|key| format!("{},value {key}\n", 8 * key)).collect::<Vec<_>>().concat();
     let (csv, store) = (folder.file("rows.csv", &text), folder.name("krl.db"));
-    let said = format!("{store}: imported {rows} rows; it has {rows}\n");
-    assert_eq!(ended(&import(&csv, &store, &[])), (Some(0), said));
+    let printed = format!("{store}: imported {rows} rows; it has {rows}\n");
+    assert_eq!(ended(&import(&csv, &store, &[])), (Some(0), printed));
     let serving = Serving::start(Path::new(&store));
     until("its rows are shown", || {
         serving.get("/metrics").1.contains(&format!("\nkrl_rows {rows}\n"))
@@ -172,25 +172,25 @@ fn certificates_are_checked_with_their_dates() {
     make.env("KRL_DAYS", "30").arg(folder.0.path()).args(["server", "client-3"]);
     assert!(make.output().unwrap().status.success());
     let server = folder.name("server.crt");
-    let (status, said) = ended(&run(&["check", &server]));
-    assert_eq!(status, Some(0), "{said}");
+    let (status, printed) = ended(&run(&["check", &server]));
+    assert_eq!(status, Some(0), "{printed}");
     for line in ["names: krl:server\n", "valid from: ", "valid until: ", "it is valid for "] {
-        assert!(said.contains(line), "{said}");
+        assert!(printed.contains(line), "{printed}");
     }
     assert_eq!(run(&["check", &server, "--days", "29"]).status.code(), Some(0));
-    let (status, said) = ended(&run(&["check", &server, "--days", "31"]));
-    assert_eq!(status, Some(1), "{said}");
-    assert!(said.ends_with("days more, and not for 31 days\n"), "{said}");
+    let (status, printed) = ended(&run(&["check", &server, "--days", "31"]));
+    assert_eq!(status, Some(1), "{printed}");
+    assert!(printed.ends_with("days more, and not for 31 days\n"), "{printed}");
     let [chain, broken] = ["chain.crt", "broken.crt"].map(|name| folder.name(name));
     let both = ["server.crt", "client-3.crt"].map(|it| std::fs::read(folder.path(it)).unwrap());
     std::fs::write(&chain, both.concat()).unwrap();
-    let (_, said) = ended(&run(&["check", &chain]));
-    assert!(said.contains("krl:server") && said.contains("krl:client:3"), "{said}");
+    let (_, printed) = ended(&run(&["check", &chain]));
+    assert!(printed.contains("krl:server") && printed.contains("krl:client:3"), "{printed}");
     std::fs::write(&broken, "-----BEGIN CERTIFICATE-----\nAAAA\n-----END CERTIFICATE-----\n")
         .unwrap();
-    let (status, said) = ended(&run(&["check", &broken]));
+    let (status, printed) = ended(&run(&["check", &broken]));
     assert_eq!(status, Some(1));
-    assert!(said.contains("has no certificate that can be read"), "{said}");
+    assert!(printed.contains("has no certificate that can be read"), "{printed}");
 }
 
 /// A store whose server was killed is read where nothing can be written.
@@ -206,11 +206,11 @@ fn a_store_with_a_log_is_read_on_a_full_disk() {
     assert!(std::fs::metadata(folder.path("krl.db-wal")).unwrap().len() > 0);
     // A file that grows beyond its limit fails as one on a full disk does.
     let full = "trap '' XFSZ; ulimit -f 0; exec \"$0\" \"$@\"";
-    for (command, told) in [("check", "rows: 1\n"), ("export", "7,u64:7\n")] {
+    for (command, message) in [("check", "rows: 1\n"), ("export", "7,u64:7\n")] {
         let mut shell = Command::new("sh");
         shell.args(["-c", full, env!("CARGO_BIN_EXE_krl-server"), command]);
         let read = shell.arg(&store).output().unwrap();
-        assert!(text(&read).contains(told), "{read:?}");
+        assert!(text(&read).contains(message), "{read:?}");
     }
 }
 
@@ -220,7 +220,7 @@ fn shells_complete_its_words() {
         let script = text(&run(&["completion", shell]));
         assert!(script.contains("krl-server") && script.contains("restore"), "{shell}");
     }
-    let told = run(&["imprt", "a.csv"]);
-    assert_eq!(told.status.code(), Some(2));
-    assert!(errors(&told).contains("'import'"), "{}", errors(&told));
+    let refused = run(&["imprt", "a.csv"]);
+    assert_eq!(refused.status.code(), Some(2));
+    assert!(errors(&refused).contains("'import'"), "{}", errors(&refused));
 }

@@ -18,8 +18,8 @@ fn a_server_that_waits_for_reports_is_alive_and_not_ready() {
     until("it is ready", || ask(&serving, &["--ready"]) == (Some(0), "serving\n".to_string()));
     let serving = serving.killed_beside(3, folder.path(), &store);
     until("it reports who is missing", || {
-        let (status, said) = ask(&serving, &["--ready"]);
-        status == Some(1) && said.starts_with("recovering: the clients 3 ")
+        let (status, printed) = ask(&serving, &["--ready"]);
+        status == Some(1) && printed.starts_with("recovering: the clients 3 ")
     });
     assert_eq!(ask(&serving, &[]), (Some(0), "ok\n".to_string()));
     let lock = lock_file(folder.path(), 3);

@@ -73,7 +73,7 @@ fn two_hold_and_one_waits() {
 fn words_that_are_no_question_are_reported() {
     let folder = tempfile::tempdir().unwrap();
     let serving = serve(folder.path(), 0..3);
-    for (words, said) in [
+    for (words, expected) in [
         (vec!["20", "10"], "begin below its end"),
         (vec!["10", "10"], "begin below its end"),
         (vec!["0", "9223372036854775809"], "9223372036854775808 at most"),
@@ -84,15 +84,15 @@ fn words_that_are_no_question_are_reported() {
     ] {
         let output = locks(&serving, &words);
         assert_eq!((output.status.code(), text(&output).as_str()), (Some(2), ""), "{words:?}");
-        assert!(errors(&output).contains(said), "{words:?}: {}", errors(&output));
+        assert!(errors(&output).contains(expected), "{words:?}: {}", errors(&output));
     }
-    for (path, said) in [
+    for (path, expected) in [
         ("/locks?lo=20&hi=10", "begin below its end"),
         ("/locks?lo=ten", "lo is 'ten'"),
         ("/locks?client=3", "'client' is unknown"),
     ] {
         let (status, page) = serving.get(path);
-        assert!(status == 400 && page.contains(said), "{path}: {status}, {page}");
+        assert!(status == 400 && page.contains(expected), "{path}: {status}, {page}");
     }
     assert_eq!(serving.ask("POST /locks HTTP/1.1\r\nHost: localhost\r\n\r\n").0, 405);
     let address = serving.status.clone();
@@ -113,10 +113,10 @@ fn all_slots(serving: &Serving, client: u8) -> Vec<(u64, u64)> {
         );
         let (status, page) = serving.ask(&request);
         let page: Json = serde_json::from_str(&page).unwrap();
-        let told = page["locks"].as_array().unwrap();
-        assert!(status == 200 && told.len() <= 10_000);
-        let told = told.iter().filter(|slot| slot["client"] == client);
-        slots.extend(told.map(|it| (it["lo"].as_u64().unwrap(), it["hi"].as_u64().unwrap_or(TOP))));
+        let held = page["locks"].as_array().unwrap();
+        assert!(status == 200 && held.len() <= 10_000);
+        let held = held.iter().filter(|slot| slot["client"] == client);
+        slots.extend(held.map(|it| (it["lo"].as_u64().unwrap(), it["hi"].as_u64().unwrap_or(TOP))));
         lo = page["next"].as_u64();
     }
     slots

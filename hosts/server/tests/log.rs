@@ -138,11 +138,14 @@ fn commands_whose_output_cannot_be_written_fail_in_order() {
     for words in commands.iter().chain(&more) {
         let failed = run_into(full(), words);
         assert_eq!(failed.status.code(), Some(1), "{words:?}: {}", errors(&failed));
-        let told = errors(&failed);
-        assert!(told.contains("standard output can't be written: No space"), "{words:?}: {told}");
+        let message = errors(&failed);
+        assert!(
+            message.contains("standard output can't be written: No space"),
+            "{words:?}: {message}"
+        );
         let is_done = matches!(words[0], "backup" | "restore");
-        assert_eq!(told.contains("it is done, but"), is_done, "{words:?}: {told}");
-        assert_eq!(told.lines().count(), 1, "{words:?}: {told}");
+        assert_eq!(message.contains("it is done, but"), is_done, "{words:?}: {message}");
+        assert_eq!(message.lines().count(), 1, "{words:?}: {message}");
     }
     for path in [copy, again] {
         assert!(Path::new(path).exists(), "{path}");

@@ -85,8 +85,8 @@ fn promtool(words: &[&str], name: &str) {
         eprintln!("NOT RUN: there is no promtool");
         return;
     };
-    let said = String::from_utf8_lossy(&ended.stdout);
-    assert!(ended.status.success(), "{name}: {said}{}", errors(&ended));
+    let printed = String::from_utf8_lossy(&ended.stdout);
+    assert!(ended.status.success(), "{name}: {printed}{}", errors(&ended));
 }
 
 #[test]

@@ -63,13 +63,13 @@ fn the_picture_is_a_file_of_a_part_or_of_all() {
         status == 200 && part.contains(">100</text>") && part.contains(">200</text>"),
         "{part}"
     );
-    for (path, said) in [
+    for (path, message) in [
         ("/locks.svg?lo=20&hi=10", "begin below its end"),
         ("/locks.svg?limit=100", "'limit' is unknown: there is lo and hi"),
         ("/?lo=ten", "lo is 'ten'"),
     ] {
         let (status, page) = serving.get(path);
-        assert!(status == 400 && page.contains(said), "{path}: {status}, {page}");
+        assert!(status == 400 && page.contains(message), "{path}: {status}, {page}");
     }
 }
 
@@ -117,13 +117,13 @@ fn the_other_servers_of_a_table_stand_on_the_page_of_each() {
 
 #[test]
 fn the_address_of_another_server_is_judged_at_the_start() {
-    for (others, said) in [
+    for (others, message) in [
         ("here", "others: 'here' is no address of a status port"),
         ("tls:db3:7401", "others: tls:db3:7401 is an address of TLS, and needs --tls-authority"),
         ("a\"b:1", "is no address of a status port"),
     ] {
         let refused = common::run(&["config", "--others", others]);
         assert_eq!(refused.status.code(), Some(2), "{others}");
-        assert!(common::errors(&refused).contains(said), "{}", common::errors(&refused));
+        assert!(common::errors(&refused).contains(message), "{}", common::errors(&refused));
     }
 }

@@ -88,8 +88,8 @@ fn a_database_that_is_away_is_waited_for_until_a_signal_comes() {
     command.args(words).args(["--log-format", "json"]).stderr(Stdio::piped());
     let mut process = command.spawn().unwrap();
     let mut lines = BufReader::new(process.stderr.take().unwrap()).lines();
-    let told = lines.find(|line| line.as_ref().unwrap().contains("the store does not answer"));
-    assert!(told.unwrap().unwrap().contains("\"level\":\"WARN\""));
+    let message = lines.find(|line| line.as_ref().unwrap().contains("the store does not answer"));
+    assert!(message.unwrap().unwrap().contains("\"level\":\"WARN\""));
     let status = Command::new("kill").args(["-TERM", &process.id().to_string()]).status();
     assert!(status.unwrap().success());
     assert_eq!(process.wait().unwrap().code(), Some(0));

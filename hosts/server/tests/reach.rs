@@ -76,12 +76,12 @@ fn a_reach_of_no_slot_or_too_many_is_refused() {
         for words in [["config", &flag], ["serve", &flag]] {
             let refused = run(&words);
             assert_eq!(refused.status.code(), Some(2), "{words:?}");
-            let said = errors(&refused);
+            let message = errors(&refused);
             let expected = format!(
                 "reach is '{reach}' (from the flag --reach), and has to be the most slots of one \
                  grant, from 1 to 128"
             );
-            assert!(said.contains(&expected), "{said}");
+            assert!(message.contains(&expected), "{message}");
         }
     }
 }

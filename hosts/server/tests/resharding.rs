@@ -156,9 +156,9 @@ fn a_split_and_a_merge_write_the_next_map() {
     let split = [&split[..], &["--servers", "127.0.0.1:2"]].concat();
     let done = run(&split);
     assert_eq!(done.status.code(), Some(0), "{}", errors(&done));
-    let said = text(&done);
-    assert!(said.contains("    127.0.0.1:1: --shard 0..1001@2\n"), "{said}");
-    assert!(said.contains("    127.0.0.1:2: --shard 1001..@2\n"), "{said}");
+    let printed = text(&done);
+    assert!(printed.contains("    127.0.0.1:1: --shard 0..1001@2\n"), "{printed}");
+    assert!(printed.contains("    127.0.0.1:2: --shard 1001..@2\n"), "{printed}");
     let upper_shard = "\n[[shard]]\nfirst = 1001\nservers = \"127.0.0.1:2\"\n";
     assert_eq!(std::fs::read_to_string(&next).unwrap(), text_of(2) + upper_shard);
     // The store that is named is that of the other shard.

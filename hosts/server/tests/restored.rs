@@ -65,7 +65,7 @@ fn a_client_that_lives_through_a_restore_drops_its_cache_and_joins_again() {
     assert_eq!(restored.status.code(), Some(0), "{}", errors(&restored));
     assert!(text(&run(&["check", &new])).contains("clients that have left: 3"));
 
-    assert_eq!(client.cached(1..2), Ok(Some(vec![row(1, 7)])), "it has heard nothing");
+    assert_eq!(client.cached(1..2), Ok(Some(vec![row(1, 7)])), "nothing has come from the server");
     let (asked, ends) = (Barrier::new(2), AtomicBool::new(false));
     let serving = thread::scope(|scope| {
         let over = Over(&ends);

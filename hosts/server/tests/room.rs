@@ -37,9 +37,9 @@ fn a_table_takes_as_many_rows_as_its_server_has_room_for() {
     let words = ["serve", "--room", "2", "--status", "off", "--listen", "127.0.0.1:0"];
     let ended = run(&[&words[..], &["--store", store.to_str().unwrap()]].concat());
     assert_eq!(ended.status.code(), Some(1));
-    let said = [errors(&ended), text(&ended)].concat();
-    let told = "the store has 3 rows, and the server room for 2: give it room for 3 or more";
-    assert!(said.contains(told), "{said}");
+    let printed = [errors(&ended), text(&ended)].concat();
+    let message = "the store has 3 rows, and the server room for 2: give it room for 3 or more";
+    assert!(printed.contains(message), "{printed}");
 
     let serving = serve(&store, "100000");
     let client = join(&serving, &lock);
@@ -119,10 +119,10 @@ fn log_of_start(store: &Path, room: &str) -> Vec<String> {
     serve.args(["serve", "--room", room, "--listen", "127.0.0.1:0", "--status", "off", "--store"]);
     let mut process = serve.arg(store).stderr(Stdio::piped()).spawn().unwrap();
     let lines = BufReader::new(process.stderr.take().unwrap()).lines().map(Result::unwrap);
-    let told = lines.take_while(|line| !line.contains(" ready ")).collect();
+    let log = lines.take_while(|line| !line.contains(" ready ")).collect();
     process.kill().unwrap();
     process.wait().unwrap();
-    told
+    log
 }
 
 #[test]
@@ -135,10 +135,10 @@ fn a_server_over_a_full_table_logs_it() {
     client.leave().unwrap();
     drop(serving);
     let full = "the table is full, so every insert fails: give the server more room room=3";
-    let told = log_of_start(&store, "3");
-    assert!(told.iter().any(|line| line.contains(full)), "{told:?}");
-    let told = log_of_start(&store, "4");
-    assert!(!told.iter().any(|line| line.contains("is full")), "{told:?}");
+    let log = log_of_start(&store, "3");
+    assert!(log.iter().any(|line| line.contains(full)), "{log:?}");
+    let log = log_of_start(&store, "4");
+    assert!(!log.iter().any(|line| line.contains("is full")), "{log:?}");
 }
 
 #[test]
@@ -146,9 +146,9 @@ fn a_server_with_less_room_than_before_serves_and_logs_it() {
     let folder = tempfile::tempdir().unwrap();
     let store = folder.path().join("krl.db");
     assert_eq!(shown_to_the_end(Serving::start(&store)).0, 65_536);
-    let told = log_of_start(&store, "3");
+    let log = log_of_start(&store, "3");
     let less = "the server has less room than one had before it room=3 greatest=65536";
-    assert!(told.iter().any(|line| line.contains(less)), "{told:?}");
+    assert!(log.iter().any(|line| line.contains(less)), "{log:?}");
     let check = checked(&store);
     assert!(check.contains("room: 65536\n"), "{check}");
     assert_eq!(shown_to_the_end(Serving::start(&store)).0, 65_536);
@@ -175,7 +175,7 @@ fn a_room_for_none_or_too_many_is_reported() {
     for room in ["0", "1048577", "many"] {
         let refused = run(&["config", "--room", room]);
         assert_eq!(refused.status.code(), Some(2), "{room}");
-        let said = errors(&refused);
-        assert!(said.contains("the most rows of the table, from 1 to 1048576"), "{said}");
+        let printed = errors(&refused);
+        assert!(printed.contains("the most rows of the table, from 1 to 1048576"), "{printed}");
     }
 }

@@ -58,6 +58,41 @@ fn a_signal_under_load_loses_nothing_that_was_applied() {
     }
 }
 
+/// How many times the process has written to files so far.
+fn writes_of(process: u32) -> u64 {
+    let counts = std::fs::read_to_string(format!("/proc/{process}/io")).unwrap();
+    let count = counts.lines().find_map(|line| line.strip_prefix("syscw: "));
+    count.and_then(|count| count.parse().ok()).expect(&counts)
+}
+
+#[test]
+fn a_killed_server_has_lost_nothing_whichever_way_it_writes_its_log() {
+    const COUNT: u64 = 100;
+    let folder = tempfile::tempdir().unwrap();
+    let store = folder.path().join("krl.db");
+    let mut writes = Vec::new();
+    for (turn, how) in ["joined", "single", "joined"].into_iter().enumerate() {
+        let mut command = program();
+        command.arg("serve").arg("--store").arg(&store).args(["--store-writes", how]);
+        let serving = Serving::start_by(&mut command);
+        let client = serving.join(folder.path(), 0);
+        let keys = COUNT * turn as u64..COUNT * (turn as u64 + 1);
+        assert_eq!(client.read(..).unwrap().len() as u64, keys.start);
+        let before = writes_of(serving.process.id());
+        for key in keys {
+            assert_eq!(client.insert(key, Value::from(key)), Ok(Outcome::Applied));
+        }
+        writes.push(writes_of(serving.process.id()) - before);
+        client.leave().unwrap();
+        serving.signal(&["KILL"]);
+        assert_eq!(serving.ended().status.signal(), Some(9));
+    }
+    let rows = SqliteStore::read(&store).unwrap().snapshot.rows;
+    assert!(rows.into_keys().eq(0..3 * COUNT));
+    // Each commit has a page at least, which takes two calls by SQLite itself.
+    assert!(writes[1] >= writes[0] + COUNT / 2, "{writes:?}");
+}
+
 #[test]
 fn a_signal_ends_a_server_within_a_second() {
     let folder = tempfile::tempdir().unwrap();
@@ -142,16 +177,16 @@ fn pages_of_the_status_port() {
     assert_eq!(serving.get("/").0, 200);
     assert_eq!(serving.ask("POST /status HTTP/1.1\r\nHost: localhost\r\n\r\n").0, 405);
     assert_eq!(serving.get("/backup").0, 405);
-    let said = run(&["status", &serving.status]);
-    assert!(common::text(&said).starts_with("epoch 1, serving\n"));
-    let said = run(&["status", &serving.status, "--json"]);
-    assert!(common::text(&said).starts_with("{\n"));
+    let output = run(&["status", &serving.status]);
+    assert!(common::text(&output).starts_with("epoch 1, serving\n"));
+    let output = run(&["status", &serving.status, "--json"]);
+    assert!(common::text(&output).starts_with("{\n"));
     serving.signal(&["TERM"]);
     let address = serving.status.clone();
     serving.ended();
-    let said = run(&["status", &address]);
-    assert_eq!(said.status.code(), Some(1));
-    assert!(errors(&said).contains(&address));
+    let output = run(&["status", &address]);
+    assert_eq!(output.status.code(), Some(1));
+    assert!(errors(&output).contains(&address));
 }
 
 #[test]
@@ -253,14 +288,14 @@ fn is_moment(file: &Path, least: u64, most: u64) {
     assert_eq!(record.last, Some((rows, Outcome::Applied)));
     let check = run(&["check", file.to_str().unwrap()]);
     assert_eq!(check.status.code(), Some(0), "{}", errors(&check));
-    let said = text(&check);
+    let printed = text(&check);
     for line in [
         &format!("rows: {rows}"),
         "page size: 1024 bytes",
         "epoch: 1",
         "clients that have not left: 9",
     ] {
-        assert!(said.lines().any(|it| it == line), "no {line} in {said}");
+        assert!(printed.lines().any(|it| it == line), "no {line} in {printed}");
     }
 }
 
@@ -271,10 +306,10 @@ fn a_backup_that_cannot_be_made_is_reported() {
     let taken = folder.path().join("taken");
     std::fs::write(&taken, "mine").unwrap();
     let nowhere = folder.path().join("none").join("copy.db");
-    for (file, said) in [(&taken, "there is a file"), (&nowhere, "No such file")] {
+    for (file, message) in [(&taken, "there is a file"), (&nowhere, "No such file")] {
         let output = run(&["backup", &serving.status, file.to_str().unwrap()]);
         assert_eq!(output.status.code(), Some(1));
-        assert!(errors(&output).contains(said), "{}", errors(&output));
+        assert!(errors(&output).contains(message), "{}", errors(&output));
     }
     assert_eq!(std::fs::read(&taken).unwrap(), b"mine");
     let order = |kind: &str, body: &str| {
@@ -351,10 +386,10 @@ fn a_restore_that_cannot_be_made_is_reported() {
     let [text, store, new] = [path("text"), path("store.db"), path("new.db")];
     std::fs::write(&text, "no database").unwrap();
     SqliteStore::create(&store, &Snapshot { epoch: END - 1, ..Snapshot::default() }).unwrap();
-    for (file, said) in [(&text, "can't be read as a store"), (&store, "the last one")] {
+    for (file, message) in [(&text, "can't be read as a store"), (&store, "the last one")] {
         let output = run(&["restore", file, "--store", &new, "--clients-are-stopped"]);
         assert_eq!(output.status.code(), Some(1));
-        assert!(errors(&output).contains(said), "{}", errors(&output));
+        assert!(errors(&output).contains(message), "{}", errors(&output));
         assert!(!Path::new(&new).exists());
     }
     let output = run(&["restore", &store, "--clients-are-stopped"]);
@@ -415,8 +450,8 @@ fn a_store_that_holds_nothing_is_served_only_if_it_is_asked_for() {
     ] {
         let refused = output_within_a_minute(program().args(words).arg(store));
         assert_eq!(refused.status.code(), Some(1), "{}", errors(&refused));
-        for told in [why, "give --create at the first start"] {
-            assert!(errors(&refused).contains(told), "{told}: {}", errors(&refused));
+        for message in [why, "give --create at the first start"] {
+            assert!(errors(&refused).contains(message), "{message}: {}", errors(&refused));
         }
     }
     assert!(!missing.exists() && !folder.path().join("missing.db.lock").exists());

@@ -8,6 +8,7 @@ use std::process::{Command, Output};
 const DEFAULTS: &str = "\
 listen = \"127.0.0.1:7400\" # by default
 store = \"krl.db\" # by default
+store-writes = \"joined\" # by default
 reach = 128 # by default
 status = \"127.0.0.1:7401\" # by default
 log-level = \"info\" # by default
@@ -24,10 +25,10 @@ fn file(folder: &Path, text: &str) -> String {
 
 /// The status is 2, nothing is printed, and the sentence has all of these words.
 fn is_refused(output: &Output, words: &[&str]) {
-    let said = errors(output);
-    assert_eq!(output.status.code(), Some(2), "{said}");
+    let message = errors(output);
+    assert_eq!(output.status.code(), Some(2), "{message}");
     assert_eq!(text(output), "");
-    assert!(words.iter().all(|word| said.contains(word)), "{words:?} are not in: {said}");
+    assert!(words.iter().all(|word| message.contains(word)), "{words:?} are not in: {message}");
 }
 
 #[test]
@@ -57,6 +58,7 @@ fn a_flag_comes_before_the_environment_and_that_before_the_file() {
         folder.path(),
         "listen = \"127.0.0.1:1\"\n\
          store = \"1.db\"\n\
+         store-writes = \"single\"\n\
          room = 100\n\
          reach = 64\n\
          status = \"127.0.0.1:1\"\n\
@@ -77,6 +79,7 @@ fn a_flag_comes_before_the_environment_and_that_before_the_file() {
     let expected = format!(
         "listen = \"unix:/run/krl\" # from the flag --listen\n\
          store = \"2.db\" # from the environment, KRL_STORE\n\
+         store-writes = \"single\" # from the file {path}\n\
          room = 100 # from the file {path}\n\
          reach = 8 # from the environment, KRL_REACH\n\
          status = \"[::1]:3\" # from the flag --status\n\
@@ -110,6 +113,7 @@ fn a_bad_value_is_reported_with_its_key_and_what_is_expected() {
     for (key, value, expected) in [
         ("listen", "here", "an address such as 127.0.0.1:7400"),
         ("store", "", "the path of a file"),
+        ("store-writes", "double", "joined or single"),
         ("status", "127.0.0.1", "127.0.0.1:7401, or off"),
         ("others", &"127.0.0.1:1 ".repeat(64), "at most 63"),
         ("log-level", "loud", "error, warn, info, debug or trace"),
@@ -172,9 +176,14 @@ fn the_packaged_file_sets_each_key() {
     let path = concat!(env!("CARGO_MANIFEST_DIR"), "/../packaging/krl.toml");
     let output = run(&["config", "--config", path]);
     let end = format!("# from the file {path}");
-    let said = text(&output);
-    assert_eq!((said.lines().count(), output.status.code()), (8, Some(0)), "{}", errors(&output));
-    assert!(said.lines().all(|line| line.ends_with(&end)), "{said}");
+    let printed = text(&output);
+    assert_eq!(
+        (printed.lines().count(), output.status.code()),
+        (9, Some(0)),
+        "{}",
+        errors(&output)
+    );
+    assert!(printed.lines().all(|line| line.ends_with(&end)), "{printed}");
 }
 
 #[test]

@@ -41,8 +41,8 @@ fn a_store_with_a_key_of_another_shard_is_not_served() {
     let words = ["serve", "--shard", "0..500@3", "--status", "off", "--listen", "127.0.0.1:0"];
     let ended = run(&[&words[..], &["--store", store.to_str().unwrap()]].concat());
     assert_eq!(ended.status.code(), Some(1));
-    let said = [errors(&ended), common::text(&ended)].concat();
-    assert!(said.contains("the store has the key 700, which the shard 0..500@3"), "{said}");
+    let printed = [errors(&ended), common::text(&ended)].concat();
+    assert!(printed.contains("the store has the key 700, which the shard 0..500@3"), "{printed}");
     let refused = run(&["config", "--shard", "500..0@3"]);
     assert_eq!(refused.status.code(), Some(2));
     assert!(errors(&refused).contains("has to be FIRST..END@VERSION"), "{}", errors(&refused));

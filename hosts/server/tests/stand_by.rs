@@ -67,9 +67,9 @@ fn a_client_finds_the_server_that_serves() {
         let Some(cluster) = Cluster::start() else { return };
         let (folder, addresses) =
             (tempfile::tempdir().unwrap(), [(); 2].map(|()| free_address().unwrap().to_string()));
-        let serve = |place: usize, told| {
+        let serve = |place: usize, event| {
             let mut command = over(&cluster, "found");
-            Serving::start_until(command.args(["--listen", &addresses[place]]), told)
+            Serving::start_until(command.args(["--listen", &addresses[place]]), event)
         };
         let (first, second) = (serve(0, "ready"), serve(1, "stands by"));
         let servers: Servers = addresses.join(",").parse().unwrap();
@@ -112,9 +112,9 @@ fn a_service_manager_is_notified_that_a_server_stands_by() {
     let stands_by = "STATUS=stands by: the server at 127.0.0.1:0 serves";
     assert_eq!(manager.next(), ["READY=1", stands_by]);
     first.signal(&["TERM"]);
-    let told = manager.next();
-    assert_eq!(told[0], "READY=1");
-    assert!(told[1].starts_with("STATUS=serves at 127.0.0.1:"), "{told:?}");
+    let notices = manager.next();
+    assert_eq!(notices[0], "READY=1");
+    assert!(notices[1].starts_with("STATUS=serves at 127.0.0.1:"), "{notices:?}");
     second.signal(&["TERM"]);
     assert_eq!(manager.next(), ["STOPPING=1"]);
 }
@@ -179,14 +179,14 @@ fn a_store_that_does_not_answer_is_logged_once_a_second() {
     let mut process = command.spawn().unwrap();
     let lines = BufReader::new(process.stderr.take().unwrap()).lines();
     let events = lines.map(|line| serde_json::from_str(&line.unwrap()).unwrap());
-    let told: Vec<serde_json::Value> = events
+    let unanswered: Vec<serde_json::Value> = events
         .filter(|event: &serde_json::Value| event["message"] == "the store does not answer")
         .take(3)
         .collect();
     process.kill().unwrap();
     process.wait().unwrap();
-    assert_eq!(told.len(), 3);
-    for pair in told.windows(2) {
+    assert_eq!(unanswered.len(), 3);
+    for pair in unanswered.windows(2) {
         let between = (moment(&pair[1]) - moment(&pair[0])).rem_euclid(DAY);
         assert!(between > 0.9, "{pair:?}");
     }

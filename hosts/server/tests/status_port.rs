@@ -64,9 +64,9 @@ fn a_client_that_takes_the_status_port_for_the_server_learns_it_at_once() {
     let begun = Instant::now();
     let error = builder.timeout(PATIENCE).join().unwrap_err();
     assert!(begun.elapsed() < PATIENCE / 2, "{:?}", begun.elapsed());
-    let told = error.to_string();
+    let message = error.to_string();
     let sentence = format!("what answers at {status} is not a krl server (is it the status port");
-    assert!(told.starts_with(&sentence), "{told}");
+    assert!(message.starts_with(&sentence), "{message}");
 }
 
 #[test]
@@ -98,13 +98,14 @@ fn orders_that_never_come_keep_no_place() {
                 Content-Length: 20\r\n\r\n";
     let mut orders = strangers(&serving.status, head);
     is_healthy(program().args(["health", &serving.status]));
-    let told: Vec<String> = orders.iter_mut().map(rest).collect();
+    let answers: Vec<String> = orders.iter_mut().map(rest).collect();
     // The others were closed for each other.
-    let (late, closed): (Vec<_>, Vec<_>) = told.into_iter().partition(|told| !told.is_empty());
+    let (late, closed): (Vec<_>, Vec<_>) =
+        answers.into_iter().partition(|answer| !answer.is_empty());
     assert!((1..=32).contains(&late.len()) && late.len() + closed.len() == MANY, "{late:?}");
-    for told in late {
-        assert!(told.starts_with("HTTP/1.1 408 "), "{told}");
-        assert!(told.ends_with("within 5s after its head\n"), "{told}");
+    for answer in late {
+        assert!(answer.starts_with("HTTP/1.1 408 "), "{answer}");
+        assert!(answer.ends_with("within 5s after its head\n"), "{answer}");
     }
 }
 
@@ -139,8 +140,8 @@ fn a_head_is_bounded() {
     let long = format!("GET /healthz HTTP/1.1\r\nA: {}\r\n", "a".repeat(1 << 16));
     // It may be closed before all is sent.
     let _ = stream.write_all(long.as_bytes());
-    let told = rest(&mut stream);
-    assert!(told.is_empty() || told.starts_with("HTTP/1.1 431 "), "{told}");
+    let answer = rest(&mut stream);
+    assert!(answer.is_empty() || answer.starts_with("HTTP/1.1 431 "), "{answer}");
     assert_eq!(run(&["health", &serving.status]).status.code(), Some(0));
 }
 

@@ -29,14 +29,14 @@ fn held(serving: &Serving) -> usize {
 
 /// The most memory that the server takes beyond what it has now, until it has closed all these
 /// strangers, which have sent this and wait.
-fn taken_by_strangers(serving: &Serving, at: &str, said: &[u8]) -> usize {
+fn taken_by_strangers(serving: &Serving, at: &str, bytes: &[u8]) -> usize {
     let before = held(serving);
     let connect = |_| {
         let mut stream = TcpStream::connect(at).unwrap();
         stream.set_read_timeout(Some(PATIENCE)).unwrap();
         stream.set_write_timeout(Some(PATIENCE)).unwrap();
         // One that is closed at once has sent enough.
-        let _ = stream.write_all(said);
+        let _ = stream.write_all(bytes);
         stream
     };
     let strangers: Vec<TcpStream> = (0..MANY).map(connect).collect();

@@ -131,8 +131,8 @@ fn operators_alone_see_the_status_and_order_backups() {
     for words in [&["status", at][..], &["locks", "--status", at], &["backup", at, "no.db"]] {
         let refused = setup.run_as("client-3", words);
         assert_eq!(refused.status.code(), Some(1), "{}", errors(&refused));
-        let told = "for operators only, and this certificate is of the client 3";
-        assert!(errors(&refused).contains(told), "{words:?}: {}", errors(&refused));
+        let message = "for operators only, and this certificate is of the client 3";
+        assert!(errors(&refused).contains(message), "{words:?}: {}", errors(&refused));
     }
     let refused = run(&["status", at]);
     assert_eq!(refused.status.code(), Some(2));
@@ -178,8 +178,8 @@ fn strangers_at_the_status_port_do_not_flood_the_log() {
     let log = serving.ended().log;
     let is_refusal =
         |event: &&serde_json::Value| event["message"] == "the status port refused a connection";
-    let told = log.iter().filter(is_refusal).count() as u64;
-    assert!((1..=took + 2).contains(&told), "{told} times in {took} seconds: {log:?}");
+    let count = log.iter().filter(is_refusal).count() as u64;
+    assert!((1..=took + 2).contains(&count), "{count} times in {took} seconds: {log:?}");
 }
 
 #[test]
@@ -227,7 +227,7 @@ fn a_hangup_has_the_certificates_read_again() {
     client.leave().unwrap();
     serving.signal(&["TERM"]);
     let log = serving.ended().log;
-    let has = |told: &str| log.iter().any(|event| event["message"] == told);
+    let has = |message: &str| log.iter().any(|event| event["message"] == message);
     assert!(has("the certificates can't be used: the old ones stay"), "{log:?}");
     assert!(has("the certificates are read again"), "{log:?}");
 }
@@ -257,8 +257,8 @@ fn a_server_over_an_older_store_reports_it_once_and_ends_with_status_3() {
     let _ = process.kill();
     let log = std::fs::read_to_string(setup.file("log")).unwrap();
     assert_eq!(ended.and_then(|status| status.code()), Some(3), "{log}");
-    let told = "the store lacks what the holder of the identity 3 has seen of it";
-    assert_eq!(log.matches(told).count(), 1, "{log}");
+    let message = "the store lacks what the holder of the identity 3 has seen of it";
+    assert_eq!(log.matches(message).count(), 1, "{log}");
     until("the client has dropped its cache", || client.cached(1..2).unwrap().is_none());
     let serving = setup.serve_at(&at, &[]);
     assert_eq!(client.put(1, Value::from(3)), Ok(Outcome::Applied), "it has joined again");
@@ -371,10 +371,10 @@ fn ended_within_a_minute(process: &mut Child) -> Option<ExitStatus> {
 fn what_is_dangerous_or_half_given_is_refused() {
     let setup = Setup::new(&["server"]);
     let shows = setup.shows("server");
-    let refused = |words: &[&str], told: &str| {
+    let refused = |words: &[&str], message: &str| {
         let output = run(words);
         assert_eq!(output.status.code(), Some(2), "{words:?}: {}", errors(&output));
-        assert!(errors(&output).contains(told), "{words:?}: {}", errors(&output));
+        assert!(errors(&output).contains(message), "{words:?}: {}", errors(&output));
     };
     refused(&["config", "--listen", "10.0.0.5:7400"], "tls:10.0.0.1:7400");
     refused(&["config", "--listen", "plain:10.0.0.5:7400"], "give --plain-beyond-loopback");

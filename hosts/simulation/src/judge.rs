@@ -158,7 +158,7 @@ impl Judge {
     pub fn is_not_made(&mut self, who: &str, write: Write, why: &str) {
         let value = value_of(write);
         if value != 0 && self.made.contains(&value) {
-            self.find(format!("{who} was told that {write:?} was not made, which it was: {why}"));
+            self.find(format!("{who} learned that {write:?} was not made, and it was: {why}"));
         }
         self.never.insert(value);
     }
@@ -173,26 +173,26 @@ impl Judge {
 
     /// Whether the table of now has these rows of the range, or that of the window has.
     #[must_use]
-    pub fn has(&self, keys: &Range<u64>, told: &[Row], when: &Window) -> bool {
-        self.any(when, |table| shows(table, keys, told))
+    pub fn has(&self, keys: &Range<u64>, answer: &[Row], when: &Window) -> bool {
+        self.any(when, |table| shows(table, keys, answer))
     }
 
     /// A client has read these rows of the range.
-    pub fn read(&mut self, who: &str, keys: &Range<u64>, told: &[Row], when: &Window) {
-        if !self.has(keys, told, when) {
+    pub fn read(&mut self, who: &str, keys: &Range<u64>, answer: &[Row], when: &Window) {
+        if !self.has(keys, answer, when) {
             let now = spelled(&self.table, keys);
-            let told: Vec<_> = told.iter().map(|row| (row.key, row.value.to_u64())).collect();
+            let answer: Vec<_> = answer.iter().map(|row| (row.key, row.value.to_u64())).collect();
             let since = when.since;
             self.find(format!(
-                "{who} was told {told:?} of {keys:?} since {since}: now it is {now:?}"
+                "{who} read {answer:?} of {keys:?} since {since}: now it is {now:?}"
             ));
         }
     }
 
     /// A client has learned how its write was judged.
-    pub fn write(&mut self, who: &str, write: Write, told: Outcome, when: &Window) {
+    pub fn write(&mut self, who: &str, write: Write, answer: Outcome, when: &Window) {
         let key = place(write.key());
-        let is_so = match told {
+        let is_so = match answer {
             Outcome::Applied => self.is_made(write, when),
             Outcome::Exists => self.any(when, |table| table[key] != 0),
             Outcome::Absent => self.any(when, |table| table[key] == 0),
@@ -204,7 +204,7 @@ impl Judge {
         };
         if !is_so {
             let since = when.since;
-            self.find(format!("{who} was told that {write:?} is {told:?} since {since}"));
+            self.find(format!("{who} learned that {write:?} is {answer:?} since {since}"));
         }
     }
 
@@ -287,12 +287,12 @@ fn rows(table: &Table) -> usize {
 }
 
 /// Whether the table has just these rows of the range.
-fn shows(table: &Table, keys: &Range<u64>, told: &[Row]) -> bool {
-    let mut told = told.iter();
+fn shows(table: &Table, keys: &Range<u64>, answer: &[Row]) -> bool {
+    let mut answer = answer.iter();
     let here = &table[place(keys.start)..place(keys.end)];
     let mut rows = (keys.start..).zip(here).filter(|(_, value)| **value != 0);
     loop {
-        match (rows.next(), told.next()) {
+        match (rows.next(), answer.next()) {
             (None, None) => return true,
             (Some((key, value)), Some(row)) if row.key == key && number(row.value) == *value => {}
             _ => return false,

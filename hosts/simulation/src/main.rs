@@ -143,8 +143,8 @@ mod tests {
     fn a_range_of_seeds_is_two_numbers() {
         assert_eq!("3..7".parse(), Ok(SeedRange(3..7)));
         for text in ["", "3", "3..", "..7", "7..3", "3..3", "a..b", "3-7"] {
-            let told = text.parse::<SeedRange>().unwrap_err();
-            assert!(told.contains("1..100"), "{told}");
+            let message = text.parse::<SeedRange>().unwrap_err();
+            assert!(message.contains("1..100"), "{message}");
         }
     }
 

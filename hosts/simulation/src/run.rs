@@ -225,8 +225,8 @@ impl Processor {
 
 /// What Linux reports of this process: the first number is in nanoseconds.
 fn worked() -> Option<Duration> {
-    let told = fs::read_to_string("/proc/self/schedstat").ok()?;
-    Some(Duration::from_nanos(told.split_whitespace().next()?.parse().ok()?))
+    let times = fs::read_to_string("/proc/self/schedstat").ok()?;
+    Some(Duration::from_nanos(times.split_whitespace().next()?.parse().ok()?))
 }
 
 impl fmt::Display for Done {

@@ -98,9 +98,9 @@ mod tests {
 
     #[test]
     fn failures_are_the_same_whatever_their_numbers_are() {
-        let told = |client, keys| kind(&format!("client {client} was told of {keys}"));
-        assert_eq!(told(1, "3..4"), told(2, "5..60"));
-        assert_ne!(told(1, "3..4"), kind("client 1 waits 3s"));
+        let text = |client, keys| kind(&format!("client {client} read {keys}"));
+        assert_eq!(text(1, "3..4"), text(2, "5..60"));
+        assert_ne!(text(1, "3..4"), kind("client 1 waits 3s"));
     }
 
     #[test]

@@ -93,6 +93,15 @@ pub enum Terms {
     Each,
 }
 
+/// What clients keep of what they read.
+#[derive(Clone, Copy, Debug, PartialEq, Eq)]
+pub enum Keeps {
+    /// All, until another client writes it.
+    All,
+    /// What others do not write more often than the client reads it again.
+    WhatPays,
+}
+
 /// What a world is like.
 #[derive(Clone, Debug)]
 pub struct Weather {
@@ -134,6 +143,8 @@ pub struct Weather {
     pub pauses: Vec<Range<u64>>,
     /// How long a pin lives, in microseconds.
     pub pin_lives: Range<u64>,
+    /// What clients keep.
+    pub keeps: Keeps,
 }
 
 impl Weather {
@@ -172,9 +183,13 @@ impl Weather {
             asks: [0; Ask::ALL.len()],
             pauses: (0..clients).map(|_| pause(dice)).collect(),
             pin_lives: dice.pick(&[100..20_000, 1_000..400_000]),
+            keeps: Keeps::All,
         };
         weather.draw_faults(dice);
         weather.draw_asks(dice);
+        if dice.happens(300) {
+            weather.keeps = Keeps::WhatPays;
+        }
         weather
     }
 

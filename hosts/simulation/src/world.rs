@@ -187,7 +187,7 @@ struct Serving {
 
 /// What a client's process is there for.
 #[derive(Debug)]
-enum Errand {
+enum Task {
     /// Its callers.
     Work,
     /// An operator evicts the client of this machine.
@@ -209,7 +209,7 @@ struct Machine {
     clock: Clock,
     number: u8,
     signs: bool,
-    errand: Errand,
+    task: Task,
     client: Option<Client<LockFile>>,
     /// How many times it was started.
     life: u64,
@@ -537,7 +537,7 @@ impl Machine {
             clock: Clock::draw(dice),
             number: if is_second { 0 } else { u8::try_from(place).unwrap_or(u8::MAX) },
             signs: place >= weather.unsigned,
-            errand: Errand::Work,
+            task: Task::Work,
             client: None,
             life: 0,
             kept: 0,

@@ -115,19 +115,19 @@ fn listen(
     gate: Arc<Gate>,
     enter: impl FnOnce() -> io::Result<()> + Send + 'static,
 ) -> io::Result<SocketAddr> {
-    let (tell, told) = std::sync::mpsc::channel();
+    let (sender, receiver) = std::sync::mpsc::channel();
     thread::spawn(move || {
         let listener = enter().and_then(|()| TcpListener::bind("127.0.0.1:0"));
         let address = listener.as_ref().map(TcpListener::local_addr);
         let address = address.unwrap_or_else(|error| Err(error.kind().into()));
-        let _ = tell.send(address);
+        let _ = sender.send(address);
         for server in listener.iter().flat_map(TcpListener::incoming).flatten() {
             let gate = Arc::clone(&gate);
             // If either side ends its connection, so does the other.
             thread::spawn(move || drop(relay(server, node, &gate)));
         }
     });
-    told.recv().unwrap_or_else(|_| Err(io::ErrorKind::BrokenPipe.into()))
+    receiver.recv().unwrap_or_else(|_| Err(io::ErrorKind::BrokenPipe.into()))
 }
 
 /// Passes requests on, each once the gate lets it. A server that gives up meanwhile takes nothing

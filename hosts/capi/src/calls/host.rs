@@ -354,7 +354,7 @@ pub unsafe extern "C" fn krlh_cached(
             return Ok(Code::Miss);
         }
         let copied = rows.len().min(room);
-        // SAFETY: the caller vouches for so much room, which is none of the rows just read.
+        // SAFETY: the caller vouches for this much room, which is none of the rows just read.
         unsafe { ptr::copy_nonoverlapping(rows.as_ptr(), at, copied) };
         // SAFETY: the caller vouches for the room.
         unsafe { put_out("a count", count, rows.len()) }?;

@@ -7,9 +7,8 @@ use crate::handle::{Handle, Kind};
 use crate::input::{self, range};
 use crate::pin::OwnPin;
 use crate::writes::{GivenWrite, write_all, writes};
-use krl::{Error, Outcome, Row};
+use krl::Outcome;
 use std::ffi::c_void;
-use std::ops::Range;
 use std::ptr;
 
 type Pin = Handle<OwnPin>;
@@ -39,83 +38,43 @@ pub unsafe extern "C" fn krlc_pin_held(
     unsafe { answer(error, take) }
 }
 
-/// A call of a client that reads a range and pins it.
-type PinFor = fn(&krl::Client, Range<u64>) -> Result<(Vec<Row>, krl::Pin), Error>;
-
-/// Reads a range and pins it.
-///
-/// # Safety
-///
-/// As the header requires of the calls below.
-unsafe fn pin_for(
-    pin_for: PinFor,
-    (client, lo, hi): (*mut Client, u64, u64),
-    rows: *mut Rows,
-    pin: *mut *mut Pin,
-    (timeout_ms, error): (u64, *mut ErrorRoom),
-) -> u32 {
-    let take = || {
-        // SAFETY: the caller vouches for the room.
-        unsafe { put_out("a pin", pin, ptr::null_mut()) }?;
-        // SAFETY: the caller frees the client after this call.
-        let joined = unsafe { own(client) }?;
-        // SAFETY: the caller frees the rows after this call, and uses them in no other one.
-        let room = if rows.is_null() { None } else { Some(unsafe { emptied(rows) }?) };
-        let (found, taken) = pin_for(&joined.within(timeout_ms), range(lo, hi)?)?;
-        // SAFETY: the caller vouches for the room.
-        unsafe { put_out("a pin", pin, PINS.open(joined.own(taken))?) }?;
-        if let Some(room) = room {
-            *room = found;
+/// Defines a call by which a client reads a range and pins it.
+macro_rules! pin_call {
+    ($pin_call:ident, $owner:ty, $pin_for:ident) => {
+        #[unsafe(no_mangle)]
+        pub unsafe extern "C" fn $pin_call(
+            client: *mut $owner,
+            lo: u64,
+            hi: u64,
+            rows: *mut Rows,
+            pin: *mut *mut Pin,
+            timeout_ms: u64,
+            error: *mut ErrorRoom,
+        ) -> u32 {
+            let take = || {
+                // SAFETY: the caller vouches for the room.
+                unsafe { put_out("a pin", pin, ptr::null_mut()) }?;
+                // SAFETY: the caller frees the client after this call.
+                let joined = unsafe { own(client) }?;
+                // SAFETY: the caller frees the rows after this call, and uses them in no other one.
+                let room = if rows.is_null() { None } else { Some(unsafe { emptied(rows) }?) };
+                let (found, taken) = joined.within(timeout_ms).$pin_for(range(lo, hi)?)?;
+                // SAFETY: the caller vouches for the room.
+                unsafe { put_out("a pin", pin, PINS.open(joined.own(taken))?) }?;
+                if let Some(room) = room {
+                    *room = found;
+                }
+                Ok(Code::Ok)
+            };
+            // SAFETY: the caller vouches for the room of the error.
+            unsafe { answer(error, take) }
         }
-        Ok(Code::Ok)
     };
-    // SAFETY: the caller vouches for the room of the error.
-    unsafe { answer(error, take) }
 }
 
-#[unsafe(no_mangle)]
-pub unsafe extern "C" fn krlc_pin_for_read(
-    client: *mut Client,
-    lo: u64,
-    hi: u64,
-    rows: *mut Rows,
-    pin: *mut *mut Pin,
-    timeout_ms: u64,
-    error: *mut ErrorRoom,
-) -> u32 {
-    // SAFETY: the caller vouches for all of them.
-    unsafe { pin_for(krl::Client::pin_for_read, (client, lo, hi), rows, pin, (timeout_ms, error)) }
-}
-
-#[unsafe(no_mangle)]
-pub unsafe extern "C" fn krlc_pin_for_update(
-    client: *mut Client,
-    lo: u64,
-    hi: u64,
-    rows: *mut Rows,
-    pin: *mut *mut Pin,
-    timeout_ms: u64,
-    error: *mut ErrorRoom,
-) -> u32 {
-    // SAFETY: the caller vouches for all of them.
-    unsafe {
-        pin_for(krl::Client::pin_for_update, (client, lo, hi), rows, pin, (timeout_ms, error))
-    }
-}
-
-#[unsafe(no_mangle)]
-pub unsafe extern "C" fn krlc_pin_for_write(
-    client: *mut Client,
-    lo: u64,
-    hi: u64,
-    rows: *mut Rows,
-    pin: *mut *mut Pin,
-    timeout_ms: u64,
-    error: *mut ErrorRoom,
-) -> u32 {
-    // SAFETY: the caller vouches for all of them.
-    unsafe { pin_for(krl::Client::pin_for_write, (client, lo, hi), rows, pin, (timeout_ms, error)) }
-}
+pin_call!(krlc_pin_for_read, Client, pin_for_read);
+pin_call!(krlc_pin_for_update, Client, pin_for_update);
+pin_call!(krlc_pin_for_write, Client, pin_for_write);
 
 #[unsafe(no_mangle)]
 pub unsafe extern "C" fn krlc_pin_holds(pin: *mut Pin) -> u32 {
@@ -148,50 +107,9 @@ unsafe fn write(
     unsafe { answer(error, write) }
 }
 
-#[unsafe(no_mangle)]
-pub unsafe extern "C" fn krlc_pin_insert(
-    pin: *mut Pin,
-    key: u64,
-    bytes: *const c_void,
-    length: usize,
-    timeout_ms: u64,
-    error: *mut ErrorRoom,
-) -> u32 {
-    // SAFETY: the caller vouches for this many bytes.
-    let value = || unsafe { input::value(bytes.cast(), length) };
-    // SAFETY: the caller vouches for the pin and the room.
-    unsafe { write(pin, timeout_ms, error, |pin| Ok(pin.insert(key, value()?)?)) }
-}
-
-#[unsafe(no_mangle)]
-pub unsafe extern "C" fn krlc_pin_put(
-    pin: *mut Pin,
-    key: u64,
-    bytes: *const c_void,
-    length: usize,
-    timeout_ms: u64,
-    error: *mut ErrorRoom,
-) -> u32 {
-    // SAFETY: the caller vouches for this many bytes.
-    let value = || unsafe { input::value(bytes.cast(), length) };
-    // SAFETY: the caller vouches for the pin and the room.
-    unsafe { write(pin, timeout_ms, error, |pin| Ok(pin.put(key, value()?)?)) }
-}
-
-#[unsafe(no_mangle)]
-pub unsafe extern "C" fn krlc_pin_set(
-    pin: *mut Pin,
-    key: u64,
-    bytes: *const c_void,
-    length: usize,
-    timeout_ms: u64,
-    error: *mut ErrorRoom,
-) -> u32 {
-    // SAFETY: the caller vouches for this many bytes.
-    let value = || unsafe { input::value(bytes.cast(), length) };
-    // SAFETY: the caller vouches for the pin and the room.
-    unsafe { write(pin, timeout_ms, error, |pin| Ok(pin.set(key, value()?)?)) }
-}
+row_call!(krlc_pin_insert, Pin, insert);
+row_call!(krlc_pin_put, Pin, put);
+row_call!(krlc_pin_set, Pin, set);
 
 #[unsafe(no_mangle)]
 pub unsafe extern "C" fn krlc_pin_delete(

@@ -180,12 +180,12 @@ fn a_database_that_is_away_is_waited_for_until_it_is_not_to_be() {
     assert!(store.reach(|_| Instant::now() < end).unwrap(), "it answers");
     database.stop();
     let mut store = open(&database);
-    let mut told = 0;
+    let mut message = 0;
     let goes_on = |why: &str| {
         assert!(why.contains("connect"), "{why}");
-        told += 1;
-        told < 3
+        message += 1;
+        message < 3
     };
     assert!(!store.reach(goes_on).unwrap());
-    assert_eq!(told, 3);
+    assert_eq!(message, 3);
 }

@@ -15,13 +15,13 @@ pub(crate) struct Answering<T>(Arc<Place<T>>);
 
 #[derive(Debug)]
 struct Place<T> {
-    kept: Mutex<Kept<T>>,
+    content: Mutex<Content<T>>,
     changed: Condvar,
     wakes: Wakes,
 }
 
 #[derive(Debug)]
-struct Kept<T> {
+struct Content<T> {
     state: State<T>,
     /// A caller waits for `changed`, or has waited for it. If none does, the system need not be
     /// asked to wake one.
@@ -40,8 +40,8 @@ enum State<T> {
 
 /// A place for one answer. A task that waits for it is woken with `wakes`.
 pub(crate) fn place<T>(wakes: &Wakes) -> (Answering<T>, Answer<T>) {
-    let kept = Mutex::new(Kept { state: State::Open(None), is_waited_for: false });
-    let place = Arc::new(Place { kept, changed: Condvar::new(), wakes: wakes.clone() });
+    let content = Mutex::new(Content { state: State::Open(None), is_waited_for: false });
+    let place = Arc::new(Place { content, changed: Condvar::new(), wakes: wakes.clone() });
     (Answering(Arc::clone(&place)), Answer(place))
 }
 
@@ -77,12 +77,12 @@ impl<T> Answer<T> {
     ///
     /// `Timeout` if it has not come; `Disconnected` if it was taken, or none comes any more.
     pub fn recv_timeout(&self, timeout: Duration) -> Result<T, RecvTimeoutError> {
-        let mut kept = self.0.lock();
-        kept.is_waited_for = true;
-        let is_open = |kept: &mut Kept<T>| matches!(kept.state, State::Open(_));
-        let waited = self.0.changed.wait_timeout_while(kept, timeout, is_open);
-        let (mut kept, _) = waited.unwrap_or_else(PoisonError::into_inner);
-        kept.state.take().map_err(|is_over| match is_over {
+        let mut content = self.0.lock();
+        content.is_waited_for = true;
+        let is_open = |content: &mut Content<T>| matches!(content.state, State::Open(_));
+        let waited = self.0.changed.wait_timeout_while(content, timeout, is_open);
+        let (mut content, _) = waited.unwrap_or_else(PoisonError::into_inner);
+        content.state.take().map_err(|is_over| match is_over {
             IsOver::Yes => RecvTimeoutError::Disconnected,
             IsOver::No => RecvTimeoutError::Timeout,
         })
@@ -91,15 +91,15 @@ impl<T> Answer<T> {
     /// The answer, or nothing if none comes any more. Until then the task is woken when it has
     /// something to see here.
     pub fn poll(&self, context: &Context<'_>) -> Poll<Option<T>> {
-        let mut kept = self.0.lock();
-        if let State::Open(waker) = &mut kept.state {
+        let mut guard = self.0.lock();
+        if let State::Open(waker) = &mut guard.state {
             let known = waker.replace(context.waker().clone());
             // It may be the last of a task, whose own calls end then.
-            drop(kept);
+            drop(guard);
             drop(known);
             return Poll::Pending;
         }
-        Poll::Ready(kept.state.take().ok())
+        Poll::Ready(guard.state.take().ok())
     }
 }
 
@@ -123,18 +123,18 @@ impl<T> State<T> {
 }
 
 impl<T> Place<T> {
-    fn lock(&self) -> MutexGuard<'_, Kept<T>> {
-        self.kept.lock().unwrap_or_else(PoisonError::into_inner)
+    fn lock(&self) -> MutexGuard<'_, Content<T>> {
+        self.content.lock().unwrap_or_else(PoisonError::into_inner)
     }
 
     /// Ends in this state, if it has not ended before.
     fn end(&self, end: State<T>) {
-        let mut kept = self.lock();
-        let State::Open(waker) = &mut kept.state else { return };
+        let mut content = self.lock();
+        let State::Open(waker) = &mut content.state else { return };
         let waker = waker.take();
-        kept.state = end;
-        let is_waited_for = kept.is_waited_for;
-        drop(kept);
+        content.state = end;
+        let is_waited_for = content.is_waited_for;
+        drop(content);
         if is_waited_for {
             self.changed.notify_all();
         }

@@ -68,7 +68,7 @@ type Pinned = Result<(Vec<Row>, AsyncPin), Error>;
 
 impl AsyncClient {
     /// The client whose calls wait. Those that wait for nothing are called there: `cached`,
-    /// `number`, `set_timeout`, and `pin` of a client without a map.
+    /// `number`, `set_timeout`, `keep_all`, and `pin` of a client without a map.
     #[must_use]
     pub fn client(&self) -> &Client {
         &self.client

@@ -1,7 +1,7 @@
 //! What a client is given before it joins.
 use crate::client::Client;
 use crate::client::joined::Joined;
-use crate::client::joining::{self, Errand, Waits};
+use crate::client::joining::{self, JoinPurpose, Waits};
 use crate::client::numbers;
 use crate::client::place::Place;
 use crate::client::shard_client::ShardClient;
@@ -105,7 +105,7 @@ impl ClientBuilder {
     /// Joins the server as the client of this number.
     fn join_server(&self, servers: Servers, number: u8, waits: Waits) -> Result<Client, JoinError> {
         let lock_file = self.lock.of_number(number);
-        let joined = joining::join(servers, number, &lock_file, waits, Errand::Work);
+        let joined = joining::join(servers, number, &lock_file, waits, JoinPurpose::Work);
         let client = joined.map_err(JoinError::of(number, None))?;
         Ok(Client::of(Joined::one(client, waits.timeout)))
     }
@@ -119,7 +119,8 @@ impl ClientBuilder {
             let joining = shards.clone().map(|shard| {
                 let lock_file = self.lock.of_shard(map.shards()[shard].first, number);
                 let servers = map.servers_of(shard);
-                let join = move || joining::join(servers, number, &lock_file, waits, Errand::Work);
+                let join =
+                    move || joining::join(servers, number, &lock_file, waits, JoinPurpose::Work);
                 thread::Builder::new().spawn_scoped(scope, join)
             });
             let joining: Vec<_> = joining.collect();

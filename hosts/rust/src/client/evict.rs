@@ -1,5 +1,5 @@
 //! The operator's eviction of a client.
-use crate::client::joining::{self, Errand, Waits};
+use crate::client::joining::{self, JoinPurpose, Waits};
 use crate::model::error::{JoinError, JoinErrorKind};
 use crate::model::refusal::Refusal;
 use crate::net::servers::Servers;
@@ -33,7 +33,8 @@ pub fn evict(
     let (waits, lock_file, mut above) = (Waits::by_default(), lock_file.as_ref(), 0);
     let of_number = JoinError::of(number, None);
     loop {
-        match joining::join(servers.clone(), number, lock_file, waits, Errand::Evict { above }) {
+        match joining::join(servers.clone(), number, lock_file, waits, JoinPurpose::Evict { above })
+        {
             Ok(client) => {
                 let left = client.leave_by(Instant::now() + waits.timeout);
                 return left.map_err(|refused| of_number(JoinErrorKind::Refused(refused)));

@@ -1,6 +1,6 @@
 //! The servers that a client has joined: one, or those of shards of a map.
 use crate::client::link::Link;
-use crate::client::shard_client::{FAREWELL, ShardClient};
+use crate::client::shard_client::{LEAVE_TIMEOUT, ShardClient};
 use crate::client::state::State;
 use crate::client::timeout::Timeout;
 use crate::model::error::{Error, ErrorKind};
@@ -45,7 +45,15 @@ impl Joined {
         let mut others = clients.into_iter();
         let first = others.next()?;
         let (others, timeout) = (others.collect(), Timeout::new(timeout));
-        Some(Joined { map: Some(map), first_shard, first, others, timeout })
+        let joined = Joined { map: Some(map), first_shard, first, others, timeout };
+        // A read of several shards is answered by what all of them know after it.
+        joined.keep_all();
+        Some(joined)
+    }
+
+    /// The clients keep what they read.
+    pub fn keep_all(&self) {
+        self.clients().for_each(|(_, client)| client.link().with_state(State::keep_all));
     }
 
     pub fn map(&self) -> Option<&ShardMap> {
@@ -149,7 +157,7 @@ impl Drop for Joined {
         if self.others.is_empty() {
             return;
         }
-        let end = Instant::now() + FAREWELL;
+        let end = Instant::now() + LEAVE_TIMEOUT;
         let begin = |(_, client): (usize, &ShardClient)| client.link().begin(State::leave);
         let leaving: Vec<_> = self.clients().map(begin).collect();
         for ((_, client), leaving) in self.clients().zip(leaving) {

@@ -10,7 +10,7 @@ use crate::lease::terms::Older;
 use crate::model::client_number::ClientNumber;
 use crate::model::error::{ErrorKind, JoinErrorKind};
 use crate::model::refusal::Refusal;
-use crate::net::connect_fault::{NoServer, NotTaken, Rejection};
+use crate::net::connect_fault::{NoServer, Rejection};
 use crate::net::servers::Servers;
 use crate::proved::client_handle::ClientHandle;
 use std::io;
@@ -38,7 +38,7 @@ impl Waits {
 
 /// What a client joins for.
 #[derive(Clone, Copy, Debug, PartialEq, Eq)]
-pub(crate) enum Errand {
+pub(crate) enum JoinPurpose {
     Work,
     /// To end an older incarnation of which the operator states that no process is left, by one
     /// that is greater than this too.
@@ -53,19 +53,19 @@ pub(crate) fn join(
     number: u8,
     lock_file: &Path,
     waits: Waits,
-    errand: Errand,
+    purpose: JoinPurpose,
 ) -> Result<ShardClient, JoinErrorKind> {
-    let client = start(servers, number, lock_file, errand)?;
+    let client = start(servers, number, lock_file, purpose)?;
     let begun = Instant::now();
-    let gives_up = move |refusal, now: Instant| match errand {
-        Errand::Work => {
+    let gives_up = move |refusal, now: Instant| match purpose {
+        JoinPurpose::Work => {
             let waited = now.saturating_duration_since(begun);
             let may_try_another = waits.if_in_use < Duration::MAX;
             is_far_ahead(refusal) && may_try_another
                 || is_in_use(refusal) && waited >= waits.if_in_use
         }
         // A greater incarnation is taken then.
-        Errand::Evict { .. } => matches!(refusal, Refusal::Incarnation { .. }),
+        JoinPurpose::Evict { .. } => matches!(refusal, Refusal::Incarnation { .. }),
     };
     match client.link().join(waits.timeout.min(MAX_WAIT), gives_up) {
         Ok(()) => Ok(client),
@@ -78,16 +78,16 @@ fn start(
     servers: Servers,
     number: u8,
     lock_file: &Path,
-    errand: Errand,
+    purpose: JoinPurpose,
 ) -> Result<ShardClient, JoinErrorKind> {
     if ClientNumber::of(number).is_none() {
         return Err(JoinErrorKind::BadNumber);
     }
     let taken = LockFile::take(lock_file, number);
     let (mut lock_file, incarnation) = taken.map_err(JoinErrorKind::of_lock_file(lock_file))?;
-    let (incarnation, older) = match errand {
-        Errand::Work => (incarnation, lock_file.older()),
-        Errand::Evict { above } => (lock_file.rise_above(above), Older::Vouched),
+    let (incarnation, older) = match purpose {
+        JoinPurpose::Work => (incarnation, lock_file.older()),
+        JoinPurpose::Evict { above } => (lock_file.rise_above(above), Older::Vouched),
     };
     let handle = ClientHandle::open_after(number, incarnation, older);
     let handle = handle.map_err(|code| JoinErrorKind::Refused(code.into()))?;
@@ -111,7 +111,7 @@ fn not_joined(client: &ShardClient, refused: ErrorKind) -> JoinErrorKind {
         ErrorKind::Unserved(refusal) => JoinErrorKind::Unserved(refusal),
         ErrorKind::OtherShard(other) => JoinErrorKind::OtherShard(other),
         ErrorKind::TurnedAway => JoinErrorKind::TurnedAway(match rejection {
-            Some(Rejection::NotTaken(NotTaken(why))) => why,
+            Some(Rejection::NotTaken(why)) => why,
             _ => String::new(),
         }),
         refused => JoinErrorKind::Refused(refused),

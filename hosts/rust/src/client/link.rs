@@ -7,13 +7,13 @@ use crate::client::lock_file::LockFile;
 use crate::client::session::Session;
 use crate::client::state::State;
 use crate::client::wakes::Wakes;
-use crate::client::writer::{Writer, Written};
+use crate::client::writer::{WriteState, Writer};
 use crate::lease::clocks::Now;
 use crate::log::event_log;
 use crate::net::address::Address;
 use crate::net::carrier::Carrier;
 use crate::net::connect_fault::Rejection;
-use crate::net::poller::{Poller, Ready, SecondPoller, Watched};
+use crate::net::poller::{IoInterest, Poller, Ready, SecondPoller};
 use crate::net::readiness::Unread;
 use crate::net::servers::Servers;
 use crate::proved::client_handle::Cache;
@@ -47,7 +47,7 @@ pub(crate) struct Link {
     writer: Writer,
     waker: Arc<Waker>,
     /// The connection, as it is read.
-    reading: Mutex<Option<Reading>>,
+    reading: Mutex<Option<ReadHalf>>,
     /// A caller has its turn to wait for what comes, while it waits for an answer.
     turn: Mutex<()>,
     poller: SecondPoller,
@@ -68,11 +68,11 @@ enum Thread {
 }
 
 /// A connection, as it is read: by the thread, or by a caller that waits for an answer.
-struct Reading {
+struct ReadHalf {
     carrier: Carrier,
     frames: Frames,
     unread: Unread,
-    watched: Watched,
+    interest: IoInterest,
     /// Until when the thread sleeps if nothing comes.
     sleeps_until: Instant,
     /// When the session has something to do if nothing comes.
@@ -256,11 +256,11 @@ impl Link {
     fn open_reading(&self, carrier: Carrier, poller: &Poller) -> io::Result<()> {
         let watches = poller.add(CONNECTION, carrier.stream());
         let now = Instant::now();
-        *lock(&self.reading) = Some(Reading {
+        *lock(&self.reading) = Some(ReadHalf {
             carrier,
             frames: Frames::to_client(),
             unread: Unread::Something,
-            watched: Watched::Reads,
+            interest: IoInterest::Reads,
             sleeps_until: now,
             is_due: now,
             failed: None,
@@ -290,7 +290,7 @@ impl Link {
     /// Reads what there is, and continues with what the client was asked after each part.
     fn read_on(
         &self,
-        reading: &mut Reading,
+        reading: &mut ReadHalf,
         ready: impl Iterator<Item = Ready>,
     ) -> io::Result<Instant> {
         for ready in ready {
@@ -299,7 +299,7 @@ impl Link {
             }
         }
         loop {
-            let Reading { carrier, frames, unread, .. } = reading;
+            let ReadHalf { carrier, frames, unread, .. } = reading;
             let has_come = *unread != Unread::Nothing && unread.note(carrier.fill(frames))?;
             let (written, is_due) = self.proceed(has_come.then_some(frames))?;
             if reading.unread == Unread::Nothing {
@@ -319,12 +319,12 @@ impl Link {
     }
 
     /// Watches the connection for writes too, while a part waits to be written.
-    fn watch(&self, reading: &mut Reading, written: Written) -> io::Result<()> {
+    fn watch(&self, reading: &mut ReadHalf, written: WriteState) -> io::Result<()> {
         let next = match written {
-            Written::Part => Watched::Both,
-            Written::AllOrNothing => Watched::Reads,
+            WriteState::Pending => IoInterest::Both,
+            WriteState::Idle => IoInterest::Reads,
         };
-        if std::mem::replace(&mut reading.watched, next) != next {
+        if std::mem::replace(&mut reading.interest, next) != next {
             self.poller.watch(CONNECTION, reading.carrier.stream(), next)?;
         }
         Ok(())
@@ -332,7 +332,7 @@ impl Link {
 
     /// Takes what has come, if something has; continues with what the client was asked, and writes
     /// what it sends. Returns when that is due again if nothing comes.
-    fn proceed(&self, came: Option<&mut Frames>) -> io::Result<(Written, Instant)> {
+    fn proceed(&self, came: Option<&mut Frames>) -> io::Result<(WriteState, Instant)> {
         let mut session = self.session();
         if let Some(frames) = came {
             session.receive(frames)?;

@@ -12,7 +12,7 @@ use crate::model::history::Seen;
 use crate::model::refusal::Refusal;
 use crate::model::shard_fence::Fence;
 use crate::net::address::Address;
-use crate::net::connect_fault::{ConnectFault, NoServer, Rejection, Rejections};
+use crate::net::connect_fault::{NoServer, NothingListens, Rejection, Rejections};
 use crate::net::servers::Servers;
 use crate::proved::client_handle::ClientHandle;
 use crate::wire::frames::Frames;
@@ -182,17 +182,17 @@ impl Session {
     pub fn disconnected(&mut self, end: io::Error) -> Duration {
         let received = self.connection.take().map_or(Received::default(), |it| it.received);
         self.state.disconnect();
-        let fault = ConnectFault::from(end);
+        let rejection = Rejection::carried_by(&end);
         // A client that has to begin again does so at once.
-        if received.went_back || received.message && fault.rejection().is_none() {
+        if received.went_back || received.message && rejection.is_none() {
             self.backoff.reset();
         }
-        event_log::disconnected(self.address(), &fault);
-        self.rejections.note(&fault);
-        self.refused_connects.note(fault.is_refused(), self.now());
-        let is_stranger = matches!(fault, ConnectFault::NoServer(_));
+        event_log::disconnected(self.address(), &end);
+        self.rejections.note(rejection);
+        self.refused_connects.note(NothingListens::is_carried_by(&end), self.now());
+        let is_stranger = NoServer::carried_by(&end).is_some();
         self.strangers = if is_stranger { self.strangers + 1 } else { 0 };
-        self.fault = Some(fault.into());
+        self.fault = Some(end);
         self.place = (self.place + 1) % self.servers.count();
         self.end_hopeless();
         self.end_join_among_strangers();
@@ -391,8 +391,8 @@ impl Session {
             (Some(Rejection::OtherShard(other)), WasSent::No) => {
                 return ErrorKind::OtherShard(*other);
             }
-            (Some(Rejection::OtherVersion(other)), _) => {
-                return ErrorKind::Unserved(other.refusal());
+            (Some(Rejection::OtherVersion(read)), _) => {
+                return ErrorKind::Unserved(Refusal::Version { read: *read });
             }
             (Some(Rejection::OtherShard(other)), WasSent::Yes) => {
                 return ErrorKind::Unserved(Refusal::OtherShard(other.served));
@@ -447,7 +447,7 @@ impl fmt::Debug for Session {
 fn bad_message(code: Code) -> io::Error {
     io::Error::new(
         io::ErrorKind::InvalidData,
-        format!("the server says what no server says: {code}"),
+        format!("the server sends what no server sends: {code}"),
     )
 }
 

@@ -14,7 +14,7 @@ use std::thread::{self, JoinHandle};
 use std::time::{Duration, Instant};
 
 /// How long a client that is dropped waits until its Bye is kept.
-pub(crate) const FAREWELL: Duration = Duration::from_secs(1);
+pub(crate) const LEAVE_TIMEOUT: Duration = Duration::from_secs(1);
 
 /// A client of one server, with the thread of its connection. It leaves when it is dropped.
 pub(crate) struct ShardClient {
@@ -87,6 +87,6 @@ impl ShardClient {
 
 impl Drop for ShardClient {
     fn drop(&mut self) {
-        self.end_by(Instant::now() + FAREWELL);
+        self.end_by(Instant::now() + LEAVE_TIMEOUT);
     }
 }

@@ -5,6 +5,7 @@ mod bound;
 mod callbacks;
 mod contended;
 mod hold;
+mod keeping;
 mod leased;
 mod life;
 mod pins;
@@ -33,6 +34,7 @@ use bound::Wanted;
 use contended::Attempts;
 use hold::Taking;
 pub use hold::{Held, Purpose};
+use keeping::Keeping;
 pub(crate) use life::Dropped;
 use life::{Life, PerIncarnation, Stage};
 pub(crate) use request::Asking;
@@ -126,6 +128,7 @@ pub(crate) struct State {
     life: Life,
     held: PerIncarnation,
     shared: SharedRows,
+    keeping: Keeping,
     attempts: Attempts,
 }
 
@@ -142,6 +145,7 @@ impl State {
             life: Life::of(client.lease().incarnation()),
             held: PerIncarnation::default(),
             shared: SharedRows::default(),
+            keeping: Keeping::default(),
             attempts: Attempts::default(),
             client,
         }
@@ -351,6 +355,7 @@ impl State {
             }
         }
         self.give_back();
+        self.give_back_unkept();
         self.report_changes();
     }
 
@@ -363,6 +368,9 @@ impl State {
             }
             Job::Read(keys, reply) => {
                 let rows = self.try_read(id, &keys);
+                if matches!(rows, Ok(Some(_))) {
+                    self.note_read(id, keys.start);
+                }
                 reply.give(rows).map(|reply| Job::Read(keys, reply))
             }
             Job::Write(wanted, report) => self.advance_write(id, wanted, report),

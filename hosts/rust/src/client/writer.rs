@@ -15,7 +15,7 @@ const MAX_PENDING: usize = 1 << 22;
 #[derive(Debug, Default)]
 pub(crate) struct Writer {
     pending: Mutex<Pending>,
-    connection: Mutex<Option<Connection>>,
+    connection: Mutex<Option<WriteHalf>>,
 }
 
 #[derive(Debug, Default)]
@@ -24,8 +24,9 @@ struct Pending {
     is_connected: bool,
 }
 
+/// The connection, as it is written.
 #[derive(Debug)]
-struct Connection {
+struct WriteHalf {
     carrier: Carrier,
     /// What is being written, sealed if the carrier seals.
     sealed: Outbox,
@@ -33,11 +34,11 @@ struct Connection {
 
 /// What a writer has left.
 #[derive(Clone, Copy, Debug, PartialEq, Eq)]
-pub(crate) enum Written {
+pub(crate) enum WriteState {
     /// A part waits until the connection takes it: somebody has to write again.
-    Part,
+    Pending,
     /// Nothing that this thread has to write again.
-    AllOrNothing,
+    Idle,
 }
 
 impl Writer {
@@ -46,7 +47,7 @@ impl Writer {
     pub fn open(&self, carrier: Carrier, first: Vec<u8>) {
         let mut connection = self.connection();
         *self.pending() = Pending { frames: first, is_connected: true };
-        *connection = Some(Connection { carrier, sealed: Outbox::default() });
+        *connection = Some(WriteHalf { carrier, sealed: Outbox::default() });
     }
 
     /// Ends the connection. What waits is lost, and so is what is put before there is another one.
@@ -67,19 +68,19 @@ impl Writer {
 
     /// Writes what waits, as far as the connection takes it at once, and returns how far it came. If
     /// another thread writes just now, that thread takes it along.
-    pub fn write(&self) -> Written {
+    pub fn write(&self) -> WriteState {
         loop {
             match self.write_some() {
-                Some(Written::Part) => return Written::Part,
+                Some(WriteState::Pending) => return WriteState::Pending,
                 Some(_) if !self.pending().frames.is_empty() => {}
-                _ => return Written::AllOrNothing,
+                _ => return WriteState::Idle,
             }
         }
     }
 
     /// Writes what waits, unless there is no connection, another thread writes to it just now, or
     /// it has to be closed.
-    fn write_some(&self) -> Option<Written> {
+    fn write_some(&self) -> Option<WriteState> {
         let mut connection = match self.connection.try_lock() {
             Ok(connection) => connection,
             Err(TryLockError::Poisoned(poisoned)) => poisoned.into_inner(),
@@ -96,12 +97,12 @@ impl Writer {
         self.pending.lock().unwrap_or_else(PoisonError::into_inner)
     }
 
-    fn connection(&self) -> MutexGuard<'_, Option<Connection>> {
+    fn connection(&self) -> MutexGuard<'_, Option<WriteHalf>> {
         self.connection.lock().unwrap_or_else(PoisonError::into_inner)
     }
 }
 
-fn close(connection: &mut Option<Connection>, pending: &mut Pending) {
+fn close(connection: &mut Option<WriteHalf>, pending: &mut Pending) {
     if let Some(open) = connection.take() {
         // Half a message may be on its way.
         open.carrier.shut();
@@ -109,15 +110,15 @@ fn close(connection: &mut Option<Connection>, pending: &mut Pending) {
     *pending = Pending::default();
 }
 
-impl Connection {
+impl WriteHalf {
     /// Writes what the connection takes at once: what waits follows when all before it is written.
     /// A server that takes nothing for too long is an error.
-    fn write(&mut self, pending: MutexGuard<'_, Pending>, now: Instant) -> io::Result<Written> {
+    fn write(&mut self, pending: MutexGuard<'_, Pending>, now: Instant) -> io::Result<WriteState> {
         self.fill(pending)?;
         self.carrier.write(&mut self.sealed, now)?;
         match (self.sealed.is_empty(), self.sealed.is_stalled(now)) {
-            (true, _) => Ok(Written::AllOrNothing),
-            (false, false) => Ok(Written::Part),
+            (true, _) => Ok(WriteState::Idle),
+            (false, false) => Ok(WriteState::Pending),
             (false, true) => Err(ErrorKind::TimedOut.into()),
         }
     }
@@ -146,7 +147,7 @@ mod tests {
     /// A writer, and the end of its connection that reads.
     fn pair() -> (Writer, UnixStream) {
         let (ours, theirs) = UnixStream::pair().unwrap();
-        let carrier = Carrier::over(Stream::Unix(ours), None).unwrap();
+        let carrier = Carrier::over(Stream::from(ours), None).unwrap();
         theirs.set_read_timeout(Some(Duration::from_millis(200))).unwrap();
         let writer = Writer::default();
         writer.open(carrier, Vec::new());
@@ -197,8 +198,8 @@ mod tests {
         let mut guard = writer.connection();
         let (open, start) = (guard.as_mut().unwrap(), Instant::now());
         let mut write = |after| open.write(writer.pending(), start + after);
-        assert_eq!(write(Duration::ZERO).unwrap(), Written::Part);
-        assert_eq!(write(STALL / 2).unwrap(), Written::Part);
+        assert_eq!(write(Duration::ZERO).unwrap(), WriteState::Pending);
+        assert_eq!(write(STALL / 2).unwrap(), WriteState::Pending);
         assert_eq!(write(STALL).unwrap_err().kind(), ErrorKind::TimedOut);
     }
 
@@ -207,7 +208,7 @@ mod tests {
         let (writer, theirs) = pair();
         drop(theirs);
         put(&writer, b"lost");
-        assert_eq!(writer.write(), Written::AllOrNothing);
+        assert_eq!(writer.write(), WriteState::Idle);
         assert!(writer.connection().is_none());
     }
 

@@ -10,14 +10,14 @@ use std::time::Duration;
 
 /// A sign goes with messages that leave anyway if the last one is older than the first of these
 /// parts of the lease, and by itself if it is older than the second.
-const RIDES: u64 = 6;
-const GOES_ALONE: u64 = 3;
+const ON_MESSAGES: u64 = 6;
+const ALONE: u64 = 3;
 
-/// What leaves just now next to a sign.
+/// Whether a sign goes with messages that leave anyway.
 #[derive(Clone, Copy, Debug, PartialEq, Eq)]
-pub(crate) enum Company {
-    Messages,
-    Nothing,
+pub(crate) enum Piggyback {
+    OnMessages,
+    Alone,
 }
 
 /// The end of a client's lease, for the threads that read its cache. They take no lock for it.
@@ -84,7 +84,7 @@ impl Lease {
     pub fn pace(&self) -> Option<Duration> {
         match self.state.length {
             0 | FOR_EVER => None,
-            length => Some(Duration::from_nanos(length / GOES_ALONE)),
+            length => Some(Duration::from_nanos(length / ALONE)),
         }
     }
 
@@ -136,15 +136,15 @@ impl Lease {
     }
 
     /// A sign, if one is due.
-    pub fn sign_due(&mut self, now: Moment, company: Company) -> Option<Sign> {
-        if self.is_due(now, company) { self.sign(now) } else { None }
+    pub fn sign_due(&mut self, now: Moment, piggyback: Piggyback) -> Option<Sign> {
+        if self.is_due(now, piggyback) { self.sign(now) } else { None }
     }
 
     /// Whether the last sign is old enough for another one. A lease that does not end needs none.
-    fn is_due(&self, now: Moment, company: Company) -> bool {
-        let part = match company {
-            Company::Messages => RIDES,
-            Company::Nothing => GOES_ALONE,
+    fn is_due(&self, now: Moment, piggyback: Piggyback) -> bool {
+        let part = match piggyback {
+            Piggyback::OnMessages => ON_MESSAGES,
+            Piggyback::Alone => ALONE,
         };
         match (self.state.length, self.last) {
             (0 | FOR_EVER, _) | (_, None) => false,

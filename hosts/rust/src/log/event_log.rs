@@ -9,7 +9,7 @@
     )
 )]
 use crate::access::identity::Identity;
-use crate::log::seldom::Seldom;
+use crate::log::rate_limit::RateLimit;
 use crate::model::change::{Change, Record};
 use crate::model::history::Mark;
 use crate::model::room::Room;
@@ -27,6 +27,16 @@ macro_rules! tell {
     }};
 }
 
+/// The same of an event of a connection that may come often: see [`RateLimit`].
+macro_rules! tell_seldom {
+    ($limit:expr, $level:ident $at:ident [$($field:tt)*] $text:literal) => {
+        if let Some(passed_over) = $limit.admits(Instant::now()) {
+            let At { connection, peer } = $at;
+            tell!($level, connection, %peer, $($field)* passed_over, $text);
+        }
+    };
+}
+
 /// A connection, as the log names it.
 #[cfg_attr(not(feature = "tracing"), allow(dead_code, reason = "only the log reads it"))]
 #[derive(Clone, Copy, Debug)]
@@ -36,7 +46,7 @@ pub(crate) struct At {
 }
 
 /// What a server has reported, so that nothing is reported twice.
-#[derive(Debug)]
+#[derive(Debug, Default)]
 pub(crate) struct EventLog {
     /// The clients that ever registered: the incarnation, and whether it has left.
     clients: BTreeMap<u8, (u64, bool)>,
@@ -44,15 +54,15 @@ pub(crate) struct EventLog {
     evicting: BTreeMap<u8, u64>,
     is_serving: Option<bool>,
     missing: Vec<u8>,
-    bad_messages: Seldom,
-    other_shards: Seldom,
-    other_stores: Seldom,
-    other_versions: Seldom,
-    strangers: Seldom,
-    denials: Seldom,
-    far_ahead: Seldom,
-    alarms: Seldom,
-    store_alarms: Seldom,
+    bad_messages: RateLimit,
+    other_shards: RateLimit,
+    other_stores: RateLimit,
+    other_versions: RateLimit,
+    strangers: RateLimit,
+    denials: RateLimit,
+    far_ahead: RateLimit,
+    alarms: RateLimit,
+    store_alarms: RateLimit,
 }
 
 impl EventLog {
@@ -60,21 +70,7 @@ impl EventLog {
     pub fn started(epoch: u64, address: &Address, rows: usize, records: &[Record]) -> EventLog {
         tell!(info, epoch, %address, rows, clients = records.len(), "the server has started");
         let clients = records.iter().map(|it| (it.client, (it.incarnation, it.left))).collect();
-        EventLog {
-            clients,
-            evicting: BTreeMap::new(),
-            is_serving: None,
-            missing: Vec::new(),
-            bad_messages: Seldom::default(),
-            other_shards: Seldom::default(),
-            other_stores: Seldom::default(),
-            other_versions: Seldom::default(),
-            strangers: Seldom::default(),
-            denials: Seldom::default(),
-            far_ahead: Seldom::default(),
-            alarms: Seldom::default(),
-            store_alarms: Seldom::default(),
-        }
+        EventLog { clients, ..EventLog::default() }
     }
 
     /// A server with this room has started over this many rows. Less room than one had before may
@@ -166,121 +162,55 @@ impl EventLog {
 
     /// The client of a connection takes the server for another shard's, and is closed.
     pub fn other_shard(&mut self, at: &At, other: &OtherShard) {
-        if let Some(passed_over) = self.other_shards.lets(Instant::now()) {
-            tell!(
-                warn,
-                connection = at.connection,
-                peer = %at.peer,
-                passed_over,
-                "a connection is closed: {other}"
-            );
-        }
+        tell_seldom!(self.other_shards, warn at [] "a connection is closed: {other}");
     }
 
     /// A connection sent what is not a message, and is closed.
     pub fn bad_message(&mut self, at: &At, length: usize) {
-        if let Some(passed_over) = self.bad_messages.lets(Instant::now()) {
-            tell!(
-                warn,
-                connection = at.connection,
-                peer = %at.peer,
-                length,
-                passed_over,
-                "a connection is closed: it sent what is no message"
-            );
-        }
+        tell_seldom!(self.bad_messages, warn at [length,]
+            "a connection is closed: it sent what is no message");
     }
 
     /// A message names an incarnation that is not the client's.
     pub fn stranger(&mut self, at: &At, client: u8, incarnation: u64) {
-        if let Some(passed_over) = self.strangers.lets(Instant::now()) {
-            let registered = self.clients.get(&client).map(|(incarnation, _)| *incarnation);
-            tell!(
-                warn,
-                connection = at.connection,
-                peer = %at.peer,
-                client,
-                incarnation,
-                registered,
-                passed_over,
-                "a message is passed over: it is of another incarnation than the client's"
-            );
-        }
+        let registered = self.clients.get(&client).map(|(incarnation, _)| *incarnation);
+        tell_seldom!(self.strangers, warn at [client, incarnation, registered,]
+            "a message is passed over: it is of another incarnation than the client's");
     }
 
     /// A client is not registered: its incarnation is too far ahead of this machine's clock.
     pub fn far_ahead(&mut self, at: &At, client: u8, incarnation: u64) {
-        if let Some(passed_over) = self.far_ahead.lets(Instant::now()) {
-            tell!(
-                warn,
-                connection = at.connection,
-                peer = %at.peer,
-                client,
-                incarnation,
-                passed_over,
-                "a client is not registered: its clock is more than a day ahead of this one"
-            );
-        }
+        tell_seldom!(self.far_ahead, warn at [client, incarnation,]
+            "a client is not registered: its clock is more than a day ahead of this one");
     }
 
     /// A client has seen another store, and is refused.
     pub fn other_store(&mut self, at: &At) {
-        if let Some(passed_over) = self.other_stores.lets(Instant::now()) {
-            tell!(
-                warn,
-                connection = at.connection,
-                peer = %at.peer,
-                passed_over,
-                "a client is refused: it has seen another store than this one"
-            );
-        }
+        tell_seldom!(self.other_stores, warn at []
+            "a client is refused: it has seen another store than this one");
     }
 
     /// A client's host is of another version of the stream, and is refused.
     pub fn other_version(&mut self, at: &At) {
-        if let Some(passed_over) = self.other_versions.lets(Instant::now()) {
-            tell!(
-                warn,
-                connection = at.connection,
-                peer = %at.peer,
-                passed_over,
-                "a client is refused: its release is of another version of the protocol"
-            );
-        }
+        tell_seldom!(self.other_versions, warn at []
+            "a client is refused: its release is of another version of the protocol");
     }
 
     /// A connection sent what its identity may not send, and is closed.
     pub fn denied(&mut self, at: &At, identity: &Identity, client: Option<u8>) {
-        if let Some(passed_over) = self.denials.lets(Instant::now()) {
-            tell!(
-                warn,
-                connection = at.connection,
-                peer = %at.peer,
-                %identity,
-                client,
-                passed_over,
-                "a connection is closed: it sent what its certificate or its user may not send"
-            );
-        }
+        tell_seldom!(self.denials, warn at [%identity, client,]
+            "a connection is closed: it sent what its certificate or its user may not send");
     }
 
     /// The store lacks what a client's host has seen of it.
     pub fn store_alarm(&mut self, at: &At, seen: Mark) {
-        if let Some(passed_over) = self.store_alarms.lets(Instant::now()) {
-            tell!(
-                error,
-                connection = at.connection,
-                peer = %at.peer,
-                ?seen,
-                passed_over,
-                "ALARM: the store lacks what a client has seen: it is an older copy, or another one"
-            );
-        }
+        tell_seldom!(self.store_alarms, error at [?seen,]
+            "ALARM: the store lacks what a client has seen: it is an older copy, or another one");
     }
 
     /// A report contradicts what the server knows.
     pub fn alarm(&mut self, client: Option<u8>) {
-        if let Some(passed_over) = self.alarms.lets(Instant::now()) {
+        if let Some(passed_over) = self.alarms.admits(Instant::now()) {
             tell!(
                 error,
                 client,
@@ -352,8 +282,8 @@ pub(crate) fn closed_by_server(at: &At, reason: &str, why: &dyn Display, passed_
 }
 
 /// The system gives no connection just now.
-pub(crate) fn not_accepted(seldom: &mut Seldom, error: &dyn Display) {
-    if let Some(passed_over) = seldom.lets(Instant::now()) {
+pub(crate) fn not_accepted(limit: &mut RateLimit, error: &dyn Display) {
+    if let Some(passed_over) = limit.admits(Instant::now()) {
         tell!(warn, %error, passed_over, "the system gives no connection");
     }
 }

@@ -70,6 +70,6 @@ codes! {
     BadShards = 30, "bounds that make no shards";
     BadRoom = 31, "room for no row, or for more than 1,048,576";
     Unkept = 32, "a note that has to be kept is not confirmed";
-    NotTold = 33, "more notes were confirmed than were reported";
+    NotReported = 33, "more notes were confirmed than were reported";
     BadReach = 34, "grants of no slot, or of more than 128";
 }

@@ -82,8 +82,9 @@ impl Refusal {
         }
     }
 
-    /// The number of the reason, below [`Refusal::REASONS`].
-    pub(crate) fn reason(self) -> usize {
+    /// The number of the reason, from 0 to 9, as `docs/STREAM.md` and the interface for C have it.
+    #[must_use]
+    pub fn reason(self) -> u8 {
         match self {
             Refusal::Version { .. } => 0,
             Refusal::ClientNumber { .. } => 1,

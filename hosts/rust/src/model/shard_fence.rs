@@ -6,7 +6,6 @@
 use crate::model::shard_bounds::ShardBounds;
 use std::cmp::Ordering;
 use std::fmt;
-use std::io::{self, ErrorKind};
 
 /// A client and a server of two shards, or of two maps.
 #[derive(Clone, Copy, Debug, PartialEq, Eq)]
@@ -56,12 +55,6 @@ impl Fence {
     /// shards.
     pub fn passes(&self) -> Result<(), OtherShard> {
         compare(self.expected, self.served)
-    }
-}
-
-impl From<OtherShard> for io::Error {
-    fn from(other: OtherShard) -> io::Error {
-        io::Error::new(ErrorKind::PermissionDenied, other)
     }
 }
 

@@ -40,8 +40,8 @@ pub enum Address {
 pub enum BadAddress {
     /// It does not have the form of an address.
     Form,
-    /// It is beyond the loopback, and does not state whether it is of TLS or of plain TCP.
-    Unsaid,
+    /// It is beyond the loopback, and begins neither with `tls:` nor with `plain:`.
+    NoScheme,
 }
 
 impl Address {
@@ -94,7 +94,7 @@ impl FromStr for Address {
             return Address::of_tcp(place);
         }
         let address = Address::of_tcp(text)?;
-        if address.is_plain_beyond_loopback() { Err(BadAddress::Unsaid) } else { Ok(address) }
+        if address.is_plain_beyond_loopback() { Err(BadAddress::NoScheme) } else { Ok(address) }
     }
 }
 
@@ -134,7 +134,7 @@ impl fmt::Display for BadAddress {
                 "an address is written as 127.0.0.1:7400, localhost:7400, tls:10.0.0.1:7400, \
                  tls:db1:7400, unix:/a/path, or plain:10.0.0.1:7400"
             }
-            BadAddress::Unsaid => {
+            BadAddress::NoScheme => {
                 "an address of another machine begins with tls: or with plain:, such \
                  as tls:10.0.0.1:7400; by plain: anybody who can connect can speak for any client"
             }
@@ -188,7 +188,7 @@ mod tests {
     #[test]
     fn another_machine_is_reached_as_its_address_states() {
         for text in ["10.0.0.1:7400", "db1:7400", "0.0.0.0:7400", "[::]:1", "[::ffff:10.0.0.1]:1"] {
-            assert_eq!(text.parse::<Address>(), Err(BadAddress::Unsaid), "{text}");
+            assert_eq!(text.parse::<Address>(), Err(BadAddress::NoScheme), "{text}");
             assert!(format!("tls:{text}").parse::<Address>().unwrap().is_tls());
             let plain: Address = format!("plain:{text}").parse().unwrap();
             assert!(plain.is_plain_beyond_loopback(), "{text}");

@@ -1,7 +1,7 @@
 //! What carries frames between a client and its server: a stream, and TLS if the address begins
 //! with `tls:`.
 use crate::net::address::Address;
-use crate::net::connect_fault::NotTaken;
+use crate::net::connect_fault::Rejection;
 use crate::net::outbox::Outbox;
 use crate::net::stream::Stream;
 use crate::net::tls::{Side, TlsConfig, TlsSession};
@@ -113,7 +113,7 @@ fn without_certificate(address: &Address) -> io::Error {
         "{address} is an address of TLS: the client needs a certificate, its key, and that of the \
          authority, and the feature `tls`"
     );
-    NotTaken(why).into()
+    Rejection::NotTaken(why).into()
 }
 
 fn lock<T>(mutex: &Mutex<T>) -> MutexGuard<'_, T> {

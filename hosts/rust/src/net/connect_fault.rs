@@ -6,18 +6,20 @@ use crate::net::address::Address;
 use std::fmt;
 use std::io::{self, ErrorKind};
 
-/// So many connections in a row have to end by a rejection before a caller gives up. One may be the
+/// This many connections in a row have to end by a rejection before a caller gives up. One may be the
 /// mistake of something in between, such as a proxy that is restarted.
 const FINAL: u32 = 2;
 
-/// One side does not take the other: by its certificate, its user or its number. The text is a
-/// sentence.
+/// Why one side does not take the other.
 #[derive(Clone, Debug, PartialEq, Eq)]
-pub(crate) struct NotTaken(pub String);
-
-/// The server is of this version of the stream, and this side of another one.
-#[derive(Clone, Copy, Debug, PartialEq, Eq)]
-pub(crate) struct OtherVersion(pub u8);
+pub(crate) enum Rejection {
+    /// Its certificate, its user or its number gives no right. The text is a sentence.
+    NotTaken(String),
+    /// It is of another shard, or by another map.
+    OtherShard(OtherShard),
+    /// The server is of this version of the stream, and this side of another one.
+    OtherVersion(u8),
+}
 
 /// What answers at this address is another program: its first bytes are no frame.
 #[derive(Clone, Debug, PartialEq, Eq)]
@@ -28,60 +30,46 @@ pub(crate) struct NoServer(pub Address);
 #[derive(Debug)]
 pub(crate) struct NothingListens(pub io::Error);
 
-/// Why a connection was not made, or has ended.
-#[derive(Debug)]
-pub(crate) enum ConnectFault {
-    /// It may be otherwise at the next attempt: the network, a server that restarts, bytes that are
-    /// no answer of a server, or a file of this machine.
-    Io(io::Error),
-    NotTaken(NotTaken),
-    OtherShard(OtherShard),
-    OtherVersion(OtherVersion),
-    NoServer(NoServer),
+/// The error of this type that an error of a connection carries. The type decides, and never the
+/// kind: a missing right to a file or a socket has the same kind as a refused certificate.
+fn carried<T: std::error::Error + 'static>(error: &io::Error) -> Option<&T> {
+    error.get_ref()?.downcast_ref()
 }
 
-impl From<io::Error> for ConnectFault {
-    /// The type that the error carries decides, and never its kind: a missing right to a file or a
-    /// socket has the same kind as a refused certificate.
-    fn from(error: io::Error) -> ConnectFault {
-        let carried = error.get_ref();
-        if let Some(other) = carried.and_then(|it| it.downcast_ref()) {
-            return ConnectFault::OtherShard(*other);
-        }
-        if let Some(other) = carried.and_then(|it| it.downcast_ref()) {
-            return ConnectFault::OtherVersion(*other);
-        }
-        if let Some(no_server) = NoServer::carried_by(&error) {
-            return ConnectFault::NoServer(no_server.clone());
-        }
-        match carried.and_then(|it| it.downcast_ref::<NotTaken>()) {
-            Some(not_taken) => ConnectFault::NotTaken(not_taken.clone()),
-            None => ConnectFault::Io(error),
-        }
+impl Rejection {
+    /// The one that an error carries.
+    pub fn carried_by(error: &io::Error) -> Option<Rejection> {
+        carried(error).cloned()
     }
 }
 
-impl From<ConnectFault> for io::Error {
-    fn from(fault: ConnectFault) -> io::Error {
-        match fault {
-            ConnectFault::Io(error) => error,
-            ConnectFault::NotTaken(not_taken) => not_taken.into(),
-            ConnectFault::OtherShard(other) => other.into(),
-            ConnectFault::OtherVersion(other) => other.into(),
-            ConnectFault::NoServer(no_server) => no_server.into(),
-        }
+impl NoServer {
+    /// The one that an error carries.
+    pub fn carried_by(error: &io::Error) -> Option<&NoServer> {
+        carried(error)
     }
 }
 
-impl From<NotTaken> for io::Error {
-    fn from(not_taken: NotTaken) -> io::Error {
-        io::Error::new(ErrorKind::PermissionDenied, not_taken)
+impl NothingListens {
+    /// Whether an error carries one.
+    pub fn is_carried_by(error: &io::Error) -> bool {
+        carried::<NothingListens>(error).is_some()
     }
 }
 
-impl From<OtherVersion> for io::Error {
-    fn from(other: OtherVersion) -> io::Error {
-        io::Error::new(ErrorKind::Unsupported, other)
+impl From<Rejection> for io::Error {
+    fn from(rejection: Rejection) -> io::Error {
+        let kind = match rejection {
+            Rejection::NotTaken(_) | Rejection::OtherShard(_) => ErrorKind::PermissionDenied,
+            Rejection::OtherVersion(_) => ErrorKind::Unsupported,
+        };
+        io::Error::new(kind, rejection)
+    }
+}
+
+impl From<OtherShard> for io::Error {
+    fn from(other: OtherShard) -> io::Error {
+        Rejection::OtherShard(other).into()
     }
 }
 
@@ -91,29 +79,9 @@ impl From<NoServer> for io::Error {
     }
 }
 
-/// That the server rejected this side, if it did.
-#[derive(Clone, Debug, PartialEq, Eq)]
-pub(crate) enum Rejection {
-    NotTaken(NotTaken),
-    OtherShard(OtherShard),
-    OtherVersion(OtherVersion),
-}
-
-impl ConnectFault {
-    /// Whether nothing listens at the address.
-    pub fn is_refused(&self) -> bool {
-        let ConnectFault::Io(error) = self else { return false };
-        let carried = error.get_ref().and_then(|carried| carried.downcast_ref());
-        matches!(carried, Some(NothingListens(_)))
-    }
-
-    pub fn rejection(&self) -> Option<Rejection> {
-        match self {
-            ConnectFault::Io(_) | ConnectFault::NoServer(_) => None,
-            ConnectFault::NotTaken(not_taken) => Some(Rejection::NotTaken(not_taken.clone())),
-            ConnectFault::OtherShard(other) => Some(Rejection::OtherShard(*other)),
-            ConnectFault::OtherVersion(other) => Some(Rejection::OtherVersion(*other)),
-        }
+impl From<NothingListens> for io::Error {
+    fn from(refused: NothingListens) -> io::Error {
+        io::Error::new(refused.0.kind(), refused)
     }
 }
 
@@ -124,15 +92,15 @@ pub(crate) struct Rejections {
     last: Option<Rejection>,
     /// How many connections in a row ended so.
     in_a_row: u32,
-    /// The server accepts this side on the connection of now.
+    /// The server accepts this side on the current connection.
     is_accepted: bool,
 }
 
 impl Rejections {
-    /// A connection has ended, or could not be made.
-    pub fn note(&mut self, fault: &ConnectFault) {
+    /// A connection has ended, or could not be made: by this rejection, or for another reason.
+    pub fn note(&mut self, rejection: Option<Rejection>) {
         self.is_accepted = false;
-        match fault.rejection() {
+        match rejection {
             Some(rejection) => {
                 self.last = Some(rejection);
                 self.in_a_row += 1;
@@ -158,47 +126,13 @@ impl Rejections {
     }
 }
 
-impl fmt::Display for NotTaken {
+impl fmt::Display for Rejection {
     fn fmt(&self, f: &mut fmt::Formatter<'_>) -> fmt::Result {
-        f.write_str(&self.0)
-    }
-}
-
-impl std::error::Error for NotTaken {}
-
-impl OtherVersion {
-    /// What callers learn of it.
-    pub fn refusal(self) -> Refusal {
-        Refusal::Version { read: self.0 }
-    }
-}
-
-impl fmt::Display for OtherVersion {
-    fn fmt(&self, f: &mut fmt::Formatter<'_>) -> fmt::Result {
-        self.refusal().fmt(f)
-    }
-}
-
-impl std::error::Error for OtherVersion {}
-
-impl From<NothingListens> for io::Error {
-    fn from(refused: NothingListens) -> io::Error {
-        io::Error::new(refused.0.kind(), refused)
-    }
-}
-
-impl fmt::Display for NothingListens {
-    fn fmt(&self, f: &mut fmt::Formatter<'_>) -> fmt::Result {
-        self.0.fmt(f)
-    }
-}
-
-impl std::error::Error for NothingListens {}
-
-impl NoServer {
-    /// The one that an error carries.
-    pub fn carried_by(error: &io::Error) -> Option<&NoServer> {
-        error.get_ref()?.downcast_ref()
+        match self {
+            Rejection::NotTaken(why) => f.write_str(why),
+            Rejection::OtherShard(other) => other.fmt(f),
+            Rejection::OtherVersion(read) => Refusal::Version { read: *read }.fmt(f),
+        }
     }
 }
 
@@ -212,75 +146,61 @@ impl fmt::Display for NoServer {
     }
 }
 
-impl std::error::Error for NoServer {}
-
-impl fmt::Display for ConnectFault {
+impl fmt::Display for NothingListens {
     fn fmt(&self, f: &mut fmt::Formatter<'_>) -> fmt::Result {
-        match self {
-            ConnectFault::Io(error) => error.fmt(f),
-            ConnectFault::NotTaken(not_taken) => not_taken.fmt(f),
-            ConnectFault::OtherShard(other) => other.fmt(f),
-            ConnectFault::OtherVersion(other) => other.fmt(f),
-            ConnectFault::NoServer(no_server) => no_server.fmt(f),
-        }
+        self.0.fmt(f)
     }
 }
+
+impl std::error::Error for Rejection {}
+impl std::error::Error for NoServer {}
+impl std::error::Error for NothingListens {}
 
 #[cfg(test)]
 mod tests {
     use super::*;
 
-    fn not_taken() -> io::Error {
-        NotTaken("the certificate has expired".into()).into()
+    fn not_taken() -> Rejection {
+        Rejection::NotTaken("the certificate has expired".into())
     }
 
-    fn other_shard() -> io::Error {
-        OtherShard { expected: None, served: None }.into()
+    fn other_shard() -> OtherShard {
+        OtherShard { expected: None, served: None }
     }
 
     #[test]
     fn the_carried_type_decides_and_not_the_kind() {
-        let is_rejected = |error: io::Error| ConnectFault::from(error).rejection().is_some();
-        assert!(is_rejected(not_taken()) && is_rejected(other_shard()));
-        assert!(is_rejected(OtherVersion(1).into()));
-        assert!(!is_rejected(ErrorKind::PermissionDenied.into()), "as of a lock file");
-        assert!(!is_rejected(io::Error::new(ErrorKind::PermissionDenied, "no right")));
-        assert!(!is_rejected(ErrorKind::ConnectionRefused.into()));
+        let of = |error: io::Error| Rejection::carried_by(&error);
+        for rejection in [not_taken(), Rejection::OtherVersion(1)] {
+            assert_eq!(of(rejection.clone().into()), Some(rejection));
+        }
+        assert_eq!(of(other_shard().into()), Some(Rejection::OtherShard(other_shard())));
+        assert_eq!(of(ErrorKind::PermissionDenied.into()), None, "as of a lock file");
+        assert_eq!(of(io::Error::new(ErrorKind::PermissionDenied, "no right")), None);
+        assert_eq!(of(ErrorKind::ConnectionRefused.into()), None);
     }
 
     #[test]
     fn only_a_connect_that_was_refused_is_a_refusal() {
         let refused = || io::Error::from(ErrorKind::ConnectionRefused);
-        let is_refused = |error: io::Error| ConnectFault::from(error).is_refused();
-        assert!(is_refused(NothingListens(refused()).into()));
-        assert!(!is_refused(refused()) && !is_refused(not_taken()));
-    }
-
-    #[test]
-    fn a_fault_is_the_same_error_again() {
-        let no_server = NoServer(Address::Unix("here".into())).into();
-        let refused = NothingListens(ErrorKind::ConnectionRefused.into()).into();
-        let others = [OtherVersion(1).into(), no_server, refused];
-        for error in [not_taken(), other_shard()].into_iter().chain(others) {
-            let (kind, text) = (error.kind(), error.to_string());
-            let again = io::Error::from(ConnectFault::from(error));
-            assert_eq!((again.kind(), again.to_string()), (kind, text));
-        }
+        assert!(NothingListens::is_carried_by(&NothingListens(refused()).into()));
+        assert!(!NothingListens::is_carried_by(&refused()));
+        assert!(!NothingListens::is_carried_by(&not_taken().into()));
     }
 
     #[test]
     fn rejections_are_final_when_two_come_in_a_row() {
         let mut rejections = Rejections::default();
-        rejections.note(&not_taken().into());
+        rejections.note(Some(not_taken()));
         assert!(!rejections.are_final() && rejections.last().is_some());
-        rejections.note(&io::Error::from(ErrorKind::ConnectionRefused).into());
-        rejections.note(&not_taken().into());
+        rejections.note(None);
+        rejections.note(Some(not_taken()));
         assert!(!rejections.are_final(), "one of another kind was between them");
-        rejections.note(&other_shard().into());
+        rejections.note(Some(Rejection::OtherShard(other_shard())));
         assert!(rejections.are_final());
         rejections.accept();
         assert!(!rejections.are_final() && rejections.last().is_none());
-        rejections.note(&not_taken().into());
+        rejections.note(Some(not_taken()));
         assert!(rejections.are_final(), "what it sends is rejected each time");
     }
 }

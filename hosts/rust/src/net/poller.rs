@@ -29,18 +29,18 @@ pub(crate) enum Ready {
 
 /// What a connection is watched for.
 #[derive(Clone, Copy, Debug, PartialEq, Eq)]
-pub(crate) enum Watched {
+pub(crate) enum IoInterest {
     Reads,
     Writes,
     Both,
 }
 
-impl Watched {
-    fn interest(self) -> Interest {
+impl IoInterest {
+    fn of_mio(self) -> Interest {
         match self {
-            Watched::Reads => Interest::READABLE,
-            Watched::Writes => Interest::WRITABLE,
-            Watched::Both => Interest::READABLE.add(Interest::WRITABLE),
+            IoInterest::Reads => Interest::READABLE,
+            IoInterest::Writes => Interest::WRITABLE,
+            IoInterest::Both => Interest::READABLE.add(Interest::WRITABLE),
         }
     }
 }
@@ -74,9 +74,9 @@ impl Poller {
     }
 
     /// Watches a connection for this from now on. What it is ready for already is reported again.
-    pub fn watch(&self, connection: u64, stream: &Stream, watched: Watched) -> io::Result<()> {
+    pub fn watch(&self, connection: u64, stream: &Stream, interest: IoInterest) -> io::Result<()> {
         let (token, socket) = (token_of(connection)?, stream.as_raw_fd());
-        self.poll.registry().reregister(&mut SourceFd(&socket), token, watched.interest())
+        self.poll.registry().reregister(&mut SourceFd(&socket), token, interest.of_mio())
     }
 
     /// No longer watches a connection.
@@ -135,9 +135,9 @@ impl SecondPoller {
     }
 
     /// Watches a connection for this from now on. What it is ready for already is reported again.
-    pub fn watch(&self, connection: u64, stream: &Stream, watched: Watched) -> io::Result<()> {
+    pub fn watch(&self, connection: u64, stream: &Stream, interest: IoInterest) -> io::Result<()> {
         let (token, socket) = (token_of(connection)?, stream.as_raw_fd());
-        self.registry.reregister(&mut SourceFd(&socket), token, watched.interest())
+        self.registry.reregister(&mut SourceFd(&socket), token, interest.of_mio())
     }
 }
 
@@ -205,7 +205,7 @@ mod tests {
         assert_eq!(second.wait(longest).unwrap(), Some(Ready::Woken));
         assert_eq!(second.wait(Duration::ZERO).unwrap(), None, "an event is reported once");
         let (ours, mut theirs) = UnixStream::pair().unwrap();
-        let ours = Stream::Unix(ours);
+        let ours = Stream::from(ours);
         poller.add(7, &ours).unwrap();
         let next = || match second.wait(longest).unwrap() {
             Some(Ready::Connection(7, readiness)) => readiness,
@@ -213,9 +213,9 @@ mod tests {
         };
         theirs.write_all(b"a").unwrap();
         assert_eq!(next(), Readiness { reads: true, is_last: false, writes: false });
-        second.watch(7, &ours, Watched::Writes).unwrap();
+        second.watch(7, &ours, IoInterest::Writes).unwrap();
         assert_eq!(next(), Readiness { reads: false, is_last: false, writes: true });
-        second.watch(7, &ours, Watched::Reads).unwrap();
+        second.watch(7, &ours, IoInterest::Reads).unwrap();
         drop(theirs);
         let last = next();
         assert!(last.reads && (last.is_last || next().is_last));

@@ -2,6 +2,7 @@
 use crate::net::address::Address;
 use crate::net::connect_fault::NothingListens;
 use crate::net::unix_peer::user_at;
+use nix::sys::socket::MsgFlags;
 use socket2::{Domain, SockAddr, SockRef, Socket, TcpKeepalive, Type};
 use std::fmt;
 use std::fs::{File, Permissions, set_permissions};
@@ -170,7 +171,7 @@ impl Listener {
             Listener::Unix(listener) => {
                 let stream = listener.accept()?.0;
                 let peer = PeerAddress::Unix(user_at(&stream).ok());
-                Ok(Accepted { stream: Stream::Unix(stream), peer, is_tls: false })
+                Ok(Accepted { stream: stream.into(), peer, is_tls: false })
             }
         }
     }
@@ -246,11 +247,14 @@ impl From<UnixListener> for Listener {
     }
 }
 
-/// One connection.
+/// One connection. No write to it raises SIGPIPE, also in a program that does not ignore that.
 #[derive(Debug)]
-pub(crate) enum Stream {
-    Tcp(TcpStream),
-    Unix(UnixStream),
+pub(crate) struct Stream(Socket);
+
+impl From<UnixStream> for Stream {
+    fn from(stream: UnixStream) -> Stream {
+        Stream(stream.into())
+    }
 }
 
 impl Stream {
@@ -274,7 +278,7 @@ impl Stream {
                 let connected = connect_to_one((name.as_str(), *port).to_socket_addrs()?, wait);
                 Stream::of_tcp(connected?)
             }
-            Address::Unix(path) => connect_to_path(path, wait).map(Stream::Unix),
+            Address::Unix(path) => connect_to_path(path, wait).map(Stream::from),
         }
     }
 
@@ -283,53 +287,33 @@ impl Stream {
         let socket = SockRef::from(&stream);
         socket.set_tcp_keepalive(&KEEPALIVE)?;
         socket.set_tcp_user_timeout(Some(UNACKNOWLEDGED))?;
-        Ok(Stream::Tcp(stream))
+        Ok(Stream(stream.into()))
     }
 
     pub fn try_clone(&self) -> io::Result<Stream> {
-        match self {
-            Stream::Tcp(stream) => stream.try_clone().map(Stream::Tcp),
-            Stream::Unix(stream) => stream.try_clone().map(Stream::Unix),
-        }
+        self.0.try_clone().map(Stream)
     }
 
     /// No read or write waits from now on.
     pub fn never_wait(&self) -> io::Result<()> {
-        match self {
-            Stream::Tcp(stream) => stream.set_nonblocking(true),
-            Stream::Unix(stream) => stream.set_nonblocking(true),
-        }
+        self.0.set_nonblocking(true)
     }
 
     pub fn set_timeouts(&self, read: Duration, write: Duration) -> io::Result<()> {
-        match self {
-            Stream::Tcp(stream) => {
-                stream.set_read_timeout(Some(read))?;
-                stream.set_write_timeout(Some(write))
-            }
-            Stream::Unix(stream) => {
-                stream.set_read_timeout(Some(read))?;
-                stream.set_write_timeout(Some(write))
-            }
-        }
+        self.0.set_read_timeout(Some(read))?;
+        self.0.set_write_timeout(Some(write))
     }
 
     /// Ends the connection for both sides, and wakes a thread that reads from it.
     pub fn shut(&self) {
         // One that the other side has ended is shut already.
-        let _ = match self {
-            Stream::Tcp(stream) => stream.shutdown(Shutdown::Both),
-            Stream::Unix(stream) => stream.shutdown(Shutdown::Both),
-        };
+        let _ = self.0.shutdown(Shutdown::Both);
     }
 }
 
 impl AsRawFd for Stream {
     fn as_raw_fd(&self) -> RawFd {
-        match self {
-            Stream::Tcp(stream) => stream.as_raw_fd(),
-            Stream::Unix(stream) => stream.as_raw_fd(),
-        }
+        self.0.as_raw_fd()
     }
 }
 
@@ -353,19 +337,13 @@ fn connect_to_one(
 
 impl Read for Stream {
     fn read(&mut self, bytes: &mut [u8]) -> io::Result<usize> {
-        match self {
-            Stream::Tcp(stream) => stream.read(bytes),
-            Stream::Unix(stream) => stream.read(bytes),
-        }
+        self.0.read(bytes)
     }
 }
 
 impl Write for Stream {
     fn write(&mut self, bytes: &[u8]) -> io::Result<usize> {
-        match self {
-            Stream::Tcp(stream) => stream.write(bytes),
-            Stream::Unix(stream) => stream.write(bytes),
-        }
+        self.0.send_with_flags(bytes, MsgFlags::MSG_NOSIGNAL.bits())
     }
 
     fn flush(&mut self) -> io::Result<()> {
@@ -431,11 +409,9 @@ mod tests {
     fn the_system_ends_a_connection_to_a_machine_that_is_away() {
         let listener = TcpListener::bind("127.0.0.1:0").unwrap();
         let address = Address::Tcp(listener.local_addr().unwrap());
-        let Stream::Tcp(ours) = Stream::connect(&address, PROBE).unwrap() else { unreachable!() };
+        let ours = Stream::connect(&address, PROBE).unwrap();
         let theirs = Listener::from(listener).accept().unwrap().stream;
-        let Stream::Tcp(theirs) = theirs else { unreachable!() };
-        for stream in [ours, theirs] {
-            let socket = SockRef::from(&stream);
+        for Stream(socket) in [ours, theirs] {
             assert!(socket.keepalive().unwrap());
             assert_eq!(socket.tcp_user_timeout().unwrap(), Some(UNACKNOWLEDGED));
         }

@@ -10,7 +10,7 @@ pub use certificate::Certificate;
 pub use config::{TlsConfig, TlsError};
 
 use crate::access::identity::{Identity, Role, TableName};
-use crate::net::connect_fault::NotTaken;
+use crate::net::connect_fault::Rejection;
 use crate::wire::frames::{Frames, GULP};
 use openssl::error::ErrorStack;
 use openssl::ssl::{Error, ErrorCode, Ssl, SslRef, SslStream, SslVerifyMode};
@@ -51,8 +51,6 @@ pub(crate) enum Side {
 
 /// One connection by TLS, in memory: what came from the socket is handed to it, and what is to be
 /// written to the socket is taken from it. It never waits, so it fits every kind of socket.
-///
-/// It is for the programs of krl's repository, and may change in any release.
 pub struct TlsSession {
     stream: SslStream<Pipe>,
     check: PeerCheck,
@@ -70,7 +68,8 @@ pub struct TlsSession {
 
 /// Judges the certificate of the other end of one connection, within the hand-shake.
 ///
-/// It is for the programs of krl's repository, and may change in any release.
+/// A program that serves a port of its own, or asks one, judges its peers by this as a server judges
+/// its clients: by the names in their certificates.
 #[derive(Clone, Debug)]
 pub struct PeerCheck {
     side: Side,
@@ -98,23 +97,21 @@ impl RefusedSubject {
 }
 
 impl PeerCheck {
-    /// The same for a connection that this side has made, to a server. The hand-shake of the `Ssl`
-    /// is to be done.
+    /// A check for a connection that this side has made, to a server, and the `Ssl` within whose
+    /// hand-shake it judges.
     ///
     /// # Errors
     ///
     /// Those of OpenSSL.
-    #[cfg(feature = "unstable")]
     pub fn of_server(config: &TlsConfig) -> io::Result<(PeerCheck, Ssl)> {
         PeerCheck::new(config, Side::Connects)
     }
 
-    /// The same for a connection that this side has taken, of a client or an operator.
+    /// A check for a connection that this side has taken, of a client or an operator.
     ///
     /// # Errors
     ///
     /// Those of OpenSSL.
-    #[cfg(feature = "unstable")]
     pub fn of_client(config: &TlsConfig) -> io::Result<(PeerCheck, Ssl)> {
         PeerCheck::new(config, Side::Accepts)
     }
@@ -181,7 +178,7 @@ impl TlsSession {
     /// # Errors
     ///
     /// Those of OpenSSL.
-    #[cfg(feature = "unstable")]
+    #[cfg(feature = "sans-io")]
     pub fn connect(config: &TlsConfig) -> io::Result<TlsSession> {
         TlsSession::new(config, Side::Connects)
     }
@@ -191,7 +188,7 @@ impl TlsSession {
     /// # Errors
     ///
     /// Those of OpenSSL.
-    #[cfg(feature = "unstable")]
+    #[cfg(feature = "sans-io")]
     pub fn accept(config: &TlsConfig) -> io::Result<TlsSession> {
         TlsSession::new(config, Side::Accepts)
     }
@@ -364,7 +361,7 @@ fn is_about_certificate(code: c_ulong) -> bool {
 }
 
 fn not_taken(why: &str) -> io::Error {
-    NotTaken(why.into()).into()
+    Rejection::NotTaken(why.into()).into()
 }
 
 /// Puts what came after the frames.

@@ -8,8 +8,9 @@ use crate::model::code::Code;
 use crate::model::lock::Mode;
 use crate::model::row::Row;
 use crate::proved::ffi;
-use crate::proved::gate::{Owner, Reader, Reading};
+use crate::proved::gate::{Owner, ReadGuard, Reader};
 use crate::proved::handle::{Handle, code, done};
+use crate::proved::hits::Hits;
 use crate::proved::losses::{Losses, Tenure};
 use crate::wire::message::Message;
 use std::io;
@@ -54,23 +55,25 @@ pub(crate) struct ClientHandle {
     handle: Owner<Incarnation>,
     lease: Lease,
     /// A call was made since the last `take`, and may have sent something.
-    has_spoken: bool,
+    may_have_output: bool,
     /// Its incarnation is on the disk. Until then nothing of it may be sent.
     is_kept: bool,
 }
 
-/// What an incarnation knows, and the end of its lease; and what all of them have lost.
+/// What an incarnation knows, and the end of its lease; and what all of them have lost, and how many
+/// scans they have answered.
 struct Incarnation {
     handle: Handle,
     end: Arc<End>,
     losses: Losses,
+    hits: Hits,
 }
 
 /// What a client knows, for threads that only read it.
 pub(crate) struct Cache(Reader<Incarnation>);
 
 /// A cache that stays what it is.
-pub(crate) struct HeldCache<'c>(Reading<'c, Incarnation>);
+pub(crate) struct CacheGuard<'c>(ReadGuard<'c, Incarnation>);
 
 impl Cache {
     /// Scans the cache into `rows`, in place of what they are. Nothing is sent. It waits for one
@@ -82,7 +85,7 @@ impl Cache {
         rows: &mut Vec<Row>,
         clock: impl FnOnce() -> io::Result<Moment>,
     ) -> Result<Scan, Code> {
-        self.0.read(|incarnation| incarnation.scan(keys, rows, clock))
+        self.0.read(|incarnation| incarnation.scan_and_count(keys, rows, clock))
     }
 
     /// The tenure of a range that is not empty, if the client holds it: both at one moment. It uses
@@ -94,15 +97,15 @@ impl Cache {
         clock: impl FnOnce() -> io::Result<Moment>,
     ) -> Result<Option<Tenure>, Code> {
         self.0.read(|incarnation| {
-            let is_held = incarnation.scan(keys, room, clock)? == Scan::Rows;
+            let is_held = incarnation.scan_and_count(keys, room, clock)? == Scan::Rows;
             Ok(is_held.then(|| incarnation.losses.tenure(keys)))
         })
     }
 
     /// Keeps the cache as it is, as long as the answer lives: the client takes no message and no
     /// call meanwhile. A thread that holds several has to take them in the order of their shards.
-    pub fn hold(&self) -> HeldCache<'_> {
-        HeldCache(self.0.enter())
+    pub fn hold(&self) -> CacheGuard<'_> {
+        CacheGuard(self.0.enter())
     }
 }
 
@@ -114,7 +117,7 @@ impl Cache {
     }
 }
 
-impl HeldCache<'_> {
+impl CacheGuard<'_> {
     /// Scans the cache, and puts the rows after those that are there. The clock of leases is read
     /// after them.
     pub fn scan_after(
@@ -172,8 +175,14 @@ impl ClientHandle {
     }
 
     fn of(handle: Handle, lease: Lease) -> ClientHandle {
-        let incarnation = Incarnation { handle, end: lease.end(), losses: Losses::default() };
-        ClientHandle { handle: Owner::new(incarnation), lease, has_spoken: true, is_kept: false }
+        let (losses, hits) = (Losses::default(), Hits::default());
+        let incarnation = Incarnation { handle, end: lease.end(), losses, hits };
+        ClientHandle {
+            handle: Owner::new(incarnation),
+            lease,
+            may_have_output: true,
+            is_kept: false,
+        }
     }
 
     /// Becomes another client, and has lost all. What was cached from this one is cached from the
@@ -182,7 +191,7 @@ impl ClientHandle {
         other.handle.change(|other| self.handle.change(|this| this.become_other(other)));
         self.lease = other.lease;
         self.is_kept = other.is_kept;
-        self.has_spoken = true;
+        self.may_have_output = true;
     }
 
     pub fn lease(&self) -> &Lease {
@@ -197,9 +206,14 @@ impl ClientHandle {
         Cache(self.handle.reader())
     }
 
+    /// The scans that its caches have answered.
+    pub fn hits(&self) -> &Hits {
+        &self.handle.get().hits
+    }
+
     /// Makes a call that takes the handle, when nobody scans the cache.
     fn call(&mut self, call: impl FnOnce(*mut ffi::Handle) -> ffi::Reply) -> Result<u64, Code> {
-        self.has_spoken = true;
+        self.may_have_output = true;
         done(self.handle.change(|it| call(it.handle.raw())))
     }
 
@@ -210,7 +224,7 @@ impl ClientHandle {
         keys: &Range<u64>,
         call: impl FnOnce(*mut ffi::Handle) -> ffi::Reply,
     ) -> Result<(), Code> {
-        self.has_spoken = true;
+        self.may_have_output = true;
         let reply = self.handle.change(|it| {
             it.losses.note(keys);
             call(it.handle.raw())
@@ -395,20 +409,35 @@ impl ClientHandle {
     /// Appends what waits to be sent, as frames. If nothing can wait, nobody's scan is held up.
     /// Nothing leaves before the incarnation is kept.
     pub fn take(&mut self, frames: &mut Vec<u8>) -> Result<(), Code> {
-        if self.has_spoken && self.is_kept {
+        if self.may_have_output && self.is_kept {
             self.handle.change(|it| it.handle.take(frames))?;
-            self.has_spoken = false;
+            self.may_have_output = false;
         }
         Ok(())
     }
 }
 
 impl Incarnation {
-    /// The losses stay with this one: readers compare their numbers over all incarnations.
+    /// The losses and the hits stay with this one: their numbers are compared over all incarnations.
     fn become_other(&mut self, other: &mut Incarnation) {
         mem::swap(self, other);
         mem::swap(&mut self.losses, &mut other.losses);
+        mem::swap(&mut self.hits, &mut other.hits);
         self.losses.note_all();
+    }
+
+    /// The scan of a reader: that the cache answers it is what it is there for.
+    fn scan_and_count(
+        &self,
+        keys: &Range<u64>,
+        rows: &mut Vec<Row>,
+        clock: impl FnOnce() -> io::Result<Moment>,
+    ) -> Result<Scan, Code> {
+        let found = self.scan(keys, rows, clock)?;
+        if found == Scan::Rows {
+            self.hits.count(keys);
+        }
+        Ok(found)
     }
 
     fn scan(

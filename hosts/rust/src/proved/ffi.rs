@@ -224,7 +224,7 @@ unsafe extern "C" {
     pub safe fn krl_lease_take_terms(lease: &mut Lease, stamp: u64, length: u64, now: u64);
     pub safe fn krl_lease_holds(lease: &Lease, now: u64) -> bool;
     pub safe fn krl_until_register(terms: &Terms, now: u64) -> u64;
-    pub safe fn krl_until_sign(until: u64, terms: &Terms, said: u64, now: u64) -> u64;
+    pub safe fn krl_until_sign(until: u64, terms: &Terms, sign: u64, now: u64) -> u64;
     pub safe fn krl_until_has_come(until: u64, now: u64) -> bool;
     pub safe fn krl_until_hears(until: u64, asks: &TakeOver, now: u64) -> bool;
     pub safe fn krl_kept_start(kept: &KeptLease, terms: &Terms) -> KeptLease;

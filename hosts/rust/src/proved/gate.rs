@@ -11,7 +11,7 @@ use std::thread;
 use std::time::Duration;
 
 /// Threads that read count themselves in one of this many places.
-const PLACES: usize = 16;
+pub(crate) const PLACES: usize = 16;
 
 /// A thread that waits spins at first, then it lets others run, and then it sleeps again and again.
 const SPINS: u64 = 200;
@@ -24,7 +24,7 @@ const COURTESY: u64 = SPINS + 20;
 
 /// What shares no cache line with anything else.
 #[repr(align(128))]
-struct Alone<T>(T);
+pub(crate) struct Alone<T>(pub T);
 
 struct Gate<T> {
     value: UnsafeCell<T>,
@@ -47,7 +47,7 @@ pub(crate) struct Owner<T>(Arc<Gate<T>>);
 pub(crate) struct Reader<T>(Arc<Gate<T>>);
 
 /// The value, while it is read. A change waits as long as this lives.
-pub(crate) struct Reading<'g, T> {
+pub(crate) struct ReadGuard<'g, T> {
     gate: &'g Gate<T>,
     _inside: Counted<'g>,
 }
@@ -105,8 +105,8 @@ impl<T> Reader<T> {
     ///
     /// A thread may be inside several gates, if all threads enter these in one order: one that
     /// waits at a gate keeps the changes of those before it waiting.
-    pub fn enter(&self) -> Reading<'_, T> {
-        Reading { gate: &self.0, _inside: self.0.enter() }
+    pub fn enter(&self) -> ReadGuard<'_, T> {
+        ReadGuard { gate: &self.0, _inside: self.0.enter() }
     }
 }
 
@@ -119,7 +119,7 @@ impl<T> Reader<T> {
     }
 }
 
-impl<T> Deref for Reading<'_, T> {
+impl<T> Deref for ReadGuard<'_, T> {
     type Target = T;
 
     fn deref(&self) -> &T {
@@ -204,7 +204,7 @@ fn wait(turns: impl Iterator<Item = u64>, is_so: impl Fn() -> bool) {
 }
 
 /// The place of this thread. Threads beyond that many share places.
-fn place() -> usize {
+pub(crate) fn place() -> usize {
     static NEXT: AtomicUsize = AtomicUsize::new(0);
     thread_local!(static PLACE: usize = NEXT.fetch_add(1, Ordering::Relaxed) % PLACES);
     PLACE.with(|place| *place)

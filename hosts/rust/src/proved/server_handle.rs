@@ -60,7 +60,7 @@ impl ServerHandle {
     ///
     /// # Errors
     ///
-    /// [`Code::Unkept`] if one is missing, and [`Code::NotTold`] if there are more.
+    /// [`Code::Unkept`] if one is missing, and [`Code::NotReported`] if there are more.
     pub fn confirm(&mut self, kept: &[Change]) -> Result<(), Code> {
         self.confirmed += notes(kept);
         let reported = self.handle.confirm(self.confirmed)?;

@@ -2,11 +2,11 @@
 //! to be written.
 use crate::access::Entry;
 use crate::access::identity::Identity;
-use crate::log::seldom::Seldom;
+use crate::log::rate_limit::RateLimit;
 use crate::model::history::Seen;
 use crate::model::refusal::Refusal;
 use crate::net::outbox::Outbox;
-use crate::net::poller::Watched;
+use crate::net::poller::IoInterest;
 use crate::net::readiness::{Readiness, Unread};
 use crate::net::tls::TlsSession;
 use crate::server::close_reason::CloseReason;
@@ -25,7 +25,7 @@ const MAX_WAITING: usize = 1 << 18;
 /// What has been sent to the host of a peer that takes host frames.
 #[derive(Debug, Default)]
 struct Host {
-    refusals: [Seldom; Refusal::REASONS],
+    refusals: [RateLimit; Refusal::REASONS],
     /// The answer to its Hello, which leaves before everything else.
     answer: Vec<u8>,
     /// How far the store had come, as was sent last.
@@ -228,11 +228,11 @@ impl Connection {
 
     /// What it has to be watched for. A socket that takes all is not watched for writes: each time
     /// that the peer reads would be reported.
-    pub fn watched(&self) -> Watched {
+    pub fn interest(&self) -> IoInterest {
         match (self.outbox.is_empty(), self.ends_for.is_some()) {
-            (true, _) => Watched::Reads,
-            (false, false) => Watched::Both,
-            (false, true) => Watched::Writes,
+            (true, _) => IoInterest::Reads,
+            (false, false) => IoInterest::Both,
+            (false, true) => IoInterest::Writes,
         }
     }
 
@@ -297,7 +297,7 @@ impl Connection {
     /// and none to a host that takes no host frames.
     pub fn refuse(&mut self, refusal: Refusal, now: Instant) {
         let Some(host) = &mut self.host else { return };
-        if host.refusals[refusal.reason()].lets(now).is_some() {
+        if host.refusals[usize::from(refusal.reason())].admits(now).is_some() {
             self.host_frames.put(&FromServer::Refused(refusal).frame());
         }
     }

@@ -4,7 +4,7 @@ use crate::lease::clocks::Now;
 use crate::model::history::Seen;
 use crate::model::refusal::Refusal;
 use crate::model::room::Room;
-use crate::net::poller::Watched;
+use crate::net::poller::IoInterest;
 use crate::net::readiness::Readiness;
 use crate::net::stream::PeerAddress;
 use crate::server::close_reason::CloseReason;
@@ -219,7 +219,7 @@ impl Connections {
             self.closings.closed(&at, reason, why, self.now.monotonic);
             self.closed.push_back(Closed { number, connection });
         }
-        self.strangers.closed(number);
+        self.strangers.remove(number);
         self.routes.close(number);
     }
 
@@ -361,7 +361,7 @@ impl Connections {
 
     /// Writes what the peer takes, and closes the connection if that fails or was the last. Returns
     /// for what the socket has to be watched then, if it is still open.
-    pub fn write(&mut self, number: u64, stream: &mut impl Write) -> Option<Watched> {
+    pub fn write(&mut self, number: u64, stream: &mut impl Write) -> Option<IoInterest> {
         let peer = self.open.get_mut(&number)?;
         let is_lost = peer.connection.write(stream, self.now.monotonic).is_err();
         if is_lost || peer.connection.is_over() {
@@ -369,7 +369,7 @@ impl Connections {
             self.close(number, reason);
             return None;
         }
-        Some(peer.connection.watched())
+        Some(peer.connection.interest())
     }
 
     /// The socket of this connection has failed.

@@ -70,7 +70,7 @@ impl fmt::Display for ServeError {
                 f,
                 "the store lacks what the holder of the identity {identity} has seen of it \
                  ({seen:?}): it is an older copy, or another store. Start the server over the right \
-                 one, or over one that `krl-server restore` has made; the client has been told, and \
+                 one, or over one that `krl-server restore` has made; the client has learned of it, and \
                  joins whichever it is"
             ),
             ServeError::Panicked => f.write_str("a thread of the server panicked"),

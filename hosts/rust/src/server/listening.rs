@@ -1,6 +1,6 @@
 //! The socket that takes new connections, and when none can be taken.
 use crate::log::event_log;
-use crate::log::seldom::Seldom;
+use crate::log::rate_limit::RateLimit;
 use crate::net::stream::{Accepted, Listener};
 use std::io::{self, ErrorKind};
 use std::time::{Duration, Instant};
@@ -15,13 +15,13 @@ pub(crate) struct Listening {
     has_some: bool,
     /// None is taken before that.
     not_before: Option<Instant>,
-    failed: Seldom,
+    failed: RateLimit,
 }
 
 impl Listening {
     pub fn new(listener: Listener) -> io::Result<Listening> {
         listener.never_wait()?;
-        let failed = Seldom::default();
+        let failed = RateLimit::default();
         Ok(Listening { listener, has_some: false, not_before: None, failed })
     }
 

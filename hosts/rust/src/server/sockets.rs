@@ -2,7 +2,7 @@
 //! peer stops the others.
 use crate::access::Access;
 use crate::lease::clocks::Now;
-use crate::net::poller::{Poller, Ready, Watched};
+use crate::net::poller::{IoInterest, Poller, Ready};
 use crate::net::readiness::Readiness;
 use crate::net::stream::{Accepted, Listener, Stream};
 use crate::server::connections::{Closed, Connections, Found};
@@ -32,7 +32,7 @@ pub(crate) struct Sockets {
 /// The socket of one connection.
 struct Socket {
     stream: Stream,
-    watched: Watched,
+    interest: IoInterest,
 }
 
 impl Sockets {
@@ -86,7 +86,7 @@ impl Sockets {
         stream.never_wait()?;
         let number = connections.enter(entry, peer);
         self.poller.add(number, &stream).inspect_err(|_| connections.is_lost(number))?;
-        self.open.insert(number, Socket { stream, watched: Watched::Reads });
+        self.open.insert(number, Socket { stream, interest: IoInterest::Reads });
         Ok(())
     }
 
@@ -110,12 +110,12 @@ impl Sockets {
 
     fn write(&mut self, connections: &mut Connections, number: u64) {
         let Some(socket) = self.open.get_mut(&number) else { return };
-        let Some(watched) = connections.write(number, &mut socket.stream) else { return };
-        if watched == socket.watched {
+        let Some(interest) = connections.write(number, &mut socket.stream) else { return };
+        if interest == socket.interest {
             return;
         }
-        match self.poller.watch(number, &socket.stream, watched) {
-            Ok(()) => socket.watched = watched,
+        match self.poller.watch(number, &socket.stream, interest) {
+            Ok(()) => socket.interest = interest,
             Err(_) => connections.is_lost(number),
         }
     }

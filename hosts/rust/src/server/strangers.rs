@@ -18,8 +18,6 @@ pub const PATIENCE: Duration = Duration::from_secs(5);
 ///
 /// For one more than there may be **the oldest is closed**, and not the newest refused: a client
 /// identifies itself in a few milliseconds, and gets in next to any number that send nothing.
-///
-/// It is for the programs of krl's repository, and may change in any release.
 #[derive(Debug, Default)]
 pub struct Strangers {
     waiting: VecDeque<Stranger>,
@@ -34,8 +32,8 @@ struct Stranger {
 }
 
 impl Strangers {
-    /// A connection comes. Returns which one is to be closed for it, if one is.
-    pub fn comes(&mut self, connection: u64, from: Option<IpAddr>, now: Instant) -> Option<u64> {
+    /// Adds a connection from this address. Returns which one is to be closed for it, if one is.
+    pub fn add(&mut self, connection: u64, from: Option<IpAddr>, now: Instant) -> Option<u64> {
         let network = from.map(network_of);
         let crowded = self.from(network) >= MAX_FROM_ONE;
         let gone = match (crowded, self.waiting.len() >= MAX_IN_ALL) {
@@ -47,7 +45,7 @@ impl Strangers {
         gone
     }
 
-    /// Whether it has not identified itself.
+    /// Whether the connection has not identified itself.
     #[must_use]
     pub fn has(&self, connection: u64) -> bool {
         self.waiting.iter().any(|stranger| stranger.connection == connection)
@@ -69,8 +67,8 @@ impl Strangers {
         self.known.len()
     }
 
-    /// It is closed.
-    pub fn closed(&mut self, connection: u64) {
+    /// Removes a connection, which is closed or has identified itself.
+    pub fn remove(&mut self, connection: u64) {
         self.waiting.retain(|stranger| stranger.connection != connection);
         self.known.retain(|(other, _)| *other != connection);
     }
@@ -79,7 +77,7 @@ impl Strangers {
         self.waiting.front().map(|stranger| stranger.connection)
     }
 
-    /// Those that have taken too long.
+    /// The connections that have taken too long: five seconds.
     pub fn late(&self, now: Instant) -> impl Iterator<Item = u64> {
         let is_late =
             move |stranger: &&Stranger| now.saturating_duration_since(stranger.since) >= PATIENCE;
@@ -115,20 +113,20 @@ mod tests {
     #[test]
     fn the_oldest_of_one_network_goes_and_not_the_newest() {
         let (mut strangers, now) = (Strangers::default(), Instant::now());
-        assert_eq!(strangers.comes(1000, Some(address("10.0.0.2")), now), None);
+        assert_eq!(strangers.add(1000, Some(address("10.0.0.2")), now), None);
         for connection in 0..64 {
-            assert_eq!(strangers.comes(connection, Some(address("2001:db8::1")), now), None);
+            assert_eq!(strangers.add(connection, Some(address("2001:db8::1")), now), None);
         }
         assert_eq!(
-            strangers.comes(64, Some(address("2001:db8::ffff")), now),
+            strangers.add(64, Some(address("2001:db8::ffff")), now),
             Some(0),
             "the same /64"
         );
-        strangers.closed(0);
-        assert_eq!(strangers.comes(65, Some(address("2001:db8:0:1::1")), now), None, "another /64");
-        assert_eq!(strangers.comes(66, Some(address("10.0.0.2")), now), None);
+        strangers.remove(0);
+        assert_eq!(strangers.add(65, Some(address("2001:db8:0:1::1")), now), None, "another /64");
+        assert_eq!(strangers.add(66, Some(address("10.0.0.2")), now), None);
         strangers.is_known(1, Identity::everybody());
-        assert_eq!(strangers.comes(67, Some(address("2001:db8::1")), now), None);
+        assert_eq!(strangers.add(67, Some(address("2001:db8::1")), now), None);
         assert!(strangers.has(67) && !strangers.has(0) && !strangers.has(1));
     }
 
@@ -137,16 +135,16 @@ mod tests {
         let (mut strangers, now) = (Strangers::default(), Instant::now());
         for connection in 0..128u64 {
             let from = format!("10.0.{connection}.1");
-            assert_eq!(strangers.comes(connection, Some(address(&from)), now), None);
+            assert_eq!(strangers.add(connection, Some(address(&from)), now), None);
         }
-        assert_eq!(strangers.comes(128, Some(address("10.1.0.1")), now), Some(0));
+        assert_eq!(strangers.add(128, Some(address("10.1.0.1")), now), Some(0));
     }
 
     #[test]
     fn who_takes_too_long_goes() {
         let (mut strangers, now) = (Strangers::default(), Instant::now());
-        strangers.comes(1, None, now);
-        strangers.comes(2, None, now + PATIENCE / 2);
+        strangers.add(1, None, now);
+        strangers.add(2, None, now + PATIENCE / 2);
         assert_eq!(strangers.late(now + PATIENCE / 2).count(), 0);
         assert_eq!(strangers.late(now + PATIENCE).collect::<Vec<_>>(), [1]);
         assert_eq!(strangers.late(now + 2 * PATIENCE).collect::<Vec<_>>(), [1, 2]);
@@ -161,8 +159,8 @@ mod tests {
         }
         assert_eq!(strangers.is_known(4, four), None);
         assert_eq!(strangers.is_known(5, three), Some(0));
-        strangers.closed(0);
-        strangers.closed(2);
+        strangers.remove(0);
+        strangers.remove(2);
         assert_eq!(strangers.is_known(6, three), None);
         assert_eq!(strangers.is_known(7, three), Some(1));
     }

@@ -1,7 +1,7 @@
 //! Scans of several caches at one moment.
 use crate::lease::boot_clock::Moment;
 use crate::model::row::Row;
-use crate::proved::client_handle::{Cache, HeldCache, Scan};
+use crate::proved::client_handle::{Cache, CacheGuard, Scan};
 use std::ops::Range;
 
 /// A range, and the cache that may know it.
@@ -22,7 +22,7 @@ pub(crate) fn scan(known: &[Known<'_>], rows: &mut Vec<Row>) -> bool {
 /// All caches are held before the first scan. Otherwise a client might give up what was scanned,
 /// and the next one be granted what was written after that: rows of two moments.
 fn scan_and_do(known: &[Known<'_>], rows: &mut Vec<Row>, mut between: impl FnMut()) -> bool {
-    let held: Vec<HeldCache<'_>> = known.iter().map(|known| known.cache.hold()).collect();
+    let held: Vec<CacheGuard<'_>> = known.iter().map(|known| known.cache.hold()).collect();
     for (place, Known { keys, .. }) in known.iter().enumerate() {
         if place > 0 {
             between();

@@ -101,7 +101,7 @@ impl Ownership {
     pub fn may_load(&self) -> Result<(), StoreError> {
         match &self.0 {
             State::IsNotLoaded => Ok(()),
-            State::IsLoaded => Err(StoreError::says("the store has been loaded already")),
+            State::IsLoaded => Err(StoreError::failed("the store has been loaded already")),
             State::Ended(ended) => Err(ended.error()),
         }
     }
@@ -118,7 +118,7 @@ impl Ownership {
     /// If the store has not been loaded, or why it has ended.
     pub fn may_commit(&self) -> Result<(), StoreError> {
         match &self.0 {
-            State::IsNotLoaded => Err(StoreError::says("the store has not been loaded")),
+            State::IsNotLoaded => Err(StoreError::failed("the store has not been loaded")),
             State::IsLoaded => Ok(()),
             State::Ended(ended) => Err(ended.error()),
         }
@@ -155,7 +155,7 @@ impl Ended {
         match self {
             Ended::Deposed(found) => StoreError::Deposed(found.clone()),
             Ended::Unanswered(why) => StoreError::Unanswered(why.clone().into()),
-            Ended::Failed(why) => StoreError::says(why),
+            Ended::Failed(why) => StoreError::failed(why.clone()),
         }
     }
 }
@@ -164,7 +164,7 @@ impl From<Failure> for StoreError {
     fn from(failure: Failure) -> StoreError {
         match failure {
             Failure::Unknown(why) => StoreError::Unanswered(why.into()),
-            Failure::Refused(why) => StoreError::says(&why),
+            Failure::Refused(why) => StoreError::failed(why),
         }
     }
 }

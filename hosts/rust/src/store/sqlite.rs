@@ -193,7 +193,7 @@ impl SqliteStore {
         // A file that is not a store is left as it is.
         let found = version::look(&connection)?;
         if found == Found::Bare && !had_log {
-            return Err(StoreError::says(version::BARE));
+            return Err(StoreError::failed(version::BARE));
         }
         if found == Found::New {
             set_page_size(&connection)?;
@@ -201,7 +201,7 @@ impl SqliteStore {
         let mode: String =
             connection.query_row("PRAGMA journal_mode = WAL", [], |row| row.get(0))?;
         if mode != "wal" {
-            return Err(StoreError::says("SQLite gives no WAL mode for this file"));
+            return Err(StoreError::failed("SQLite gives no WAL mode for this file"));
         }
         connection.pragma_update(None, "synchronous", "FULL")?;
         limit_log(&connection)?;
@@ -227,7 +227,7 @@ fn take_checksum(connection: &Connection) -> Result<(), StoreError> {
         return Ok(());
     }
     match checksum::compare(connection, &load(connection)?)? {
-        Checksum::Differs => Err(StoreError::says(checksum::DIFFERS)),
+        Checksum::Differs => Err(StoreError::failed(checksum::DIFFERS)),
         Checksum::Matches | Checksum::Absent => checksum::remove(connection),
     }
 }
@@ -373,7 +373,7 @@ fn kept_room(connection: &Connection) -> Result<Option<Room>, StoreError> {
     let kept = connection.query_row("SELECT most_rows FROM room", [], |row| row.get::<_, i64>(0));
     let Some(rows) = kept.optional()? else { return Ok(None) };
     let room = usize::try_from(rows).ok().and_then(|rows| Room::of(rows).ok());
-    room.map(Some).ok_or_else(|| StoreError::says("the room in the store is one of no server"))
+    room.map(Some).ok_or_else(|| StoreError::failed("the room in the store is one of no server"))
 }
 
 /// What the file has of leases.
@@ -412,7 +412,7 @@ fn run(
 fn row_of(row: &SqlRow<'_>) -> Result<Row, StoreError> {
     let bytes: Vec<u8> = row.get(1)?;
     let value = Value::try_from(&bytes[..])
-        .map_err(|_| StoreError::says("a value in the store has more than 32 bytes"))?;
+        .map_err(|_| StoreError::failed("a value in the store has more than 32 bytes"))?;
     Ok(Row { key: positive(row.get(0)?)?, value })
 }
 
@@ -420,7 +420,7 @@ fn record_of(row: &SqlRow<'_>) -> Result<Record, StoreError> {
     let last = positive(row.get(2)?)?;
     let outcome = Outcome::of_tag(positive(row.get(3)?)?);
     if (last == 0) != outcome.is_none() {
-        return Err(StoreError::says(
+        return Err(StoreError::failed(
             "a record in the store has an outcome and no write, or no outcome of one",
         ));
     }
@@ -434,11 +434,11 @@ fn record_of(row: &SqlRow<'_>) -> Result<Record, StoreError> {
 
 /// SQLite's numbers are signed. Each number that is kept lies below 2^63.
 fn signed(number: u64) -> Result<i64, StoreError> {
-    i64::try_from(number).map_err(|_| StoreError::says("a number of 2^63 or more can't be kept"))
+    i64::try_from(number).map_err(|_| StoreError::failed("a number of 2^63 or more can't be kept"))
 }
 
 fn positive(number: i64) -> Result<u64, StoreError> {
-    u64::try_from(number).map_err(|_| StoreError::says("a number in the store is negative"))
+    u64::try_from(number).map_err(|_| StoreError::failed("a number in the store is negative"))
 }
 
 impl From<rusqlite::Error> for StoreError {

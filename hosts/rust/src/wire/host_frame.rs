@@ -9,9 +9,10 @@ use crate::model::client_set::ClientSet;
 use crate::model::history::{Mark, Seen};
 use crate::model::refusal::{Refusal, STREAM_VERSION};
 use crate::model::shard_bounds::ShardBounds;
+use crate::wire::numbers::{self, bytes_of};
 use crate::wire::shard_frame;
 
-const HOST: u8 = 0;
+pub(super) const HOST: u8 = 0;
 
 /// The version of a Hello that names none.
 const BEFORE_VERSIONS: u8 = 1;
@@ -72,11 +73,9 @@ impl FromClient {
             }
             FromClient::OtherVersion => framed(&[HOST, FromClient::HELLO], &[]),
             FromClient::Shard(shard) => {
-                framed(&[HOST, FromClient::SHARD], &shard_frame::spelled_bytes(Some(shard)))
+                framed(&[HOST, FromClient::SHARD], &shard_frame::spelled(Some(shard)))
             }
-            FromClient::NoShard => {
-                framed(&[HOST, FromClient::SHARD], &shard_frame::spelled_bytes(None))
-            }
+            FromClient::NoShard => framed(&[HOST, FromClient::SHARD], &shard_frame::spelled(None)),
         }
     }
 
@@ -107,13 +106,12 @@ impl FromServer {
                 framed(&[HOST, FromServer::HELLO], &[signs, STREAM_VERSION])
             }
             FromServer::Refused(refusal) => {
-                let (reason, numbers) = spelled(refusal);
-                framed(&[HOST, FromServer::REFUSED, reason], &numbers)
+                framed(&[HOST, FromServer::REFUSED, refusal.reason()], &spelled(refusal))
             }
             FromServer::Mark(seen) => framed(&[HOST, FromServer::MARK], &spelled_seen(seen)),
             FromServer::WentBack => framed(&[HOST, FromServer::WENT_BACK], &[]),
             FromServer::Shard(shard) => {
-                framed(&[HOST, FromServer::SHARD], &shard_frame::spelled_bytes(Some(shard)))
+                framed(&[HOST, FromServer::SHARD], &shard_frame::spelled(Some(shard)))
             }
         }
     }
@@ -154,21 +152,20 @@ fn read_server_hello(content: &[u8]) -> FromServer {
     }
 }
 
-/// The tag of a reason, and its numbers.
-fn spelled(refusal: Refusal) -> (u8, Vec<u8>) {
-    let (tag, numbers) = match refusal {
-        Refusal::OtherShard(served) => return (7, shard_frame::spelled_bytes(served)),
-        Refusal::Version { read } => (0, [read.into(), 0]),
-        Refusal::ClientNumber { number } => (1, [number, 0]),
-        Refusal::Incarnation { client, registered } => (2, [client.into(), registered]),
-        Refusal::Full { connections } => (3, [connections, 0]),
-        Refusal::Missing(clients) => (4, [clients.bits(), 0]),
-        Refusal::LeaseRuns { client, registered } => (5, [client.into(), registered]),
-        Refusal::Denied => (6, [0, 0]),
-        Refusal::FarAhead { client, latest } => (8, [client.into(), latest]),
-        Refusal::OtherStore => (9, [0, 0]),
-    };
-    (tag, numbers.map(u64::to_le_bytes).concat())
+/// What comes after the number of a refusal's reason: two numbers, or a shard.
+fn spelled(refusal: Refusal) -> Vec<u8> {
+    bytes_of(match refusal {
+        Refusal::OtherShard(served) => return shard_frame::spelled(served),
+        Refusal::Version { read } => [read.into(), 0],
+        Refusal::ClientNumber { number } => [number, 0],
+        Refusal::Incarnation { client, registered } | Refusal::LeaseRuns { client, registered } => {
+            [client.into(), registered]
+        }
+        Refusal::Full { connections } => [connections, 0],
+        Refusal::Missing(clients) => [clients.bits(), 0],
+        Refusal::FarAhead { client, latest } => [client.into(), latest],
+        Refusal::Denied | Refusal::OtherStore => [0, 0],
+    })
 }
 
 fn spelled_seen(seen: Seen) -> Vec<u8> {
@@ -187,10 +184,8 @@ fn read_seen(bytes: &[u8]) -> Option<Seen> {
     Some(Seen { mark: Mark { start, commits }, first_start })
 }
 
-fn refusal(reason: u8, numbers: &[u8]) -> Option<Refusal> {
-    let (first, rest) = numbers.split_first_chunk()?;
-    let (second, _) = rest.split_first_chunk()?;
-    let (first, second) = (u64::from_le_bytes(*first), u64::from_le_bytes(*second));
+fn refusal(reason: u8, bytes: &[u8]) -> Option<Refusal> {
+    let [first, second] = numbers::read(bytes)?;
     Some(match reason {
         0 => Refusal::Version { read: u8::try_from(first).ok()? },
         1 => Refusal::ClientNumber { number: first },
@@ -199,7 +194,7 @@ fn refusal(reason: u8, numbers: &[u8]) -> Option<Refusal> {
         4 => Refusal::Missing(ClientSet::of_bits(first)),
         5 => Refusal::LeaseRuns { client: u8::try_from(first).ok()?, registered: second },
         6 => Refusal::Denied,
-        7 => shard_frame::read_refusal(numbers)?,
+        7 => shard_frame::read_refusal(bytes)?,
         8 => Refusal::FarAhead { client: u8::try_from(first).ok()?, latest: second },
         9 => Refusal::OtherStore,
         _ => return None,
@@ -207,7 +202,7 @@ fn refusal(reason: u8, numbers: &[u8]) -> Option<Refusal> {
 }
 
 /// A frame with its length: the head, and then the body.
-fn framed(head: &[u8], body: &[u8]) -> Vec<u8> {
+pub(super) fn framed(head: &[u8], body: &[u8]) -> Vec<u8> {
     let length = (head.len() + body.len()) as u64;
     [&length.to_le_bytes(), head, body].concat()
 }

@@ -2,8 +2,9 @@
 use crate::lease::boot_clock::Moment;
 use crate::lease::terms::Answer;
 use crate::lease::terms::{FOR_EVER, Grant, Older, Sign};
+use crate::wire::host_frame::{self, HOST};
+use crate::wire::numbers::{self, bytes_of};
 
-const HOST: u8 = 0;
 const SIGN: u8 = 1;
 const TERMS: u8 = 20;
 const ENDED: u8 = 21;
@@ -20,12 +21,12 @@ impl Sign {
             Older::IsOver(incarnation) => incarnation,
             Older::Vouched => VOUCHED,
         };
-        framed(SIGN, &[client.into(), incarnation, stamp.nanoseconds(), length, older])
+        framed(SIGN, [client.into(), incarnation, stamp.nanoseconds(), length, older])
     }
 
     /// The content of the frame, without its length, or `None` if it is of another kind.
     pub fn read(frame: &[u8]) -> Option<Sign> {
-        let [client, incarnation, stamp, length, older] = numbers(frame, SIGN)?;
+        let [client, incarnation, stamp, length, older] = content(frame, SIGN)?;
         let older = match older {
             0 => Older::Unknown,
             VOUCHED => Older::Vouched,
@@ -41,38 +42,30 @@ impl Answer {
     pub fn frame(self) -> Vec<u8> {
         match self {
             Answer::Granted(Grant { incarnation, stamp, length }) => {
-                framed(TERMS, &[incarnation, stamp.nanoseconds(), length])
+                framed(TERMS, [incarnation, stamp.nanoseconds(), length])
             }
-            Answer::Ended { incarnation } => framed(ENDED, &[incarnation]),
+            Answer::Ended { incarnation } => framed(ENDED, [incarnation]),
         }
     }
 
     /// The content of the frame, without its length, or `None` if it is of another kind.
     pub fn read(frame: &[u8]) -> Option<Answer> {
-        if let Some([incarnation, stamp, length]) = numbers(frame, TERMS) {
+        if let Some([incarnation, stamp, length]) = content(frame, TERMS) {
             let stamp = Moment::of_nanoseconds(stamp);
             return Some(Answer::Granted(Grant { incarnation, stamp, length }));
         }
-        let [incarnation] = numbers(frame, ENDED)?;
+        let [incarnation] = content(frame, ENDED)?;
         Some(Answer::Ended { incarnation })
     }
 }
 
-fn framed(kind: u8, numbers: &[u64]) -> Vec<u8> {
-    let body: Vec<u8> = numbers.iter().flat_map(|number| number.to_le_bytes()).collect();
-    let length = 2 + body.len() as u64;
-    [&length.to_le_bytes()[..], &[HOST, kind], &body].concat()
+fn framed(kind: u8, numbers: impl IntoIterator<Item = u64>) -> Vec<u8> {
+    host_frame::framed(&[HOST, kind], &bytes_of(numbers))
 }
 
-/// The numbers of a frame of this kind. A later release may send more after them.
-fn numbers<const N: usize>(frame: &[u8], kind: u8) -> Option<[u64; N]> {
-    let mut rest = frame.strip_prefix(&[HOST, kind])?;
-    let mut numbers = [0; N];
-    for number in &mut numbers {
-        let (bytes, after) = rest.split_first_chunk()?;
-        (*number, rest) = (u64::from_le_bytes(*bytes), after);
-    }
-    Some(numbers)
+/// The numbers of a frame of this kind.
+fn content<const N: usize>(frame: &[u8], kind: u8) -> Option<[u64; N]> {
+    numbers::read(frame.strip_prefix(&[HOST, kind])?)
 }
 
 #[cfg(test)]

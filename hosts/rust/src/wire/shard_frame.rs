@@ -1,41 +1,30 @@
 //! How a shard is spelled in the frames of the hosts. `docs/STREAM.md` has the table.
 use crate::model::refusal::Refusal;
 use crate::model::shard_bounds::ShardBounds;
+use crate::wire::numbers::{self, bytes_of};
 use std::num::NonZeroU64;
 
 /// The three numbers of a shard: its first key, its end, and the version of its map. Those of none
 /// are 0.
-pub(crate) fn spelled(shard: Option<ShardBounds>) -> [u64; 3] {
-    shard.map_or([0; 3], |shard| {
+pub(crate) fn spelled(shard: Option<ShardBounds>) -> Vec<u8> {
+    bytes_of(shard.map_or([0; 3], |shard| {
         let keys = shard.keys();
         [keys.start, keys.end, shard.map_version().get()]
-    })
-}
-
-/// The same as bytes.
-pub(crate) fn spelled_bytes(shard: Option<ShardBounds>) -> Vec<u8> {
-    spelled(shard).into_iter().flat_map(u64::to_le_bytes).collect()
+    }))
 }
 
 /// The shard of these bytes. A later release may send more after them.
 pub(crate) fn read(bytes: &[u8]) -> Option<ShardBounds> {
-    let (first, rest) = number(bytes)?;
-    let (end, rest) = number(rest)?;
-    let (version, _) = number(rest)?;
+    let [first, end, version] = numbers::read(bytes)?;
     ShardBounds::new(first..end, NonZeroU64::new(version)?).ok()
 }
 
 /// The refusal of a server that serves the shard of these bytes, or none if all are 0.
 pub(crate) fn read_refusal(bytes: &[u8]) -> Option<Refusal> {
-    if bytes.starts_with(&spelled_bytes(None)) {
+    if bytes.starts_with(&spelled(None)) {
         return Some(Refusal::OtherShard(None));
     }
     read(bytes).map(|served| Refusal::OtherShard(Some(served)))
-}
-
-fn number(bytes: &[u8]) -> Option<(u64, &[u8])> {
-    let (number, rest) = bytes.split_first_chunk()?;
-    Some((u64::from_le_bytes(*number), rest))
 }
 
 #[cfg(test)]
@@ -46,7 +35,7 @@ mod tests {
     fn what_is_spelled_is_read() {
         for text in ["0..5@1", "500000..@18446744073709551615"] {
             let shard: ShardBounds = text.parse().unwrap();
-            let bytes = spelled_bytes(Some(shard));
+            let bytes = spelled(Some(shard));
             assert_eq!((bytes.len(), read(&bytes)), (24, Some(shard)));
             assert_eq!(read(&[&bytes[..], b"more"].concat()), Some(shard));
             assert_eq!(read_refusal(&bytes), Some(Refusal::OtherShard(Some(shard))));
@@ -56,8 +45,7 @@ mod tests {
         assert_eq!((read(&[0; 24]), read_refusal(&[0; 24])), (None, none));
         let empty = [[5_u64, 5, 1], [6, 5, 1], [0, 5, 0]];
         for numbers in empty {
-            let bytes: Vec<u8> = numbers.into_iter().flat_map(u64::to_le_bytes).collect();
-            assert_eq!(read_refusal(&bytes), None, "{numbers:?}");
+            assert_eq!(read_refusal(&bytes_of(numbers)), None, "{numbers:?}");
         }
     }
 }

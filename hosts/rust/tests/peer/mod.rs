@@ -45,23 +45,23 @@ impl Peer {
 
     /// The bytes that come within the time.
     pub fn receive(&mut self, time: Duration) -> Vec<u8> {
-        let (end, mut heard) = (Instant::now() + time, Vec::new());
+        let (end, mut received) = (Instant::now() + time, Vec::new());
         while Instant::now() < end {
             let mut bytes = [0; 4096];
             match self.0.read(&mut bytes) {
                 Ok(0) => break,
-                Ok(count) => heard.extend_from_slice(&bytes[..count]),
+                Ok(count) => received.extend_from_slice(&bytes[..count]),
                 Err(error) if error.kind() == ErrorKind::WouldBlock => {}
                 Err(error) => panic!("{error}"),
             }
         }
-        heard
+        received
     }
 
     /// The messages that come within the time, without the frames of the server's host.
     pub fn receive_messages(&mut self, time: Duration) -> Vec<Vec<u8>> {
-        let (heard, mut messages) = (self.receive(time), Vec::new());
-        let mut rest = &heard[..];
+        let (received, mut messages) = (self.receive(time), Vec::new());
+        let mut rest = &received[..];
         while let Some((length, more)) = rest.split_first_chunk() {
             let length = usize::try_from(u64::from_le_bytes(*length)).unwrap();
             let (message, more) = more.split_at(length);

@@ -262,7 +262,7 @@ fn waiting(status: &Status) -> String {
     )
 }
 
-/// What figures and columns mean whose names do not tell it.
+/// What those figures and columns mean whose names do not show it.
 const MEANINGS: [(&str, &str); 6] = [
     ("waiting", "how many clients wait for a lock, and for how long"),
     ("epoch", "how many times a server has started over this store"),

@@ -149,8 +149,9 @@ mod tests {
         let svg = svg(&waits).unwrap();
         assert_eq!(svg.matches("<g class=\"wait deadlock\"").count(), 2, "{svg}");
         assert_eq!(svg.matches("class=\"node deadlock\"").count(), 4, "3 and 7 are in none: {svg}");
-        let told = "Deadlock: the clients 1 and 2 wait for each other until one of them gives up.";
-        assert_eq!(alarms(&waits), [told]);
+        let message =
+            "Deadlock: the clients 1 and 2 wait for each other until one of them gives up.";
+        assert_eq!(alarms(&waits), [message]);
         assert!(alarms(&waits[1..]).is_empty());
     }
 

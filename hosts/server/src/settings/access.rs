@@ -2,17 +2,13 @@
 use super::given::Given;
 use super::value;
 use super::{BadSetting, key};
-use crate::tls_files::TlsFiles;
-use krl::{Access, Address, Identity, TableName, TlsConfig};
-use std::path::PathBuf;
+use crate::tls_files::{self, TlsFiles};
+use krl::{Access, Address, Identity, TlsConfig};
 
 /// Whom a server lets in, and what it shows them.
 #[derive(Debug)]
 pub struct AccessSettings {
-    authority: Option<PathBuf>,
-    certificate: Option<PathBuf>,
-    key: Option<PathBuf>,
-    table: Option<TableName>,
+    tls: TlsFiles,
     users: Vec<(u32, Identity)>,
     /// Whether other machines may connect by plain TCP.
     lets_in_by_plain: bool,
@@ -21,10 +17,7 @@ pub struct AccessSettings {
 impl AccessSettings {
     pub(super) fn of(given: &Given) -> Result<AccessSettings, BadSetting> {
         Ok(AccessSettings {
-            authority: given.optional(&key::TLS_AUTHORITY, value::parsed)?,
-            certificate: given.optional(&key::TLS_CERTIFICATE, value::parsed)?,
-            key: given.optional(&key::TLS_KEY, value::parsed)?,
-            table: given.optional(&key::TABLE, value::parsed)?,
+            tls: TlsFiles::of(given)?,
             users: given.value(&key::USERS, value::parse_users)?,
             lets_in_by_plain: given.value(&key::PLAIN, value::parse_yes_no)?,
         })
@@ -33,13 +26,9 @@ impl AccessSettings {
     /// Refuses an address of plain TCP beyond the loopback that is not allowed, and one of TLS
     /// without certificates.
     pub(super) fn check(&self, name: &str, address: &Address) -> Result<(), BadSetting> {
-        if address.is_tls() && !self.has_tls() {
-            return Err(BadSetting::new(format!(
-                "{name} is '{address}', and TLS needs all of {}, {} and {}",
-                key::TLS_AUTHORITY.flag(),
-                key::TLS_CERTIFICATE.flag(),
-                key::TLS_KEY.flag()
-            )));
+        if address.is_tls() && !self.tls.are_named() {
+            let needed = tls_files::all_are_needed();
+            return Err(BadSetting::new(format!("{name} is '{address}', and {needed}")));
         }
         if !address.is_plain_beyond_loopback() || self.lets_in_by_plain {
             return Ok(());
@@ -65,20 +54,9 @@ impl AccessSettings {
 
     /// What the server shows by TLS, if it shows anything. Clients have to believe it now.
     pub fn tls(&self) -> Result<Option<TlsConfig>, BadSetting> {
-        let files = TlsFiles {
-            authority: self.authority.clone(),
-            certificate: self.certificate.clone(),
-            key: self.key.clone(),
-            table: self.table.clone(),
-        };
         let for_server =
             |read: TlsConfig| read.for_server().map_err(|error| BadSetting::new(error.to_string()));
-        files.read()?.map(for_server).transpose()
-    }
-
-    /// Whether all three files of TLS are named.
-    pub(super) fn has_tls(&self) -> bool {
-        [&self.authority, &self.certificate, &self.key].iter().all(|file| file.is_some())
+        self.tls.clone().read()?.map(for_server).transpose()
     }
 
     /// Whom a server lets in that shows this by TLS.

@@ -1,7 +1,9 @@
 //! What an operator has given: on the command line, by the environment and in a file.
-use super::key::{self, Key, Kind};
+use super::key::{Key, Kind};
 use super::{BadSetting, Source};
 use crate::command_line::ServeOptions;
+use clap::ArgMatches;
+use clap::parser::ValueSource;
 use krl_postgres::without_password;
 use serde::Deserialize;
 use serde::de::{Deserializer, MapAccess, Visitor};
@@ -9,25 +11,36 @@ use std::collections::BTreeMap;
 use std::fmt;
 use std::path::Path;
 
-/// The text of each setting by its name, and where it comes from.
-#[derive(Debug)]
+/// The text of each setting that is given, by its name, and where it comes from.
+#[derive(Clone, Debug)]
 pub struct Given(BTreeMap<&'static str, (String, Source)>);
 
 impl Given {
-    /// A flag comes first, then the environment, then the configuration file, then the default.
-    pub fn of(options: &ServeOptions) -> Result<Given, BadSetting> {
-        let path = options.config.as_deref();
-        let file = path.map(ConfigFile::read).transpose()?.unwrap_or_default();
-        let text = |key: &'static Key| {
-            let option = options.given.0.get(key.name).cloned();
-            let in_file = || Some((file.0.get(key.name)?.clone(), Source::File(path?.into())));
-            let default = || (key.default.to_string(), Source::Default);
-            (key.name, option.or_else(in_file).unwrap_or_else(default))
+    /// Those of these settings that a command line has, or the environment.
+    pub fn of_words(keys: &[&'static Key], matches: &ArgMatches) -> Given {
+        let given = |key: &'static Key| {
+            let text = matches.get_one::<String>(key.name)?.clone();
+            let source = match matches.value_source(key.name) {
+                Some(ValueSource::EnvVariable) => Source::Environment(key),
+                _ => Source::Flag(key),
+            };
+            Some((key.name, (text, source)))
         };
-        Ok(Given(key::ALL.iter().copied().map(text).collect()))
+        Given(keys.iter().copied().filter_map(given).collect())
     }
 
-    /// The text of a setting, and where it comes from.
+    /// A flag comes first, then the environment, then the configuration file, then the default.
+    pub fn of(options: &ServeOptions) -> Result<Given, BadSetting> {
+        let mut given = options.flags.given.clone();
+        if let Some(path) = options.config.as_deref() {
+            for (name, text) in ConfigFile::read(path)?.0 {
+                given.0.entry(name).or_insert_with(|| (text, Source::File(path.into())));
+            }
+        }
+        Ok(given)
+    }
+
+    /// The text of a setting, that by default if it is not given, and where it comes from.
     pub fn text(&self, key: &Key) -> (&str, &Source) {
         let given = self.0.get(key.name);
         given.map_or((key.default, &Source::Default), |(text, source)| (text, source))
@@ -79,7 +92,7 @@ impl Given {
 }
 
 /// The texts of a configuration file, by the names of their settings.
-#[derive(Debug, Default)]
+#[derive(Debug)]
 struct ConfigFile(BTreeMap<&'static str, String>);
 
 impl ConfigFile {

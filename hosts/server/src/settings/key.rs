@@ -50,9 +50,14 @@ impl Key {
     pub fn argument(&self) -> Arg {
         let Key { name, word, kind, help, .. } = *self;
         let argument = Arg::new(name).long(name).env(self.variable()).value_name(word).help(help);
-        match kind {
+        let argument = match kind {
             Kind::Text | Kind::Number => argument,
             Kind::YesNo => argument.num_args(0..=1).default_missing_value("yes"),
+        };
+        match name {
+            _ if name == STORE_CERTIFICATE.name => argument.requires(STORE_KEY.name),
+            _ if name == STORE_KEY.name => argument.requires(STORE_CERTIFICATE.name),
+            _ => argument,
         }
     }
 }
@@ -68,6 +73,12 @@ impl<'de> Deserialize<'de> for &'static Key {
             D::Error::custom(format!("unknown setting `{name}`, expected one of {names}"))
         })
     }
+}
+
+/// A setting that is the path of a file, and may be left out.
+const fn file(name: &'static str, help: &'static str) -> Key {
+    let expected = "the path of a file";
+    Key { name, word: "FILE", kind: Kind::Text, default: "", expected, help }
 }
 
 /// Declares the settings, and the list of them all.
@@ -90,32 +101,15 @@ settings! {
                    unix: and a path",
         help: "Where clients connect: tls:10.0.0.5:7400, 127.0.0.1:7400, or unix: and a path",
     };
-    TLS_AUTHORITY = Key {
-        name: "tls-authority",
-        word: "FILE",
-        kind: Kind::Text,
-        default: "",
-        expected: "the path of a file",
-        help: "The certificate of the authority that certified servers, clients and operators, as \
-               PEM",
-    };
-    TLS_CERTIFICATE = Key {
-        name: "tls-certificate",
-        word: "FILE",
-        kind: Kind::Text,
-        default: "",
-        expected: "the path of a file",
-        help: "The certificate that is shown by TLS, as PEM, with those between it and the \
-               authority's",
-    };
-    TLS_KEY = Key {
-        name: "tls-key",
-        word: "FILE",
-        kind: Kind::Text,
-        default: "",
-        expected: "the path of a file",
-        help: "The key of that certificate, as PEM",
-    };
+    TLS_AUTHORITY = file(
+        "tls-authority",
+        "The certificate of the authority that certified servers, clients and operators, as PEM",
+    );
+    TLS_CERTIFICATE = file(
+        "tls-certificate",
+        "The certificate that is shown by TLS, as PEM, with those between it and the authority's",
+    );
+    TLS_KEY = file("tls-key", "The key of that certificate, as PEM");
     TABLE = Key {
         name: "table",
         word: "NAME",
@@ -157,6 +151,16 @@ settings! {
                one serves, and the others stand by; or a database, such as \
                <postgres://krl@10.0.0.1/orders?sslmode=verify-full>",
     };
+    STORE_WRITES = Key {
+        name: "store-writes",
+        word: "WRITES",
+        kind: Kind::Text,
+        default: "joined",
+        expected: "joined or single",
+        help: "How a commit is written to the log of SQLite: joined, up to 64 KiB by one call of the \
+               system, or single, by two calls for each page, as SQLite does by itself. The file is \
+               the same",
+    };
     CREATE = Key {
         name: "create",
         word: "YES",
@@ -166,30 +170,15 @@ settings! {
         help: "Make a new store if there is none. Otherwise the server refuses to start on a store \
                that is missing or holds nothing",
     };
-    STORE_AUTHORITY = Key {
-        name: "store-authority",
-        word: "FILE",
-        kind: Kind::Text,
-        default: "",
-        expected: "the path of a file",
-        help: "The certificate of the authority that certified the cluster's nodes, as PEM",
-    };
-    STORE_CERTIFICATE = Key {
-        name: "store-certificate",
-        word: "FILE",
-        kind: Kind::Text,
-        default: "",
-        expected: "the path of a file",
-        help: "The certificate that the server shows to the cluster, as PEM",
-    };
-    STORE_KEY = Key {
-        name: "store-key",
-        word: "FILE",
-        kind: Kind::Text,
-        default: "",
-        expected: "the path of a file",
-        help: "The key of that certificate, as PEM in PKCS #8",
-    };
+    STORE_AUTHORITY = file(
+        "store-authority",
+        "The certificate of the authority that certified the cluster's nodes, as PEM",
+    );
+    STORE_CERTIFICATE = file(
+        "store-certificate",
+        "The certificate that the server shows to the cluster, as PEM",
+    );
+    STORE_KEY = file("store-key", "The key of that certificate, as PEM in PKCS #8");
     ROOM = Key {
         name: "room",
         word: "ROWS",

@@ -104,8 +104,8 @@ mod tests {
             ("postgres:///krl", "names no host"),
             ("postgres://krl@127.0.0.1/krl?nothing=1", "unknown option `nothing`"),
         ] {
-            let told = text.parse::<StorePlace>().unwrap_err().to_string();
-            assert!(told.contains(why) && !told.contains("secret"), "{text}: {told}");
+            let message = text.parse::<StorePlace>().unwrap_err().to_string();
+            assert!(message.contains(why) && !message.contains("secret"), "{text}: {message}");
         }
     }
 }

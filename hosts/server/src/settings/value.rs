@@ -1,5 +1,5 @@
 //! The values of settings, as they are written and read.
-use krl::{Address, Identity, Leases};
+use krl::{Address, Identity, Leases, LogWrites};
 use std::ops::RangeInclusive;
 use std::str::FromStr;
 use std::time::Duration;
@@ -88,6 +88,14 @@ pub fn parse_yes_no(text: &str) -> Option<bool> {
     match text {
         "yes" => Some(true),
         "no" => Some(false),
+        _ => None,
+    }
+}
+
+pub fn parse_log_writes(text: &str) -> Option<LogWrites> {
+    match text {
+        "joined" => Some(LogWrites::Joined),
+        "single" => Some(LogWrites::Single),
         _ => None,
     }
 }

@@ -91,7 +91,7 @@ impl Serving {
 
     /// Starts a server, at free ports by default, and waits until it reports this. It makes a store
     /// if there is none.
-    pub fn start_until(command: &mut Command, told: &str) -> Serving {
+    pub fn start_until(command: &mut Command, expected: &str) -> Serving {
         for flag in ["--listen", "--status"] {
             if !command.get_args().any(|word| word == flag) {
                 command.args([flag, "127.0.0.1:0"]);
@@ -111,7 +111,7 @@ impl Serving {
             let address = event["address"].as_str().or(event["leader"].as_str());
             match event["message"].as_str() {
                 Some("status port") => status = address.unwrap_or_default().to_string(),
-                Some(message) if message == told => break address.unwrap().parse().unwrap(),
+                Some(message) if message == expected => break address.unwrap().parse().unwrap(),
                 _ => {}
             }
         };

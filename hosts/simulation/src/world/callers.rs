@@ -1,5 +1,5 @@
 //! What the callers of a client do, and what they are answered.
-use super::{Errand, Event, World};
+use super::{Event, Task, World};
 use crate::calls::{self, Ended, Made, Pinned, Waiting, Watched, cached};
 use crate::judge::{Version, Window};
 use crate::record::Node;
@@ -179,7 +179,7 @@ impl World {
 
     /// The callers take the answers that have come.
     pub(super) fn look(&mut self, client: usize) {
-        if matches!(self.machines[client].errand, Errand::Evict { .. }) {
+        if matches!(self.machines[client].task, Task::Evict { .. }) {
             return self.look_at_eviction(client);
         }
         self.look_at_reading(client);
@@ -327,7 +327,7 @@ impl World {
         };
         if is_news {
             let keys = keys.clone();
-            self.judge.find(format!("client {client} is not told of a change of {keys:?}"));
+            self.judge.find(format!("client {client} does not learn of a change of {keys:?}"));
         }
     }
 
@@ -434,7 +434,7 @@ impl World {
             _ => false,
         };
         if !is_so {
-            self.judge.find(format!("client {client} is told: {why}"));
+            self.judge.find(format!("client {client} is refused without cause: {why}"));
         }
     }
 }

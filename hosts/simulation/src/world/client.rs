@@ -1,10 +1,11 @@
 //! What happens at the clients.
-use super::{Down, Errand, Event, Machine, World};
+use super::{Down, Event, Machine, Task, World};
 use crate::calls::Calls;
 use crate::lock_file::LockFile;
 use crate::network::{Carried, PREFIX, Side};
 use crate::record::{Delivery, Fate, Happened, Node};
 use crate::timer::Timer;
+use crate::weather::Keeps;
 use krl::sans_io::{Call, Client, Incarnations};
 use krl::simulated::{self, FrameKind};
 use std::io::{self, ErrorKind};
@@ -58,7 +59,10 @@ impl World {
         let (servers, incarnation) = (self.sites.len(), lock_file.current());
         let machine = &mut self.machines[client];
         let started = Client::of(lock_file, servers, None, seed, machine.time(self.now));
-        machine.client = Some(started.expect("there is memory"));
+        let started = machine.client.insert(started.expect("there is memory"));
+        if self.weather.keeps == Keeps::All {
+            started.keep_all();
+        }
         self.happened += 1;
         machine.life += 1;
         machine.frozen_until = Duration::ZERO;
@@ -99,7 +103,7 @@ impl World {
         }
         let Some(it) = &mut machine.client else { return };
         if it.has_to_begin_again(time) {
-            if let Errand::Evict { victim, .. } = machine.errand {
+            if let Task::Evict { victim, .. } = machine.task {
                 return self.end_eviction(client, victim);
             }
             machine.before = None;
@@ -246,7 +250,7 @@ impl World {
         let time = machine.clock.at(self.now);
         let Some(it) = &mut machine.client else { return };
         if kind == FrameKind::OtherStore || kind == FrameKind::WentBack && !machine.may_lack {
-            self.judge.find(format!("client {client} is told {kind:?}, and it is not so"));
+            self.judge.find(format!("client {client} gets {kind:?}, and it is not so"));
         }
         match it.received(time, bytes) {
             Ok(()) => self.proceed(client),
@@ -343,14 +347,14 @@ impl World {
         let machine = &mut self.machines[operator];
         let time = machine.clock.at(self.now);
         let joining = machine.client.as_mut().map(|it| it.join(time));
-        machine.errand = Errand::Evict { victim, joining, leaving: None };
+        machine.task = Task::Evict { victim, joining, leaving: None };
     }
 
     /// The operator's client leaves when it has joined, and ends when it has left.
     pub(super) fn look_at_eviction(&mut self, operator: usize) {
         let machine = &mut self.machines[operator];
         let time = machine.clock.at(self.now);
-        let Errand::Evict { victim, joining, leaving } = &mut machine.errand else { return };
+        let Task::Evict { victim, joining, leaving } = &mut machine.task else { return };
         let (victim, Some(it)) = (*victim, &mut machine.client) else { return };
         if joining.as_ref().is_some_and(|call| call.answer().is_some()) {
             *joining = None;
@@ -365,7 +369,7 @@ impl World {
 
     pub(super) fn end_eviction(&mut self, operator: usize, victim: usize) {
         self.kill_client(operator, true);
-        self.machines[operator].errand = Errand::Work;
+        self.machines[operator].task = Task::Work;
         self.machines[victim].stays_down = None;
         let pause = self.dice.time(1_000..4_000_000);
         self.after(pause, Event::Join { client: victim });

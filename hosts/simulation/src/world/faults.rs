@@ -1,5 +1,5 @@
 //! What goes wrong, and what operators do.
-use super::{Down, Errand, Event, Machine, Side, World};
+use super::{Down, Event, Machine, Side, Task, World};
 use crate::network::Faults;
 use crate::record::Happened;
 use crate::weather::{Fault, Terms};
@@ -187,7 +187,7 @@ impl World {
             }
         }
         let operator = self.weather.clients;
-        if let Errand::Evict { victim, .. } = self.machines[operator].errand {
+        if let Task::Evict { victim, .. } = self.machines[operator].task {
             self.end_eviction(operator, victim);
         }
     }

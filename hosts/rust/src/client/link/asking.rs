@@ -3,7 +3,7 @@ use super::{Link, lock};
 use crate::client::answer::Answer;
 use crate::client::session::Session;
 use crate::client::state::{Asked, BUSY_TICK, State};
-use crate::client::writer::Written;
+use crate::client::writer::WriteState;
 use crate::model::error::ErrorKind;
 use crate::model::refusal::Refusal;
 use crate::net::poller::Ready;
@@ -133,7 +133,7 @@ impl Link {
     fn call<T>(&self, call: impl FnOnce(&mut Session) -> T) -> T {
         let mut session = self.session();
         let answer = call(&mut session);
-        if self.send(session) == Written::Part {
+        if self.send(session) == WriteState::Pending {
             self.wake();
         }
         self.wakes.wake_all();
@@ -148,7 +148,7 @@ impl Link {
 
     /// Does the same, and lets the session go before it touches the connection. While a part is
     /// left, the thread of the connection has to watch for when more is taken.
-    pub(super) fn send(&self, mut session: MutexGuard<'_, Session>) -> Written {
+    pub(super) fn send(&self, mut session: MutexGuard<'_, Session>) -> WriteState {
         self.writer.put(|frames| session.take(frames));
         drop(session);
         self.writer.write()

@@ -34,7 +34,7 @@ fn link_over(carrier: Carrier) -> (Link, Poller) {
 /// The same over a pair of sockets, and the server's end.
 fn connected() -> (Link, Poller, UnixStream) {
     let (ours, theirs) = UnixStream::pair().unwrap();
-    let (link, poller) = link_over(Carrier::over(Stream::Unix(ours), None).unwrap());
+    let (link, poller) = link_over(Carrier::over(Stream::from(ours), None).unwrap());
     (link, poller, theirs)
 }
 
@@ -42,7 +42,7 @@ fn connected() -> (Link, Poller, UnixStream) {
 fn a_peer_that_takes_nothing_holds_no_call_beyond_its_deadline() {
     let (link, (ours, _theirs)) = (link(), UnixStream::pair().unwrap());
     link.session().connected().unwrap();
-    link.writer.open(Carrier::over(Stream::Unix(ours), None).unwrap(), Vec::new());
+    link.writer.open(Carrier::over(Stream::from(ours), None).unwrap(), Vec::new());
     link.writer.put(|frames| frames.resize(1 << 21, 0));
     std::thread::scope(|scope| {
         for _ in 0..8 {

@@ -5,7 +5,7 @@ use crate::lease::terms::Answer;
 use crate::log::event_log;
 use crate::model::error::{Error, ErrorKind};
 use crate::model::refusal::Refusal;
-use crate::net::connect_fault::{NotTaken, OtherVersion};
+use crate::net::connect_fault::Rejection;
 use crate::wire::host_frame::{FromClient, FromServer};
 use std::io;
 
@@ -36,13 +36,13 @@ impl Session {
             }
             Some(FromServer::Refused(Refusal::OtherStore)) => return Err(self.leave_other_store()),
             Some(FromServer::Refused(Refusal::Version { read })) => {
-                return Err(OtherVersion(read).into());
+                return Err(Rejection::OtherVersion(read).into());
             }
             Some(FromServer::Refused(refusal)) => {
                 self.refusal = Some((refusal, self.now()));
                 self.end_join_if_hopeless();
                 if refusal == Refusal::Denied {
-                    return Err(NotTaken(refusal.to_string()).into());
+                    return Err(Rejection::NotTaken(refusal.to_string()).into());
                 }
             }
             Some(FromServer::Mark(seen)) => self.seen = Some(seen),

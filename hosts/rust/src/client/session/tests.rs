@@ -4,7 +4,7 @@ use crate::lease::terms::Answer;
 use crate::lease::terms::{Grant, Older, Sign};
 use crate::model::history::Mark;
 use crate::model::shard_fence::OtherShard;
-use crate::net::connect_fault::{NotTaken, NothingListens, OtherVersion};
+use crate::net::connect_fault::{NothingListens, Rejection};
 use crate::proved::client_handle::ClientHandle;
 use crate::wire::frames::split;
 use crate::wire::host_frame::{FromClient, FromServer};
@@ -159,7 +159,7 @@ fn the_hello_of_another_version_ends_the_connection() {
     assert!(ended.to_string().contains("speaks version 3 of the protocol"), "{ended}");
     let read = session.state().read(0..9);
     for _ in 0..2 {
-        session.disconnected(OtherVersion(3).into());
+        session.disconnected(Rejection::OtherVersion(3).into());
     }
     let expected = ErrorKind::Unserved(Refusal::Version { read: 3 });
     assert_eq!(read.answer.try_recv(), Ok(Err(expected)));
@@ -167,7 +167,8 @@ fn the_hello_of_another_version_ends_the_connection() {
 
 #[test]
 fn all_jobs_end_when_the_only_server_has_rejected_this_side_twice() {
-    let reject = |session: &mut Session| session.disconnected(NotTaken("no".into()).into());
+    let reject =
+        |session: &mut Session| session.disconnected(Rejection::NotTaken("no".into()).into());
     let mut alone = session("unix:one");
     let read = alone.state().read(0..9);
     let watched = alone.state().watch(0..9, Vec::new());
@@ -225,7 +226,7 @@ fn a_client_that_has_joined_waits_for_its_server_whatever_else_answers_there() {
     assert!(read.answer.try_recv().is_err());
     let after_a_frame = [&terms(&connect(&mut session)), OF_HTTP].concat();
     let end = receive(&mut session, &after_a_frame).unwrap_err().to_string();
-    assert!(end.contains("the server says what no server says"), "{end}");
+    assert!(end.contains("the server sends what no server sends"), "{end}");
 }
 
 /// An attempt to connect that is refused, and the pause after it.
@@ -305,13 +306,13 @@ fn ended(fault: io::Error, was_sent: WasSent) -> ErrorKind {
 
 #[test]
 fn a_write_that_was_sent_may_be_applied_whatever_rejects_the_client() {
-    let not_taken = || NotTaken("the certificate has expired".into()).into();
+    let not_taken = || Rejection::NotTaken("the certificate has expired".into()).into();
     let other = OtherShard { expected: None, served: None };
     assert_eq!(ended(not_taken(), WasSent::No), ErrorKind::TurnedAway);
     assert_eq!(ended(other.into(), WasSent::No), ErrorKind::OtherShard(other));
     let version = ErrorKind::Unserved(Refusal::Version { read: 1 });
-    assert_eq!(ended(OtherVersion(1).into(), WasSent::No), version);
-    for fault in [not_taken(), other.into(), OtherVersion(1).into()] {
+    assert_eq!(ended(Rejection::OtherVersion(1).into(), WasSent::No), version);
+    for fault in [not_taken(), other.into(), Rejection::OtherVersion(1).into()] {
         let refused = ended(fault, WasSent::Yes);
         assert!(refused.is_unknown_outcome(), "{refused:?}");
     }

@@ -4,7 +4,8 @@
 //! next push to the same client, and has none to make as long as the client waits for nothing. So
 //! the acknowledgement of the last push for which the client has waited is left out: the client's
 //! next message does it, or its next tick. If neither comes soon, the server repeats the push, and
-//! a repeated push is acknowledged at once.
+//! a repeated push is acknowledged at once. A release that leaves with such an acknowledgement makes
+//! it too.
 //!
 //! What others wait for comes no later: a server calls it back when it has granted it, or its host
 //! has it do so (`EventLoop::send`).
@@ -31,26 +32,38 @@ impl State {
             if is_last { Acknowledging::Later } else { Acknowledging::AtOnce };
     }
 
-    /// Leaves out what the client sends from this place on, if that is one acknowledgement that can
-    /// wait.
+    /// Leaves out the acknowledgement with which begins what the client sends from this place on, if
+    /// it can wait and nothing but a release comes next.
     pub(super) fn leave_out_acknowledgement(&mut self, frames: &mut Vec<u8>, from: usize) {
         let how = std::mem::take(&mut self.held.acknowledging);
-        if how == Acknowledging::Later && is_one_acknowledgement(&frames[from..]) {
-            frames.truncate(from);
+        if how == Acknowledging::Later
+            && let Some(length) = needless_acknowledgement(&frames[from..])
+        {
+            frames.drain(from..from + length);
         }
     }
 }
 
-fn is_one_acknowledgement(frames: &[u8]) -> bool {
-    let mut messages = split(frames).map(|(message, _)| Message::read(message).kind());
-    messages.next() == Some(Kind::Ack) && messages.next().is_none()
+/// The length of the first frame, if it is an acknowledgement, and is the only frame or is followed
+/// by a release, which acknowledges as well.
+fn needless_acknowledgement(frames: &[u8]) -> Option<usize> {
+    let kinds = split(frames).map(|(message, frame)| (Message::read(message).kind(), frame.len()));
+    let mut kinds = kinds.take(2);
+    let (first, length) = kinds.next()?;
+    let is_last = kinds.next().is_none_or(|(next, _)| next == Kind::Release);
+    (first == Kind::Ack && is_last).then_some(length)
 }
 
 #[cfg(test)]
 mod tests {
     use super::super::world::{World, row};
+    use super::needless_acknowledgement;
     use crate::model::change::{Outcome, Write};
-    use crate::wire::message::kind::ACK;
+    use crate::wire::message::kind::{ACK, LOCK, RELEASE};
+    use crate::wire::message::tests::message;
+
+    /// The kind of a put.
+    const PUT: u8 = 5;
 
     /// The kinds of what the client sends.
     fn kinds_sent(world: &mut World, client: usize) -> Vec<u8> {
@@ -82,6 +95,27 @@ mod tests {
         world.server.nudge(0).unwrap();
         assert_eq!(world.deliver_to_clients(), 1, "the server lacks the acknowledgement");
         assert_eq!(kinds_sent(&mut world, 0), [ACK]);
+    }
+
+    #[test]
+    fn only_a_release_acknowledges_in_place_of_an_acknowledgement() {
+        let frame = |kind: &u8| {
+            let message = message(*kind, &[3, 1, 1, 4]);
+            [&(message.len() as u64).to_le_bytes()[..], &message].concat()
+        };
+        let length = Some(frame(&ACK).len());
+        for (kinds, left_out) in [
+            (&[ACK][..], length),
+            (&[ACK, RELEASE], length),
+            (&[ACK, RELEASE, LOCK], length),
+            (&[ACK, PUT], None),
+            (&[ACK, LOCK], None),
+            (&[RELEASE, ACK], None),
+            (&[], None),
+        ] {
+            let frames: Vec<u8> = kinds.iter().flat_map(frame).collect();
+            assert_eq!(needless_acknowledgement(&frames), left_out, "{kinds:?}");
+        }
     }
 
     #[test]

@@ -126,6 +126,9 @@ impl State {
         let awaited = self.shows(Shown::awaits_a_push);
         give(&mut self.client, message.bytes())?;
         self.note_received(message.kind(), awaited);
+        if was_waiting && let Some(granted) = message.granted() {
+            self.note_granted(granted);
+        }
         if message.kind().is_push() {
             self.attempts.note_served();
             self.call_back_again(was_waiting)?;
@@ -146,7 +149,9 @@ impl State {
         self.held.pins.note(&span);
         self.note_shared(&span);
         let crossing = self.shows(Shown::awaits_a_push).then(|| message.to_vec());
+        let read = self.reads_of(&span);
         give(&mut self.client, message)?;
+        self.note_lost(&span, read);
         let (at, left_entry) = (self.now.monotonic, self.client.reads_only_entry(&span));
         self.held.callbacks.note(Callback { span, at, is_news: true, left_entry, crossing });
         Ok(())

@@ -2,7 +2,7 @@
 use super::life::Stage;
 use super::{Dropped, State};
 use crate::lease::boot_clock::Moment;
-use crate::lease::of_client::Company;
+use crate::lease::of_client::Piggyback;
 use crate::lease::terms::Answer;
 use crate::lease::terms::Sign;
 use crate::model::code::Code;
@@ -122,9 +122,9 @@ impl State {
         }
         self.leave_out_acknowledgement(frames, before);
         let is_alone = frames.len() == before;
-        let company = if is_alone { Company::Nothing } else { Company::Messages };
+        let piggyback = if is_alone { Piggyback::Alone } else { Piggyback::OnMessages };
         let now = self.now.boot().ok();
-        let sign = now.and_then(|now| self.client.lease_mut().sign_due(now, company));
+        let sign = now.and_then(|now| self.client.lease_mut().sign_due(now, piggyback));
         frames.extend(sign.map(Sign::frame).unwrap_or_default());
     }
 

@@ -56,9 +56,12 @@ impl State {
         }
     }
 
-    /// A write was answered, and the answer names this slot: the client shares it if others want
-    /// it.
+    /// A write was answered, and the answer names this slot: the client gives it back if it does not
+    /// keep it, and shares it if others want it.
     pub(super) fn share_written(&mut self, slot: &Range<u64>) {
+        if self.give_back_written(slot) {
+            return;
+        }
         if self.may_share(slot) && self.shared.count(entry_of(slot)) {
             // What a pin keeps is not given back, nor is anything if there is no memory for it:
             // whoever wants it has it called back then.
@@ -68,7 +71,7 @@ impl State {
 
     /// Whether the client has just written the row of this slot, and needs no more of it than
     /// others may have.
-    fn may_share(&self, slot: &Range<u64>) -> bool {
+    pub(super) fn may_share(&self, slot: &Range<u64>) -> bool {
         // The server passes over a release that leaves while a push is on its way.
         self.has_just_written()
             && !self.shows(Shown::awaits_a_push)
@@ -89,7 +92,7 @@ impl Job {
 }
 
 /// The point at which the row of a slot lies.
-fn entry_of(slot: &Range<u64>) -> u64 {
+pub(super) fn entry_of(slot: &Range<u64>) -> u64 {
     // No slot is empty, and a message may still say so.
     slot.end.saturating_sub(1)
 }

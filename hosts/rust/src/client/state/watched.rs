@@ -47,6 +47,7 @@ impl State {
         if self.life.stage == Stage::Ended {
             reply.end(Err(ErrorKind::Stopped));
         } else {
+            self.keeping.note_watched(&keys);
             self.watches.open.push(Watched { id, keys, rows, reply });
             self.watches.note_change();
             self.report_changes();

@@ -41,7 +41,7 @@ fn it_runs_from_the_moment_of_the_sign() {
 #[test]
 fn what_has_ended_stays_ended() {
     let mut lease = leased();
-    let late = lease.sign_due(at(1590), Company::Messages).unwrap();
+    let late = lease.sign_due(at(1590), Piggyback::OnMessages).unwrap();
     assert_eq!(late.length, 600);
     assert!(!lease.take(grant(late, 600), at(1600)), "one nanosecond too late");
     assert!(!lease.holds(at(1600)) && !allows(&lease, 1600));
@@ -50,7 +50,7 @@ fn what_has_ended_stays_ended() {
 #[test]
 fn terms_renew_it_in_time() {
     let mut lease = leased();
-    let next = lease.sign_due(at(1590), Company::Messages).unwrap();
+    let next = lease.sign_due(at(1590), Piggyback::OnMessages).unwrap();
     assert!(lease.take(grant(next, 600), at(1599)));
     assert!(allows(&lease, 2189) && !allows(&lease, 2190));
 }
@@ -69,7 +69,7 @@ fn terms_of_others_count_nothing() {
 fn older_terms_count_nothing() {
     let mut lease = leased();
     let first = Grant { incarnation: OWN, stamp: at(1000), length: 9000 };
-    let second = lease.sign_due(at(1300), Company::Messages).unwrap();
+    let second = lease.sign_due(at(1300), Piggyback::OnMessages).unwrap();
     assert!(lease.take(grant(second, 600), at(1301)));
     assert!(!lease.take(first, at(1302)));
     assert!(!allows(&lease, 1900));
@@ -78,7 +78,7 @@ fn older_terms_count_nothing() {
 #[test]
 fn terms_of_an_older_connection_count_nothing() {
     let mut lease = leased();
-    let old = lease.sign_due(at(1500), Company::Messages).unwrap();
+    let old = lease.sign_due(at(1500), Piggyback::OnMessages).unwrap();
     lease.disconnect();
     assert!(!lease.take(grant(old, 9000), at(1505)), "no connection");
     lease.greet(at(1510)).unwrap();
@@ -109,13 +109,13 @@ fn a_lease_that_ends_needs_a_clock() {
 #[test]
 fn signs_ride_or_go_alone() {
     let mut lease = lease();
-    assert_eq!(lease.sign_due(at(u64::MAX - 1), Company::Messages), None, "no terms yet");
+    assert_eq!(lease.sign_due(at(u64::MAX - 1), Piggyback::OnMessages), None, "no terms yet");
     let mut lease = leased();
-    assert_eq!(lease.sign_due(at(1099), Company::Messages), None);
-    assert_eq!(lease.sign_due(at(1100), Company::Nothing), None);
-    assert!(lease.sign_due(at(1100), Company::Messages).is_some());
-    assert_eq!(lease.sign_due(at(1299), Company::Nothing), None);
-    assert!(lease.sign_due(at(1300), Company::Nothing).is_some());
+    assert_eq!(lease.sign_due(at(1099), Piggyback::OnMessages), None);
+    assert_eq!(lease.sign_due(at(1100), Piggyback::Alone), None);
+    assert!(lease.sign_due(at(1100), Piggyback::OnMessages).is_some());
+    assert_eq!(lease.sign_due(at(1299), Piggyback::Alone), None);
+    assert!(lease.sign_due(at(1300), Piggyback::Alone).is_some());
 }
 
 #[test]

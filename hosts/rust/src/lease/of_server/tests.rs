@@ -188,7 +188,7 @@ fn a_known_client_may_send_hello_again() {
     table.register(3, 8, at(12));
     table.leave(3);
     assert!(table.accepts_hello(3, 9, at(12)), "it was evicted");
-    assert!(table.accepts_hello(64, 1, at(12)), "there is no such client");
+    assert!(table.accepts_hello(64, 1, at(12)), "the library takes no such number");
 }
 
 #[test]

@@ -1,7 +1,7 @@
 //! Drawn runs of one client number and the servers over one store, by clocks that agree as they
 //! only just have to. Nobody who was evicted may answer.
 use super::*;
-use crate::lease::of_client::{Company, End, Lease};
+use crate::lease::of_client::{End, Lease, Piggyback};
 use crate::lease::terms::DRIFT;
 use std::sync::Arc;
 
@@ -121,7 +121,7 @@ impl World {
     fn send_sign(&mut self) {
         let now = self.client_clock();
         let Some(serving) = self.serving.as_mut().filter(|it| it.is_connected) else { return };
-        serving.signs.extend(self.lease.sign_due(now, Company::Messages));
+        serving.signs.extend(self.lease.sign_due(now, Piggyback::OnMessages));
     }
 
     /// A sign comes, in any order and any number of times.

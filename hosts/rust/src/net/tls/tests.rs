@@ -45,13 +45,13 @@ fn what_one_side_sends_the_other_one_receives() {
     let (mut client, mut server) = shake(&three, &server).unwrap();
     assert_eq!(server.peer(), "3,4".parse().ok());
     for length in [0, 1, RECORD - 1, RECORD, 5 * RECORD + 3] {
-        let (said, mut heard) = (vec![7; length], Vec::new());
-        server.put(&said);
+        let (sent, mut received) = (vec![7; length], Vec::new());
+        server.put(&sent);
         // In pieces, as a network hands it over.
         for piece in server.take_sealed().unwrap().chunks(1000) {
-            heard.extend(client.open(piece).unwrap());
+            received.extend(client.open(piece).unwrap());
         }
-        assert_eq!(heard, said);
+        assert_eq!(received, sent);
     }
 }
 
@@ -102,9 +102,9 @@ fn each_table_has_its_names() {
 fn a_stranger_sends_little_before_it_identifies_itself() {
     let (folder, authority) = (Folder::new("little"), Authority::new("ours"));
     let server = config(&authority.certify(&folder.0, &["krl:server"], 1));
-    for said in [&[0; 100][..], b"GET / HTTP/1.1\r\n\r\n"] {
+    for bytes in [&[0; 100][..], b"GET / HTTP/1.1\r\n\r\n"] {
         let mut session = TlsSession::new(&server, Side::Accepts).unwrap();
-        assert!(session.open(said).is_err());
+        assert!(session.open(bytes).is_err());
     }
     // The head of a record of a hand-shake, and then nothing but its bytes.
     let mut session = TlsSession::new(&server, Side::Accepts).unwrap();

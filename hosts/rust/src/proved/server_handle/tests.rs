@@ -50,7 +50,7 @@ fn a_change_that_gets_lost_before_the_commit_is_missed() {
 fn a_change_that_was_not_reported_is_refused() {
     let mut server = started();
     let change = register(&mut server, 0);
-    assert_eq!(server.confirm(&[change, change]), Err(Code::NotTold));
+    assert_eq!(server.confirm(&[change, change]), Err(Code::NotReported));
 }
 
 #[test]
@@ -59,7 +59,7 @@ fn a_hello_waits_for_its_incarnation() {
     // SAFETY: the handle stays in its place, and `&mut` gives it to this call only.
     done(unsafe { ffi::krl_client_open(handle.raw(), 5, 1) }).unwrap();
     assert_eq!(handle.take(&mut Vec::new()), Err(Code::Unkept));
-    assert_eq!(handle.confirm(2), Err(Code::NotTold));
+    assert_eq!(handle.confirm(2), Err(Code::NotReported));
     assert_eq!(handle.confirm(1), Ok(1));
     let mut frames = Vec::new();
     handle.take(&mut frames).unwrap();

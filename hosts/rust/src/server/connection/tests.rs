@@ -57,7 +57,7 @@ fn received(connection: &mut Wired, peer: &mut UnixStream) -> Vec<u8> {
         while let Ok(count @ 1..) = peer.read(&mut bytes) {
             all.extend_from_slice(&bytes[..count]);
         }
-        if connection.watched() == Watched::Reads {
+        if connection.interest() == IoInterest::Reads {
             return all;
         }
         connection.write();
@@ -67,26 +67,26 @@ fn received(connection: &mut Wired, peer: &mut UnixStream) -> Vec<u8> {
 #[test]
 fn a_host_gets_its_answer_then_the_mark_and_then_all_else() {
     let (mut connection, mut peer) = connection();
-    connection.send_after_commit(b"told");
+    connection.send_after_commit(b"first");
     connection.greet(HELLO);
-    send(&mut connection, b"said", Some(SEEN));
+    send(&mut connection, b"an answer", Some(SEEN));
     let hello = HELLO.frame();
     let news = FromServer::Mark(SEEN).frame();
     assert_eq!(
         received(&mut connection, &mut peer),
-        [&hello[..], &news, b"told", b"said"].concat()
+        [&hello[..], &news, b"first", b"an answer"].concat()
     );
     // What it knows is not sent again.
-    send(&mut connection, b"said", Some(SEEN));
-    assert_eq!(received(&mut connection, &mut peer), b"said");
+    send(&mut connection, b"an answer", Some(SEEN));
+    assert_eq!(received(&mut connection, &mut peer), b"an answer");
 }
 
 #[test]
 fn a_peer_without_host_frames_gets_none() {
     let (mut connection, mut peer) = connection();
     connection.refuse(Refusal::Version { read: 1 }, Instant::now());
-    send(&mut connection, b"said", Some(SEEN));
-    assert_eq!(received(&mut connection, &mut peer), b"said");
+    send(&mut connection, b"an answer", Some(SEEN));
+    assert_eq!(received(&mut connection, &mut peer), b"an answer");
 }
 
 #[test]
@@ -110,9 +110,9 @@ fn a_batch_that_is_lost_is_lost_whole() {
     send(&mut connection, b"lost", Some(SEEN));
     let before = received(&mut connection, &mut peer);
     assert!(!before.ends_with(b"lost"));
-    send(&mut connection, b"said", Some(SEEN));
+    send(&mut connection, b"an answer", Some(SEEN));
     let news = FromServer::Mark(SEEN).frame();
-    assert_eq!(received(&mut connection, &mut peer), [&news[..], b"said"].concat());
+    assert_eq!(received(&mut connection, &mut peer), [&news[..], b"an answer"].concat());
 }
 
 #[test]

@@ -1,7 +1,7 @@
 //! What is counted and logged of connections that are closed.
 use super::Connections;
 use crate::log::event_log::{self, At};
-use crate::log::seldom::Seldom;
+use crate::log::rate_limit::RateLimit;
 use crate::net::stream::PeerAddress;
 use crate::server::close_reason::{CloseReason, ClosedConnections};
 use std::fmt;
@@ -11,7 +11,7 @@ use std::time::Instant;
 #[derive(Debug, Default)]
 pub(super) struct Closings {
     pub counts: ClosedConnections,
-    seldom: [Seldom; CloseReason::COUNT],
+    limits: [RateLimit; CloseReason::COUNT],
 }
 
 impl Closings {
@@ -20,8 +20,8 @@ impl Closings {
         self.counts.count(reason);
         event_log::closed(at, reason.word());
         if let Some(news) = reason.news() {
-            let seldom = &mut self.seldom[reason as usize];
-            if let Some(passed_over) = seldom.lets(now) {
+            let limit = &mut self.limits[reason as usize];
+            if let Some(passed_over) = limit.admits(now) {
                 event_log::closed_by_server(at, news, why, passed_over);
             }
         }

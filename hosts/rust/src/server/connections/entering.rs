@@ -20,7 +20,7 @@ impl Connections {
         let peer =
             Peer { connection, address, opened: now, is_in_ready: false, is_in_sending: false };
         self.open.insert(number, peer);
-        let gone = self.strangers.comes(number, address.machine(), now);
+        let gone = self.strangers.add(number, address.machine(), now);
         self.close_one(gone, CloseReason::StrangerCrowded);
         number
     }

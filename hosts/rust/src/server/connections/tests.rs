@@ -128,7 +128,7 @@ fn send_to_client(connections: &mut Rig, frame: &[u8]) {
 }
 
 fn unwritten(connections: &Rig, number: u64) -> bool {
-    connections.open[&number].connection.watched() != Watched::Reads
+    connections.open[&number].connection.interest() != IoInterest::Reads
 }
 
 /// Sends so much to client 3 that its peer, which reads nothing, takes no more.
@@ -304,12 +304,12 @@ fn a_peer_that_takes_nothing_stops_nobody_and_costs_a_bounded_room() {
 fn nothing_that_is_done_with_a_connection_waits_for_its_peer() {
     let (mut connections, at, _) = connections();
     let (peer, number) = peer(&mut connections, at);
-    let (told, ended) = channel();
+    let (sender, ended) = channel();
     thread::spawn(move || {
         connections.is_ready(number, Readiness { reads: true, is_last: false, writes: true });
         assert!(matches!(connections.look(), Found::Nothing));
         stuff(&mut connections, number);
-        told.send(())
+        sender.send(())
     });
     // However busy the machine is.
     assert!(ended.recv_timeout(Duration::from_secs(30)).is_ok());
@@ -424,7 +424,7 @@ fn a_connection_that_ends_gets_its_last_frames_and_nothing_is_taken_from_it() {
 fn a_host_frame_leaves_with_the_next_batch_and_not_before() {
     let (mut connections, at, _) = connections();
     let (mut stream, number) = peer(&mut connections, at);
-    connections.send_after_commit(number, &frame(b"told"));
+    connections.send_after_commit(number, &frame(b"first"));
     connections.greet(number, HELLO);
     connections.refuse(number, Refusal::Version { read: 1 });
     stream.write_all(&frame(b"one")).unwrap();
@@ -442,7 +442,7 @@ fn a_host_frame_leaves_with_the_next_batch_and_not_before() {
 #[test]
 fn another_thread_wakes_the_wait() {
     let (mut connections, _, waker) = connections();
-    let (told, woken) = channel();
+    let (sender, woken) = channel();
     let waits = thread::spawn(move || {
         let begun = Instant::now();
         while woken.try_recv().is_err() {
@@ -451,7 +451,7 @@ fn another_thread_wakes_the_wait() {
         begun.elapsed()
     });
     thread::sleep(Duration::from_millis(50));
-    told.send(()).unwrap();
+    sender.send(()).unwrap();
     waker.wake().unwrap();
     assert!(waits.join().unwrap() < SOON / 2);
 }

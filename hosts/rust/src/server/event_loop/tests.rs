@@ -260,9 +260,9 @@ fn terms_leave_when_the_store_was_asked() {
     peer.write_all(&sign()).unwrap();
     turns_until(&mut serving, 1).unwrap();
     assert_eq!(received.lock().unwrap()[..], [0]);
-    let mut told = [0; 64];
-    let length = peer.read(&mut told).unwrap();
-    let (answer, _) = frames::split(&told[..length]).next().unwrap();
+    let mut message = [0; 64];
+    let length = peer.read(&mut message).unwrap();
+    let (answer, _) = frames::split(&message[..length]).next().unwrap();
     assert!(matches!(Answer::read(answer), Some(Answer::Granted(_))));
 }
 
@@ -273,7 +273,7 @@ fn a_server_after_which_another_one_started_grants_nothing() {
     peer.write_all(&sign()).unwrap();
     let ended = turns_until(&mut serving, 2).unwrap_err();
     assert!(matches!(ended, ServeError::Store(StoreError::Deposed(_))), "{ended}");
-    assert!(peer.peek(&mut [0; 64]).is_err(), "nothing was told");
+    assert!(peer.peek(&mut [0; 64]).is_err(), "nothing was sent");
 }
 
 #[test]
@@ -302,13 +302,13 @@ fn an_eviction_is_committed_with_its_turn() {
     let successor = Change::Registered { client: 50, incarnation: 2 };
     assert_eq!(batches.last().unwrap()[..2], [successor, Change::Left { client: 50 }]);
     // Its sign is answered by Ended.
-    let mut told = [0; 1024];
-    let _ = peer.read(&mut told);
+    let mut message = [0; 1024];
+    let _ = peer.read(&mut message);
     peer.write_all(&sign()).unwrap();
     let asked = received.lock().unwrap().len();
     turns_until(&mut serving, asked + 1).unwrap();
-    let length = peer.read(&mut told).unwrap();
-    let ended = frames::split(&told[..length]).find_map(|(frame, _)| Answer::read(frame));
+    let length = peer.read(&mut message).unwrap();
+    let ended = frames::split(&message[..length]).find_map(|(frame, _)| Answer::read(frame));
     assert_eq!(ended, Some(Answer::Ended { incarnation: 1 }));
 }
 

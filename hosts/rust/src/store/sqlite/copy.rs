@@ -39,7 +39,7 @@ impl StoreFile {
     /// If the file is damaged.
     pub fn undamaged(self) -> Result<StoreFile, StoreError> {
         match self.checksum {
-            Checksum::Differs => Err(StoreError::says(checksum::DIFFERS)),
+            Checksum::Differs => Err(StoreError::failed(checksum::DIFFERS)),
             Checksum::Matches | Checksum::Absent => Ok(self),
         }
     }
@@ -55,8 +55,8 @@ impl SqliteStore {
     pub fn read(path: impl AsRef<Path>) -> Result<StoreFile, StoreError> {
         let connection = open_to_read(path.as_ref())?;
         let version = match look(&connection)? {
-            Found::New => return Err(StoreError::says("the file is empty: it is no store")),
-            Found::Bare => return Err(StoreError::says(version::BARE)),
+            Found::New => return Err(StoreError::failed("the file is empty: it is no store")),
+            Found::Bare => return Err(StoreError::failed(version::BARE)),
             Found::Older(version) => version,
             Found::Current => VERSION,
         };
@@ -80,7 +80,7 @@ impl SqliteStore {
             Err(error) if error.kind() == ErrorKind::NotFound => return Ok(()),
             Err(error) => return Err(error.into()),
         };
-        version::judge_first_bytes(&bytes).map_err(StoreError::says)
+        version::judge_first_bytes(&bytes).map_err(StoreError::failed)
     }
 
     /// Writes the snapshot as a new store, which only its owner may read and write. When this
@@ -125,7 +125,7 @@ const FIRST_BYTES: u64 = 100;
 /// one, and keeps others off. SQLite leaves no files next to it in either case.
 fn open_to_read(path: &Path) -> Result<Connection, StoreError> {
     if let Err(error) = path.metadata() {
-        return Err(StoreError::says(&match error.kind() {
+        return Err(StoreError::failed(match error.kind() {
             ErrorKind::NotFound => "there is no such file".to_string(),
             _ => error.to_string(),
         }));
@@ -186,7 +186,7 @@ fn refuse_taken(path: &Path) -> Result<(), StoreError> {
 }
 
 fn exists(path: &Path) -> StoreError {
-    StoreError::says(&format!("there is a file {} already", path.display()))
+    StoreError::failed(format!("there is a file {} already", path.display()))
 }
 
 fn write(path: &Path, snapshot: &Snapshot) -> Result<(), StoreError> {

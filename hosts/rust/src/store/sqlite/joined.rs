@@ -35,6 +35,9 @@ struct Log {
     kept: Option<Box<Kept>>,
 }
 
+/// SQLite aligns a file to 8 bytes, so the one after it is aligned as well.
+const _: () = assert!(size_of::<Log>().is_multiple_of(8) && align_of::<Log>() <= 8);
+
 /// What was written to the log and not handed on.
 #[derive(Debug, Default)]
 struct Kept {

@@ -35,8 +35,11 @@ const CLEAR: &str = "DELETE FROM journal";
 const GATHERED_CHANGES: usize = 4096;
 
 /// A commit folds so many rows more than it has changes: so a fold ends before the next one is due.
-/// If each is in a page of its own, 64 take some 0.7 milliseconds of processor time, and their share
-/// of the copy of the log into the file.
+///
+/// Of 200,000 writes evenly over 100,000 rows, by turns in a file in memory, one commit in 10,000 took
+/// longer than 1.0 ms with 8 rows, 1.3 with 32 and 1.5 with 128, and than 10.6 if a fold was made at
+/// once. Where each commit had 16 writes, the middle one took 51 µs with 8, since most of them fold
+/// then, and 10 with 32.
 const FOLDED_ROWS: usize = 32;
 
 /// A commit removes so many folded batches at most.
@@ -127,7 +130,7 @@ fn each_change(connection: &Connection, mut take: impl FnMut(Change)) -> Result<
     let mut rows = all.query([])?;
     while let Some(row) = rows.next()? {
         let changes = row.get_ref(0)?.as_blob().ok().and_then(batch::from_bytes);
-        let damaged = || StoreError::says("the journal of the store is damaged");
+        let damaged = || StoreError::failed("the journal of the store is damaged");
         changes.ok_or_else(damaged)?.into_iter().for_each(&mut take);
     }
     Ok(())

@@ -51,7 +51,7 @@ pub(crate) fn look(connection: &Connection) -> Result<Found, StoreError> {
     let mut names =
         connection.prepare("SELECT name FROM sqlite_master WHERE type = 'table' ORDER BY name")?;
     let tables = names.query_map([], |row| row.get(0))?.collect::<Result<Vec<String>, _>>()?;
-    found(pages, application, version, &tables).map_err(|what| StoreError::says(&what))
+    found(pages, application, version, &tables).map_err(StoreError::failed)
 }
 
 /// What is wrong with a file that has bytes and no tables.

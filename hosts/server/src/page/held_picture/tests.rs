@@ -87,22 +87,22 @@ fn the_picture_is_described_in_words() {
 #[test]
 fn a_client_that_was_not_looked_at_is_not_shown_to_hold_nothing() {
     let status = status(Vec::new());
-    for (seen, told) in [
+    for (seen, message) in [
         (vec![9], ">1 more client holds nothing here. 2 clients were not looked at yet.</text>"),
         (vec![3, 9], ">2 more clients hold nothing here. 1 client was not looked at yet.</text>"),
         (vec![], ">3 clients were not looked at yet.</text>"),
     ] {
         let held = Held { seen, ..Held::default() };
         let picture = HeldPicture { status: &status, held: &held, points: 0..10, path: "/" };
-        assert!(picture.svg("").contains(told), "{told}: {}", picture.svg(""));
+        assert!(picture.svg("").contains(message), "{message}: {}", picture.svg(""));
     }
 }
 
 #[test]
 fn what_is_left_out_is_named() {
     let svg = svg(&[], Some(70));
-    let told = ">1 more client holds nothing below 70. From 70 on there is more to see.</text>";
-    assert!(svg.contains(told), "{svg}");
+    let message = ">1 more client holds nothing below 70. From 70 on there is more to see.</text>";
+    assert!(svg.contains(message), "{svg}");
 }
 
 #[test]

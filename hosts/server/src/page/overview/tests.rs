@@ -72,7 +72,7 @@ fn what_is_wrong_is_an_alarm() {
     status.failure = Some("no <disk>".to_string());
     status.waits = vec![wait(3, 7), wait(7, 3)];
     let html = html(&status);
-    for told in [
+    for message in [
         "The server has failed: no &lt;disk&gt;",
         "Alarm: the report of client 3 contradicts",
         "Alarm: the store lacks what clients have seen",
@@ -82,7 +82,7 @@ fn what_is_wrong_is_an_alarm() {
         "<td>7: <a href=\"/?lo=5&amp;hi=6\">writes (X) at 5</a>, for 4.5 s</td>",
         "<p class=\"phase ended\">ended</p>",
     ] {
-        assert!(html.contains(told), "{told}: {html}");
+        assert!(html.contains(message), "{message}: {html}");
     }
     assert_eq!(html.matches("class=\"alarm\"").count(), 4);
 }
@@ -94,8 +94,8 @@ fn a_recovery_names_who_is_missing_and_its_end() {
     assert!(html(&recovering).contains("the reports of the clients 3, at most 9.0 s more."));
     let mut both = recovering;
     both.missing = vec![3, 7];
-    let told = "the clients 3 and 7, until all have reported or an operator evicts them.";
-    assert!(html(&both).contains(told), "{}", html(&both));
+    let message = "the clients 3 and 7, until all have reported or an operator evicts them.";
+    assert!(html(&both).contains(message), "{}", html(&both));
 }
 
 #[test]

@@ -104,7 +104,7 @@ fn remove_if_unlocked(path: &Path) {
 }
 
 fn cannot(what: &str, path: &Path, error: &io::Error) -> StoreError {
-    StoreError::says(&format!("can't {what} {}: {error}", path.display()))
+    StoreError::failed(format!("can't {what} {}: {error}", path.display()))
 }
 
 #[cfg(test)]

@@ -8,6 +8,7 @@ use crate::store::store_tests::{self, REGISTER, judged, row, without_first_start
 use crate::store::{Store, StoreError};
 use std::cell::Cell;
 use std::fs;
+use std::path::Path;
 
 thread_local! {
     /// How many more calls of the layer below succeed on this thread, if one is to fail.
@@ -74,6 +75,45 @@ fn a_log_that_is_cut_at_any_byte_of_a_commit_has_all_before_it() {
         let found = SqliteStore::read(&cut).unwrap().snapshot;
         let expected = if length == log.len() { &after } else { &before };
         assert!(found == *expected, "cut at {length} of {}", log.len());
+    }
+}
+
+/// Commits until SQLite has copied the log into the file, and begins it again. The writes of a
+/// batch are more than are kept.
+fn begin_the_log_again(store: &mut SqliteStore, file: &Path) {
+    let salt = || fs::read(beside(file, "-wal")).unwrap()[16..24].to_vec();
+    store.commit(&batch(700)).unwrap();
+    let before = salt();
+    let begun = (701..800).find(|number| {
+        store.commit(&batch(*number)).unwrap();
+        salt() != before
+    });
+    assert!(begun.is_some());
+}
+
+#[test]
+fn a_commit_over_an_older_log_that_is_cut_anywhere_leaves_all_before_it() {
+    let folder = Folder::new("begun-again-log");
+    let [file, cut] = ["table.db", "cut.db"].map(|name| folder.0.join(name));
+    let mut store = SqliteStore::open(&file).unwrap();
+    store.commit(&[Change::Started { epoch: 1 }, REGISTER]).unwrap();
+    begin_the_log_again(&mut store, &file);
+    let log = || fs::read(beside(&file, "-wal")).unwrap();
+    let (before, older) = (store.snapshot().unwrap(), log());
+    fs::copy(&file, &cut).unwrap();
+    store.commit(&batch(40)).unwrap();
+    let (after, newer) = (store.snapshot().unwrap(), log());
+    assert_eq!(older.len(), newer.len(), "it is written over what was there");
+    let differs = |at: &usize| older[*at] != newer[*at];
+    let first = (0..newer.len()).find(differs).unwrap();
+    let end = 1 + (0..newer.len()).rev().find(differs).unwrap();
+    assert!(end - first > 4 * 1024, "the commit has several pages");
+    for length in (first..end).step_by(61).chain([end - 1, end]) {
+        let partly = [&newer[..length], &older[length..]].concat();
+        fs::write(beside(&cut, "-wal"), partly).unwrap();
+        let found = SqliteStore::read(&cut).unwrap().snapshot;
+        let expected = if length == end { &after } else { &before };
+        assert!(found == *expected, "cut at {length} of {first}..{end}");
     }
 }
 

@@ -1,11 +1,13 @@
-//! Rows of a krl table as text, for the programs of this workspace: values as words, and files of rows
-//! as CSV or as JSON lines.
+//! What the programs of this workspace share: rows of a krl table as text, that is, values as words and
+//! files of rows as CSV or as JSON lines; and what a program prints.
 //!
-//! What is written reads back as the same rows.
+//! Rows that are written read back as the same rows.
 mod closed_quotes;
 mod existing;
 mod file;
 mod file_format;
+mod lock_folder;
+mod output;
 mod progress;
 mod reader;
 mod short_lines;
@@ -15,6 +17,8 @@ mod writer;
 pub use existing::Existing;
 pub use file::{BadFile, Line, read_file};
 pub use file_format::FileFormat;
+pub use lock_folder::lock_folder;
+pub use output::{BROKEN_PIPE, print, print_completion, sentence};
 pub use progress::Progress;
 pub use reader::{BadRow, RowReader};
 pub use values::{BadValue, ValueForm, digits_of};

@@ -115,14 +115,17 @@ mod tests {
     #[test]
     fn a_key_that_comes_twice_is_reported_with_both_lines() {
         let why = without_twice(vec![line(5, 2), line(3, 3), line(5, 4)]).unwrap_err();
-        let told = BadFile { path: "a.csv".into(), why }.to_string();
-        assert_eq!(told, "the file a.csv, line 4: the key 5 has a row in line 2 already");
+        let message = BadFile { path: "a.csv".into(), why }.to_string();
+        assert_eq!(message, "the file a.csv, line 4: the key 5 has a row in line 2 already");
     }
 
     #[test]
     fn a_file_that_is_not_there_is_reported() {
         let path = Path::new("/nowhere/rows.csv");
-        let told = read_file(path, FileFormat::Csv, ValueForm::Text).unwrap_err().to_string();
-        assert!(told.starts_with("the file /nowhere/rows.csv can't be read: No such"), "{told}");
+        let message = read_file(path, FileFormat::Csv, ValueForm::Text).unwrap_err().to_string();
+        assert!(
+            message.starts_with("the file /nowhere/rows.csv can't be read: No such"),
+            "{message}"
+        );
     }
 }

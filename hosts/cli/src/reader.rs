@@ -282,7 +282,7 @@ mod tests {
     #[test]
     fn a_bad_row_is_reported_with_its_line_and_ends_the_file() {
         let one = "key,value\n1,one\n";
-        for (row, told) in [
+        for (row, message) in [
             ("2\n3,a", "line 3: it has 1 columns, and two are expected: key,value"),
             ("2,a,b\n3,a", "line 3: it has 3 columns"),
             ("-2,a\n3,a", "line 3: '-2' is no key: a number from 0 to 2^63 - 2 is expected"),
@@ -293,11 +293,11 @@ mod tests {
         ] {
             let (rows, why) = read(format!("{one}{row}").as_bytes(), FileFormat::Csv);
             assert_eq!(rows.len(), 1);
-            assert!(why.as_ref().is_some_and(|why| why.starts_with(told)), "{row}: {why:?}");
+            assert!(why.as_ref().is_some_and(|why| why.starts_with(message)), "{row}: {why:?}");
         }
         let (_, why) = read(b"1,one\n\xff\xff,a\n", FileFormat::Csv);
         assert!(why.is_some_and(|why| why.starts_with("line 2: invalid utf-8")));
-        for (row, told) in [
+        for (row, message) in [
             ("{\"key\":2}", "line 2: it has no value: \"value\" or \"hex\" is expected"),
             ("{\"key\":-2,\"value\":\"a\"}", "line 2: it is no row: invalid value"),
             ("{\"key\":9223372036854775807,\"hex\":\"\"}", "line 2: '9223372036854775807' is no"),
@@ -309,15 +309,15 @@ mod tests {
             let text = format!("{{\"key\":1,\"value\":\"one\"}}\n{row}\n");
             let (rows, why) = read(text.as_bytes(), FileFormat::JsonLines);
             assert_eq!(rows.len(), 1);
-            assert!(why.as_ref().is_some_and(|why| why.starts_with(told)), "{row}: {why:?}");
+            assert!(why.as_ref().is_some_and(|why| why.starts_with(message)), "{row}: {why:?}");
         }
     }
 
     #[test]
     fn a_file_that_cannot_be_read_to_its_end_is_reported_with_the_line() {
         let (_, why) = read(b"key,value\n1,\"a\n2,b\n", FileFormat::Csv);
-        let told = "line 2 can't be read: it opens a quote that is never closed";
-        assert_eq!(why.unwrap(), told);
+        let message = "line 2 can't be read: it opens a quote that is never closed";
+        assert_eq!(why.unwrap(), message);
         let long = "a".repeat(5000);
         for (text, format) in [
             (format!("key,value\n1,{long}"), FileFormat::Csv),
@@ -333,8 +333,8 @@ mod tests {
         for format in FORMATS {
             for byte in [b' ', b'"', b'1', 0] {
                 let mut rows = RowReader::new(io::repeat(byte), format, ValueForm::Text);
-                let told = rows.next().unwrap().unwrap_err().to_string();
-                assert!(told.ends_with("a line has more than 4096 bytes"), "{told}");
+                let message = rows.next().unwrap().unwrap_err().to_string();
+                assert!(message.ends_with("a line has more than 4096 bytes"), "{message}");
                 assert!(rows.next().is_none());
             }
         }

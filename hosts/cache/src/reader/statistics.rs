@@ -1,0 +1,54 @@
+//! What a table counts.
+use crate::reader::definition::Loaded;
+use crate::statistics::Counter;
+
+#[derive(Debug, Default)]
+pub(super) struct Counters {
+    pub hits: Counter,
+    pub misses: Counter,
+    pub loads: Counter,
+    pub kept: Counter,
+    pub unkept: Counter,
+    pub away: Counter,
+    /// Those of earlier definitions.
+    pub evictions: Counter,
+}
+
+impl Counters {
+    /// Notes a question for rows that are to be kept, and which of them were.
+    pub fn note_load(&self, loaded: &[Loaded]) {
+        let kept = loaded.iter().filter(|(_, held)| held.is_some()).count();
+        self.loads.add(1);
+        self.kept.add(kept);
+        self.unkept.add(loaded.len() - kept);
+    }
+}
+
+/// What was done for a table since it was opened. The numbers are read one after another, so they
+/// may be of different moments.
+#[derive(Clone, Copy, Debug, Default, PartialEq, Eq)]
+#[non_exhaustive]
+pub struct Statistics {
+    /// Keys that were answered from memory.
+    pub hits: u64,
+    /// Keys that were answered by the database.
+    pub misses: u64,
+    /// Questions to the database for rows that are to be kept.
+    pub loads: u64,
+    /// Keys whose rows were kept.
+    pub kept: u64,
+    /// Keys whose rows were not kept: a transaction was about to change them, or others had taken
+    /// them back.
+    pub unkept: u64,
+    /// Keys that were answered by the database while krl or the extension was away: they are among
+    /// the misses. [`Cache::fault`] reports why.
+    ///
+    /// [`Cache::fault`]: crate::reader::Cache::fault
+    pub away: u64,
+    /// Keys whose rows were dropped as there was no room for them.
+    pub evictions: u64,
+    /// Keys whose rows are in memory now; of some of them it is known that there are none.
+    pub keys: u64,
+    /// About how many bytes they take.
+    pub bytes: u64,
+}

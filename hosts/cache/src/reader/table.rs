@@ -1,0 +1,345 @@
+//! The calls by which a table is read.
+use crate::reader::cache::Shared;
+use crate::reader::definition::{Definition, Holding, Wanted};
+use crate::reader::error::ReadError;
+use crate::reader::held::{self, Held, Missing};
+use crate::reader::key::Key;
+use crate::reader::loader::Errand;
+use crate::reader::memory::Rows;
+use crate::reader::row::Row;
+use crate::reader::sql::Selection;
+use crate::reader::statistics::{Counters, Statistics};
+use std::fmt;
+use std::ops::{Bound, RangeBounds, RangeInclusive};
+use std::sync::mpsc::SyncSender;
+use std::sync::{Arc, PoisonError, RwLock};
+
+/// A range of more keys is always read from the database.
+const MOST_KEYS: usize = 4096;
+
+/// A table that is read from memory. Its clones share the memory, and threads share them.
+#[derive(Clone)]
+pub struct Table {
+    inner: Arc<Inner>,
+    errands: SyncSender<Errand>,
+}
+
+pub(super) struct Inner {
+    /// As the program names it.
+    name: String,
+    pub shared: Arc<Shared>,
+    definition: RwLock<Arc<Definition>>,
+    pub counters: Counters,
+}
+
+/// Rows in memory, and what they were held by when they were loaded.
+type Found = Option<(Held, Arc<Rows>)>;
+
+impl Table {
+    pub(super) fn open(
+        shared: Arc<Shared>,
+        errands: SyncSender<Errand>,
+        name: &str,
+    ) -> Result<Table, ReadError> {
+        let definition = find(&shared, name, || None)?;
+        let (name, definition) = (name.to_string(), RwLock::new(Arc::new(definition)));
+        let inner = Inner { name, shared, definition, counters: Counters::default() };
+        Ok(Table { inner: Arc::new(inner), errands })
+    }
+
+    /// The row of a key, if there is one.
+    ///
+    /// # Errors
+    ///
+    /// [`ReadError::Key`] if it is not a key of this table; [`ReadError::SeveralRows`];
+    /// [`ReadError::Database`].
+    pub fn get(&self, key: impl Into<Key>) -> Result<Option<Row>, ReadError> {
+        Ok(self.get_many([key])?.pop().flatten())
+    }
+
+    /// The row of each key, if there is one, in the order of the keys. They are the rows of one
+    /// moment of the call.
+    ///
+    /// # Errors
+    ///
+    /// Those of [`Table::get`].
+    pub fn get_many<K: Into<Key>>(
+        &self,
+        keys: impl IntoIterator<Item = K>,
+    ) -> Result<Vec<Option<Row>>, ReadError> {
+        let keys: Vec<Key> = keys.into_iter().map(Into::into).collect();
+        let row = |(rows, key): (Arc<Rows>, &Key)| match &rows.rows[..] {
+            [] => Ok(None),
+            [row] => Ok(Some(row.clone())),
+            _ => Err(ReadError::SeveralRows(key.clone())),
+        };
+        self.read(&keys, None)?.into_iter().zip(&keys).map(row).collect()
+    }
+
+    /// All rows of a key, for a table whose key columns are not unique, in no particular order.
+    ///
+    /// # Errors
+    ///
+    /// [`ReadError::Key`], [`ReadError::Database`].
+    pub fn rows(&self, key: impl Into<Key>) -> Result<Vec<Row>, ReadError> {
+        Ok(flat(&self.read(&[key.into()], None)?))
+    }
+
+    /// The rows of a range of keys, in the order of the keys, of a table whose key is one integer.
+    /// They are the rows of one moment of the call. A range of more than 4,096 keys is always read
+    /// from the database.
+    ///
+    /// # Errors
+    ///
+    /// [`ReadError::Key`] if the key of the table is not one integer; [`ReadError::Database`].
+    pub fn range(&self, keys: impl RangeBounds<i64>) -> Result<Vec<Row>, ReadError> {
+        let definition = self.inner.definition();
+        if !definition.stripes.by_remainder {
+            let table = &definition.sql.table;
+            return Err(ReadError::Key(format!("the key of {table} is not one integer")));
+        }
+        let Some(range) = inclusive(&keys) else { return Ok(Vec::new()) };
+        let keys = range.clone().take(MOST_KEYS + 1).map(Key::from);
+        let keys: Vec<Key> = keys.collect();
+        if keys.len() <= MOST_KEYS {
+            return Ok(flat(&self.read(&keys, Some(&range))?));
+        }
+        let selection = Selection::Range(range);
+        let ask = |definition: &Definition| self.inner.select(definition, &selection);
+        let rows = self.inner.with_definition(ask)?;
+        self.inner.counters.misses.add(rows.len());
+        Ok(rows.into_iter().map(|(_, row)| row).collect())
+    }
+
+    /// What was done since the table was opened.
+    #[must_use]
+    pub fn statistics(&self) -> Statistics {
+        let (counters, definition) = (&self.inner.counters, self.inner.definition());
+        Statistics {
+            hits: counters.hits.get(),
+            misses: counters.misses.get(),
+            loads: counters.loads.get(),
+            kept: counters.kept.get(),
+            unkept: counters.unkept.get(),
+            away: counters.away.get(),
+            evictions: counters.evictions.get() + definition.memory.evictions.get(),
+            keys: definition.memory.keys() as u64,
+            bytes: definition.memory.bytes() as u64,
+        }
+    }
+
+    /// The rows of these keys, which are those of the range if it is given. All of them are of one
+    /// moment.
+    fn read(
+        &self,
+        keys: &[Key],
+        range: Option<&RangeInclusive<i64>>,
+    ) -> Result<Vec<Arc<Rows>>, ReadError> {
+        self.inner.with_definition(|definition| {
+            let wanted = keys.iter().map(|key| definition.locate(key));
+            let wanted: Vec<Wanted<'_>> = wanted.collect::<Result<_, _>>()?;
+            Read { table: self, definition, wanted, range }.rows()
+        })
+    }
+}
+
+/// A read of some keys.
+struct Read<'r> {
+    table: &'r Table,
+    definition: &'r Definition,
+    wanted: Vec<Wanted<'r>>,
+    range: Option<&'r RangeInclusive<i64>>,
+}
+
+impl Read<'_> {
+    /// From memory, if it has all rows. Otherwise the database selects those that are missing, if
+    /// all of them are held, or all rows.
+    fn rows(&self) -> Result<Vec<Arc<Rows>>, ReadError> {
+        let find = |wanted: &Wanted<'_>| self.definition.memory.find(wanted.stripe, wanted.key);
+        let found = || self.wanted.iter().map(find).collect();
+        let (found, missing) = held::find(found, || self.held());
+        if missing.places.is_empty() {
+            return Ok(self.hits(found));
+        }
+        if missing.places.iter().any(|place| missing.held[*place].is_none()) {
+            self.report(&missing);
+        } else if let Some(rows) = self.load(found, &missing)? {
+            return Ok(rows);
+        }
+        let selection = self.selection();
+        let inner = &self.table.inner;
+        let rows = inner.select(self.definition, &selection)?;
+        inner.counters.misses.add(self.wanted.len());
+        if inner.shared.is_away() {
+            inner.counters.away.add(self.wanted.len());
+        }
+        Ok(selection.by_key(rows))
+    }
+
+    /// Loads the rows that are missing and held. Returns all rows, if they are of one moment then.
+    fn load(
+        &self,
+        mut found: Vec<Found>,
+        missing: &Missing,
+    ) -> Result<Option<Vec<Arc<Rows>>>, ReadError> {
+        let (inner, places) = (&self.table.inner, &missing.places);
+        let part: Vec<Wanted<'_>> = places.iter().map(|place| self.wanted[*place]).collect();
+        let is_all = part.len() == self.wanted.len();
+        let selection = if is_all { self.selection() } else { of_keys(&part) };
+        let loaded = inner.shared.ask(|it| self.definition.load(it, &part, &selection))?;
+        inner.counters.note_load(&loaded);
+        if is_all {
+            inner.counters.misses.add(part.len());
+            return Ok(Some(loaded.into_iter().map(|(rows, _)| rows).collect()));
+        }
+        for (place, (rows, held)) in places.iter().zip(loaded) {
+            found[*place] = held.map(|held| (held, rows));
+        }
+        let (found, missing) = held::find(|| found, || self.held());
+        if !missing.places.is_empty() {
+            return Ok(None);
+        }
+        inner.counters.misses.add(part.len());
+        inner.counters.hits.add(found.len() - part.len());
+        Ok(Some(found.into_iter().flatten().map(|(_, rows)| rows).collect()))
+    }
+
+    /// All rows, which are read from memory.
+    fn hits(&self, found: Vec<Found>) -> Vec<Arc<Rows>> {
+        self.table.inner.counters.hits.add(found.len());
+        let hit = |(_, rows): (Held, Arc<Rows>)| {
+            rows.note_read();
+            rows
+        };
+        found.into_iter().flatten().map(hit).collect()
+    }
+
+    /// By what each key is held now.
+    fn held(&self) -> Vec<Option<Held>> {
+        let look = self.definition.look();
+        let held = |wanted: &Wanted<'_>| look.and_then(|look| look.held(wanted.stripe));
+        self.wanted.iter().map(held).collect()
+    }
+
+    /// Reports to the loader what is to be loaded from now on. It learns nothing if it is late.
+    fn report(&self, missing: &Missing) {
+        let keys = missing.places.iter().flat_map(|&place| {
+            let Wanted { key, stripe } = self.wanted[place];
+            self.definition.memory.note_miss(stripe, missing.held[place], key)
+        });
+        let keys: Vec<Key> = keys.collect();
+        if !keys.is_empty() {
+            let table = Arc::clone(&self.table.inner);
+            let _ = self.table.errands.try_send(Errand::Load { table, keys });
+        }
+    }
+
+    /// All rows.
+    fn selection(&self) -> Selection<'_> {
+        match self.range {
+            Some(range) => Selection::Range(range.clone()),
+            None => of_keys(&self.wanted),
+        }
+    }
+}
+
+impl Inner {
+    pub fn definition(&self) -> Arc<Definition> {
+        Arc::clone(&self.definition.read().unwrap_or_else(PoisonError::into_inner))
+    }
+
+    /// Finds the definition again. `hold` returns what rows are kept by, which is held before that.
+    pub fn find(&self, hold: impl Fn() -> Option<Holding>) -> Result<Definition, ReadError> {
+        find(&self.shared, &self.name, hold)
+    }
+
+    /// From now on the table is read by this definition.
+    pub fn set(&self, found: Definition) -> Arc<Definition> {
+        let found = Arc::new(found);
+        let mut definition = self.definition.write().unwrap_or_else(PoisonError::into_inner);
+        let evictions = definition.memory.evictions.get();
+        self.counters.evictions.add(usize::try_from(evictions).unwrap_or(usize::MAX));
+        *definition = Arc::clone(&found);
+        found
+    }
+
+    /// Asks by the definition, and once again if it is another one by now.
+    fn with_definition<T>(
+        &self,
+        ask: impl Fn(&Definition) -> Result<T, ReadError>,
+    ) -> Result<T, ReadError> {
+        let definition = self.definition();
+        let failed = match ask(&definition) {
+            Err(failed @ ReadError::Database(_)) => failed,
+            asked => return asked,
+        };
+        match self.find(|| None) {
+            Ok(found) if found.sql != definition.sql => ask(&self.set(found)),
+            _ => Err(failed),
+        }
+    }
+
+    fn select(
+        &self,
+        definition: &Definition,
+        selection: &Selection<'_>,
+    ) -> Result<Vec<(i64, Row)>, ReadError> {
+        self.shared.ask(|session| session.select(&definition.sql, selection))
+    }
+}
+
+fn find(
+    shared: &Shared,
+    name: &str,
+    hold: impl Fn() -> Option<Holding>,
+) -> Result<Definition, ReadError> {
+    shared.ask(|session| {
+        let (number, holding) = (shared.next_definition(), hold());
+        Definition::find(session, name, number, shared.memory, holding)
+    })
+}
+
+fn of_keys<'k>(wanted: &[Wanted<'k>]) -> Selection<'k> {
+    Selection::Keys(wanted.iter().map(|wanted| wanted.key).collect())
+}
+
+fn flat(rows: &[Arc<Rows>]) -> Vec<Row> {
+    rows.iter().flat_map(|rows| rows.rows.iter().cloned()).collect()
+}
+
+/// The first key of a range and the last one, if it has any.
+fn inclusive(keys: &impl RangeBounds<i64>) -> Option<RangeInclusive<i64>> {
+    let first = match keys.start_bound() {
+        Bound::Included(key) => *key,
+        Bound::Excluded(key) => key.checked_add(1)?,
+        Bound::Unbounded => i64::MIN,
+    };
+    let last = match keys.end_bound() {
+        Bound::Included(key) => *key,
+        Bound::Excluded(key) => key.checked_sub(1)?,
+        Bound::Unbounded => i64::MAX,
+    };
+    (first <= last).then_some(first..=last)
+}
+
+impl fmt::Debug for Table {
+    fn fmt(&self, f: &mut fmt::Formatter<'_>) -> fmt::Result {
+        f.debug_struct("Table").field("name", &self.inner.name).finish_non_exhaustive()
+    }
+}
+
+#[cfg(test)]
+mod tests {
+    use super::*;
+
+    #[test]
+    fn a_range_has_a_first_and_a_last_key() {
+        assert_eq!(inclusive(&(3..5)), Some(3..=4));
+        assert_eq!(inclusive(&..), Some(i64::MIN..=i64::MAX));
+        assert_eq!(inclusive(&(3..=3)), Some(3..=3));
+        let (greater, smaller) = (5, 4);
+        assert_eq!(inclusive(&(greater..smaller)), None);
+        assert_eq!(inclusive(&(3..3)), None);
+        assert_eq!(inclusive(&(..i64::MIN)), None);
+    }
+}
