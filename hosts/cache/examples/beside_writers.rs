@@ -8,8 +8,8 @@
 //! it returns less than what was acknowledged to a writer, or returned by a read, before it began, or
 //! half a transaction. The program prints how many reads there were. Its status is 0 if there were
 //! reads from memory and none was wrong, and 3 if one was.
-use krl_cache::reader::{Cache, ReadError, Row, Table};
 use krl_cache::tokio_postgres::{Client, NoTls, connect};
+use krl_cache::{Cache, ReadError, Row, Table};
 use std::env;
 use std::process::ExitCode;
 use std::sync::atomic::{AtomicBool, AtomicI64, AtomicU64, Ordering};

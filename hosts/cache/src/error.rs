@@ -1,148 +1,88 @@
-//! Why a call of the cache failed.
-use crate::filling::FillingNumber;
-use crate::mark::LAST_KEY;
-use crate::origin::OriginError;
+//! Why a read failed.
+use crate::key::Key;
+use crate::row::Column;
 use std::error::Error;
 use std::fmt;
+use std::io;
 
-/// Why a call of the cache failed. A read that failed has answered nothing. A write that failed has
-/// changed nothing, except after [`CacheError::Unknown`].
+/// Why a call of the reader failed. A read does not fail because krl or the extension does not
+/// answer: then the database answers it.
 #[derive(Debug)]
 #[non_exhaustive]
-pub enum CacheError {
-    /// krl refused the call or did not answer in time.
-    Krl(krl::Error),
-    /// The database refused the call or did not answer in time.
-    Origin(OriginError),
-    /// The function that was given to `transact` returned this error.
-    Work(Box<dyn Error + Send + Sync>),
-    /// The connection to the database was lost during the commit, and the outcome could not be
-    /// found out in time. The next read of one of the keys waits for the database and answers what
-    /// became of the write.
-    Unknown(OriginError),
-    /// krl has no room for another row.
-    Full,
-    /// A key is above [`LAST_KEY`](crate::LAST_KEY), a range ends below its start, or a transaction
-    /// names no key.
-    BadKey,
-    /// The call was not finished within the cache's timeout.
-    TimedOut,
-    /// krl was never filled, a filling did not come to its end, or the database was restored or
-    /// promoted since. An operator calls [`Cache::fill`](crate::Cache::fill); or, if the database is
-    /// a promoted replica that has every acknowledged commit,
-    /// [`Builder::accept_and_open`](crate::Builder::accept_and_open).
-    NotFilled,
-    /// The table was never filled, and krl holds the rows of another table or database. Fill a krl
-    /// server of its own. If the database was restored to a time before its first filling, and no
-    /// process uses this server any more, an operator may fill this one with
-    /// [`EarlierServer::IsUnused`].
-    ///
-    /// [`EarlierServer::IsUnused`]: crate::EarlierServer::IsUnused
-    NeverFilled,
-    /// krl holds the rows of another table or database, or of this one before it was restored. Use
-    /// the server that was filled from this table, or fill one of its own. If no process uses this
-    /// server for other rows any more, an operator calls [`Cache::fill`](crate::Cache::fill) with
-    /// [`EarlierServer::IsUnused`].
-    ///
-    /// [`EarlierServer::IsUnused`]: crate::EarlierServer::IsUnused
-    OtherTable,
-    /// The table's current filling is not that of this server of krl: another server was filled from
-    /// the table since, or the database or krl's store was restored. Use the server that was filled,
-    /// or fill this one once no process uses the other one any more: [`EarlierServer::IsUnused`].
-    ///
-    /// [`EarlierServer::IsUnused`]: crate::EarlierServer::IsUnused
-    OtherServer {
-        /// The current filling as the database has it.
-        current: FillingNumber,
-    },
+pub enum ReadError {
+    /// The database refused the call or did not answer in time: what it reports.
+    Database(String),
+    /// The table is not cached: an operator calls `krl.cache` in the database.
+    NotCached(String),
+    /// The database has no extension `krl`.
+    NoExtension,
+    /// The key is not one of the table, for this reason.
+    Key(String),
+    /// The key has several rows: [`Table::rows`](crate::Table::rows) reads all of them.
+    SeveralRows(Key),
+    /// The column of a row is not there, or is of another type, for this reason.
+    Column(String),
+    /// The folder of the lock files, a thread or a connection of this process was refused.
+    System(io::Error),
 }
 
-/// A key that the transaction did not name when it began.
-#[derive(Clone, Copy, Debug, PartialEq, Eq)]
-pub struct OtherKey {
-    /// The key.
-    pub key: u64,
+impl ReadError {
+    /// The database reported this.
+    pub(crate) fn of_database(error: &tokio_postgres::Error) -> ReadError {
+        let Some(reported) = error.as_db_error() else {
+            let cause = error.source().map(ToString::to_string);
+            return ReadError::Database(cause.unwrap_or_else(|| error.to_string()));
+        };
+        let hint = reported.hint().map(|hint| format!(". {hint}")).unwrap_or_default();
+        let code = reported.code().code();
+        ReadError::Database(format!("{} ({code}){hint}", reported.message()))
+    }
+
+    pub(crate) fn no_column(name: &str) -> ReadError {
+        ReadError::Column(format!("the table has no column \"{name}\""))
+    }
+
+    /// The value of a column and the type in the program don't fit.
+    pub(crate) fn misfit(column: &Column, why: &dyn fmt::Display) -> ReadError {
+        let (name, sql_type) = (column.name(), column.sql_type());
+        ReadError::Column(format!(
+            "the column \"{name}\" ({sql_type}) does not fit its type in the program: {why}"
+        ))
+    }
 }
 
-impl fmt::Display for CacheError {
+impl fmt::Display for ReadError {
     fn fmt(&self, f: &mut fmt::Formatter<'_>) -> fmt::Result {
         match self {
-            CacheError::Krl(refused) => refused.fmt(f),
-            CacheError::Origin(error) => error.fmt(f),
-            CacheError::Work(error) => error.fmt(f),
-            CacheError::Unknown(error) => {
-                write!(f, "it is unknown whether the write was committed: {error}")
-            }
-            CacheError::Full => f.write_str(
-                "krl's server has no room for another row: start it with a greater --room",
-            ),
-            CacheError::BadKey => write!(
+            ReadError::Database(why) => write!(f, "the database: {why}"),
+            ReadError::NotCached(table) => write!(
                 f,
-                "a key has to be from 0 to {LAST_KEY}, a range must not end below its start, and a \
-                 transaction has to name at least one key"
+                "the table {table} is not cached: call SELECT krl.cache('{table}') in the database, \
+                 as a superuser"
             ),
-            CacheError::TimedOut => {
-                f.write_str("the call did not finish within the timeout of the cache")
+            ReadError::NoExtension => f.write_str(
+                "the database has no extension krl: call CREATE EXTENSION krl there, as a superuser",
+            ),
+            ReadError::Key(why) | ReadError::Column(why) => f.write_str(why),
+            ReadError::SeveralRows(key) => {
+                write!(f, "the key {key} has several rows: read them by Table::rows")
             }
-            CacheError::NotFilled => f.write_str(
-                "krl does not have the versions of this database's rows: run krl-cache fill; or, if \
-                 the database is a promoted replica that has every acknowledged commit, krl-cache \
-                 accept",
-            ),
-            CacheError::NeverFilled => f.write_str(
-                "the table was never filled, and this krl server holds the rows of another table or \
-                 database: run krl-cache fill for a krl server of its own. If the database was \
-                 restored to a time before its first filling, and no process uses this server any \
-                 more, run krl-cache fill with --replaces-server",
-            ),
-            CacheError::OtherTable => f.write_str(
-                "this krl server holds the rows of another table or database: give the address of \
-                 the server that was filled from this table, or fill one of its own. If no process \
-                 uses this server for the other rows any more, as after a restore of the database, \
-                 run krl-cache fill with --replaces-server",
-            ),
-            CacheError::OtherServer { current } => write!(
-                f,
-                "this krl server does not have the current filling of the table ({current}): \
-                 another server was filled since, or the database or krl's store was restored. \
-                 Use the server that has it; or, if no process uses that one any more, run \
-                 krl-cache fill with --replaces-server"
-            ),
+            ReadError::System(error) => error.fmt(f),
         }
     }
 }
 
-impl Error for CacheError {
+impl Error for ReadError {
     fn source(&self) -> Option<&(dyn Error + 'static)> {
         match self {
-            CacheError::Krl(refused) => Some(refused),
-            CacheError::Origin(error) | CacheError::Unknown(error) => Some(error),
-            CacheError::Work(error) => Some(&**error),
+            ReadError::System(error) => Some(error),
             _ => None,
         }
     }
 }
 
-impl From<krl::Error> for CacheError {
-    fn from(refused: krl::Error) -> CacheError {
-        CacheError::Krl(refused)
+impl From<io::Error> for ReadError {
+    fn from(error: io::Error) -> ReadError {
+        ReadError::System(error)
     }
 }
-
-impl From<OriginError> for CacheError {
-    fn from(error: OriginError) -> CacheError {
-        CacheError::Origin(error)
-    }
-}
-
-impl fmt::Display for OtherKey {
-    fn fmt(&self, f: &mut fmt::Formatter<'_>) -> fmt::Result {
-        write!(
-            f,
-            "the transaction did not name the key {} when it began: name all of its keys",
-            self.key
-        )
-    }
-}
-
-impl Error for OtherKey {}

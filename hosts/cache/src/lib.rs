@@ -1,122 +1,79 @@
-//! A cache of a database's table that is never stale.
+//! Reads tables of PostgreSQL from memory, while any SQL writes them, and no read is stale.
 //!
-//! Several processes read rows of one table from memory, without a message, and others change them.
-//! Each read answers what the database itself would have answered at one moment of the call. The
-//! rules of krl are proved; this crate is tested, and not proved.
+//! The database has the extension `krl` (`hosts/pgext`). A read from memory returns what a `SELECT`
+//! would return at one moment of the call, whoever writes: `psql`, `COPY`, cascades of foreign keys,
+//! functions, `TRUNCATE`. It sends nothing: before a transaction commits, the extension has its rows
+//! taken back from all readers by krl. `hosts/pgext/PROTOCOL.md` has the protocol and the argument
+//! for it. The rules of krl are proved; this crate is tested, and not proved.
 //!
 //! ```no_run
-//! use krl_cache::{Cache, MemoryOrigin};
+//! use krl_cache::Cache;
 //!
-//! let krl: krl::Address = "127.0.0.1:7400".parse()?;
-//! let reader = krl::Client::join(krl.clone(), 6, "client-6.lock")?;
-//! let writer = krl::Client::join(krl, 7, "client-7.lock")?;
-//! let table = MemoryOrigin::<String>::new();
-//! let cache = Cache::builder(reader, writer, table).memory(64 << 20).open()?;
-//! let item = cache.get(15)?;                             // from memory, or from krl and the table
-//! let shelf = cache.range(10..20)?;                      // rows of one moment
-//! cache.update(15, |name| Some(format!("{name}!")))?;
-//! cache.insert(16, "new".to_string())?;
-//! cache.delete(15)?;
-//! cache.transact(&[16, 17], |rows| {                     // both or neither
-//!     let moved = rows.get(16)?.cloned();
-//!     rows.delete(16)?;
-//!     moved.map_or(Ok(()), |name| rows.put(17, name))?;
-//!     Ok(())
-//! })?;
+//! let database = "postgres://shop@127.0.0.1/shop".parse()?;
+//! let cache = Cache::builder(database, "/var/lib/shop/krl").open()?;
+//! let items = cache.table("item")?; // SELECT krl.cache('item') was called once
+//! if let Some(lamp) = items.get(15)? {
+//!     let (name, price): (&str, Option<i64>) = (lamp.get("name")?, lamp.get("price")?);
+//!     println!("{name} for {price:?}");
+//! }
+//! let shelf = items.range(10..20)?; // rows of one moment
+//! let some = items.get_many([3, 15, 77])?;
+//! println!("{:?}", items.statistics());
+//! cache.close();
 //! # Ok::<(), Box<dyn std::error::Error>>(())
 //! ```
 //!
-//! # How it works
+//! # Keys
 //!
-//! krl has one row for each row of the table: its version, sixteen random bytes that each
-//! transaction draws. A process keeps bodies in memory by key and version.
+//! Rows are read by the columns that `krl.cache` was given: by default the primary key. An integer
+//! is a key of a column of type `smallint`, `integer` or `bigint`; a text one of `text` or
+//! `varchar`; sixteen bytes are one of `uuid`; and tuples, or [`Key::new`], are keys of several
+//! columns. That a key has no row is kept in memory too. A text is a key only in a database whose
+//! encoding is UTF8.
 //!
-//! A **writer** pins its keys in krl for an update, begins a transaction in the database and locks
-//! them there. It makes its changes, and while the database works it **announces** them by putting a
-//! fresh version into krl for each key. Then it commits. The announcement takes the keys out of
-//! every cache, and nobody has a body of that version before the commit. A writer of one row
-//! announces while the transaction begins, and makes its change and commits in one question, if its
-//! pin still holds when the row is locked.
+//! # What a miss costs
 //!
-//! A **reader** scans krl's rows, usually in its own cache, and answers if it has a body of just
-//! those versions. Otherwise it loads bodies from the database and compares the versions. If they
-//! differ, a writer was lost between its announcement and its commit, and the reader **repairs**
-//! the key: under a pin, and a lock in the database, it puts into krl what the database has.
+//! A read of what is not in memory is answered by the database, in one round trip, as if there were
+//! no cache. A thread of the cache then holds the row's stripe in krl, asks the database whether a
+//! transaction is about to change it, and loads the row to keep it. A row whose stripe is held
+//! already is kept at once, with that one round trip. With a miss the thread loads again what was
+//! read before others took it back, of up to 32 stripes. A stripe that is taken back again and
+//! again before its rows were read is held ever less often, until it has been read.
 //!
-//! `docs/CACHE.md` has the promise, its premises, and what each failure does.
+//! # What is away
 //!
-//! # Tables that any SQL may write
+//! If krl, the extension or a writer does not answer, the database answers each read, and nothing is
+//! kept: [`Cache::fault`] reports why. A call fails only if the database does. Rows in memory are
+//! returned while this process's lease lasts, also while the database is away.
 //!
-//! The module `reader` has another cache, for databases with the extension of `hosts/pgext`.
-mod accept;
-mod bodies;
-mod builder;
+//! # Threads
+//!
+//! All calls may be made from several threads at once. They wait for the database by runtimes of
+//! their own, and so panic on a thread on which a runtime of tokio runs: call them from
+//! `spawn_blocking` there.
 mod cache;
-mod changes;
+mod definition;
 mod error;
-mod fill;
-mod filling;
-#[cfg(any(feature = "postgres", feature = "sqlite"))]
-mod guard;
-mod lost;
-mod mark;
+mod held;
+mod key;
+mod loader;
+mod locks;
 mod memory;
-mod one_row;
-mod origin;
-mod outcome;
-mod pinned;
-#[cfg(feature = "postgres")]
-mod postgres;
-#[cfg(feature = "postgres")]
-pub mod reader;
-mod reads;
-mod repair;
-mod replacing;
-mod spans;
-#[cfg(feature = "sqlite")]
-mod sqlite;
+mod row;
+mod session;
+mod sql;
 mod statistics;
-mod steps;
-mod store_filling;
-#[cfg(any(feature = "postgres", feature = "sqlite"))]
 mod table;
-mod transact;
-mod turns;
-mod version;
-mod work;
-mod writing;
+mod worth;
 
-pub use builder::Builder;
-pub use cache::Cache;
-pub use changes::Changes;
-pub use error::{CacheError, OtherKey};
-pub use filling::{BadFillingNumber, EarlierServer, FillingNumber};
-pub use mark::LAST_KEY;
-pub use memory::{MemoryOrigin, MemoryTransaction};
-pub use origin::{
-    Change, CommitError, Filling, Needed, Origin, OriginError, OriginIdentity, Replacement, Stored,
-    Transaction,
-};
-#[cfg(feature = "postgres")]
-pub use postgres::{PostgresFilling, PostgresOrigin, PostgresRow, PostgresTransaction};
-pub use reads::Row;
-#[cfg(feature = "sqlite")]
-pub use sqlite::{SqliteFilling, SqliteOrigin, SqliteRow, SqliteTransaction};
+pub use cache::{Cache, CacheBuilder};
+pub use error::ReadError;
+pub use key::{Key, KeyValue};
+pub use row::{Column, Row};
 pub use statistics::Statistics;
-#[doc(hidden)]
-pub use steps::Step;
-pub use store_filling::StoreFilling;
-#[cfg(any(feature = "postgres", feature = "sqlite"))]
-pub use table::{Table, TableFault};
-pub use version::Version;
-pub use work::Work;
+pub use table::Table;
 
-/// Where a table of PostgreSQL is.
-#[cfg(feature = "postgres")]
+/// Where a database is.
 pub use krl_postgres::{BadPostgresAddress, PostgresAddress};
-/// The types of a [`SqliteRow`].
-#[cfg(feature = "sqlite")]
-pub use rusqlite;
-/// The types of a [`PostgresRow`].
-#[cfg(feature = "postgres")]
+/// What a column is converted by.
 pub use tokio_postgres;

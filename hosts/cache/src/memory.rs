@@ -1,270 +1,272 @@
-//! A table in memory, for tests.
-use crate::filling::FillingNumber;
-use crate::origin::{
-    Change, CommitError, Filling, OF_ANOTHER_FILLING, Origin, OriginError, OriginIdentity, Stored,
-    Transaction, filled_meanwhile,
-};
-use crate::version::Version;
-use std::collections::{BTreeMap, BTreeSet};
-use std::fmt;
-use std::sync::{Arc, Condvar, Mutex, MutexGuard, PoisonError};
-use std::time::Duration;
+//! The rows that a process keeps of a table, by their stripes.
+use crate::held::{Held, may_return};
+use crate::key::{Key, Stripe};
+use crate::row::Row;
+use crate::statistics::Counter;
+use crate::worth::Worth;
+use ahash::RandomState;
+use std::collections::HashMap;
+use std::sync::atomic::{AtomicBool, AtomicUsize, Ordering};
+use std::sync::{Arc, PoisonError, RwLock, RwLockReadGuard, RwLockWriteGuard};
 
-/// How long a transaction waits for its locks.
-const TIMEOUT: Duration = Duration::from_secs(30);
+/// About how many bytes a key takes besides its rows.
+const OVERHEAD: usize = 128;
 
-/// A table in memory with locks of keys, for tests of applications. Its clones are the same table.
-pub struct MemoryOrigin<B> {
-    shared: Arc<Shared<B>>,
-    /// The filling that its transactions name. Each clone has its own.
-    named: Mutex<Option<FillingNumber>>,
+/// All rows of a key: none, if the table has none.
+#[derive(Debug, Default)]
+pub(crate) struct Rows {
+    pub rows: Box<[Row]>,
+    /// Whether they were read from memory since they were kept, or since room was needed.
+    was_read: AtomicBool,
 }
 
-struct Shared<B> {
-    state: Mutex<State<B>>,
-    changed: Condvar,
-}
-
-struct State<B> {
-    rows: BTreeMap<u64, Stored<B>>,
-    locked: BTreeSet<u64>,
-    is_filling: bool,
-    /// The current filling.
-    filling: Option<FillingNumber>,
-    /// How many times all transactions were ended.
-    ended: u64,
-}
-
-/// A transaction of a table in memory.
-pub struct MemoryTransaction<B> {
-    shared: Arc<Shared<B>>,
-    locked: Locked,
-    /// The count of ended transactions when this one began.
-    ended: u64,
-    /// The filling that it names.
-    named: Option<FillingNumber>,
-    rows: Vec<Stored<B>>,
-    changes: BTreeMap<u64, Option<Stored<B>>>,
-}
-
+/// Rows by stripe and key. Those of one stripe are held by the same tenures.
 #[derive(Debug)]
-enum Locked {
-    Keys(Vec<u64>),
-    Table,
+pub(crate) struct Memory {
+    stripes: Box<[RwLock<Kept>]>,
+    /// The most bytes.
+    limit: usize,
+    bytes: AtomicUsize,
+    keys: AtomicUsize,
+    /// The stripe that is looked at next if room is needed.
+    hand: AtomicUsize,
+    pub evictions: Counter,
 }
 
-impl<B> MemoryOrigin<B> {
-    /// A table without rows.
-    #[must_use]
-    pub fn new() -> MemoryOrigin<B> {
-        let (rows, locked) = (BTreeMap::new(), BTreeSet::new());
-        let state = State { rows, locked, is_filling: false, filling: None, ended: 0 };
-        MemoryOrigin::of(Arc::new(Shared { state: Mutex::new(state), changed: Condvar::new() }))
+#[derive(Debug, Default)]
+struct Kept {
+    /// What the stripe was held by when its rows were loaded. There are none if it is `None`.
+    held: Option<Held>,
+    rows: HashMap<Key, Arc<Rows>, RandomState>,
+    worth: Worth,
+}
+
+impl Rows {
+    pub fn new(rows: Vec<Row>) -> Arc<Rows> {
+        Arc::new(Rows { rows: rows.into(), was_read: AtomicBool::new(false) })
     }
 
-    fn of(shared: Arc<Shared<B>>) -> MemoryOrigin<B> {
-        MemoryOrigin { shared, named: Mutex::default() }
-    }
-
-    fn named(&self) -> MutexGuard<'_, Option<FillingNumber>> {
-        self.named.lock().unwrap_or_else(PoisonError::into_inner)
-    }
-
-    /// Changes a row as a program does that knows nothing of the cache. The row keeps its version
-    /// if it has one.
-    pub fn put_without_the_cache(&self, key: u64, body: B) {
-        let mut state = self.shared.state();
-        let version = state.rows.get(&key).map_or_else(Version::fresh, |row| row.version);
-        state.rows.insert(key, Stored { key, version, body: Arc::new(body) });
-    }
-
-    /// The committed body of a key, whatever any cache has.
-    #[must_use]
-    pub fn committed(&self, key: u64) -> Option<Arc<B>> {
-        self.shared.state().rows.get(&key).map(|stored| Arc::clone(&stored.body))
-    }
-
-    /// Ends all transactions, as a database does that crashes and starts again: what is not
-    /// committed is rolled back.
-    pub fn end_all_transactions(&self) {
-        let mut state = self.shared.state();
-        state.ended += 1;
-        state.locked.clear();
-        state.is_filling = false;
-        drop(state);
-        self.shared.changed.notify_all();
-    }
-
-    fn begin_when(
-        &self,
-        locked: Locked,
-        is_free: impl Fn(&State<B>) -> bool,
-    ) -> Result<MemoryTransaction<B>, OriginError> {
-        let state = self.shared.state();
-        let waited =
-            self.shared.changed.wait_timeout_while(state, TIMEOUT, |state| !is_free(state));
-        let (mut state, _) = waited.unwrap_or_else(PoisonError::into_inner);
-        if !is_free(&state) {
-            return Err(OriginError::new("a lock was not granted in time"));
+    /// Notes that they were read from memory.
+    pub fn note_read(&self) {
+        if !self.was_read.load(Ordering::Relaxed) {
+            self.was_read.store(true, Ordering::Relaxed);
         }
-        let mut rows = Vec::new();
-        match &locked {
-            Locked::Keys(keys) => {
-                state.locked.extend(keys);
-                rows.extend(keys.iter().filter_map(|key| state.rows.get(key).cloned()));
-            }
-            Locked::Table => state.is_filling = true,
-        }
-        let (shared, ended, named) = (Arc::clone(&self.shared), state.ended, *self.named());
-        Ok(MemoryTransaction { shared, locked, ended, named, rows, changes: BTreeMap::new() })
+    }
+
+    fn size(&self, key: &Key) -> usize {
+        OVERHEAD + key.size() + self.rows.iter().map(Row::size).sum::<usize>()
     }
 }
 
-impl<B> Shared<B> {
-    fn state(&self) -> MutexGuard<'_, State<B>> {
-        self.state.lock().unwrap_or_else(PoisonError::into_inner)
-    }
-}
-
-impl<B: Send + Sync + 'static> Origin for MemoryOrigin<B> {
-    type Body = B;
-    type Transaction<'o> = MemoryTransaction<B>;
-    type Filling<'o> = MemoryTransaction<B>;
-
-    fn identity(&self) -> Result<OriginIdentity, OriginError> {
-        OriginIdentity::new("memory").ok_or_else(|| OriginError::new("the identity is too long"))
+impl Memory {
+    /// Memory for a table of so many stripes.
+    pub fn new(stripes: u32, limit: usize) -> Memory {
+        let stripes = (0..stripes).map(|_| RwLock::default()).collect();
+        let (bytes, keys, hand) = <(AtomicUsize, AtomicUsize, AtomicUsize)>::default();
+        Memory { stripes, limit, bytes, keys, hand, evictions: Counter::default() }
     }
 
-    fn filling(&self) -> Result<Option<FillingNumber>, OriginError> {
-        Ok(self.shared.state().filling)
+    /// The rows of the key if they are here, and what they were held by when they were loaded.
+    pub fn find(&self, stripe: Stripe, key: &Key) -> Option<(Held, Arc<Rows>)> {
+        let kept = self.read(stripe);
+        Some((kept.held?, Arc::clone(kept.rows.get(key)?)))
     }
 
-    fn name_filling(&self, filling: FillingNumber) {
-        *self.named() = Some(filling);
-    }
-
-    fn load(&self, keys: &[u64]) -> Result<Vec<Stored<B>>, OriginError> {
-        let state = self.shared.state();
-        Ok(keys.iter().filter_map(|key| state.rows.get(key).cloned()).collect())
-    }
-
-    fn begin(&self, keys: &[u64]) -> Result<MemoryTransaction<B>, OriginError> {
-        self.begin_when(Locked::Keys(keys.to_vec()), |state| {
-            !state.is_filling && !keys.iter().any(|key| state.locked.contains(key))
-        })
-    }
-
-    /// It calls `meanwhile` first: a database may grant its locks long after that.
-    fn begin_while(
-        &self,
-        keys: &[u64],
-        meanwhile: impl FnOnce(),
-    ) -> Result<MemoryTransaction<B>, OriginError> {
-        meanwhile();
-        self.begin(keys)
-    }
-
-    fn begin_filling(&self) -> Result<MemoryTransaction<B>, OriginError> {
-        self.begin_when(Locked::Table, |state| !state.is_filling && state.locked.is_empty())
-    }
-}
-
-impl<B> Transaction for MemoryTransaction<B> {
-    type Body = B;
-
-    fn rows(&self) -> &[Stored<B>] {
-        &self.rows
-    }
-
-    fn apply(&mut self, version: Version, changes: &[(u64, Change<B>)]) -> Result<(), OriginError> {
-        if self.shared.state().filling != self.named {
-            return Err(OriginError::new(OF_ANOTHER_FILLING));
+    /// Keeps the rows of a key, which were loaded while the stripe was held by this. What was kept
+    /// of the stripe by something else is dropped.
+    pub fn keep(&self, stripe: Stripe, held: Held, key: Key, rows: Arc<Rows>) {
+        let mut kept = self.write(stripe);
+        self.take_lost(&mut kept, Some(held));
+        kept.held = Some(held);
+        self.bytes.fetch_add(rows.size(&key), Ordering::Relaxed);
+        self.keys.fetch_add(1, Ordering::Relaxed);
+        if let Some((key, older)) = kept.rows.remove_entry(&key) {
+            self.note_dropped(&key, &older);
         }
-        for (key, change) in changes {
-            let stored = |body: &Arc<B>| Stored { key: *key, version, body: Arc::clone(body) };
-            let stored = match change {
-                Change::Insert(body) | Change::Update(body) => Some(stored(body)),
-                Change::Delete => None,
-            };
-            self.changes.insert(*key, stored);
-        }
-        Ok(())
+        kept.rows.insert(key, rows);
+        drop(kept);
+        self.make_room();
     }
 
-    fn commit(mut self) -> Result<(), CommitError> {
-        let changes = std::mem::take(&mut self.changes);
-        let mut state = self.shared.state();
-        if state.ended != self.ended {
-            return Err(CommitError::Unknown(OriginError::new("it has started again")));
+    /// Notes that the rows of a key were not here, or may no longer be returned as the stripe is
+    /// held by `now`. Returns the keys that are to be loaded for that: none if the stripe is not
+    /// worth being held, otherwise the key, and those that were read before the stripe was lost.
+    pub fn note_miss(&self, stripe: Stripe, now: Option<Held>, key: &Key) -> Vec<Key> {
+        let mut kept = self.write(stripe);
+        let mut keys = self.take_lost(&mut kept, now);
+        if !kept.worth.note_miss() {
+            return Vec::new();
         }
-        for (key, stored) in changes {
-            match stored {
-                Some(stored) => _ = state.rows.insert(key, stored),
-                None => _ = state.rows.remove(&key),
+        if !keys.contains(key) {
+            keys.push(key.clone());
+        }
+        keys
+    }
+
+    /// Drops the rows of a stripe if they may no longer be returned as it is held by `now`. Returns
+    /// the keys of those that were read.
+    pub fn note_loss(&self, stripe: Stripe, now: Option<Held>) -> Vec<Key> {
+        self.take_lost(&mut self.write(stripe), now)
+    }
+
+    fn take_lost(&self, kept: &mut Kept, now: Option<Held>) -> Vec<Key> {
+        if kept.held.is_none_or(|held| may_return(held, now)) {
+            return Vec::new();
+        }
+        kept.held = None;
+        let mut read = Vec::new();
+        for (key, rows) in kept.rows.drain() {
+            self.note_dropped(&key, &rows);
+            if rows.was_read.load(Ordering::Relaxed) {
+                read.push(key);
             }
         }
-        Ok(())
-    }
-}
-
-impl<B> Filling for MemoryTransaction<B> {
-    fn versions(&mut self) -> Result<Vec<(u64, Version)>, OriginError> {
-        Ok(self.shared.state().rows.values().map(|row| (row.key, row.version)).collect())
+        kept.worth.note_loss(!read.is_empty());
+        read
     }
 
-    fn make_current(
-        self,
-        from: Option<FillingNumber>,
-        to: FillingNumber,
-    ) -> Result<(), OriginError> {
-        let mut state = self.shared.state();
-        if state.ended != self.ended {
-            return Err(OriginError::new("it has started again"));
-        }
-        if state.filling != from {
-            return Err(filled_meanwhile());
-        }
-        state.filling = Some(to);
-        Ok(())
-    }
-}
-
-impl<B> Drop for MemoryTransaction<B> {
-    fn drop(&mut self) {
-        let mut state = self.shared.state();
-        // The locks of a transaction that was ended are others' by now.
-        if state.ended == self.ended {
-            match &self.locked {
-                Locked::Keys(keys) => keys.iter().for_each(|key| _ = state.locked.remove(key)),
-                Locked::Table => state.is_filling = false,
+    /// Drops rows that were not read lately, until the others fit. Stripes are looked at in turn: at
+    /// the first look, rows that were read since the last one stay.
+    fn make_room(&self) {
+        for _ in 0..2 * self.stripes.len() {
+            if self.fits() {
+                return;
             }
+            let place = self.hand.fetch_add(1, Ordering::Relaxed) % self.stripes.len();
+            let mut kept = self.stripes[place].write().unwrap_or_else(PoisonError::into_inner);
+            kept.rows.retain(|key, rows| {
+                let stays = self.fits() || rows.was_read.swap(false, Ordering::Relaxed);
+                if !stays {
+                    self.note_dropped(key, rows);
+                    self.evictions.add(1);
+                }
+                stays
+            });
         }
-        drop(state);
-        self.shared.changed.notify_all();
+    }
+
+    fn note_dropped(&self, key: &Key, rows: &Rows) {
+        self.bytes.fetch_sub(rows.size(key), Ordering::Relaxed);
+        self.keys.fetch_sub(1, Ordering::Relaxed);
+    }
+
+    fn fits(&self) -> bool {
+        self.bytes() <= self.limit
+    }
+
+    /// About how many bytes are used.
+    pub fn bytes(&self) -> usize {
+        self.bytes.load(Ordering::Relaxed)
+    }
+
+    /// Of how many keys there are rows, or is known that there are none.
+    pub fn keys(&self) -> usize {
+        self.keys.load(Ordering::Relaxed)
+    }
+
+    fn read(&self, stripe: Stripe) -> RwLockReadGuard<'_, Kept> {
+        self.stripes[stripe.0 as usize].read().unwrap_or_else(PoisonError::into_inner)
+    }
+
+    fn write(&self, stripe: Stripe) -> RwLockWriteGuard<'_, Kept> {
+        self.stripes[stripe.0 as usize].write().unwrap_or_else(PoisonError::into_inner)
     }
 }
 
-impl<B> Clone for MemoryOrigin<B> {
-    fn clone(&self) -> MemoryOrigin<B> {
-        MemoryOrigin::of(Arc::clone(&self.shared))
-    }
-}
+#[cfg(test)]
+mod tests {
+    use super::*;
+    use crate::held::MarkTenures;
+    use crate::row::tests::row;
 
-impl<B> Default for MemoryOrigin<B> {
-    fn default() -> MemoryOrigin<B> {
-        MemoryOrigin::new()
-    }
-}
+    const MARKS: MarkTenures = MarkTenures { cluster: 1, table: 2 };
+    const HELD: Held = Held { definition: 1, marks: MARKS, stripe: 3 };
+    const LATER: Held = Held { stripe: 4, ..HELD };
+    const STRIPE: Stripe = Stripe(3);
 
-impl<B> fmt::Debug for MemoryOrigin<B> {
-    fn fmt(&self, f: &mut fmt::Formatter<'_>) -> fmt::Result {
-        let count = self.shared.state().rows.len();
-        f.debug_struct("MemoryOrigin").field("rows", &count).finish_non_exhaustive()
+    /// Rows of about a thousand bytes.
+    fn rows() -> Arc<Rows> {
+        Rows::new(vec![row(&"x".repeat(800), Some(1))])
     }
-}
 
-impl<B> fmt::Debug for MemoryTransaction<B> {
-    fn fmt(&self, f: &mut fmt::Formatter<'_>) -> fmt::Result {
-        f.debug_struct("MemoryTransaction").field("locked", &self.locked).finish_non_exhaustive()
+    fn keep(memory: &Memory, stripe: Stripe, held: Held, key: i64) {
+        memory.keep(stripe, held, key.into(), rows());
+    }
+
+    fn read(memory: &Memory, stripe: Stripe, key: i64) -> Option<Held> {
+        let (held, rows) = memory.find(stripe, &key.into())?;
+        rows.note_read();
+        Some(held)
+    }
+
+    #[test]
+    fn what_is_kept_is_found_with_what_it_was_held_by() {
+        let memory = Memory::new(16, 1 << 20);
+        keep(&memory, STRIPE, HELD, 3);
+        memory.keep(STRIPE, HELD, 19.into(), Rows::new(Vec::new()));
+        let (held, found) = memory.find(STRIPE, &3.into()).unwrap();
+        assert_eq!((held, found.rows.len()), (HELD, 1));
+        assert_eq!(memory.find(STRIPE, &19.into()).unwrap().1.rows.len(), 0, "there is no row");
+        assert!(memory.find(STRIPE, &35.into()).is_none());
+        assert_eq!(memory.keys(), 2);
+        keep(&memory, STRIPE, HELD, 3);
+        assert_eq!(memory.keys(), 2);
+    }
+
+    #[test]
+    fn what_was_held_by_something_else_is_dropped() {
+        let memory = Memory::new(16, 1 << 20);
+        keep(&memory, STRIPE, HELD, 3);
+        keep(&memory, STRIPE, LATER, 19);
+        assert_eq!(read(&memory, STRIPE, 3), None);
+        assert_eq!(read(&memory, STRIPE, 19), Some(LATER));
+        assert_eq!(memory.keys(), 1);
+        assert_eq!(memory.note_loss(STRIPE, Some(LATER)), []);
+        assert_eq!(memory.note_loss(STRIPE, None), [19.into()]);
+        assert_eq!((memory.keys(), memory.bytes()), (0, 0));
+    }
+
+    #[test]
+    fn a_miss_loads_what_was_read_before_the_loss() {
+        let memory = Memory::new(16, 1 << 20);
+        for key in [3, 19, 35] {
+            keep(&memory, STRIPE, HELD, key);
+        }
+        read(&memory, STRIPE, 19);
+        read(&memory, STRIPE, 35);
+        let mut keys = memory.note_miss(STRIPE, Some(LATER), &35.into());
+        keys.sort_by_key(ToString::to_string);
+        assert_eq!(keys, [19.into(), 35.into()]);
+        assert_eq!(memory.note_miss(STRIPE, Some(LATER), &3.into()), [3.into()]);
+    }
+
+    #[test]
+    fn what_is_lost_unread_is_not_loaded_at_each_miss() {
+        let memory = Memory::new(16, 1 << 20);
+        let miss = || memory.note_miss(STRIPE, None, &3.into()).len();
+        assert_eq!(miss(), 1);
+        keep(&memory, STRIPE, HELD, 3);
+        assert_eq!([miss(), miss()], [0, 1], "it was lost unread");
+        keep(&memory, STRIPE, HELD, 3);
+        read(&memory, STRIPE, 3);
+        assert_eq!([miss(), miss()], [1, 1], "it was read");
+    }
+
+    #[test]
+    fn the_limit_is_kept_and_what_is_read_stays() {
+        let memory = Memory::new(16, 64 << 10);
+        for key in 0..1000 {
+            keep(&memory, Stripe(u32::try_from(key % 16).unwrap()), HELD, key);
+            assert_eq!(read(&memory, Stripe(0), 0), Some(HELD), "at {key}");
+        }
+        assert!(memory.bytes() <= 64 << 10 && memory.keys() > 40, "{} keys", memory.keys());
+        assert_eq!(memory.evictions.get(), 1000 - memory.keys() as u64);
+    }
+
+    #[test]
+    fn a_row_that_is_larger_than_the_limit_is_not_kept() {
+        let memory = Memory::new(16, 100);
+        keep(&memory, STRIPE, HELD, 3);
+        assert_eq!((memory.keys(), memory.bytes()), (0, 0));
     }
 }

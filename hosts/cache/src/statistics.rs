@@ -1,16 +1,17 @@
-//! What a cache counts.
+//! What a table counts.
+use crate::definition::Loaded;
 use std::sync::atomic::{AtomicU64, Ordering};
 
 #[derive(Debug, Default)]
 pub(crate) struct Counters {
-    pub reads: Counter,
-    pub asked: Counter,
+    pub hits: Counter,
+    pub misses: Counter,
     pub loads: Counter,
-    pub loaded: Counter,
-    pub repairs: Counter,
-    pub repaired: Counter,
-    pub writes: Counter,
-    pub failed_writes: Counter,
+    pub kept: Counter,
+    pub unkept: Counter,
+    pub away: Counter,
+    /// Those of earlier definitions.
+    pub evictions: Counter,
 }
 
 #[derive(Debug, Default)]
@@ -26,29 +27,41 @@ impl Counter {
     }
 }
 
-/// What a cache has done since it was opened. The numbers are read one after another, so they may
-/// be of different moments.
+impl Counters {
+    /// Notes a question for rows that are to be kept, and which of them were.
+    pub fn note_load(&self, loaded: &[Loaded]) {
+        let kept = loaded.iter().filter(|(_, held)| held.is_some()).count();
+        self.loads.add(1);
+        self.kept.add(kept);
+        self.unkept.add(loaded.len() - kept);
+    }
+}
+
+/// What was done for a table since it was opened. The numbers are read one after another, so they
+/// may be of different moments.
 #[derive(Clone, Copy, Debug, Default, PartialEq, Eq)]
 #[non_exhaustive]
 pub struct Statistics {
-    /// Reads that were answered.
-    pub reads: u64,
-    /// Scans of krl's rows that needed a message to krl's server. All others needed none.
-    pub asked: u64,
-    /// Queries to the database for bodies.
+    /// Keys that were answered from memory.
+    pub hits: u64,
+    /// Keys that were answered by the database.
+    pub misses: u64,
+    /// Questions to the database for rows that are to be kept.
     pub loads: u64,
-    /// Keys that these queries asked for.
-    pub loaded: u64,
-    /// Keys of which krl and the database disagreed, so that somebody had to look.
-    pub repairs: u64,
-    /// Those of them whose row in krl this cache changed.
-    pub repaired: u64,
-    /// Transactions that succeeded.
-    pub writes: u64,
-    /// Transactions that failed.
-    pub failed_writes: u64,
-    /// Bodies in memory now.
-    pub bodies: u64,
+    /// Keys whose rows were kept.
+    pub kept: u64,
+    /// Keys whose rows were not kept: a transaction was about to change them, or others had taken
+    /// them back.
+    pub unkept: u64,
+    /// Keys that were answered by the database while krl or the extension was away: they are among
+    /// the misses. [`Cache::fault`] reports why.
+    ///
+    /// [`Cache::fault`]: crate::Cache::fault
+    pub away: u64,
+    /// Keys whose rows were dropped as there was no room for them.
+    pub evictions: u64,
+    /// Keys whose rows are in memory now; of some of them it is known that there are none.
+    pub keys: u64,
     /// About how many bytes they take.
     pub bytes: u64,
 }

@@ -1,351 +1,331 @@
-//! The names of a table and of its columns, and what a table may lack.
-use crate::mark::LAST_KEY;
-use crate::origin::OriginError;
-use crate::version::Version;
+//! The calls by which a table is read.
+use crate::cache::Shared;
+use crate::definition::{Definition, Holding, Wanted};
+use crate::error::ReadError;
+use crate::held::{self, Held, Missing};
+use crate::key::Key;
+use crate::loader::Errand;
+use crate::memory::Rows;
+use crate::row::Row;
+use crate::sql::Selection;
+use crate::statistics::{Counters, Statistics};
 use std::fmt;
+use std::ops::{Bound, RangeBounds, RangeInclusive};
+use std::sync::mpsc::SyncSender;
+use std::sync::{Arc, PoisonError, RwLock};
 
-/// A table that is cached: its name, and the names of two of its columns.
-///
-/// The key is a number from 0 to 2^63 - 4: in PostgreSQL a `bigint`, in SQLite an `INTEGER`. It is
-/// the primary key, or another column that is unique by itself. A table whose primary key is no
-/// number gets a further column that numbers the rows, and the application finds a row's number by
-/// a query.
-#[derive(Clone, Debug, PartialEq, Eq)]
+/// A range of more keys is always read from the database.
+const MOST_KEYS: usize = 4096;
+
+/// A table that is read from memory. Its clones share the memory, and threads share them.
+#[derive(Clone)]
 pub struct Table {
-    schema: Option<String>,
-    name: String,
-    key: String,
-    version: String,
+    inner: Arc<Inner>,
+    errands: SyncSender<Errand>,
 }
+
+pub(crate) struct Inner {
+    /// As the program names it.
+    name: String,
+    pub shared: Arc<Shared>,
+    definition: RwLock<Arc<Definition>>,
+    pub counters: Counters,
+}
+
+/// Rows in memory, and what they were held by when they were loaded.
+type Found = Option<(Held, Arc<Rows>)>;
 
 impl Table {
-    /// The table of this name, as `item` or `shop.item`, whose key is `id` and whose version
-    /// `krl_version`. The names are taken as they are, with capital letters.
-    #[must_use]
-    pub fn new(name: &str) -> Table {
-        let (schema, name) = match name.split_once('.') {
-            Some((schema, name)) => (Some(schema.to_string()), name),
-            None => (None, name),
+    pub(crate) fn open(
+        shared: Arc<Shared>,
+        errands: SyncSender<Errand>,
+        name: &str,
+    ) -> Result<Table, ReadError> {
+        let definition = find(&shared, name, || None)?;
+        let (name, definition) = (name.to_string(), RwLock::new(Arc::new(definition)));
+        let inner = Inner { name, shared, definition, counters: Counters::default() };
+        Ok(Table { inner: Arc::new(inner), errands })
+    }
+
+    /// The row of a key, if there is one.
+    ///
+    /// # Errors
+    ///
+    /// [`ReadError::Key`] if it is not a key of this table; [`ReadError::SeveralRows`];
+    /// [`ReadError::Database`].
+    pub fn get(&self, key: impl Into<Key>) -> Result<Option<Row>, ReadError> {
+        Ok(self.get_many([key])?.pop().flatten())
+    }
+
+    /// The row of each key, if there is one, in the order of the keys. They are the rows of one
+    /// moment of the call.
+    ///
+    /// # Errors
+    ///
+    /// Those of [`Table::get`].
+    pub fn get_many<K: Into<Key>>(
+        &self,
+        keys: impl IntoIterator<Item = K>,
+    ) -> Result<Vec<Option<Row>>, ReadError> {
+        let keys: Vec<Key> = keys.into_iter().map(Into::into).collect();
+        let row = |(rows, key): (Arc<Rows>, &Key)| match &rows.rows[..] {
+            [] => Ok(None),
+            [row] => Ok(Some(row.clone())),
+            _ => Err(ReadError::SeveralRows(key.clone())),
         };
-        let (key, version) = ("id".to_string(), "krl_version".to_string());
-        Table { schema, name: name.to_string(), key, version }
+        self.read(&keys, None)?.into_iter().zip(&keys).map(row).collect()
     }
 
-    /// The same with another name of the key.
+    /// All rows of a key, for a table whose key columns are not unique, in no particular order.
+    ///
+    /// # Errors
+    ///
+    /// [`ReadError::Key`], [`ReadError::Database`].
+    pub fn rows(&self, key: impl Into<Key>) -> Result<Vec<Row>, ReadError> {
+        Ok(flat(&self.read(&[key.into()], None)?))
+    }
+
+    /// The rows of a range of keys, in the order of the keys, of a table whose key is one integer.
+    /// They are the rows of one moment of the call. A range of more than 4,096 keys is always read
+    /// from the database.
+    ///
+    /// # Errors
+    ///
+    /// [`ReadError::Key`] if the key of the table is not one integer; [`ReadError::Database`].
+    pub fn range(&self, keys: impl RangeBounds<i64>) -> Result<Vec<Row>, ReadError> {
+        let definition = self.inner.definition();
+        if !definition.stripes.by_remainder {
+            let table = &definition.sql.table;
+            return Err(ReadError::Key(format!("the key of {table} is not one integer")));
+        }
+        let Some(range) = inclusive(&keys) else { return Ok(Vec::new()) };
+        let keys = range.clone().take(MOST_KEYS + 1).map(Key::from);
+        let keys: Vec<Key> = keys.collect();
+        if keys.len() <= MOST_KEYS {
+            return Ok(flat(&self.read(&keys, Some(&range))?));
+        }
+        let selection = Selection::Range(range);
+        let ask = |definition: &Definition| self.inner.select(definition, &selection);
+        let rows = self.inner.with_definition(ask)?;
+        self.inner.counters.misses.add(rows.len());
+        Ok(rows.into_iter().map(|(_, row)| row).collect())
+    }
+
+    /// What was done since the table was opened.
     #[must_use]
-    pub fn key(self, name: &str) -> Table {
-        Table { key: name.to_string(), ..self }
-    }
-
-    /// The same with another name of the column that has the version.
-    #[must_use]
-    pub fn version(self, name: &str) -> Table {
-        Table { version: name.to_string(), ..self }
-    }
-
-    /// The table's name in a statement.
-    pub(crate) fn quoted(&self) -> String {
-        self.in_schema(&self.name)
-    }
-
-    /// The table's name without its schema, as the catalog has it.
-    #[cfg(feature = "sqlite")]
-    pub(crate) fn name(&self) -> &str {
-        &self.name
-    }
-
-    /// The name of the trigger that guards the table from this kind of change.
-    #[cfg(feature = "sqlite")]
-    pub(crate) fn trigger(&self, kind: &str) -> String {
-        format!("{}_krl_guard_{}", self.name, kind.to_lowercase())
-    }
-
-    /// The table's name as an operator writes it.
-    pub(crate) fn shown(&self) -> String {
-        let schema = self.schema.as_ref().map(|schema| format!("{schema}."));
-        schema.unwrap_or_default() + &self.name
-    }
-
-    /// The function that guards the table, with its arguments.
-    #[cfg(feature = "postgres")]
-    pub(crate) fn guard(&self) -> String {
-        format!("{}()", self.quoted_guard())
-    }
-
-    /// The name of the function that guards the table, in a statement.
-    #[cfg(feature = "postgres")]
-    pub(crate) fn quoted_guard(&self) -> String {
-        self.in_schema(&format!("{}_krl_guard", self.name))
-    }
-
-    /// The name of the table that has the current filling, in a statement.
-    #[cfg(feature = "postgres")]
-    pub(crate) fn quoted_fillings(&self) -> String {
-        self.in_schema(&self.fillings_name())
-    }
-
-    /// The same without its schema.
-    #[cfg(feature = "postgres")]
-    pub(crate) fn fillings_name(&self) -> String {
-        format!("{}_krl_filling", self.name)
-    }
-
-    pub(crate) fn quoted_key(&self) -> String {
-        quoted(&self.key)
-    }
-
-    pub(crate) fn quoted_version(&self) -> String {
-        quoted(&self.version)
-    }
-
-    /// The names of the key and the version, as the catalog has them.
-    pub(crate) fn column_names(&self) -> (&str, &str) {
-        (&self.key, &self.version)
-    }
-
-    fn in_schema(&self, name: &str) -> String {
-        match &self.schema {
-            Some(schema) => format!("{}.{}", quoted(schema), quoted(name)),
-            None => quoted(name),
+    pub fn statistics(&self) -> Statistics {
+        let (counters, definition) = (&self.inner.counters, self.inner.definition());
+        Statistics {
+            hits: counters.hits.get(),
+            misses: counters.misses.get(),
+            loads: counters.loads.get(),
+            kept: counters.kept.get(),
+            unkept: counters.unkept.get(),
+            away: counters.away.get(),
+            evictions: counters.evictions.get() + definition.memory.evictions.get(),
+            keys: definition.memory.keys() as u64,
+            bytes: definition.memory.bytes() as u64,
         }
     }
+
+    /// The rows of these keys, which are those of the range if it is given. All of them are of one
+    /// moment.
+    fn read(
+        &self,
+        keys: &[Key],
+        range: Option<&RangeInclusive<i64>>,
+    ) -> Result<Vec<Arc<Rows>>, ReadError> {
+        self.inner.with_definition(|definition| {
+            let wanted = keys.iter().map(|key| definition.locate(key));
+            let wanted: Vec<Wanted<'_>> = wanted.collect::<Result<_, _>>()?;
+            Read { table: self, definition, wanted, range }.rows()
+        })
+    }
 }
 
-/// Why a table cannot be cached as it is.
-#[derive(Clone, Debug, PartialEq, Eq)]
-#[non_exhaustive]
-pub enum TableFault {
-    /// There is no such table.
-    NoTable,
-    /// It is a view, a partitioned table or a partition, or takes part in inheritance.
-    NotOrdinary,
-    /// There is no column of this name, which is that of the key.
-    NoKey(String),
-    /// The key has a type that cannot be cached.
-    KeyType {
-        /// The column of the key.
-        key: String,
-        /// Its type.
-        found: String,
-        /// The type that it has to have.
-        expected: &'static str,
-        /// What gives it that type.
-        remedy: String,
-    },
-    /// The key is not unique by itself.
-    KeyNotUnique {
-        /// The column of the key.
-        key: String,
-        /// What makes it unique.
-        remedy: String,
-    },
-    /// Some rows have a key that cannot be cached.
-    BadKeys {
-        /// The least one of them.
-        least: String,
-        /// How many there are.
-        count: i64,
-    },
-    /// The table that has the number of the current filling is missing, or has other columns.
-    Fillings(String),
-    /// The column of the version is missing, has another type, or may be null.
-    Version(String),
-    /// This trigger is missing, or is not always enabled.
-    Trigger(String),
-    /// The guard, which is what the triggers do, has another revision than that of this build of
-    /// krl-cache. The revision changes only when what the guard does changes.
-    GuardRevision {
-        /// The revision of the table's guard, or `None` if it has none: a build made it before guards
-        /// had revisions, or it is not krl-cache's.
-        found: Option<u32>,
-        /// The revision of this build.
-        expected: u32,
-    },
-    /// The guard has the revision of this build and does something else: it was changed by hand, or
-    /// made for other columns than these.
-    GuardStatements {
-        /// The column of the key, as this program names it.
-        key: String,
-        /// The column of the version, as this program names it.
-        version: String,
-    },
-    /// So many rows have a version that has not 16 bytes.
-    BadVersions(i64),
-    /// By this setting of the database, a crash may take back what was committed.
-    Setting(String),
-    /// The database is a replica.
-    Replica,
-    /// A role of an application lacks a right on the table.
-    Right {
-        /// The role.
-        role: String,
-        /// The right, as `SELECT ON item`; or `BYPASSRLS`, if a policy of row security may hide rows.
-        right: String,
-    },
+/// A read of some keys.
+struct Read<'r> {
+    table: &'r Table,
+    definition: &'r Definition,
+    wanted: Vec<Wanted<'r>>,
+    range: Option<&'r RangeInclusive<i64>>,
 }
 
-impl fmt::Display for TableFault {
-    fn fmt(&self, f: &mut fmt::Formatter<'_>) -> fmt::Result {
-        match self {
-            TableFault::NoTable => f.write_str("there is no such table"),
-            TableFault::NotOrdinary => f.write_str(
-                "it is not an ordinary table: views, partitions and inheritance cannot be cached",
-            ),
-            TableFault::NoKey(key) => write!(
-                f,
-                "there is no column \"{key}\" to be the key: name the column of the key by --key \
-                 (in a program by Table::key)"
-            ),
-            TableFault::KeyType { key, found, expected, remedy } => {
-                write!(f, "the key \"{key}\" is {found}, and has to be {expected}: {remedy}")
-            }
-            TableFault::KeyNotUnique { key, remedy } => {
-                write!(f, "the key \"{key}\" is not unique by itself: {remedy}")
-            }
-            TableFault::BadKeys { least, count } => {
-                bad_key(least).fmt(f)?;
-                if *count > 1 { write!(f, " ({count} rows have such keys)") } else { Ok(()) }
-            }
-            TableFault::Version(name) => {
-                write!(f, "the column {name} is missing, or not as the migration makes it")
-            }
-            TableFault::Fillings(name) => {
-                write!(f, "the table {name} is missing, or not as the migration makes it")
-            }
-            TableFault::Trigger(name) => {
-                write!(
-                    f,
-                    "the trigger {name} is missing, disabled, or not as the migration makes it"
-                )
-            }
-            TableFault::GuardRevision { found, expected } => match found {
-                Some(found) if found > expected => {
-                    newer_guard(&found.to_string(), *expected).fmt(f)
-                }
-                Some(found) => write!(
-                    f,
-                    "the guard has revision {found}, and this build of krl-cache needs revision \
-                     {expected}: stop the programs of the earlier build, and prepare the table \
-                     again"
-                ),
-                None => write!(
-                    f,
-                    "the guard has no revision, and this build of krl-cache needs revision \
-                     {expected}: prepare the table again"
-                ),
-            },
-            TableFault::GuardStatements { key, version } => write!(
-                f,
-                "the guard was changed by hand, or was not made for the key \"{key}\" and the \
-                 version \"{version}\""
-            ),
-            TableFault::BadVersions(count) => {
-                write!(f, "{count} rows have a version that has not 16 bytes: draw new ones")
-            }
-            TableFault::Setting(name) => write!(
-                f,
-                "the setting {name} of the database lets a crash take back what was committed"
-            ),
-            TableFault::Replica => {
-                f.write_str("the database is a replica: name the primary, which takes writes")
-            }
-            TableFault::Right { role, right } => {
-                write!(f, "the role {role} lacks the right {right}")
-            }
+impl Read<'_> {
+    /// From memory, if it has all rows. Otherwise the database selects those that are missing, if
+    /// all of them are held, or all rows.
+    fn rows(&self) -> Result<Vec<Arc<Rows>>, ReadError> {
+        let find = |wanted: &Wanted<'_>| self.definition.memory.find(wanted.stripe, wanted.key);
+        let found = || self.wanted.iter().map(find).collect();
+        let (found, missing) = held::find(found, || self.held());
+        if missing.places.is_empty() {
+            return Ok(self.hits(found));
         }
-    }
-}
-
-impl TableFault {
-    /// Whether the rows cannot be read because of it.
-    pub(crate) fn hides_rows(&self) -> bool {
-        matches!(
-            self,
-            TableFault::NoTable
-                | TableFault::NotOrdinary
-                | TableFault::NoKey(_)
-                | TableFault::KeyType { .. }
-                | TableFault::KeyNotUnique { .. }
-                | TableFault::Version(_)
-        )
+        if missing.places.iter().any(|place| missing.held[*place].is_none()) {
+            self.report(&missing);
+        } else if let Some(rows) = self.load(found, &missing)? {
+            return Ok(rows);
+        }
+        let selection = self.selection();
+        let inner = &self.table.inner;
+        let rows = inner.select(self.definition, &selection)?;
+        inner.counters.misses.add(self.wanted.len());
+        if inner.shared.is_away() {
+            inner.counters.away.add(self.wanted.len());
+        }
+        Ok(selection.by_key(rows))
     }
 
-    /// Whether `set_up` or the migration mends some of these faults.
-    #[must_use]
-    pub fn are_mended_by_migration(faults: &[TableFault]) -> bool {
-        let is_mended = |fault: &TableFault| {
-            matches!(
-                fault,
-                TableFault::Version(_)
-                    | TableFault::Trigger(_)
-                    | TableFault::GuardRevision { .. }
-                    | TableFault::GuardStatements { .. }
-                    | TableFault::Fillings(_)
-            )
+    /// Loads the rows that are missing and held. Returns all rows, if they are of one moment then.
+    fn load(
+        &self,
+        mut found: Vec<Found>,
+        missing: &Missing,
+    ) -> Result<Option<Vec<Arc<Rows>>>, ReadError> {
+        let (inner, places) = (&self.table.inner, &missing.places);
+        let part: Vec<Wanted<'_>> = places.iter().map(|place| self.wanted[*place]).collect();
+        let is_all = part.len() == self.wanted.len();
+        let selection = if is_all { self.selection() } else { of_keys(&part) };
+        let loaded = inner.shared.ask(|it| self.definition.load(it, &part, &selection))?;
+        inner.counters.note_load(&loaded);
+        if is_all {
+            inner.counters.misses.add(part.len());
+            return Ok(Some(loaded.into_iter().map(|(rows, _)| rows).collect()));
+        }
+        for (place, (rows, held)) in places.iter().zip(loaded) {
+            found[*place] = held.map(|held| (held, rows));
+        }
+        let (found, missing) = held::find(|| found, || self.held());
+        if !missing.places.is_empty() {
+            return Ok(None);
+        }
+        inner.counters.misses.add(part.len());
+        inner.counters.hits.add(found.len() - part.len());
+        Ok(Some(found.into_iter().flatten().map(|(_, rows)| rows).collect()))
+    }
+
+    /// All rows, which are read from memory.
+    fn hits(&self, found: Vec<Found>) -> Vec<Arc<Rows>> {
+        self.table.inner.counters.hits.add(found.len());
+        let hit = |(_, rows): (Held, Arc<Rows>)| {
+            rows.note_read();
+            rows
         };
-        faults.iter().any(is_mended) && !faults.iter().any(TableFault::prevents_set_up)
+        found.into_iter().flatten().map(hit).collect()
     }
 
-    /// Whether the table cannot be prepared because of it: `set_up` and the migration change nothing.
-    #[must_use]
-    pub fn prevents_set_up(&self) -> bool {
-        if let TableFault::GuardRevision { found, expected } = self {
-            return found.is_some_and(|found| found > *expected);
+    /// By what each key is held now.
+    fn held(&self) -> Vec<Option<Held>> {
+        let look = self.definition.look();
+        let held = |wanted: &Wanted<'_>| look.and_then(|look| look.held(wanted.stripe));
+        self.wanted.iter().map(held).collect()
+    }
+
+    /// Reports to the loader what is to be loaded from now on. It learns nothing if it is late.
+    fn report(&self, missing: &Missing) {
+        let keys = missing.places.iter().flat_map(|&place| {
+            let Wanted { key, stripe } = self.wanted[place];
+            self.definition.memory.note_miss(stripe, missing.held[place], key)
+        });
+        let keys: Vec<Key> = keys.collect();
+        if !keys.is_empty() {
+            let table = Arc::clone(&self.table.inner);
+            let _ = self.table.errands.try_send(Errand::Load { table, keys });
         }
-        matches!(
-            self,
-            TableFault::NoTable
-                | TableFault::NotOrdinary
-                | TableFault::NoKey(_)
-                | TableFault::KeyType { .. }
-                | TableFault::KeyNotUnique { .. }
-                | TableFault::BadKeys { .. }
-                | TableFault::Replica
-        )
+    }
+
+    /// All rows.
+    fn selection(&self) -> Selection<'_> {
+        match self.range {
+            Some(range) => Selection::Range(range.clone()),
+            None => of_keys(&self.wanted),
+        }
     }
 }
 
-/// Faults of a table as one reason, with what to do.
-pub(crate) fn reason(table: &Table, faults: &[TableFault]) -> OriginError {
-    let shown: Vec<String> = faults.iter().map(TableFault::to_string).collect();
-    let remedy = if TableFault::are_mended_by_migration(faults) {
-        "; krl-cache migration (for SQLite set-up) adds what is missing"
-    } else {
-        ""
+impl Inner {
+    pub fn definition(&self) -> Arc<Definition> {
+        Arc::clone(&self.definition.read().unwrap_or_else(PoisonError::into_inner))
+    }
+
+    /// Finds the definition again. `hold` returns what rows are kept by, which is held before that.
+    pub fn find(&self, hold: impl Fn() -> Option<Holding>) -> Result<Definition, ReadError> {
+        find(&self.shared, &self.name, hold)
+    }
+
+    /// From now on the table is read by this definition.
+    pub fn set(&self, found: Definition) -> Arc<Definition> {
+        let found = Arc::new(found);
+        let mut definition = self.definition.write().unwrap_or_else(PoisonError::into_inner);
+        let evictions = definition.memory.evictions.get();
+        self.counters.evictions.add(usize::try_from(evictions).unwrap_or(usize::MAX));
+        *definition = Arc::clone(&found);
+        found
+    }
+
+    /// Asks by the definition, and once again if it is another one by now.
+    fn with_definition<T>(
+        &self,
+        ask: impl Fn(&Definition) -> Result<T, ReadError>,
+    ) -> Result<T, ReadError> {
+        let definition = self.definition();
+        let failed = match ask(&definition) {
+            Err(failed @ ReadError::Database(_)) => failed,
+            asked => return asked,
+        };
+        match self.find(|| None) {
+            Ok(found) if found.sql != definition.sql => ask(&self.set(found)),
+            _ => Err(failed),
+        }
+    }
+
+    fn select(
+        &self,
+        definition: &Definition,
+        selection: &Selection<'_>,
+    ) -> Result<Vec<(i64, Row)>, ReadError> {
+        self.shared.ask(|session| session.select(&definition.sql, selection))
+    }
+}
+
+fn find(
+    shared: &Shared,
+    name: &str,
+    hold: impl Fn() -> Option<Holding>,
+) -> Result<Definition, ReadError> {
+    shared.ask(|session| {
+        let (number, holding) = (shared.next_definition(), hold());
+        Definition::find(session, name, number, shared.memory, holding)
+    })
+}
+
+fn of_keys<'k>(wanted: &[Wanted<'k>]) -> Selection<'k> {
+    Selection::Keys(wanted.iter().map(|wanted| wanted.key).collect())
+}
+
+fn flat(rows: &[Arc<Rows>]) -> Vec<Row> {
+    rows.iter().flat_map(|rows| rows.rows.iter().cloned()).collect()
+}
+
+/// The first key of a range and the last one, if it has any.
+fn inclusive(keys: &impl RangeBounds<i64>) -> Option<RangeInclusive<i64>> {
+    let first = match keys.start_bound() {
+        Bound::Included(key) => *key,
+        Bound::Excluded(key) => key.checked_add(1)?,
+        Bound::Unbounded => i64::MIN,
     };
-    OriginError::new(format!("{}: {}{remedy}", table.shown(), shown.join("; ")))
+    let last = match keys.end_bound() {
+        Bound::Included(key) => *key,
+        Bound::Excluded(key) => key.checked_sub(1)?,
+        Bound::Unbounded => i64::MAX,
+    };
+    (first <= last).then_some(first..=last)
 }
 
-/// Why a table whose guard has this revision is not prepared by a build of this other one.
-pub(crate) fn newer_guard(found: &str, expected: u32) -> String {
-    format!(
-        "the guard has revision {found}, and this build of krl-cache knows revision {expected}: use \
-         the build that has made the guard, or a later one"
-    )
-}
-
-/// Why a row with this key cannot be cached.
-fn bad_key(key: &str) -> String {
-    format!("the key {key} can't be cached: a key has to be from 0 to {LAST_KEY}")
-}
-
-/// The key of a row as the database has it, and its version.
-pub(crate) fn checked(key: i64, version: &[u8]) -> Result<(u64, Version), OriginError> {
-    let number = u64::try_from(key).ok().filter(|key| *key <= LAST_KEY);
-    let number = number.ok_or_else(|| OriginError::new(bad_key(&key.to_string())))?;
-    let version = Version::from_bytes(version).ok_or_else(|| {
-        OriginError::new(format!(
-            "the row of key {key} has a version of {} bytes: a version has 16 bytes, which \
-             krl-cache draws",
-            version.len()
-        ))
-    })?;
-    Ok((number, version))
-}
-
-/// A name as it stands in a statement.
-pub(crate) fn quoted(name: &str) -> String {
-    format!("\"{}\"", name.replace('"', "\"\""))
+impl fmt::Debug for Table {
+    fn fmt(&self, f: &mut fmt::Formatter<'_>) -> fmt::Result {
+        f.debug_struct("Table").field("name", &self.inner.name).finish_non_exhaustive()
+    }
 }
 
 #[cfg(test)]
@@ -353,28 +333,13 @@ mod tests {
     use super::*;
 
     #[test]
-    fn a_row_is_cached_by_a_key_of_the_range_and_sixteen_bytes() {
-        let version = Version::fresh();
-        for key in [0, 15, LAST_KEY] {
-            let checked = checked(key.cast_signed(), version.as_bytes());
-            assert_eq!(checked.unwrap(), (key, version));
-        }
-        for key in [-3, LAST_KEY.cast_signed() + 1, i64::MAX] {
-            let refused = checked(key, version.as_bytes()).unwrap_err().to_string();
-            let expected = format!("the key {key} can't be cached: a key has to be from 0 to");
-            assert!(refused.contains(&expected), "{refused}");
-        }
-        let refused = checked(15, b"short").unwrap_err().to_string();
-        assert!(refused.contains("the row of key 15 has a version of 5 bytes"), "{refused}");
-    }
-
-    #[test]
-    fn names_are_quoted() {
-        let table = Table::new("shop.item").key("the \"key\"");
-        assert_eq!(table.quoted(), "\"shop\".\"item\"");
-        #[cfg(feature = "postgres")]
-        assert_eq!(table.quoted_guard(), "\"shop\".\"item_krl_guard\"");
-        assert_eq!(table.quoted_key(), "\"the \"\"key\"\"\"");
-        assert_eq!(Table::new("item").quoted(), "\"item\"");
+    fn a_range_has_a_first_and_a_last_key() {
+        assert_eq!(inclusive(&(3..5)), Some(3..=4));
+        assert_eq!(inclusive(&..), Some(i64::MIN..=i64::MAX));
+        assert_eq!(inclusive(&(3..=3)), Some(3..=3));
+        let (greater, smaller) = (5, 4);
+        assert_eq!(inclusive(&(greater..smaller)), None);
+        assert_eq!(inclusive(&(3..3)), None);
+        assert_eq!(inclusive(&(..i64::MIN)), None);
     }
 }

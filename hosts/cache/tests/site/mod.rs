@@ -1,202 +1,183 @@
-//! A server of krl, a table in memory, and caches of it.
+//! A database, a server of krl, and what stands for the extension: functions in SQL, and a client of
+//! krl that takes back what the test says.
 #![allow(dead_code, reason = "each test uses a part of it")]
-mod relay;
-pub mod wrapped;
-
-use krl::{Client, Leases, MemoryStore, Server, ServerBuilder};
-use krl_cache::{Builder, Cache, CacheError, MemoryOrigin, Origin, Step};
-use relay::Relay;
-use std::net::{SocketAddr, TcpListener};
+use krl::{Client, MemoryStore, Outcome, Server, Value};
+use krl_cache::{Cache, Row, Table};
+use krl_testing::database::{Database, Sql};
+use std::net::TcpListener;
+use std::ops::Range;
 use std::path::PathBuf;
-use std::sync::Arc;
-use std::sync::atomic::{AtomicBool, AtomicU32, Ordering};
+use std::sync::atomic::{AtomicU32, Ordering};
 use std::thread;
 use std::time::{Duration, Instant};
 
 /// No wait of a test is longer.
 pub const LONG: Duration = Duration::from_secs(60);
 
-/// Long enough that a busy machine seldom stands still for it, and short enough to wait for.
-const LEASE: Duration = Duration::from_secs(2);
+/// The mark of all tables.
+pub const CLUSTER_MARK: u64 = 1 << 40;
+
+/// The mark of the table `item`, which its stripes follow.
+pub const ITEM_MARK: u64 = 99;
+
+/// The keys of krl of all tables.
+const KEYS: Range<u64> = ITEM_MARK..300;
+
+/// The functions and the table by which readers know the extension. A key of `krl.notices` is not
+/// quiet, and with 0 nothing is; `touches` is a statement that the question makes. The user has the
+/// name of the schema, in which tables would be made.
+const EXTENSION: &str = "
+    ALTER DATABASE postgres SET search_path = public;
+    SET search_path = public;
+    CREATE SCHEMA krl;
+    CREATE TABLE krl.cached (relation regclass, key_columns name[], mark integer,
+        stripes integer, by_remainder boolean);
+    CREATE TABLE krl.state (servers text, nonce bigint, touches text);
+    CREATE TABLE krl.notices (key bigint);
+    CREATE FUNCTION krl.servers() RETURNS text LANGUAGE sql AS $$ SELECT servers FROM krl.state $$;
+    CREATE FUNCTION krl.quiet(nonce bigint, kept regclass, mark integer, asked integer[])
+        RETURNS boolean LANGUAGE plpgsql AS $$
+    DECLARE
+        state krl.state := (SELECT s FROM krl.state AS s);
+    BEGIN
+        IF state.touches IS NOT NULL THEN
+            EXECUTE state.touches;
+        END IF;
+        RETURN state.nonce = nonce
+            AND EXISTS (SELECT FROM krl.cached WHERE relation = kept AND cached.mark = quiet.mark)
+            AND NOT EXISTS (SELECT FROM krl.notices WHERE key IN (0, quiet.mark))
+            AND NOT EXISTS (SELECT FROM krl.notices WHERE key - quiet.mark - 1 = ANY (asked));
+    END $$;";
+
+/// The table `item`, of sixteen stripes.
+const ITEM: &str = "
+    CREATE TABLE item (id integer PRIMARY KEY, name text NOT NULL, price bigint);
+    INSERT INTO item SELECT id, 'item ' || id, 10 * id FROM generate_series(0, 39) AS id;
+    INSERT INTO krl.cached VALUES ('item', '{id}', 99, 16, true);";
 
 static COUNT: AtomicU32 = AtomicU32::new(0);
 
-pub type Rows = Cache<MemoryOrigin<String>>;
-
-/// A server of krl.
-pub struct Krl {
-    server: Server,
+/// All that a reader needs.
+pub struct Site {
+    pub database: Database,
+    pub sql: Sql,
+    pub server: Server,
+    /// What the extension is to krl.
+    worker: Client,
     folder: PathBuf,
 }
 
-impl Krl {
-    /// One whose leases do not end: no process of a test stands still for too long.
-    pub fn start() -> Krl {
-        Krl::start_with(|server| server)
-    }
-
-    /// One with leases that end.
-    pub fn leased() -> Krl {
-        Krl::start_with(|server| server.leases(Leases::of(LEASE).unwrap()))
-    }
-
-    fn start_with(
-        with: impl FnOnce(ServerBuilder<MemoryStore>) -> ServerBuilder<MemoryStore>,
-    ) -> Krl {
+impl Site {
+    /// A site with the table `item`, or none without PostgreSQL.
+    pub fn start() -> Option<Site> {
+        let database = Database::start()?;
+        let sql = database.connect();
         let count = COUNT.fetch_add(1, Ordering::Relaxed);
-        let folder = std::env::temp_dir().join(format!("krl-cache-{}-{count}", std::process::id()));
+        let folder = format!("krl-reader-{}-{count}", std::process::id());
+        let folder = std::env::temp_dir().join(folder);
         std::fs::create_dir_all(&folder).unwrap();
         let listener = TcpListener::bind("127.0.0.1:0").unwrap();
-        let server = with(Server::builder(listener, MemoryStore::default())).start().unwrap();
-        Krl { server, folder }
+        let server = Server::start(listener, MemoryStore::default()).unwrap();
+        let builder = Client::builder(server.address(), 60, folder.join("worker.lock"));
+        let worker = builder.timeout(LONG).join().unwrap();
+        create_extension(&sql, &worker, &server.address().to_string());
+        Some(Site { database, sql, server, worker, folder })
     }
 
-    /// A cache of this number, from 0 to 31.
-    pub fn cache_of<O: Origin>(&self, table: O, number: u8) -> Builder<O> {
-        self.cache_at(&self.server.address().to_string(), table, number)
+    /// A cache of the database.
+    pub fn cache(&self) -> Cache {
+        self.cache_of(64 << 20)
     }
 
-    /// A client of this number that is no cache's.
-    pub fn client(&self, number: u8) -> Client {
-        let lock_file = self.folder.join(format!("client-{number}.lock"));
-        let builder = Client::builder(self.server.address(), number, lock_file);
-        builder.timeout(LONG).join().unwrap()
+    /// One that keeps so many bytes.
+    pub fn cache_of(&self, memory: usize) -> Cache {
+        let builder = Cache::builder(self.database.address(), self.folder.join("locks"));
+        builder.memory(memory).timeout(LONG).open().unwrap()
     }
 
-    fn cache_at<O: Origin>(&self, server: &str, table: O, number: u8) -> Builder<O> {
-        let server: krl::Address = server.parse().unwrap();
-        let join = |number: u8| {
-            let lock_file = self.folder.join(format!("client-{number}.lock"));
-            let builder = Client::builder(server.clone(), number, lock_file);
-            builder.timeout(LONG).join().unwrap()
-        };
-        let (reader, writer) = (join(2 * number), join(2 * number + 1));
-        Cache::builder(reader, writer, table).timeout(LONG)
+    /// Changes rows of what these keys of krl guard, as a transaction does next to the extension.
+    pub fn write(&self, keys: Range<u64>, statement: &str) {
+        let Range { start, end } = keys;
+        self.sql.run(&format!(
+            "INSERT INTO krl.notices SELECT * FROM generate_series({start}, {})",
+            end - 1
+        ));
+        self.take_back(start..end);
+        self.sql.run(&format!("{statement}; DELETE FROM krl.notices"));
+    }
+
+    /// Takes keys of krl back from all readers.
+    pub fn take_back(&self, keys: Range<u64>) {
+        self.worker.forget(keys.clone()).unwrap();
+        drop(self.worker.pin_for_write(keys).unwrap());
+    }
+
+    /// Changes a definition as a transaction does next to the extension, or starts it: each time
+    /// with another nonce.
+    pub fn define(&self, nonce: i64, statement: &str) {
+        define(&self.sql, &self.worker, nonce, statement);
     }
 }
 
-impl Drop for Krl {
+/// Makes what stands for the extension, whose worker is this client of krl.
+pub fn create_extension(sql: &Sql, worker: &Client, servers: &str) {
+    sql.run(EXTENSION);
+    sql.run(ITEM);
+    sql.run(&format!("INSERT INTO krl.state VALUES ('{servers}', 0)"));
+    for key in KEYS {
+        assert_eq!(worker.insert(key, Value::default()).unwrap(), Outcome::Applied);
+    }
+    define(sql, worker, 1, "");
+}
+
+fn define(sql: &Sql, worker: &Client, nonce: i64, statement: &str) {
+    sql.run("INSERT INTO krl.notices VALUES (0)");
+    let value = Value::try_from(&nonce.to_ne_bytes()).unwrap();
+    assert_eq!(worker.set(CLUSTER_MARK, value).unwrap(), Outcome::Applied);
+    sql.run(&format!("{statement}; UPDATE krl.state SET nonce = {nonce}; DELETE FROM krl.notices"));
+}
+
+impl Drop for Site {
     fn drop(&mut self) {
         let _ = std::fs::remove_dir_all(&self.folder);
     }
 }
 
-/// A server of krl, and a table in memory.
-pub struct Site {
-    krl: Krl,
-    pub table: MemoryOrigin<String>,
+/// The keys of krl of stripes of the table `item`.
+pub fn keys_of_item(stripes: Range<u64>) -> Range<u64> {
+    ITEM_MARK + 1 + stripes.start..ITEM_MARK + 1 + stripes.end
 }
 
-impl Site {
-    pub fn new() -> Site {
-        Site::over(Krl::start())
-    }
-
-    pub fn leased() -> Site {
-        Site::over(Krl::leased())
-    }
-
-    fn over(krl: Krl) -> Site {
-        let site = Site { krl, table: MemoryOrigin::new() };
-        site.fill();
-        site
-    }
-
-    pub fn unfilled() -> Site {
-        Site { krl: Krl::start(), table: MemoryOrigin::new() }
-    }
-
-    pub fn fill(&self) {
-        self.builder(31).fill_and_open(|_, _| ()).unwrap().close().unwrap();
-    }
-
-    pub fn builder(&self, number: u8) -> Builder<MemoryOrigin<String>> {
-        self.krl.cache_of(self.table.clone(), number)
-    }
-
-    /// Waits until the writer of the cache of this number holds nothing.
-    pub fn wait_until_writer_holds_nothing(&self, number: u8) {
-        let (end, monitor) = (Instant::now() + LONG, self.krl.server.monitor());
-        loop {
-            let held = monitor.locks(.., 10_000).unwrap().held;
-            let held: Vec<_> = held.iter().filter(|slot| slot.client == 2 * number + 1).collect();
-            if held.is_empty() {
-                return;
-            }
-            assert!(Instant::now() < end, "the writer still holds {held:?}");
-            thread::sleep(Duration::from_millis(1));
-        }
-    }
-
-    /// A cache of another table on the same server.
-    pub fn builder_of<O: Origin>(&self, table: O, number: u8) -> Builder<O> {
-        self.krl.cache_of(table, number)
-    }
-
-    pub fn cache(&self, number: u8) -> Rows {
-        self.builder(number).open().unwrap()
-    }
-
-    /// A cache of a process that can be cut off from krl's server.
-    pub fn apart(&self, number: u8) -> (Builder<MemoryOrigin<String>>, Relay) {
-        let server: SocketAddr = self.krl.server.address().to_string().parse().unwrap();
-        let relay = Relay::start(server);
-        let at = relay.address().to_string();
-        (self.krl.cache_at(&at, self.table.clone(), number), relay)
-    }
-
-    /// A cache, and a write of it whose thread ends after this step.
-    pub fn dead_writer(&self, at: Step, work: impl FnOnce(&Rows) + Send) -> Rows {
-        ends_after(self.builder(15), at, work)
-    }
-}
-
-/// Opens a cache, and begins a write of it whose thread ends after this step. Its pins and its
-/// transaction go.
-pub fn ends_after<O: Origin>(
-    builder: Builder<O>,
-    at: Step,
-    work: impl FnOnce(&Cache<O>) + Send,
-) -> Cache<O> {
-    let is_over = Arc::new(AtomicBool::new(false));
-    let over = Arc::clone(&is_over);
-    let builder = builder.on_step(move |step| {
-        if step == at && !over.swap(true, Ordering::SeqCst) {
-            // Without the message of a panic.
-            std::panic::resume_unwind(Box::new("the writer ends here"));
-        }
-    });
-    let cache = builder.open().unwrap();
-    let ended = thread::scope(|scope| scope.spawn(|| work(&cache)).join());
-    assert!(ended.is_err() && is_over.load(Ordering::SeqCst), "{at:?}");
-    cache
-}
-
-/// Tries until it succeeds: on a busy machine a lease that ends may do so within a write, which
-/// then fails.
-pub fn persist<T>(mut what: impl FnMut() -> Result<T, CacheError>) -> T {
+/// Reads again and again until it is answered from memory only, and returns that answer.
+pub fn from_memory<T>(table: &Table, mut read: impl FnMut(&Table) -> T) -> T {
     let end = Instant::now() + LONG;
     loop {
-        match what() {
-            Ok(done) => return done,
-            Err(CacheError::Krl(_) | CacheError::TimedOut) if Instant::now() < end => {}
-            Err(error) => panic!("{error}"),
+        let before = table.statistics();
+        let answer = read(table);
+        let after = table.statistics();
+        if after.hits > before.hits && after.misses == before.misses {
+            return answer;
         }
+        assert!(Instant::now() < end, "it is never read from memory: {after:?}");
+        thread::sleep(Duration::from_millis(1));
     }
 }
 
-/// The text of a key.
-pub fn text(cache: &Rows, key: u64) -> Option<String> {
-    persist(|| cache.get(key)).map(|row| row.body.to_string())
+/// Waits until the statistics of a table are as they should be.
+pub fn wait_until(what: &str, is_so: impl Fn() -> bool) {
+    let end = Instant::now() + LONG;
+    while !is_so() {
+        assert!(Instant::now() < end, "{what}");
+        thread::sleep(Duration::from_millis(1));
+    }
 }
 
-/// The keys of a range, with their texts.
-pub fn texts(cache: &Rows, keys: std::ops::Range<u64>) -> Vec<(u64, String)> {
-    let rows = persist(|| cache.range(keys.clone()));
-    rows.iter().map(|row| (row.key, row.body.to_string())).collect()
+/// The name of an item.
+pub fn name(row: &Row) -> String {
+    row.get("name").unwrap()
 }
 
-/// What should be read.
-pub fn expected<const N: usize>(rows: [(u64, &str); N]) -> Vec<(u64, String)> {
-    rows.map(|(key, text)| (key, text.to_string())).to_vec()
+/// The name of the item of this key, if there is one.
+pub fn name_of(table: &Table, key: i32) -> Option<String> {
+    table.get(key).unwrap().as_ref().map(name)
 }

@@ -1,0 +1,225 @@
+//! How a table is read: by which statements, and by which stripes.
+use crate::error::ReadError;
+use crate::held::{self, Held, MarkTenures};
+use crate::key::{Key, KeyValue, Stripe, Stripes};
+use crate::locks::{Locks, Marks};
+use crate::memory::{Memory, Rows};
+use crate::session::{Quiet, Session};
+use crate::sql::{KeyType, Selection, TableSql};
+use std::num::NonZeroU32;
+use std::sync::Arc;
+
+/// The encodings in which a text has the same bytes in the database as in a program.
+const ENCODINGS: [&str; 2] = ["UTF8", "SQL_ASCII"];
+
+/// Finds how a table is cached.
+const CACHED: &str = "
+    SELECT format('%I.%I', nspname, relname), mark, stripes, by_remainder,
+        current_setting('server_encoding'),
+        (SELECT array_agg(quote_ident(attname) ORDER BY attnum) FROM pg_attribute
+            WHERE attrelid = relation AND attnum > 0 AND NOT attisdropped),
+        (SELECT array_agg(quote_ident(attname) ORDER BY place) FROM
+            unnest(key_columns) WITH ORDINALITY AS part (attname, place)),
+        (SELECT array_agg(atttypid ORDER BY place) FROM
+            unnest(key_columns) WITH ORDINALITY AS part (attname, place)
+            JOIN pg_attribute USING (attname) WHERE attrelid = relation AND NOT attisdropped)
+    FROM krl.cached JOIN pg_class ON pg_class.oid = relation
+        JOIN pg_namespace ON pg_namespace.oid = relnamespace
+    WHERE relation = $1::text::regclass";
+
+/// Reports whether nobody is about to change the definition of a table.
+const QUIET_DEFINITION: &str = "SELECT krl.quiet($1, $2::text::regclass, $3, '{}')";
+
+/// A table as it was defined at a moment. It is found again if one of its marks was lost since: each
+/// change of a definition takes one. The rows in memory are of one definition.
+#[derive(Debug)]
+pub(crate) struct Definition {
+    pub number: u64,
+    pub sql: TableSql,
+    pub stripes: Stripes,
+    pub memory: Memory,
+    holding: Option<Holding>,
+}
+
+/// What a process that joined krl held when it found a definition.
+#[derive(Debug)]
+pub(crate) struct Holding {
+    pub locks: Arc<Locks>,
+    pub marks: Marks,
+}
+
+/// A key of the table.
+#[derive(Clone, Copy, Debug)]
+pub(crate) struct Wanted<'k> {
+    pub key: &'k Key,
+    pub stripe: Stripe,
+}
+
+/// A moment at which the marks have been held without a break since the definition was found.
+#[derive(Clone, Copy)]
+pub(crate) struct Look<'d> {
+    definition: &'d Definition,
+    locks: &'d Locks,
+    marks: MarkTenures,
+}
+
+/// Rows that were loaded, and what they are held by if they were kept.
+pub(crate) type Loaded = (Arc<Rows>, Option<Held>);
+
+impl Definition {
+    /// Finds the definition of the table of this name. Rows are kept by what is held, unless a
+    /// transaction is about to change the definition: then it has to be found again.
+    pub fn find(
+        session: &mut Session,
+        name: &str,
+        number: u64,
+        memory: usize,
+        holding: Option<Holding>,
+    ) -> Result<Definition, ReadError> {
+        let (mut sql, mut stripes) = read(session, name)?;
+        let mut held = None;
+        if let Some(holding) = holding {
+            let (nonce, mark) = (holding.marks.nonce, stripes.mark.cast_signed());
+            let asked = session.query(QUIET_DEFINITION, &[&nonce, &sql.table, &mark])?;
+            // What is read after the question shows each change that was made before it.
+            let (sql_then, stripes_then) = (sql, stripes);
+            (sql, stripes) = read(session, name)?;
+            let is_quiet = asked.first().is_some_and(|row| row.try_get(0).unwrap_or(false));
+            let is_same = sql == sql_then && stripes == stripes_then;
+            let holds_mark = holding.marks.of_table == stripes.mark;
+            held = (is_quiet && is_same && holds_mark).then_some(holding);
+        }
+        let memory = Memory::new(stripes.count.get(), memory);
+        Ok(Definition { number, sql, stripes, memory, holding: held })
+    }
+
+    /// The place of a key, if it is one of this table.
+    pub fn locate<'k>(&self, key: &'k Key) -> Result<Wanted<'k>, ReadError> {
+        let values = key.values();
+        let fits = |(value, column): (&KeyValue, &KeyType)| column.fits(value);
+        let types = &self.sql.key;
+        if values.len() != types.len() || !values.iter().zip(types).all(fits) {
+            let expected: Vec<&str> = types.iter().map(|column| column.name()).collect();
+            let (table, expected) = (&self.sql.table, expected.join(", "));
+            let why = format!("the key {key} is not one of {table}: expected {expected}");
+            return Err(ReadError::Key(why));
+        }
+        Ok(Wanted { key, stripe: self.stripes.of(key) })
+    }
+
+    /// Whether it was found while these locks held the marks, and they have held them since.
+    pub fn is_current(&self, locks: &Arc<Locks>) -> bool {
+        let holding = self.holding.as_ref();
+        holding.is_some_and(|holding| Arc::ptr_eq(&holding.locks, locks)) && self.look().is_some()
+    }
+
+    /// Whether the rows of a key are in memory, and may be returned.
+    pub fn has(&self, wanted: &Wanted<'_>) -> bool {
+        let found = self.memory.find(wanted.stripe, wanted.key);
+        let now = self.look().and_then(|look| look.held(wanted.stripe));
+        found.is_some_and(|(then, _)| held::may_return(then, now))
+    }
+
+    /// What is held now, if the marks have been held since the definition was found.
+    pub fn look(&self) -> Option<Look<'_>> {
+        let Holding { locks, marks } = self.holding.as_ref()?;
+        let now = locks.tenures_of_marks(marks.of_table)?;
+        (now == marks.tenures).then_some(Look { definition: self, locks, marks: now })
+    }
+
+    /// Loads rows, and keeps those that may be kept.
+    pub fn load(
+        &self,
+        session: &mut Session,
+        wanted: &[Wanted<'_>],
+        selection: &Selection<'_>,
+    ) -> Result<Vec<Loaded>, ReadError> {
+        let stripes: Vec<Stripe> = wanted.iter().map(|wanted| wanted.stripe).collect();
+        let nonce = self.holding.as_ref().map_or(0, |holding| holding.marks.nonce);
+        let held = self.look();
+        let held = |stripe| held.and_then(|look| look.held(stripe));
+        let (rows, kept) = held::load(&stripes, held, |asked| {
+            let quiet = Quiet { nonce, mark: self.stripes.mark, stripes: asked };
+            session.select_if_quiet(&self.sql, &quiet, selection)
+        })?;
+        let loaded = selection.by_key(rows).into_iter().zip(kept).zip(wanted);
+        let now = self.look();
+        let keep = |((rows, held), wanted): ((Arc<Rows>, _), _)| {
+            let held = self.keep(wanted, &rows, held, now);
+            (rows, held)
+        };
+        Ok(loaded.map(keep).collect())
+    }
+
+    /// Keeps rows by what they were held by, unless they were lost meanwhile.
+    fn keep(
+        &self,
+        wanted: &Wanted<'_>,
+        rows: &Arc<Rows>,
+        held: Option<Held>,
+        now: Option<Look<'_>>,
+    ) -> Option<Held> {
+        let held = held?;
+        let now = now.and_then(|look| look.held(wanted.stripe));
+        if !held::may_return(held, now) {
+            return None;
+        }
+        self.memory.keep(wanted.stripe, held, wanted.key.clone(), Arc::clone(rows));
+        Some(held)
+    }
+}
+
+impl Look<'_> {
+    /// By what a stripe is held now.
+    pub fn held(self, stripe: Stripe) -> Option<Held> {
+        let Look { definition, locks, marks } = self;
+        let stripe = locks.tenure(definition.stripes.key_of_krl(stripe))?;
+        Some(Held { definition: definition.number, marks, stripe })
+    }
+}
+
+/// Reads how the table of this name is selected, and by which stripes it is cached.
+fn read(session: &Session, name: &str) -> Result<(TableSql, Stripes), ReadError> {
+    let found = session.query(CACHED, &[&name]).map_err(without_extension)?;
+    let row = found.first().ok_or_else(|| ReadError::NotCached(name.to_string()))?;
+    let read = || -> Result<_, tokio_postgres::Error> {
+        let (mark, count): (i32, i32) = (row.try_get(1)?, row.try_get(2)?);
+        let by_remainder = row.try_get(3)?;
+        let (encoding, columns): (&str, Vec<String>) = (row.try_get(4)?, row.try_get(5)?);
+        let (key, types): (Vec<String>, Option<Vec<u32>>) = (row.try_get(6)?, row.try_get(7)?);
+        let numbers = (u32::try_from(mark).ok(), u32::try_from(count).ok());
+        Ok((row.try_get(0)?, numbers, by_remainder, encoding, columns, key, types))
+    };
+    let read = read().map_err(|error| ReadError::of_database(&error))?;
+    let (table, numbers, by_remainder, encoding, columns, key, types) = read;
+    let (Some(mark), Some(count)) = numbers else { return Err(not_as_cached(name)) };
+    let count = NonZeroU32::new(count).ok_or_else(|| not_as_cached(name))?;
+    let types = types.unwrap_or_default().into_iter().map(KeyType::of);
+    let types: Option<Vec<KeyType>> = types.collect();
+    let types = types.filter(|types| types.len() == key.len());
+    let types = types.ok_or_else(|| not_as_cached(name))?;
+    if types.contains(&KeyType::Text) && !ENCODINGS.contains(&encoding) {
+        return Err(ReadError::Key(format!(
+            "the key of {name} is a text, and the encoding of the database is {encoding}: it has \
+             to be UTF8"
+        )));
+    }
+    let stripes = Stripes { mark, count, by_remainder };
+    Ok((TableSql::new(table, &columns, &key, types), stripes))
+}
+
+/// What the database reports if it lacks the extension.
+fn without_extension(error: ReadError) -> ReadError {
+    match error {
+        ReadError::Database(why) if why.contains("\"krl.cached\" does not exist") => {
+            ReadError::NoExtension
+        }
+        error => error,
+    }
+}
+
+fn not_as_cached(table: &str) -> ReadError {
+    ReadError::Key(format!(
+        "the key of {table} has changed since it was cached: call krl.uncache and krl.cache"
+    ))
+}

@@ -1,0 +1,219 @@
+//! What PostgreSQL is asked.
+use crate::key::{Key, KeyValue};
+use crate::memory::Rows;
+use crate::row::Row;
+use std::fmt::Write;
+use std::ops::RangeInclusive;
+use std::sync::Arc;
+use tokio_postgres::types::{ToSql, Type};
+
+/// Reports which stripes are quiet. The table is found by its name: if another one has it now, that
+/// one has other stripes.
+pub(crate) const QUIET: &str = "
+    SELECT stripe, krl.quiet($1, $2::text::regclass, $3, ARRAY[stripe])
+    FROM unnest($4::integer[]) AS stripe";
+
+/// The type of a column of a key.
+#[derive(Clone, Copy, Debug, PartialEq, Eq)]
+pub(crate) enum KeyType {
+    Integer,
+    Text,
+    Uuid,
+}
+
+/// How the rows of a table are selected. Each statement has a number of type `bigint` before the
+/// columns of the table.
+#[derive(Debug, PartialEq, Eq)]
+pub(crate) struct TableSql {
+    /// The name with its schema, in quotes where it needs them.
+    pub table: String,
+    pub key: Vec<KeyType>,
+    one: String,
+    several: String,
+    range: String,
+}
+
+/// Which rows are selected.
+#[derive(Debug)]
+pub(crate) enum Selection<'k> {
+    /// Those of keys, each with the place of its key, from 1 on.
+    Keys(Vec<&'k Key>),
+    /// Those of a range, in the order of their keys.
+    Range(RangeInclusive<i64>),
+}
+
+/// The values of a statement.
+pub(crate) type Values<'k> = Vec<Box<dyn ToSql + Sync + 'k>>;
+
+impl KeyType {
+    /// The type with this number.
+    pub fn of(oid: u32) -> Option<KeyType> {
+        match Type::from_oid(oid)? {
+            Type::INT2 | Type::INT4 | Type::INT8 => Some(KeyType::Integer),
+            Type::TEXT | Type::VARCHAR => Some(KeyType::Text),
+            Type::UUID => Some(KeyType::Uuid),
+            _ => None,
+        }
+    }
+
+    pub fn name(self) -> &'static str {
+        match self {
+            KeyType::Integer => "an integer",
+            KeyType::Text => "a text",
+            KeyType::Uuid => "a UUID",
+        }
+    }
+
+    pub fn fits(self, value: &KeyValue) -> bool {
+        self == match value {
+            KeyValue::Integer(_) => KeyType::Integer,
+            KeyValue::Text(_) => KeyType::Text,
+            KeyValue::Uuid(_) => KeyType::Uuid,
+        }
+    }
+
+    /// The type as which a value is sent, and the one to which it is converted.
+    fn sent_as(self) -> (&'static str, &'static str) {
+        match self {
+            KeyType::Integer => ("bigint", "bigint"),
+            KeyType::Text => ("text", "text"),
+            KeyType::Uuid => ("text", "uuid"),
+        }
+    }
+
+    /// The values of this column of keys, as one array.
+    fn array<'k>(self, values: impl Iterator<Item = &'k KeyValue>) -> Box<dyn ToSql + Sync + 'k> {
+        match self {
+            KeyType::Integer => Box::new(values.map(integer).collect::<Vec<i64>>()),
+            KeyType::Text | KeyType::Uuid => {
+                Box::new(values.map(KeyValue::text).collect::<Vec<_>>())
+            }
+        }
+    }
+}
+
+fn integer(value: &KeyValue) -> i64 {
+    if let KeyValue::Integer(number) = value { *number } else { 0 }
+}
+
+impl TableSql {
+    /// For a table of this name with these columns, some of which are its key. All names are quoted.
+    pub fn new(table: String, columns: &[String], key: &[String], types: Vec<KeyType>) -> TableSql {
+        let columns = columns.join(", t.");
+        let (mut of_one, mut of_several) = (Vec::new(), Vec::new());
+        let (mut arrays, mut names) = (Vec::new(), String::new());
+        for (number, (column, of_type)) in (1..).zip(key.iter().zip(&types)) {
+            let (sent, to) = of_type.sent_as();
+            of_one.push(format!("t.{column} = ${number}::{sent}::{to}"));
+            of_several.push(format!("t.{column} = k.k{number}::{to}"));
+            arrays.push(format!("${number}::{sent}[]"));
+            let _ = write!(names, "k{number}, ");
+        }
+        let (of_one, of_several) = (of_one.join(" AND "), of_several.join(" AND "));
+        let (arrays, first) = (arrays.join(", "), key.first().map_or("", |column| column));
+        TableSql {
+            one: format!("SELECT 1::bigint, t.{columns} FROM {table} AS t WHERE {of_one}"),
+            several: format!(
+                "SELECT k.place, t.{columns} FROM unnest({arrays}) WITH ORDINALITY AS k ({names}place)
+                 JOIN {table} AS t ON {of_several}"
+            ),
+            range: format!(
+                "SELECT t.{first}::bigint, t.{columns} FROM {table} AS t
+                 WHERE t.{first} BETWEEN $1::bigint AND $2::bigint ORDER BY t.{first}"
+            ),
+            table,
+            key: types,
+        }
+    }
+}
+
+impl Selection<'_> {
+    /// The statement, and its values.
+    pub fn statement<'s>(&'s self, sql: &'s TableSql) -> (&'s str, Values<'s>) {
+        match self {
+            Selection::Keys(keys) => match keys[..] {
+                [key] => (&sql.one, key.values().iter().map(value).collect()),
+                _ => (&sql.several, arrays(sql, keys)),
+            },
+            Selection::Range(keys) => {
+                (&sql.range, vec![Box::new(*keys.start()), Box::new(*keys.end())])
+            }
+        }
+    }
+
+    /// What was selected, by the keys in their order.
+    pub fn by_key(&self, selected: Vec<(i64, Row)>) -> Vec<Arc<Rows>> {
+        let (first, count) = match self {
+            Selection::Keys(keys) => (1, keys.len()),
+            Selection::Range(keys) => (*keys.start(), keys.clone().count()),
+        };
+        let mut rows: Vec<Vec<Row>> = vec![Vec::new(); count];
+        for (number, row) in selected {
+            let place = number.checked_sub(first).and_then(|place| usize::try_from(place).ok());
+            if let Some(of_key) = place.and_then(|place| rows.get_mut(place)) {
+                of_key.push(row);
+            }
+        }
+        rows.into_iter().map(Rows::new).collect()
+    }
+}
+
+fn value(value: &KeyValue) -> Box<dyn ToSql + Sync + '_> {
+    match value {
+        KeyValue::Integer(number) => Box::new(*number),
+        KeyValue::Text(_) | KeyValue::Uuid(_) => Box::new(value.text()),
+    }
+}
+
+/// An array of the values of each column.
+fn arrays<'k>(sql: &TableSql, keys: &[&'k Key]) -> Values<'k> {
+    let array = |(place, of_type): (usize, &KeyType)| {
+        of_type.array(keys.iter().map(move |key| &key.values()[place]))
+    };
+    sql.key.iter().enumerate().map(array).collect()
+}
+
+#[cfg(test)]
+mod tests {
+    use super::*;
+    use crate::row::tests::row;
+
+    fn table() -> TableSql {
+        let columns = ["country", "\"the code\"", "n"].map(str::to_string);
+        let types = vec![KeyType::Text, KeyType::Uuid];
+        TableSql::new("public.place".to_string(), &columns, &columns[..2], types)
+    }
+
+    #[test]
+    fn rows_are_selected_by_the_columns_of_the_key() {
+        let (place, key) = (table(), Key::from(("at", [7; 16])));
+        let one = Selection::Keys(vec![&key]);
+        let (one, values) = one.statement(&place);
+        assert_eq!(values.len(), 2);
+        assert_eq!(
+            one,
+            "SELECT 1::bigint, t.country, t.\"the code\", t.n FROM public.place AS t \
+             WHERE t.country = $1::text::text AND t.\"the code\" = $2::text::uuid"
+        );
+        let several = Selection::Keys(vec![&key, &key]);
+        let (several, values) = several.statement(&place);
+        assert_eq!(values.len(), 2, "an array for each column");
+        assert!(
+            several.contains("unnest($1::text[], $2::text[]) WITH ORDINALITY AS k (k1, k2, place)")
+        );
+        assert!(several.ends_with("ON t.country = k.k1::text AND t.\"the code\" = k.k2::uuid"));
+    }
+
+    #[test]
+    fn what_was_selected_is_found_by_its_key() {
+        let [lamp, shade] = [row("lamp", None), row("shade", Some(3))];
+        let counts = |selection: Selection<'_>, selected| -> Vec<usize> {
+            selection.by_key(selected).iter().map(|rows| rows.rows.len()).collect()
+        };
+        let keys = [5, 6, 7].map(Key::from);
+        let selected = vec![(3, lamp.clone()), (1, shade.clone()), (3, shade.clone())];
+        assert_eq!(counts(Selection::Keys(keys.iter().collect()), selected), [1, 0, 2]);
+        let selected = vec![(i64::MAX - 1, lamp), (i64::MAX, shade)];
+        assert_eq!(counts(Selection::Range(i64::MAX - 2..=i64::MAX), selected), [0, 1, 1]);
+    }
+}
