@@ -42,6 +42,8 @@ impl Locks {
         let builder = Client::builder_with_numbers(servers, numbers, &place.lock_folder);
         let client = builder.timeout(JOIN).join()?;
         client.set_timeout(HOLD);
+        // What is worth being held is decided by stripe: see `Worth`.
+        client.keep_all();
         Ok(Locks { client })
     }
 
