@@ -71,6 +71,7 @@ begin_request(KrlRequestKind kind)
 	pg_memory_barrier();
 	request->kind = kind;
 	request->end = TimestampTzPlusMilliseconds(GetCurrentTimestamp(), krl_timeout);
+	request->again = 0;
 	request->nspans = 0;
 	return request;
 }

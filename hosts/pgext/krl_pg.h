@@ -59,8 +59,8 @@ typedef enum KrlRequestKind
  * state has three parts: its phase; its place, which is the next span, or the
  * worker that failed; and its number, which grows with each request of the
  * backend.  The backend changes any phase to FREE, and FREE to WAITS.  A worker
- * changes WAITS to RUNS, and that to WAITS for the next span, to DONE or to
- * FAILED, if the number is still the same.
+ * changes WAITS to RUNS, and that to WAITS for the next span or for the same
+ * one again, to DONE or to FAILED, if the number is still the same.
  */
 typedef enum KrlPhase
 {
@@ -80,6 +80,7 @@ typedef struct KrlRequest
 	pg_atomic_uint64 state;
 	KrlRequestKind kind;
 	TimestampTz end;			/* when the backend no longer waits for it */
+	TimestampTz again;			/* when the span is tried again for which a reader has let it wait, or 0 */
 	int			nspans;
 	KrlSpan		spans[KRL_MAX_SPANS];
 } KrlRequest;
@@ -189,8 +190,16 @@ extern void krl_await_first_worker(void);
 extern void krl_drop_request(void);
 
 /* answer.c */
+typedef enum KrlAnswered
+{
+	KRL_ANSWERED_NONE,			/* no request waits */
+	KRL_ANSWERED_ONE,
+	KRL_CLIENT_WAITS			/* the client waits for a lock, and takes no other one */
+} KrlAnswered;
+
 extern bool krl_must_end(void);
-extern bool krl_answer_one(krlc_client *client, int number);
+extern KrlAnswered krl_answer_one(krlc_client *client, int number);
+extern long krl_until_next_attempt(long most);
 extern void krl_return_request(void);
 extern uint32 krl_insert_rows(krlc_client *client, KrlSpan span, TimestampTz end,
 							  krlc_error *error);

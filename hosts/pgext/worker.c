@@ -169,6 +169,13 @@ try_to_get_ready(void)
 	return true;
 }
 
+static void
+leave(void)
+{
+	krlc_free(client);
+	client = NULL;
+}
+
 /* The cluster was suspended: it may find another store now. */
 static void
 leave_if_suspended(void)
@@ -176,8 +183,20 @@ leave_if_suspended(void)
 	if (!client || joined_in == pg_atomic_read_u32(&krl_shared->joining))
 		return;
 	be_unready("the cluster was suspended");
-	krlc_free(client);
-	client = NULL;
+	leave();
+}
+
+/* The client no longer waits for a lock after that.  Counts and the mark stay as they are. */
+static void
+leave_and_join(void)
+{
+	krlc_error	error = {0};
+
+	leave();
+	if (join(&error) && is_lease_covered(&error) && krl_store_is_own(client, my_number, &error))
+		return;
+	report_fault(error.sentence);
+	be_unready(error.sentence);
 }
 
 /* Reads the settings and the files for TLS again. */
@@ -198,6 +217,7 @@ static long
 work(void)
 {
 	krlc_error	error = {0};
+	KrlAnswered answered;
 
 	CHECK_FOR_INTERRUPTS();
 	if (ConfigReloadPending)
@@ -205,10 +225,13 @@ work(void)
 	leave_if_suspended();
 	if (!krl_is_ready(my_worker) && !try_to_get_ready())
 		return REJOIN_MS;
-	if (krl_answer_one(client, my_number))
+	answered = krl_answer_one(client, my_number);
+	if (answered == KRL_CLIENT_WAITS)
+		leave_and_join();
+	if (answered != KRL_ANSWERED_NONE)
 		return 0;
 	if (is_lease_covered(&error))
-		return IDLE_MS;
+		return krl_until_next_attempt(IDLE_MS);
 	report_fault(error.sentence);
 	be_unready(error.sentence);
 	return REJOIN_MS;

@@ -39,8 +39,28 @@ def check_one_stripe(cluster, stopped, other):
     expect("what the reader has after that", stopped.held(keys), keys[:2])
 
 
+def check_many_stripes(cluster, stopped, other):
+    """More commits of rows of the reader than there are workers occupy them only as long as nothing else is to be
+    done."""
+    stripes = range(30, 30 + 2 * WORKERS)
+    keys = cluster.keep(stopped, "item", *stripes)
+    sessions = [cluster.session() for _ in stripes]
+    session = cluster.session()
+    stopped.stop()
+    for stripe, waiting in zip(stripes, sessions):
+        waiting.send(f"UPDATE item SET n = n + 1 WHERE id = {stripe}")
+        cluster.await_commit(waiting)
+    write_others(cluster, other, session)
+    expect_waiting(cluster, sessions)
+    stopped.resume()
+    for waiting in sessions:
+        expect("a commit that has waited", waiting.result(), "")
+        waiting.end()
+    expect("what the reader has after that", stopped.held(keys), keys[:2])
+
+
 def check_late_requests(cluster, stopped, other):
-    """A worker whose client waits for a lock leaves other requests to the others, after its own has timed out too."""
+    """A worker whose request has timed out does others, though its client still waited for a lock."""
     stripes = range(30, 30 + WORKERS - 1)
     cluster.keep(stopped, "item", *stripes)
     session = cluster.session()
@@ -64,4 +84,5 @@ def check(installation):
     cluster.await_workers()
     stopped, other = cluster.reader(krl.address, 0), cluster.reader(krl.address, 1)
     check_one_stripe(cluster, stopped, other)
+    check_many_stripes(cluster, stopped, other)
     check_late_requests(cluster, stopped, other)
