@@ -17,6 +17,7 @@ pub mod cluster;
 pub mod database;
 pub mod deaf_relay;
 pub mod etcd_relay;
+pub mod header;
 pub mod ports;
 pub mod relay;
 pub mod wake_count;
