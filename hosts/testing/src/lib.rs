@@ -9,6 +9,7 @@
     reason = "a test that can't continue panics"
 )]
 pub mod authority;
+pub mod c_programs;
 #[cfg(feature = "certificates")]
 pub mod certificates;
 #[cfg(feature = "cluster")]
