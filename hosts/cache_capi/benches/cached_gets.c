@@ -1,5 +1,5 @@
-/* The time of a read from memory through C, as cached_gets.rs measures it: the middle one of the batches in nanoseconds,
- * by krlcache_get, by krlcache_cached_get, and by krlcache_get with the conversion of two columns.
+/* The time of a read from memory through C, as cached_gets.rs measures it: the middle one of the batches in
+ * nanoseconds, by krlcache_get, by krlcache_cached_get, and by krlcache_get with the conversion of two columns.
  *
  *     cached_gets DATABASE LOCK_FOLDER READS BATCHES
  */

@@ -347,17 +347,12 @@ KRLCACHE_NODISCARD uint32_t krlcache_text(const krlcache_rows *rows, size_t row,
 KRLCACHE_NODISCARD uint32_t krlcache_bytes(const krlcache_rows *rows, size_t row, size_t column, const void **value,
                                            size_t *length, krlcache_error *error);
 
-/* For bindings that convert rows by themselves. */
-
-/* All columns of a row one after another: of each an int32_t with its length, in the byte order of this machine, and
- * its bytes as `krlcache_bytes` returns them. The length of NULL is -1, and no bytes follow it. They are borrowed from
- * the rows; `length` is that of all. Null if there is no such row. */
-const void *krlcache_packed(const krlcache_rows *rows, size_t row, size_t *length);
-
-/* What distinguishes the columns of a row, their names and types, from those of others: two rows of which this is the
- * same have the same columns, as long as some handle has had one of them without a break. Null if there is no such
- * row. */
-const void *krlcache_layout(const krlcache_rows *rows, size_t row);
+/* For bindings that convert rows by themselves: all columns of a row one after another, of each an int32_t with its
+ * length, in the byte order of this machine, and its bytes as `krlcache_bytes` returns them. The length of NULL is -1,
+ * and no bytes follow it. They are borrowed from the rows, and `length` is that of all. `layout` is what distinguishes
+ * the names and types of the row's columns from those of others: two rows with the same one have the same columns, as
+ * long as some handle has had one of them without a break. Null if there is no such row. */
+const void *krlcache_packed(const krlcache_rows *rows, size_t row, size_t *length, const void **layout);
 
 #ifdef __cplusplus
 }

@@ -77,10 +77,10 @@ fn the_classes_for_cpp_with_sanitizers_of_memory() {
 
 const README: &str = include_str!("../README.md");
 
-/// Runs the lines of the page in this language, as the body of a program with these headers.
+/// Runs the lines of the README in this language, as the body of a program with these headers.
 fn run_page(site: &Site, language: &str, compiler: &str, headers: &[&str]) -> String {
     let folder = folder_of("cache-capi", &format!("page-{compiler}"));
-    let lines = blocks(README, language, 1);
+    let lines = blocks(README, language, 2);
     let lines = lines.replace("postgres://shop@127.0.0.1/shop", &site.database.address::<String>());
     let lines = lines.replace("/var/lib/shop/krl", folder.join("locks").to_str().unwrap());
     let headers: Vec<String> = headers.iter().map(|name| format!("#include <{name}>\n")).collect();
@@ -92,14 +92,23 @@ fn run_page(site: &Site, language: &str, compiler: &str, headers: &[&str]) -> St
 }
 
 #[test]
-fn the_lines_of_the_pages() {
+fn the_lines_of_the_page() {
     let Some(site) = Site::start() else { return };
-    let expected: String = (10..20).map(|key| format!("item {key}\n")).collect();
-    let printed = run_page(&site, "c", "cc", &["krl_cache.h", "err.h", "stdio.h"]);
-    assert_eq!(printed, expected);
     let prices: String = (10..20).map(|key| format!("{}\n", 10 * key)).collect();
+    let printed = run_page(&site, "c", "cc", &["krl_cache.h", "err.h", "stdio.h"]);
+    assert_eq!(printed, format!("item 15\n{prices}"));
     for compiler in compilers(&[]) {
         let printed = run_page(&site, "cpp", compiler, &["krl_cache.hpp", "iostream"]);
         assert_eq!(printed, format!("item 15\n{prices}"));
+    }
+}
+
+/// A copy of the hosts has no such page.
+#[test]
+fn the_lines_of_the_page_on_caches_are_those_of_this_one() {
+    let page = Path::new(PACKAGE).join("../../docs/CACHE.md");
+    let page = fs::read_to_string(page).unwrap_or_default();
+    for language in ["c", "cpp"] {
+        assert!(README.contains(&blocks(&page, language, 1)), "{language}");
     }
 }

@@ -138,6 +138,7 @@ impl Site {
     ///     sql STATEMENTS
     ///     write FIRST END STATEMENTS      changes rows of these keys of krl
     ///     take FIRST END                  takes them back
+    ///     define NONCE STATEMENTS         changes a definition
     ///     stop                            ends the database
     ///     start                           starts it again
     pub fn serve(&mut self, asked: impl BufRead, mut answers: impl Write) {
@@ -151,6 +152,10 @@ impl Site {
                     self.write(keys, statements);
                 }
                 "take" => self.take_back(keys_of(rest).0),
+                "define" => {
+                    let (nonce, statements) = rest.split_once(' ').expect("a nonce");
+                    self.define(nonce.parse().expect("a nonce"), statements);
+                }
                 "stop" => self.database.stop(),
                 "start" => {
                     self.database.start_again();

@@ -124,21 +124,20 @@ pub unsafe extern "C" fn krlcache_packed(
     rows: *const Rows,
     row: usize,
     length: *mut usize,
+    layout: *mut *const c_void,
 ) -> *const c_void {
     let packed = |rows: &Room| {
-        let packed = rows.row(row)?.packed();
+        let row = rows.row(row)?;
+        let packed = row.packed();
         // SAFETY: the caller vouches for the room.
-        unsafe { put_out("a length", length, packed.len()) }.ok()?;
+        unsafe {
+            put_out("a length", length, packed.len()).ok()?;
+            put_out("a layout", layout, row.columns().as_ptr().cast()).ok()?;
+        }
         Some(packed.as_ptr().cast())
     };
     // SAFETY: the caller makes no call meanwhile that fills or frees the rows.
     unsafe { look(rows, ptr::null(), packed) }
-}
-
-#[unsafe(no_mangle)]
-pub unsafe extern "C" fn krlcache_layout(rows: *const Rows, row: usize) -> *const c_void {
-    // SAFETY: the caller makes no call meanwhile that fills or frees the rows.
-    unsafe { look(rows, ptr::null(), |rows| Some(rows.row(row)?.columns().as_ptr().cast())) }
 }
 
 /// Reads a column, and puts out its value.

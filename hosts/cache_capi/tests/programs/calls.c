@@ -132,12 +132,16 @@ static void packed_rows(void) {
     krlcache_value key = integer(5);
     EXPECT(KRLCACHE_OK, krlcache_get(items, &key, 1, rows, &error));
     size_t length = 0;
-    const uint8_t *packed = krlcache_packed(rows, 0, &length);
+    const void *layout = NULL, *other = NULL;
+    const uint8_t *packed = krlcache_packed(rows, 0, &length, &layout);
     int32_t of_id = 0;
     memcpy(&of_id, packed, sizeof of_id);
     WANT(of_id == 4 && packed[7] == 5 && length == 4 + 4 + 4 + strlen("item 5") + 4 + 8);
-    const void *layout = krlcache_layout(rows, 0);
-    WANT(layout != NULL && krlcache_layout(rows, 1) == NULL && krlcache_packed(rows, 1, &length) == NULL);
+    WANT(krlcache_packed(rows, 1, &length, &other) == NULL && other == NULL);
+    read_into_memory(items, &key, 1, rows);
+    WANT(krlcache_packed(rows, 0, &length, &layout) != NULL && layout != NULL);
+    EXPECT(KRLCACHE_OK, krlcache_cached_get(items, &key, 1, rows, &error));
+    WANT(krlcache_packed(rows, 0, &length, &other) != NULL && other == layout);
 }
 
 static void errors(void) {

@@ -39,7 +39,7 @@ static void null_pointers(void) {
     krlcache_table_free(NULL);
     krlcache_rows_free(NULL);
     WANT(krlcache_rows_share(NULL) == NULL && krlcache_rows_count(NULL) == 0 && !krlcache_has_row(NULL, 0));
-    WANT(krlcache_columns(NULL, 0) == 0 && krlcache_layout(NULL, 0) == NULL);
+    WANT(krlcache_columns(NULL, 0) == 0 && krlcache_packed(NULL, 0, NULL, NULL) == NULL);
 }
 
 static void wrong_keys(void) {
@@ -66,7 +66,9 @@ static void wrong_columns(void) {
     WANT(text_at == NULL && length == 0);
     WANT(krlcache_find_column(rows, 0, NULL) == KRLCACHE_NO_COLUMN);
     WANT(krlcache_find_column(rows, 1, "id") == KRLCACHE_NO_COLUMN);
-    WANT(krlcache_column_name(rows, 0, 0, NULL) == NULL && krlcache_packed(rows, 0, NULL) == NULL);
+    WANT(krlcache_column_name(rows, 0, 0, NULL) == NULL);
+    const void *layout = NULL;
+    WANT(krlcache_packed(rows, 0, NULL, &layout) == NULL && krlcache_packed(rows, 0, &length, NULL) == NULL);
 }
 
 static void wrong_options(char **words) {
