@@ -29,8 +29,8 @@ pub struct GivenValue {
 ///
 /// `at` points to this many values, or they are too many; and the bytes of each are there.
 pub unsafe fn key(at: *const GivenValue, columns: usize) -> Result<Key, Fault> {
-    // SAFETY: the caller vouches for the values.
-    key_of(unsafe { values(at, columns) }?)
+    // SAFETY: the caller vouches for the values and their bytes.
+    unsafe { key_of(values(at, columns)?) }
 }
 
 /// So many keys of so many columns each.
@@ -42,9 +42,11 @@ pub unsafe fn keys(at: *const GivenValue, count: usize, columns: usize) -> Resul
     if count == 0 {
         return Ok(Vec::new());
     }
-    // SAFETY: the caller vouches for the values.
-    let values = unsafe { values(at, count.saturating_mul(columns)) }?;
-    values.chunks_exact(columns).map(key_of).collect()
+    // SAFETY: the caller vouches for the values and their bytes.
+    unsafe {
+        let values = values(at, count.saturating_mul(columns))?;
+        values.chunks_exact(columns).map(|values| key_of(values)).collect()
+    }
 }
 
 /// # Safety
@@ -61,24 +63,33 @@ unsafe fn values<'a>(at: *const GivenValue, count: usize) -> Result<&'a [GivenVa
     Ok(unsafe { slice::from_raw_parts(at, count) })
 }
 
-fn key_of(given: &[GivenValue]) -> Result<Key, Fault> {
+/// # Safety
+///
+/// The bytes of each value are there.
+unsafe fn key_of(given: &[GivenValue]) -> Result<Key, Fault> {
+    // SAFETY: the caller vouches for the bytes.
+    let value = |given| unsafe { value_of(given) };
     match given {
-        [value] => Ok(value_of(value)?.into()),
-        values => Ok(Key::new(values.iter().map(value_of).collect::<Result<_, _>>()?)),
+        [given] => Ok(value(given)?.into()),
+        several => Ok(Key::new(several.iter().map(value).collect::<Result<_, _>>()?)),
     }
 }
 
-fn value_of(given: &GivenValue) -> Result<KeyValue, Fault> {
+/// # Safety
+///
+/// As for `key_of`.
+unsafe fn value_of(given: &GivenValue) -> Result<KeyValue, Fault> {
+    // SAFETY: the caller vouches for the bytes.
+    let bytes = || unsafe { bytes_of(given) };
     match given.kind {
         INTEGER => Ok(given.integer.into()),
         TEXT => {
-            let text = std::str::from_utf8(bytes_of(given, given.length)?);
+            let text = std::str::from_utf8(bytes()?);
             let text = text.map_err(|_| Fault::misuse("a text of a key is not UTF-8"))?;
             Ok(text.into())
         }
         UUID => {
-            let bytes = bytes_of(given, given.length)?;
-            let bytes: [u8; 16] = bytes.try_into().map_err(|_| {
+            let bytes: [u8; 16] = bytes()?.try_into().map_err(|_| {
                 let length = given.length;
                 Fault::new(Code::BadKey, format!("a UUID has 16 bytes, and this one {length}"))
             })?;
@@ -88,16 +99,18 @@ fn value_of(given: &GivenValue) -> Result<KeyValue, Fault> {
     }
 }
 
-/// The bytes of a value.
-fn bytes_of(given: &GivenValue, length: usize) -> Result<&[u8], Fault> {
-    if length == 0 {
+/// # Safety
+///
+/// As for `key_of`.
+unsafe fn bytes_of(given: &GivenValue) -> Result<&[u8], Fault> {
+    if given.length == 0 {
         return Ok(&[]);
     }
-    if given.bytes.is_null() || length > isize::MAX.unsigned_abs() {
+    if given.bytes.is_null() || given.length > isize::MAX.unsigned_abs() {
         return Err(Fault::misuse("the pointer to a text or a UUID is null, or it is too long"));
     }
-    // SAFETY: who calls `key` vouches for this many bytes.
-    Ok(unsafe { slice::from_raw_parts(given.bytes.cast(), length) })
+    // SAFETY: the caller vouches for this many bytes.
+    Ok(unsafe { slice::from_raw_parts(given.bytes.cast(), given.length) })
 }
 
 #[cfg(test)]

@@ -94,12 +94,13 @@ fn run_page(site: &Site, language: &str, compiler: &str, headers: &[&str]) -> St
 #[test]
 fn the_lines_of_the_page() {
     let Some(site) = Site::start() else { return };
-    let prices: String = (10..20).map(|key| format!("{}\n", 10 * key)).collect();
+    let prices: Vec<String> = (10..20).map(|key| format!("{}\n", 10 * key)).collect();
+    let expected = format!("item 15\n{}", prices.concat());
     let printed = run_page(&site, "c", "cc", &["krl_cache.h", "err.h", "stdio.h"]);
-    assert_eq!(printed, format!("item 15\n{prices}"));
+    assert_eq!(printed, expected);
     for compiler in compilers(&[]) {
         let printed = run_page(&site, "cpp", compiler, &["krl_cache.hpp", "iostream"]);
-        assert_eq!(printed, format!("item 15\n{prices}"));
+        assert_eq!(printed, expected);
     }
 }
 
