@@ -1,6 +1,6 @@
 # Builds, installs and packs what a user of krl needs. It proves nothing: the proved library is the committed one.
 #
-#     make                        builds the programs in Rust, and the client for C
+#     make                        builds the programs in Rust, and the client and the cache for C
 #     make install PREFIX=/usr    puts them, the headers and the libraries there; DESTDIR stands before it
 #     make dist                   makes an archive of the same in OUT
 #     make deb                    makes a package for Debian of the same in OUT
@@ -13,13 +13,14 @@ OUT = $(CURDIR)/dist
 CARGO_FLAGS = $(shell hosts/packaging/requirements debian && echo --config debian.toml)
 CARGO = cargo
 
-# The client for C is built by itself: together with the server it would need what only the server does.
+# The libraries for C are built by themselves: together with the server they would need what only the server does.
 all:
 	hosts/packaging/library fits
 	hosts/packaging/library make $(LIBRARY)
 	cd hosts && export CARGO_TARGET_DIR=$(TARGET) && \
 	    $(CARGO) build --release $(CARGO_FLAGS) -p krl-server -p krl-client -p krl-cache-admin && \
-	    $(CARGO) build --release $(CARGO_FLAGS) -p krl-client-c --lib
+	    $(CARGO) build --release $(CARGO_FLAGS) -p krl-client-c --lib && \
+	    $(CARGO) build --release $(CARGO_FLAGS) -p krl-cache-c --lib
 
 install: all
 	LIBRARY=$(LIBRARY) PROGRAMS=$(TARGET)/release hosts/packaging/install $(DESTDIR)$(PREFIX)

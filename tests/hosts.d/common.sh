@@ -120,4 +120,5 @@ need_programs() {
 build_programs() {
     cargo_in "$top/hosts" 'the build' build --workspace --exclude krl-client-c --bins --examples
     cargo_in "$top/hosts" 'the client for C' build -p krl-client-c --lib
+    cargo_in "$top/hosts" 'the cache for C' build -p krl-cache-c --lib
 }

@@ -1,14 +1,17 @@
 # shellcheck shell=sh disable=SC2154
-# Part of tests/hosts: the client for Python over the client for C, and the conformance kit.
+# Part of tests/hosts: the client and the cache for Python over those for C, and the conformance kit.
 
 python=$top/hosts/python
 # The library of the client for C, also for clients of the drive.
 KRL_CLIENT_LIBRARY=$programs/libkrl_client.so
+KRL_CACHE_LIBRARY=$programs/libkrl_cache_c.so
 
 use_python() {
     has python3 || not_run 'there is no python3: the client for Python'
     need_programs
     export PYTHONDONTWRITEBYTECODE=1 KRL_CLIENT_LIBRARY KRL_SERVER_PROGRAM="$programs/krl-server"
+    # It starts what readers of cached tables are tried with.
+    export KRL_CACHE_LIBRARY KRL_SITE_PROGRAM="$programs/examples/site"
 }
 
 # Makes what the conformance kit asks the rules by.
@@ -34,7 +37,7 @@ part_conformance() {
         -exec python3 "$kit_of_scripts/play.py" "$drive" conform -- {} +
 }
 
-# The wheel has the library in it: it is found in a folder of its own.
+# The wheel has the libraries in it: they are found in a folder of its own.
 try_wheel() {
     if ! "$top/hosts/packaging/wheel" "$KRL_CLIENT_LIBRARY" "$work/wheel" >"$work/log" 2>&1; then
         grep -q 'no python3 has the modules' "$work/log" || fail 'the wheel of the client for Python'
@@ -43,8 +46,9 @@ try_wheel() {
     fi
     python3 -m zipfile -e "$work"/wheel/*.whl "$work/wheel/unpacked"
     cp -R "$python/tests" "$work/wheel/unpacked"
-    (unset KRL_CLIENT_LIBRARY &&
-        python_test "$work/wheel/unpacked" 60 tests.test_client.CallsTest.test_a_callback_gives_way) ||
+    (unset KRL_CLIENT_LIBRARY KRL_CACHE_LIBRARY &&
+        python_test "$work/wheel/unpacked" 60 tests.test_client.CallsTest.test_a_callback_gives_way \
+            tests.test_cache.TableTest.test_keys_have_one_column_or_several) ||
         fail 'the wheel of the client for Python'
 }
 

@@ -160,6 +160,12 @@ impl fmt::Display for Key {
     }
 }
 
+impl From<KeyValue> for Key {
+    fn from(value: KeyValue) -> Key {
+        Key(Values::One(value))
+    }
+}
+
 /// Values of these types are values of a key, and keys of one column.
 macro_rules! key_values {
     ($($from:ty => $variant:ident),*) => {$(
@@ -171,7 +177,7 @@ macro_rules! key_values {
 
         impl From<$from> for Key {
             fn from(value: $from) -> Key {
-                Key(Values::One(value.into()))
+                KeyValue::from(value).into()
             }
         }
     )*};

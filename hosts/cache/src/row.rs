@@ -119,7 +119,19 @@ impl Row {
     /// [`ReadError::Column`] if there is no such column, or its type does not fit.
     pub fn get<'r, T: FromSql<'r>>(&'r self, name: &str) -> Result<T, ReadError> {
         let place = self.columns.iter().position(|column| &*column.name == name);
-        let place = place.ok_or_else(|| ReadError::no_column(name))?;
+        self.get_at(place.ok_or_else(|| ReadError::no_column(name))?)
+    }
+
+    /// The value of the column at this place, from 0 on.
+    ///
+    /// # Errors
+    ///
+    /// [`ReadError::Column`] if its type does not fit.
+    ///
+    /// # Panics
+    ///
+    /// If there is no such column.
+    pub fn get_at<'r, T: FromSql<'r>>(&'r self, place: usize) -> Result<T, ReadError> {
         let column = &self.columns[place];
         let value = if T::accepts(&column.sql_type) {
             T::from_sql_nullable(&column.sql_type, self.bytes(place))
@@ -130,6 +142,14 @@ impl Row {
             Some(WasNull) => ReadError::misfit(column, &"it is NULL: read an Option"),
             None => ReadError::misfit(column, &error),
         })
+    }
+
+    /// The bytes of all columns one after another, for a program that converts them by itself: of
+    /// each column its length, as an `i32` in the byte order of this machine, and its bytes as
+    /// [`Row::bytes`] returns them. The length of NULL is -1, and no bytes follow it.
+    #[must_use]
+    pub fn packed(&self) -> &[u8] {
+        &self.values
     }
 
     /// About how many bytes of memory the row takes.
@@ -179,11 +199,18 @@ pub(crate) mod tests {
         assert_eq!(lamp.get::<&str>("name").unwrap(), "lamp");
         assert_eq!(lamp.get::<i64>("price").unwrap(), 30);
         assert_eq!(lamp.bytes(1), Some(&30_i64.to_be_bytes()[..]));
+        assert_eq!(lamp.get_at::<i64>(1).unwrap(), 30);
         let empty = row("", None);
         assert_eq!(empty.get::<String>("name").unwrap(), "");
         assert_eq!(empty.get::<Option<i64>>("price").unwrap(), None);
         assert_eq!((empty.bytes(0), empty.bytes(1)), (Some(&b""[..]), None));
         assert!(lamp == lamp.clone() && lamp != empty);
+    }
+
+    #[test]
+    fn a_packed_row_has_the_length_and_the_bytes_of_each_column() {
+        let [of_name, of_null] = [4_i32, NULL].map(i32::to_ne_bytes);
+        assert_eq!(row("lamp", None).packed(), [&of_name, &b"lamp"[..], &of_null].concat());
     }
 
     #[test]

@@ -68,12 +68,23 @@ impl Table {
         keys: impl IntoIterator<Item = K>,
     ) -> Result<Vec<Option<Row>>, ReadError> {
         let keys: Vec<Key> = keys.into_iter().map(Into::into).collect();
-        let row = |(rows, key): (Arc<Rows>, &Key)| match &rows.rows[..] {
-            [] => Ok(None),
-            [row] => Ok(Some(row.clone())),
-            _ => Err(ReadError::SeveralRows(key.clone())),
-        };
-        self.read(&keys, None)?.into_iter().zip(&keys).map(row).collect()
+        one_of_each(&keys, self.read(&keys, None)?)
+    }
+
+    /// The same from memory only: `None` if not all of them are there. It sends nothing and waits
+    /// for no answer, and nothing is loaded for it. A row that is returned is that of the database
+    /// at one moment of the call, as with [`Table::get_many`].
+    ///
+    /// # Errors
+    ///
+    /// [`ReadError::Key`], [`ReadError::SeveralRows`].
+    pub fn cached<K: Into<Key>>(
+        &self,
+        keys: impl IntoIterator<Item = K>,
+    ) -> Result<Option<Vec<Option<Row>>>, ReadError> {
+        let keys: Vec<Key> = keys.into_iter().map(Into::into).collect();
+        let found = self.read_memory(&keys)?;
+        found.map(|found| one_of_each(&keys, found)).transpose()
     }
 
     /// All rows of a key, for a table whose key columns are not unique, in no particular order.
@@ -93,15 +104,8 @@ impl Table {
     ///
     /// [`ReadError::Key`] if the key of the table is not one integer; [`ReadError::Database`].
     pub fn range(&self, keys: impl RangeBounds<i64>) -> Result<Vec<Row>, ReadError> {
-        let definition = self.inner.definition();
-        if !definition.stripes.by_remainder {
-            let table = &definition.sql.table;
-            return Err(ReadError::Key(format!("the key of {table} is not one integer")));
-        }
-        let Some(range) = inclusive(&keys) else { return Ok(Vec::new()) };
-        let keys = range.clone().take(MOST_KEYS + 1).map(Key::from);
-        let keys: Vec<Key> = keys.collect();
-        if keys.len() <= MOST_KEYS {
+        let Some(range) = self.inclusive(&keys)? else { return Ok(Vec::new()) };
+        if let Some(keys) = keys_of(&range) {
             return Ok(flat(&self.read(&keys, Some(&range))?));
         }
         let selection = Selection::Range(range);
@@ -109,6 +113,31 @@ impl Table {
         let rows = self.inner.with_definition(ask)?;
         self.inner.counters.misses.add(rows.len());
         Ok(rows.into_iter().map(|(_, row)| row).collect())
+    }
+
+    /// The same from memory only, as [`Table::cached`].
+    ///
+    /// # Errors
+    ///
+    /// [`ReadError::Key`] if the key of the table is not one integer.
+    pub fn cached_range(&self, keys: impl RangeBounds<i64>) -> Result<Option<Vec<Row>>, ReadError> {
+        let Some(range) = self.inclusive(&keys)? else { return Ok(Some(Vec::new())) };
+        let Some(keys) = keys_of(&range) else { return Ok(None) };
+        Ok(self.read_memory(&keys)?.map(|rows| flat(&rows)))
+    }
+
+    /// The first key of a range and the last one, if it has any, of a table whose key is one
+    /// integer.
+    fn inclusive(
+        &self,
+        keys: &impl RangeBounds<i64>,
+    ) -> Result<Option<RangeInclusive<i64>>, ReadError> {
+        let definition = self.inner.definition();
+        if definition.stripes.by_remainder {
+            return Ok(inclusive(keys));
+        }
+        let table = &definition.sql.table;
+        Err(ReadError::Key(format!("the key of {table} is not one integer")))
     }
 
     /// What was done since the table was opened.
@@ -135,11 +164,15 @@ impl Table {
         keys: &[Key],
         range: Option<&RangeInclusive<i64>>,
     ) -> Result<Vec<Arc<Rows>>, ReadError> {
-        self.inner.with_definition(|definition| {
-            let wanted = keys.iter().map(|key| definition.locate(key));
-            let wanted: Vec<Wanted<'_>> = wanted.collect::<Result<_, _>>()?;
-            Read { table: self, definition, wanted, range }.rows()
-        })
+        self.inner.with_definition(|definition| Read::new(self, definition, keys, range)?.rows())
+    }
+
+    /// The rows of these keys, if all of them are in memory.
+    fn read_memory(&self, keys: &[Key]) -> Result<Option<Vec<Arc<Rows>>>, ReadError> {
+        let definition = self.inner.definition();
+        let read = Read::new(self, &definition, keys, None)?;
+        let (found, missing) = read.find();
+        Ok(missing.places.is_empty().then(|| read.hits(found)))
     }
 }
 
@@ -151,13 +184,27 @@ struct Read<'r> {
     range: Option<&'r RangeInclusive<i64>>,
 }
 
-impl Read<'_> {
+impl<'r> Read<'r> {
+    fn new(
+        table: &'r Table,
+        definition: &'r Definition,
+        keys: &'r [Key],
+        range: Option<&'r RangeInclusive<i64>>,
+    ) -> Result<Read<'r>, ReadError> {
+        let wanted = keys.iter().map(|key| definition.locate(key)).collect::<Result<_, _>>()?;
+        Ok(Read { table, definition, wanted, range })
+    }
+
+    /// What is in memory, and which rows are missing or may not be returned.
+    fn find(&self) -> (Vec<Found>, Missing) {
+        let find = |wanted: &Wanted<'_>| self.definition.memory.find(wanted.stripe, wanted.key);
+        held::find(|| self.wanted.iter().map(find).collect(), || self.held())
+    }
+
     /// From memory, if it has all rows. Otherwise the database selects those that are missing, if
     /// all of them are held, or all rows.
     fn rows(&self) -> Result<Vec<Arc<Rows>>, ReadError> {
-        let find = |wanted: &Wanted<'_>| self.definition.memory.find(wanted.stripe, wanted.key);
-        let found = || self.wanted.iter().map(find).collect();
-        let (found, missing) = held::find(found, || self.held());
+        let (found, missing) = self.find();
         if missing.places.is_empty() {
             return Ok(self.hits(found));
         }
@@ -301,6 +348,22 @@ fn find(
 
 fn of_keys<'k>(wanted: &[Wanted<'k>]) -> Selection<'k> {
     Selection::Keys(wanted.iter().map(|wanted| wanted.key).collect())
+}
+
+/// The keys of a range, unless they are too many.
+fn keys_of(range: &RangeInclusive<i64>) -> Option<Vec<Key>> {
+    let keys: Vec<Key> = range.clone().take(MOST_KEYS + 1).map(Key::from).collect();
+    (keys.len() <= MOST_KEYS).then_some(keys)
+}
+
+/// The row of each key, if there is one.
+fn one_of_each(keys: &[Key], found: Vec<Arc<Rows>>) -> Result<Vec<Option<Row>>, ReadError> {
+    let row = |(rows, key): (Arc<Rows>, &Key)| match &rows.rows[..] {
+        [] => Ok(None),
+        [row] => Ok(Some(row.clone())),
+        _ => Err(ReadError::SeveralRows(key.clone())),
+    };
+    found.into_iter().zip(keys).map(row).collect()
 }
 
 fn flat(rows: &[Arc<Rows>]) -> Vec<Row> {

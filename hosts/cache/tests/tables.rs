@@ -102,6 +102,33 @@ fn several_rows_are_those_of_one_moment() {
 }
 
 #[test]
+fn what_is_in_memory_is_read_without_the_database() {
+    let Some(mut site) = Site::start() else { return };
+    let cache = site.cache();
+    let items = cache.table("item").unwrap();
+    let cached = |keys: &[i64]| items.cached(keys.iter().copied()).unwrap();
+    assert_eq!(cached(&[3]), None);
+    assert_eq!(items.statistics().misses, 0, "nobody is asked");
+    let both = from_memory(&items, |items| items.get_many([3, 51]).unwrap());
+    assert_eq!((both[1].as_ref(), both[0].as_ref().map(name)), (None, Some("item 3".into())));
+    assert_eq!(cached(&[3, 51]), Some(both));
+    assert_eq!(cached(&[3, 4]), None, "one is missing");
+    let range = from_memory(&items, |items| items.range(3..=5).unwrap());
+    assert_eq!(items.cached_range(3..=5).unwrap(), Some(range));
+    assert_eq!(items.cached_range(3..=6).unwrap(), None);
+    assert_eq!(items.cached_range(..).unwrap(), None, "a range of all keys");
+    assert_eq!(items.cached_range(5..5).unwrap(), Some(Vec::new()));
+    assert!(matches!(items.cached(["lamp"]), Err(ReadError::Key(_))));
+
+    site.take_back(keys_of_item(3..4));
+    assert_eq!((cached(&[3]), cached(&[4]).unwrap().len()), (None, 1), "one was taken back");
+    site.database.stop();
+    assert_eq!(cached(&[4]).unwrap()[0].as_ref().map(name).unwrap(), "item 4");
+    cache.close();
+    assert_eq!(cached(&[4]), None, "nothing is held any more");
+}
+
+#[test]
 fn nothing_is_kept_while_a_transaction_is_about_to_commit() {
     let Some(site) = Site::start() else { return };
     let cache = site.cache();

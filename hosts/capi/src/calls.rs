@@ -34,14 +34,13 @@ pub use room::*;
 
 use crate::client::Joined;
 use crate::code::Code;
-use crate::fault::{ErrorRoom, Fault, answer, quiet};
-use crate::fork;
-use crate::handle::{Handle, Kind};
+use crate::fault::{ErrorRoom, Fault, answer};
 use crate::input::{self, GivenRow, range};
-use crate::options::{NUMBERS, Options, options_at};
+use crate::options::{NUMBERS, Options};
 use crate::status::Status;
 use crate::writes::{GivenWrite, write_all, writes};
 use krl::{ErrorKind, Outcome, Row, Waited};
+use krl_ffi::{Handle, Kind, fork, options_at, put_out, quiet};
 use std::ffi::{c_char, c_void};
 use std::ptr;
 use std::time::Duration;
@@ -58,21 +57,7 @@ static CLIENTS: Kind<Joined> = Kind::new("client");
 /// `client` is null or a client's handle, which no other call frees as long as the answer lives.
 unsafe fn own<'a>(client: *const Client) -> Result<&'a Joined, Fault> {
     // SAFETY: the caller vouches for the handle.
-    unsafe { CLIENTS.own_value(client) }
-}
-
-/// Writes an output parameter.
-///
-/// # Safety
-///
-/// `at` is null or points to room for the value.
-unsafe fn put_out<T>(what: &str, at: *mut T, value: T) -> Result<(), Fault> {
-    if at.is_null() {
-        return Err(Fault::misuse(format!("the pointer to room for {what} is null")));
-    }
-    // SAFETY: the caller vouches for the room. Nothing of it is read.
-    unsafe { at.write(value) };
-    Ok(())
+    Ok(unsafe { CLIENTS.own_value(client) }?)
 }
 
 #[unsafe(no_mangle)]
@@ -105,9 +90,7 @@ pub unsafe extern "C" fn krlc_join(
         let options = unsafe { options_at(options) }?;
         // SAFETY: as above.
         let wish = unsafe { options.wish() }?;
-        if !fork::watch() {
-            return Err(Fault::new(Code::OutOfMemory, "memory was refused"));
-        }
+        fork::watch()?;
         let joined = CLIENTS.open(wish.join()?)?;
         // SAFETY: as above.
         unsafe { put_out("a client", client, joined) }?;

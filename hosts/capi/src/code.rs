@@ -1,31 +1,7 @@
 //! What a call returns.
 use krl::{ErrorKind, Fate, JoinErrorKind, LockFileError, Outcome};
-use std::ffi::CStr;
 
-macro_rules! codes {
-    ($($variant:ident = $number:literal, $name:literal;)*) => {
-        /// A `krlc_code` of the header.
-        #[derive(Clone, Copy, Debug, PartialEq, Eq)]
-        #[repr(u32)]
-        pub enum Code {
-            $($variant = $number,)*
-        }
-
-        impl Code {
-            /// Each code.
-            pub const ALL: &[Code] = &[$(Code::$variant,)*];
-
-            /// The name that the header gives it.
-            pub fn name(self) -> &'static CStr {
-                match self {
-                    $(Code::$variant => $name,)*
-                }
-            }
-        }
-    };
-}
-
-codes! {
+krl_ffi::codes! {
     Ok = 0, c"KRLC_OK";
     Exists = 1, c"KRLC_EXISTS";
     Absent = 2, c"KRLC_ABSENT";
@@ -66,11 +42,6 @@ codes! {
 }
 
 impl Code {
-    /// The code of a number, if it is one.
-    pub fn of(number: u32) -> Option<Code> {
-        Code::ALL.iter().copied().find(|code| *code as u32 == number)
-    }
-
     /// Whether a write that returned this may have been applied, or may still be.
     pub fn is_unknown_outcome(self) -> bool {
         matches!(

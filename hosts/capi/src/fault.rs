@@ -2,10 +2,9 @@
 use crate::code::Code;
 use crate::reason::{self, NO_REASON};
 use krl::{Error, ErrorKind, JoinError};
+use krl_ffi::{Misuse, sentence};
 use std::borrow::Cow;
 use std::fmt::Display;
-use std::mem;
-use std::panic::{AssertUnwindSafe, catch_unwind};
 
 /// The most bytes of a sentence, with the zero that ends it.
 pub const MAX_SENTENCE_BYTES: usize = 500;
@@ -43,24 +42,38 @@ impl Fault {
     pub fn about(code: Code, what: &str, error: &impl Display) -> Fault {
         Fault::new(code, format!("{what}: {error}"))
     }
+}
+
+impl krl_ffi::Fault for Fault {
+    type Code = Code;
+    type Room = ErrorRoom;
+
+    fn internal() -> Fault {
+        Fault::new(Code::Internal, "a fault of the library, which standard error shows")
+    }
+
+    fn code(&self) -> Code {
+        self.code
+    }
 
     fn written(&self) -> ErrorRoom {
-        let mut sentence = [0; MAX_SENTENCE_BYTES];
-        let end = self.sentence.floor_of(MAX_SENTENCE_BYTES - 1);
-        sentence[..end].copy_from_slice(&self.sentence.as_bytes()[..end]);
-        let shard = self.shard.map_or(-1, i32::from);
-        ErrorRoom { code: self.code as u32, shard, reason: self.reason, sentence }
+        ErrorRoom {
+            code: self.code as u32,
+            shard: self.shard.map_or(-1, i32::from),
+            reason: self.reason,
+            sentence: sentence(&self.sentence),
+        }
     }
 }
 
-trait FloorOf {
-    /// The greatest place of at most this one at which the text may end.
-    fn floor_of(&self, most: usize) -> usize;
-}
-
-impl FloorOf for str {
-    fn floor_of(&self, most: usize) -> usize {
-        (0..=most.min(self.len())).rev().find(|end| self.is_char_boundary(*end)).unwrap_or(0)
+impl From<Misuse> for Fault {
+    fn from(misuse: Misuse) -> Fault {
+        let code = match misuse {
+            Misuse::Invalid(_) => Code::Misuse,
+            Misuse::Forked(_) => Code::Forked,
+            Misuse::OutOfMemory => Code::OutOfMemory,
+        };
+        Fault::new(code, misuse.to_string())
     }
 }
 
@@ -94,54 +107,15 @@ impl From<JoinError> for Fault {
 ///
 /// `error` is null or points to room for an error that nothing else uses meanwhile.
 pub unsafe fn answer(error: *mut ErrorRoom, call: impl FnOnce() -> Result<Code, Fault>) -> u32 {
-    let fault = match catch_unwind(AssertUnwindSafe(call)) {
-        Ok(Ok(code)) => return code as u32,
-        Ok(Err(fault)) => fault,
-        Err(panic) => {
-            // Its own end could panic again.
-            mem::forget(panic);
-            Fault::new(Code::Internal, "a fault of the library, which standard error shows")
-        }
-    };
-    if !error.is_null() {
-        // SAFETY: the caller vouches for the room. Nothing of it is read.
-        unsafe { error.write(fault.written()) };
-    }
-    fault.code as u32
-}
-
-/// Makes a call that has no code to return. No panic passes it.
-pub fn quiet<T>(call: impl FnOnce() -> T) -> Option<T> {
-    catch_unwind(AssertUnwindSafe(call)).map_err(mem::forget).ok()
+    // SAFETY: the caller vouches for the room.
+    unsafe { krl_ffi::answer(error, call) }
 }
 
 #[cfg(test)]
 mod tests {
     use super::*;
     use krl::JoinErrorKind;
-    use std::ptr;
-
-    #[test]
-    fn no_panic_passes() {
-        let mut error = Fault::misuse("").written();
-        // SAFETY: the room is this test's own.
-        let code = unsafe { answer(&raw mut error, || panic!("on purpose")) };
-        assert_eq!((code, error.code), (Code::Internal as u32, Code::Internal as u32));
-        // SAFETY: the room may be null.
-        let code = unsafe { answer(ptr::null_mut(), || panic!("on purpose")) };
-        assert_eq!(code, Code::Internal as u32);
-        assert_eq!(quiet(|| panic!("on purpose")), None::<()>);
-    }
-
-    #[test]
-    fn a_sentence_ends_between_characters() {
-        let long = "é".repeat(MAX_SENTENCE_BYTES);
-        let room = Fault::misuse(long).written();
-        let end = room.sentence.iter().position(|byte| *byte == 0).unwrap();
-        assert_eq!(end, 498);
-        assert!(std::str::from_utf8(&room.sentence[..end]).is_ok());
-        assert_eq!(Fault::misuse("short").written().sentence[..6], *b"short\0");
-    }
+    use krl_ffi::Fault as _;
 
     #[test]
     fn a_fault_names_its_shard() {

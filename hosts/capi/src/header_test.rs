@@ -11,11 +11,10 @@ use crate::reason::{self, NO_REASON};
 use crate::status::Status;
 use crate::writes::GivenWrite;
 use krl::{ClientSet, ErrorKind, Refusal};
+use krl_testing::header::{self, compiles, without_comments};
+use krl_testing::layout;
 use std::collections::{BTreeMap, BTreeSet};
 use std::fmt::Write as _;
-use std::io::Write as _;
-use std::mem::offset_of;
-use std::process::{Command, Stdio};
 
 const HEADER: &str = include_str!("../include/krl_client.h");
 const HOST_HEADER: &str = include_str!("../include/krl_host.h");
@@ -62,120 +61,50 @@ const TYPES: [(&str, &str); 26] = [
     ("Clock", "uint64_t (*)(void)"),
 ];
 
-fn c_type(rust: &str) -> &'static str {
-    let found = TYPES.iter().find(|(name, _)| *name == rust);
-    found.unwrap_or_else(|| panic!("no C type is known for {rust}")).1
-}
-
 /// The calls that are exported, with the pointer type of each in C.
 fn exports() -> BTreeMap<String, String> {
-    let source = SOURCES.concat();
-    let calls = source.split("#[unsafe(no_mangle)]").skip(1);
-    calls.flat_map(|call| calls_of(call, &source)).collect()
+    header::exports(&SOURCES.concat(), &TYPES)
 }
 
-/// The call that this text begins with, by its name; or, if that is a parameter of a macro, each that
-/// the macro of the same name defines, of an owner.
-fn calls_of(call: &str, source: &str) -> Vec<(String, String)> {
-    let (name, rest) = call.split_once("fn ").unwrap().1.split_once('(').unwrap();
-    let Some(name) = name.strip_prefix('$') else {
-        return vec![(name.to_string(), pointer_type(rest, ""))];
-    };
-    let call_of_macro = format!("\n{name}!(");
-    let defined = source.split(&call_of_macro).skip(1).map(|words| {
-        let mut words = words.split(", ");
-        (words.next().unwrap().to_string(), pointer_type(rest, words.next().unwrap()))
-    });
-    defined.collect()
-}
-
-/// The type in C of a pointer to a call with these parameters and this result, of this owner.
-fn pointer_type(call: &str, owner: &str) -> String {
-    let (parameters, rest) = call.split_once(')').unwrap();
-    let result = rest.split_once('{').unwrap().0.trim().strip_prefix("->");
-    let parameters = parameters.split(',').filter_map(|it| it.split_once(':'));
-    let kinds = parameters.map(|(_, kind)| kind.trim().replace("$owner", owner));
-    let kinds: Vec<_> = kinds.map(|kind| c_type(&kind)).collect();
-    let result = result.map_or("void", |kind| c_type(kind.trim()));
-    let kinds = if kinds.is_empty() { "void".into() } else { kinds.join(", ") };
-    format!("{result} (*)({kinds})")
-}
-
-fn without_comments(header: &str) -> String {
-    let parts = header.split("/*");
-    parts.map(|part| part.split_once("*/").map_or(part, |(_, code)| code)).collect()
-}
-
-/// The calls that a header declares.
 fn declared(header: &str) -> BTreeSet<String> {
-    let code = without_comments(header);
-    let before = code.split('(').map(|text| {
-        text.rsplit(|c: char| !(c.is_ascii_alphanumeric() || c == '_')).next().unwrap_or("")
-    });
-    let is_call = |name: &&str| name.starts_with("krlc_") || name.starts_with("krlh_");
-    before.filter(is_call).map(String::from).collect()
-}
-
-/// Asserts on the layout of a struct.
-macro_rules! layout {
-    ($program:ident, $rust:ty, $c:literal, $($field:ident)*) => {
-        let (size, align) = (size_of::<$rust>(), align_of::<$rust>());
-        writeln!($program, "_Static_assert(sizeof({}) == {size}, \"its size\");", $c).unwrap();
-        writeln!($program, "_Static_assert(_Alignof({}) == {align}, \"\");", $c).unwrap();
-        $(
-            let (field, offset) = (stringify!($field), offset_of!($rust, $field));
-            let is_there = format!("offsetof({}, {field}) == {offset}", $c);
-            writeln!($program, "_Static_assert({is_there}, \"{field}\");").unwrap();
-        )*
-    };
+    header::declared(header, &["krlc_", "krlh_"])
 }
 
 /// A program in C that compiles if this header has the same as the library.
 fn program(header: &str) -> String {
-    let mut program = header.to_string();
-    for (name, kind) in exports() {
-        let is_same = format!("_Generic(&{name}, {kind}: 1, default: 0)");
-        writeln!(program, "_Static_assert({is_same}, \"{name}\");").unwrap();
-    }
-    for code in Code::ALL {
-        let (name, number) = (code.name().to_str().unwrap(), *code as u32);
-        writeln!(program, "_Static_assert({name} == {number}, \"{name}\");").unwrap();
-    }
+    let codes = Code::ALL.iter().map(|code| (code.name().to_str().unwrap(), *code as i128));
     let reasons = [
-        ("VERSION", Refusal::Version { read: 1 }),
-        ("CLIENT_NUMBER", Refusal::ClientNumber { number: 64 }),
-        ("INCARNATION", Refusal::Incarnation { client: 1, registered: 2 }),
-        ("FULL", Refusal::Full { connections: 1 }),
-        ("MISSING", Refusal::Missing(ClientSet::default())),
-        ("LEASE_RUNS", Refusal::LeaseRuns { client: 1, registered: 2 }),
-        ("DENIED", Refusal::Denied),
-        ("OTHER_SHARD", Refusal::OtherShard(None)),
-        ("FAR_AHEAD", Refusal::FarAhead { client: 1, latest: 2 }),
-        ("OTHER_STORE", Refusal::OtherStore),
+        ("KRLC_REASON_VERSION", Refusal::Version { read: 1 }),
+        ("KRLC_REASON_CLIENT_NUMBER", Refusal::ClientNumber { number: 64 }),
+        ("KRLC_REASON_INCARNATION", Refusal::Incarnation { client: 1, registered: 2 }),
+        ("KRLC_REASON_FULL", Refusal::Full { connections: 1 }),
+        ("KRLC_REASON_MISSING", Refusal::Missing(ClientSet::default())),
+        ("KRLC_REASON_LEASE_RUNS", Refusal::LeaseRuns { client: 1, registered: 2 }),
+        ("KRLC_REASON_DENIED", Refusal::Denied),
+        ("KRLC_REASON_OTHER_SHARD", Refusal::OtherShard(None)),
+        ("KRLC_REASON_FAR_AHEAD", Refusal::FarAhead { client: 1, latest: 2 }),
+        ("KRLC_REASON_OTHER_STORE", Refusal::OtherStore),
     ];
-    for (name, refusal) in reasons {
-        let reason = reason::of_call(&ErrorKind::Unserved(refusal));
-        writeln!(program, "_Static_assert(KRLC_REASON_{name} == {reason}, \"{name}\");").unwrap();
-    }
-    writeln!(program, "_Static_assert(KRLC_NO_REASON == {NO_REASON}, \"none\");").unwrap();
+    let reason = |refusal| i128::from(reason::of_call(&ErrorKind::Unserved(refusal)));
+    let reasons = reasons.into_iter().map(|(name, refusal)| (name, reason(refusal)));
     let numbers = [
-        ("KRLC_VERSION", u64::from(krlc_version())),
-        ("KRLC_END", krl::END),
-        ("KRLC_TOP", krl::END + 1),
-        ("KRLC_MAX_VALUE_BYTES", krl::MAX_VALUE_BYTES as u64),
-        ("KRLC_MAX_SENTENCE_BYTES", MAX_SENTENCE_BYTES as u64),
-        ("KRLC_FOR_EVER", u64::MAX),
-        ("KRLC_NUMBERS", u64::from(NUMBERS)),
+        ("KRLC_NO_REASON", i128::from(NO_REASON)),
+        ("KRLC_VERSION", krlc_version().into()),
+        ("KRLC_END", krl::END.into()),
+        ("KRLC_TOP", (krl::END + 1).into()),
+        ("KRLC_MAX_VALUE_BYTES", krl::MAX_VALUE_BYTES as i128),
+        ("KRLC_MAX_SENTENCE_BYTES", MAX_SENTENCE_BYTES as i128),
+        ("KRLC_FOR_EVER", u64::MAX.into()),
+        ("KRLC_NUMBERS", NUMBERS.into()),
         ("KRLC_INSERT", 0),
         ("KRLC_PUT", 1),
         ("KRLC_SET", 2),
         ("KRLC_DELETE", 3),
-        ("KRLH_NO_PIN", NO_PIN),
-        ("KRLH_NEVER", NEVER),
+        ("KRLH_NO_PIN", NO_PIN.into()),
+        ("KRLH_NEVER", NEVER.into()),
     ];
-    for (name, number) in numbers {
-        writeln!(program, "_Static_assert({name} == UINT64_C({number}), \"{name}\");").unwrap();
-    }
+    let numbers: Vec<_> = codes.chain(reasons).chain(numbers).collect();
+    let mut program = header::program(header, &exports(), &numbers);
     layout!(program, GivenRow, "krlc_row", key length bytes);
     layout!(program, GivenWrite, "krlc_write", kind outcome row);
     layout!(program, ErrorRoom, "krlc_error", code shard reason sentence);
@@ -186,20 +115,6 @@ fn program(header: &str) -> String {
     layout!(program, Answer, "krlh_answer", code pin rows count sentence);
     layout!(program, CallBack, "krlh_asked", answered context deadline);
     program
-}
-
-/// Whether a C compiler takes the program. It shows why not if that is expected.
-fn compiles(program: &str, is_expected: bool) -> bool {
-    let mut compiler = Command::new("cc")
-        .args(["-std=c11", "-Wall", "-Wextra", "-Wpedantic", "-Werror", "-fsyntax-only"])
-        .args(["-x", "c", "-"])
-        .stdin(Stdio::piped())
-        .stderr(if is_expected { Stdio::inherit() } else { Stdio::null() })
-        .spawn()
-        .expect("a C compiler `cc` is needed");
-    // A compiler that has found an error need not read the rest.
-    let _ = compiler.stdin.take().unwrap().write_all(program.as_bytes());
-    compiler.wait().unwrap().success()
 }
 
 #[test]

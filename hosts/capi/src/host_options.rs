@@ -1,10 +1,9 @@
 //! How a client of a host is opened, as C asks for it.
 use crate::code::Code;
 use crate::fault::Fault;
-use crate::input::text;
-use crate::options::bytes_at;
 use krl::ShardBounds;
 use krl::sans_io::Begin;
+use krl_ffi::text;
 use std::ffi::c_char;
 use std::path::Path;
 
@@ -22,17 +21,6 @@ pub struct HostOptions {
     pub number: u32,
     pub servers: u32,
     pub seed: u64,
-}
-
-/// The options that the caller has. An earlier version of the header has fewer.
-///
-/// # Safety
-///
-/// As for `bytes_at`.
-pub unsafe fn host_options_at(at: *const HostOptions) -> Result<HostOptions, Fault> {
-    // SAFETY: the caller vouches for the options. All bytes make them, since their members are
-    // numbers and pointers.
-    unsafe { bytes_at(at) }
 }
 
 impl HostOptions {

@@ -2,7 +2,6 @@
 use crate::code::Code;
 use crate::fault::Fault;
 use krl::{END, MAX_VALUE_BYTES, Row, Value};
-use std::ffi::{CStr, c_char};
 use std::ops::Range;
 use std::slice;
 
@@ -11,21 +10,6 @@ const TOP: u64 = END + 1;
 
 /// The most rows that a caller may name: a table has fewer, and this many fit into memory.
 const MAX_ROWS: usize = 1 << 27;
-
-/// A text that may be missing.
-///
-/// # Safety
-///
-/// `at` is null, or points to bytes that end by a zero and stay as long as the answer lives.
-pub unsafe fn text<'a>(what: &str, at: *const c_char) -> Result<Option<&'a str>, Fault> {
-    if at.is_null() {
-        return Ok(None);
-    }
-    // SAFETY: the caller vouches for the bytes.
-    let text = unsafe { CStr::from_ptr(at) };
-    let is_not = |_| Fault::misuse(format!("the option `{what}` is not UTF-8"));
-    text.to_str().map(Some).map_err(is_not)
-}
 
 /// A value of this many bytes. Too many are not looked at.
 ///

@@ -7,8 +7,6 @@ mod calls;
 mod client;
 mod code;
 mod fault;
-mod fork;
-mod handle;
 mod host;
 mod host_options;
 mod input;

@@ -2,22 +2,17 @@
 use crate::client::Joined;
 use crate::code::Code;
 use crate::fault::Fault;
-use crate::input::{range, text};
+use crate::input::range;
 use crate::tls::Tls;
 use krl::{Client, END, Place, ShardMap, evict};
+use krl_ffi::text;
 use std::ffi::c_char;
-use std::mem::MaybeUninit;
 use std::ops::Range;
 use std::path::Path;
-use std::ptr;
-use std::slice;
 use std::time::Duration;
 
 /// A client's number is below this.
 pub const NUMBERS: u32 = 64;
-
-/// No later version has more bytes of options: a greater size was never set.
-const MAX_SIZE: usize = 4096;
 
 /// The `krlc_options` of the header.
 #[derive(Clone, Copy, Debug)]
@@ -68,46 +63,6 @@ enum Number {
     FirstOf(Vec<u8>),
 }
 
-/// The options that the caller has. An earlier version of the header has fewer.
-///
-/// # Safety
-///
-/// As for `bytes_at`.
-pub unsafe fn options_at(at: *const Options) -> Result<Options, Fault> {
-    // SAFETY: the caller vouches for the options. All bytes make them, since their members are
-    // numbers and pointers.
-    unsafe { bytes_at(at) }
-}
-
-/// Options that begin with their size. The members that the caller does not have are zero.
-///
-/// # Safety
-///
-/// `at` is null, or points to a size and that many bytes altogether, of which none is written
-/// meanwhile. `T` begins with the size, and all bytes make one.
-pub unsafe fn bytes_at<T>(at: *const T) -> Result<T, Fault> {
-    if at.is_null() {
-        return Err(Fault::misuse("the pointer to the options is null"));
-    }
-    // SAFETY: each version begins with the size.
-    let size = unsafe { at.cast::<usize>().read() };
-    if !(size_of::<usize>()..=MAX_SIZE).contains(&size) {
-        return Err(Fault::misuse(format!("`size` of the options is {size}: it is not set")));
-    }
-    // SAFETY: the caller vouches for this many bytes.
-    let bytes = unsafe { slice::from_raw_parts(at.cast::<u8>(), size) };
-    let known = size.min(size_of::<T>());
-    if bytes[known..].iter().any(|byte| *byte != 0) {
-        return Err(Fault::misuse("the options have members that this library does not know"));
-    }
-    let mut options = MaybeUninit::<T>::zeroed();
-    // SAFETY: that many bytes are there, and there is room for them. All bytes make options.
-    unsafe {
-        ptr::copy_nonoverlapping(at.cast::<u8>(), options.as_mut_ptr().cast(), known);
-        Ok(options.assume_init())
-    }
-}
-
 impl Options {
     /// What they ask for.
     ///
@@ -117,7 +72,7 @@ impl Options {
     pub unsafe fn wish<'o>(&self) -> Result<Wish<'o>, Fault> {
         let text = |what, at| -> Result<Option<&'o str>, Fault> {
             // SAFETY: the caller vouches for each text.
-            unsafe { text(what, at) }
+            Ok(unsafe { text(what, at) }?)
         };
         let place = place_of(text("servers", self.servers)?, text("map", self.map)?)?;
         let lock_file = text("lock_file", self.lock_file)?;

@@ -4,15 +4,20 @@ use krl::{
     Access, Client, Leases, Listener, MemoryStore, Outcome, Server, Servers, Shard, ShardMap,
     TlsConfig,
 };
+use krl_testing::c_programs::{
+    Library, MEMORY, THREADS, blocks, checked, compilers, folder_of, run,
+};
 use std::fs;
 use std::io::{BufRead, BufReader};
 use std::path::{Path, PathBuf};
 use std::process::{Command, Stdio};
-use std::thread;
 use std::time::Duration;
 
 /// The folder of the package.
 const PACKAGE: &str = env!("CARGO_MANIFEST_DIR");
+
+const LIBRARY: Library =
+    Library { package: PACKAGE, file: "libkrl_client.so", soname: "libkrl_client.so.0" };
 
 /// The second shard of a map begins here.
 const BOUND: u64 = 100;
@@ -31,12 +36,12 @@ fn listener() -> Listener {
 
 impl World {
     fn new(name: &str) -> World {
-        World::over(folder_of(name), listener())
+        World::over(folder_of("capi", name), listener())
     }
 
     /// A server at a Unix socket.
     fn at_socket(name: &str) -> World {
-        let folder = folder_of(name);
+        let folder = folder_of("capi", name);
         let address = format!("unix:{}/socket", folder.display());
         let listener = Listener::bind(&address.parse().unwrap()).unwrap();
         World::over(folder, listener)
@@ -53,12 +58,12 @@ impl World {
         let builder = Server::builder(listener(), MemoryStore::default());
         let server = builder.leases(Leases::of(length).unwrap()).start().unwrap();
         let place = server.address().to_string();
-        World { folder: folder_of(name), kind: "leased", place, servers: vec![server] }
+        World { folder: folder_of("capi", name), kind: "leased", place, servers: vec![server] }
     }
 
     /// Two shards, and the file of their map.
     fn sharded(name: &str) -> World {
-        let folder = folder_of(name);
+        let folder = folder_of("capi", name);
         let start = |bounds: String| {
             let builder = Server::builder(listener(), MemoryStore::default());
             builder.shard(bounds.parse().unwrap()).start().unwrap()
@@ -75,7 +80,7 @@ impl World {
 
     /// A server by TLS, and certificates of the clients 0 and 1 in the folder.
     fn certified(name: &str) -> World {
-        let folder = folder_of(name);
+        let folder = folder_of("capi", name);
         let script = format!("{PACKAGE}/../packaging/certificates");
         run(Command::new(script).arg(&folder).args(["server", "client-0", "client-1"]));
         let file = |name: &str| folder.join(name);
@@ -117,39 +122,12 @@ impl World {
     }
 
     fn build_at(&self, compiler: &str, source: &str, words: &[&str]) {
-        let library = self.library();
-        let standard = if compiler.ends_with("++") { "-std=c++17" } else { "-std=c11" };
-        run(Command::new(compiler)
-            .args([standard, "-g", "-Wall", "-Wextra", "-Wpedantic", "-Werror", "-pthread"])
-            .args(words)
-            .arg(format!("-I{PACKAGE}/include"))
-            .arg(format!("-I{PACKAGE}/tests/programs"))
-            .arg(source)
-            .arg("-o")
-            .arg(self.program())
-            .arg(library)
-            .arg(format!("-Wl,-rpath,{}", self.folder.display())));
+        LIBRARY.build(compiler, Path::new(source), words, &self.folder);
     }
 
-    /// The shared library, where cargo has left it: this test stands there too. In the folder of
-    /// the test it gets the name that programs look for.
-    fn library(&self) -> PathBuf {
-        let library = std::env::current_exe().unwrap().with_file_name("libkrl_client.so");
-        let name = self.folder.join("libkrl_client.so.0");
-        // An earlier program of the test may have made it.
-        let _ = std::os::unix::fs::symlink(&library, &name);
-        assert!(name.exists(), "there is no {}", name.display());
-        library
-    }
-
-    /// Runs the program that was built, and gives what it prints. A finding of a sanitizer is a
-    /// failure too.
+    /// Runs the program that was built, and gives what it prints.
     fn run(&self, words: &[&str]) -> String {
-        run(Command::new(self.program())
-            .args(words)
-            .env("UBSAN_OPTIONS", "halt_on_error=1")
-            // The sanitizer of threads sees nothing of how the library's own threads take turns.
-            .env("TSAN_OPTIONS", "halt_on_error=1 ignore_noninstrumented_modules=1"))
+        run(checked(&self.program()).args(words))
     }
 
     fn program(&self) -> PathBuf {
@@ -163,31 +141,9 @@ impl Drop for World {
     }
 }
 
-fn folder_of(test: &str) -> PathBuf {
-    let folder = std::env::temp_dir().join(format!("krl-capi-{}-{test}", std::process::id()));
-    fs::create_dir_all(&folder).unwrap();
-    folder
-}
-
 fn text(path: &Path) -> String {
     path.to_str().unwrap().into()
 }
-
-fn run(command: &mut Command) -> String {
-    let ended = command.output().unwrap_or_else(|error| panic!("{command:?}: {error}"));
-    assert!(
-        ended.status.success(),
-        "{command:?}: {}\n{}{}",
-        ended.status,
-        String::from_utf8_lossy(&ended.stdout),
-        String::from_utf8_lossy(&ended.stderr)
-    );
-    String::from_utf8(ended.stdout).unwrap()
-}
-
-/// Words of a compiler for its sanitizers.
-const MEMORY: &[&str] = &["-fsanitize=address,undefined", "-fno-sanitize-recover=all"];
-const THREADS: &[&str] = &["-fsanitize=thread"];
 
 #[test]
 fn each_call_answers_as_the_header_states() {
@@ -270,13 +226,6 @@ fn a_lease_that_ends_leaves_neither_rows_nor_pins() {
 const README: &str = include_str!("../README.md");
 const CLIENTS: &str = include_str!("../../../docs/CLIENTS.md");
 
-/// The first `count` blocks of the page in this language.
-fn blocks(page: &str, language: &str, count: usize) -> String {
-    let fence = format!("```{language}\n");
-    let blocks = page.split(&fence).skip(1).take(count);
-    blocks.map(|block| block.split_once("```").unwrap().0).collect()
-}
-
 /// Runs lines of a page in this language, as the body of a program with these headers.
 fn run_page(lines: &str, language: &str, compiler: &str, headers: &[&str]) -> String {
     let world = World::new(&format!("page-{}-{compiler}", lines.len()));
@@ -294,7 +243,7 @@ fn the_lines_of_the_pages() {
     let (headers, classes) = (["krl_client.h", "err.h", "stdio.h"], ["krl.hpp", "iostream"]);
     assert_eq!(run_page(&blocks(README, "c", 1), "c", "cc", &headers), "15=hello\n");
     assert_eq!(run_page(&blocks(CLIENTS, "c", 1), "c", "cc", &headers), "15=world\n");
-    for compiler in compilers() {
+    for compiler in compilers(&[]) {
         let printed = run_page(&blocks(README, "cpp", 1), "cpp", compiler, &classes);
         assert_eq!(printed, "15=world\n");
         let printed = run_page(&blocks(CLIENTS, "cpp", 2), "cpp", compiler, &classes);
@@ -303,41 +252,16 @@ fn the_lines_of_the_pages() {
     }
 }
 
-/// Each compiler of C++ that is there. One has to be, if all has to be run.
-fn compilers() -> Vec<&'static str> {
-    compilers_with(&[])
-}
-
-/// Each compiler of C++ that makes a program by these words: what a sanitizer needs may be lacking.
-fn compilers_with(words: &[&str]) -> Vec<&'static str> {
-    let folder = folder_of(&format!("compilers-{:?}", thread::current().id()));
-    let source = folder.join("empty.cpp");
-    fs::write(&source, "int main() {}\n").unwrap();
-    let makes = |name: &&str| {
-        let mut compiler = Command::new(name);
-        let made = compiler.args(words).arg(&source).arg("-o").arg(folder.join("empty")).output();
-        made.is_ok_and(|made| made.status.success())
-    };
-    let found: Vec<&str> = ["g++", "clang++"].into_iter().filter(makes).collect();
-    let _ = fs::remove_dir_all(&folder);
-    if found.is_empty() {
-        let what = format!("there is no compiler of C++ {}", words.join(" "));
-        assert!(std::env::var_os("KRL_ALL").is_none(), "{what}");
-        eprintln!("NOT RUN: {what}");
-    }
-    found
-}
-
 #[test]
 fn the_classes_for_cpp() {
-    for compiler in compilers() {
+    for compiler in compilers(&[]) {
         World::new(compiler).runs(compiler, "tests/programs/wrapper.cpp", &[]);
     }
 }
 
 #[test]
 fn the_classes_for_cpp_without_exceptions() {
-    for compiler in compilers() {
+    for compiler in compilers(&[]) {
         let world = World::new(&format!("expected-{compiler}"));
         world.runs(compiler, "tests/programs/expected.cpp", &["-fno-exceptions"]);
     }
@@ -345,7 +269,7 @@ fn the_classes_for_cpp_without_exceptions() {
 
 #[test]
 fn the_classes_for_cpp_with_sanitizers_of_memory() {
-    for compiler in compilers_with(MEMORY).into_iter().take(1) {
+    for compiler in compilers(MEMORY).into_iter().take(1) {
         World::new("cpp-memory").runs(compiler, "tests/programs/wrapper.cpp", MEMORY);
     }
 }
@@ -380,7 +304,7 @@ fn the_example_of_a_host() {
 
 #[test]
 fn the_example_of_a_storage_engine() {
-    for compiler in compilers() {
+    for compiler in compilers(&[]) {
         let world = World::new(&format!("engine-{compiler}"));
         world.build(compiler, "examples/storage_engine.cpp", &[]);
         let printed = world.run(&[&world.place, &text(&world.folder)]);

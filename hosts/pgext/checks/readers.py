@@ -1,5 +1,5 @@
 """Readers that keep rows in memory next to writers, while workers, krl's server and PostgreSQL end: over the client for
-C, and over krl-cache."""
+C, and over krl-cache in Rust and in Python."""
 import os
 import signal
 import subprocess
@@ -7,7 +7,7 @@ import time
 from urllib.parse import quote
 
 from checks.cluster import Cluster, KrlServer
-from checks.processes import Failed
+from checks.processes import PYTHON, Failed
 
 # How long the readers read, and how long they may take, in seconds.
 READ, RUN = 10, 600
@@ -35,19 +35,22 @@ def make_table(cluster, database):
                 "SELECT krl.cache('item', stripes => 16)", database=database)
 
 
-def read(cluster, krl, *words):
-    """Runs readers and writers, and ends servers meanwhile."""
+def read(cluster, krl, *commands, **variables):
+    """Runs readers and writers next to each other, and ends servers meanwhile."""
     how = {"stdin": subprocess.DEVNULL, "stdout": subprocess.PIPE, "stderr": subprocess.STDOUT, "text": True}
-    reading = subprocess.Popen([str(word) for word in (*words, READ)], errors="replace", **how)
+    how |= {"errors": "replace", "env": os.environ | {name: str(it) for name, it in variables.items()}}
+    reading = [subprocess.Popen([str(word) for word in (*words, READ)], **how) for words in commands]
     try:
         for _ in range(2):
             end_servers(cluster, krl)
-        printed, _ = reading.communicate(timeout=RUN)
+        printed = [reader.communicate(timeout=RUN)[0].strip() for reader in reading]
     finally:
-        reading.kill()
-    if reading.returncode != 0:
-        raise Failed(printed.strip())
-    print(f"check: {printed.strip()}", flush=True)
+        for reader in reading:
+            reader.kill()
+    if any(reader.returncode for reader in reading):
+        raise Failed("\n".join(printed))
+    for line in printed:
+        print(f"check: {line}", flush=True)
 
 
 def check(installation):
@@ -56,8 +59,11 @@ def check(installation):
     cluster = Cluster(installation, "readers", 5432, f"krl.servers = '{krl.address}'", *SETTINGS)
     make_table(cluster, "checks")
     words = f"host={cluster.folder} user=postgres dbname=checks"
-    read(cluster, krl, installation.source / "test/readers", words, krl.address, cluster.folder)
+    read(cluster, krl, (installation.source / "test/readers", words, krl.address, cluster.folder))
     cluster.sql("CREATE DATABASE cache", database="postgres")
     make_table(cluster, "cache")
     words = f"postgres://postgres@{quote(str(cluster.folder), safe='')}/cache"
-    read(cluster, krl, installation.top / "bin/beside_writers", words, cluster.folder / "locks")
+    top, words = installation.top, (words, cluster.folder / "locks")
+    in_python = (PYTHON, top / "hosts/pgext/checks/beside_writers.py", *words)
+    read(cluster, krl, (top / "bin/beside_writers", *words), in_python, PYTHONPATH=top / "hosts/python",
+         KRL_CACHE_LIBRARY=top / "bin/libkrl_cache_c.so")

@@ -1,7 +1,8 @@
 """A client of krl, the key-range lock server: it answers reads from its cache, and never stale.
 
 It is the client of ``libkrl_client``, whose calls this package makes: there is no protocol in it.
-``README.md`` has examples, and ``krl.aio`` has the same calls for ``asyncio``."""
+``README.md`` has examples, and ``krl.aio`` has the same calls for ``asyncio``. ``krl.cache`` reads
+cached tables of PostgreSQL."""
 
 from ._library import END as END, TOP as TOP, Row as Row
 from .client import Client as Client, Pin as Pin, Status as Status, Tls as Tls, Write as Write

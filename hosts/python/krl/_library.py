@@ -10,7 +10,8 @@ import struct
 from collections.abc import Callable
 from concurrent.futures import Future
 from contextlib import suppress
-from ctypes import byref, c_bool, c_char, c_char_p, c_int32, c_size_t, c_uint32, c_uint64, c_void_p
+from ctypes import byref, c_bool, c_char, c_char_p, c_int32, c_int64, c_size_t, c_uint32, c_uint64
+from ctypes import c_void_p
 from pathlib import Path
 from queue import SimpleQueue
 from threading import Semaphore, Thread, current_thread, main_thread
@@ -36,7 +37,7 @@ MOST = 32
 
 # Types by letters. "p" is any pointer: ctypes takes a handle, a reference or an array for it.
 _TYPES: dict[str, Any] = {"-": None, "?": c_bool, "i": c_uint32, "n": c_size_t, "q": c_uint64}
-_TYPES |= {"s": c_char_p, "p": c_void_p}
+_TYPES |= {"s": c_char_p, "p": c_void_p, "t": c_int64}
 
 # The calls, with the types of their results and parameters. Those that wait for nobody keep the interpreter's lock;
 # while the others wait, other threads of the program continue.
@@ -84,9 +85,11 @@ class Handle(c_void_p):
     """A client, a pin or rows, which is freed with the last reference to it: each call that uses
     it has one, so none uses it while it is freed. A null handle stands for one that is gone."""
 
-    def __init__(self, free: str, value: int | None = None) -> None:
+    def __init__(
+        self, free: str, value: int | None = None, calls: SimpleNamespace | None = None
+    ) -> None:
         super().__init__(value)
-        self._free = getattr(library(), free)
+        self._free = getattr(calls or library(), free)
 
     def __del__(self) -> None:
         if self.value is not None:
@@ -109,25 +112,30 @@ class Rows(Handle):
 @functools.cache
 def library() -> SimpleNamespace:
     """The calls of the library, which is loaded once, or a ``LibraryError``."""
-    here, name, faults = Path(__file__).resolve().parent, "libkrl_client.so", []
+    return load("libkrl_client.so", NAMED_BY, "krlc_", _AT_ONCE, _WAITING)
+
+
+def load(name: str, named_by: str, prefix: str, *calls: str) -> SimpleNamespace:
+    """The calls of a library of krl, by their names without the prefix."""
+    here, faults = Path(__file__).resolve().parent, []
     # `make install` puts the package into share/krl/python, next to the folder lib.
     places = [f"{here}/{name}", os.path.normpath(f"{here}/../../../../lib/{name}.0"), f"{name}.0"]
-    for place in [os.environ[NAMED_BY]] if os.environ.get(NAMED_BY) else places:
+    for place in [os.environ[named_by]] if os.environ.get(named_by) else places:
         try:
-            return _loaded(place)
+            return _loaded(place, prefix, *calls)
         except (OSError, AttributeError) as fault:
             faults.append(str(fault))
     raise LibraryError(f"{name} cannot be loaded: put it into the package krl or where the system "
-                       f"looks for libraries, or name the file by {NAMED_BY}. "
+                       f"looks for libraries, or name the file by {named_by}. "
                        f"Tried: {'; '.join(faults)}")
 
 
-def _loaded(place: str) -> SimpleNamespace:
-    """The calls of the library at this place, by their names without ``krlc_``."""
+def _loaded(place: str, prefix: str, at_once: str, waiting: str) -> SimpleNamespace:
+    """The calls of the library at this place."""
     calls = SimpleNamespace()
-    for loaded, names in ((ctypes.PyDLL(place), _AT_ONCE), (ctypes.CDLL(place), _WAITING)):
+    for loaded, names in ((ctypes.PyDLL(place), at_once), (ctypes.CDLL(place), waiting)):
         for name, types in declared(names):
-            function = getattr(loaded, f"krlc_{name}")
+            function = getattr(loaded, prefix + name)
             function.restype, *function.argtypes = types
             setattr(calls, name, function)
     check_version(calls.version())

@@ -85,6 +85,15 @@ impl Database {
         Some(self)
     }
 
+    /// Waits until the server answers that was started again.
+    pub fn wait_for_answers(&self) {
+        let end = Instant::now() + Duration::from_secs(60);
+        while !self.is_answering() {
+            assert!(Instant::now() < end, "PostgreSQL does not answer");
+            thread::sleep(Duration::from_millis(20));
+        }
+    }
+
     fn is_answering(&self) -> bool {
         let runtime = tokio::runtime::Builder::new_current_thread().enable_all().build().unwrap();
         let text: String = self.address();
@@ -144,11 +153,7 @@ impl Database {
 
     /// Promotes the replica as soon as it answers, and waits until it is the primary.
     pub fn promote(&self) {
-        let end = Instant::now() + Duration::from_secs(60);
-        while !self.is_answering() {
-            assert!(Instant::now() < end, "PostgreSQL does not answer");
-            thread::sleep(Duration::from_millis(20));
-        }
+        self.wait_for_answers();
         let sql = self.connect();
         sql.wait_until("SELECT pg_promote()::int::bigint", |promoted| promoted == 1);
         sql.wait_until("SELECT pg_is_in_recovery()::int::bigint", |replica| replica == 0);

@@ -9,6 +9,7 @@
     reason = "a test that can't continue panics"
 )]
 pub mod authority;
+pub mod c_programs;
 #[cfg(feature = "certificates")]
 pub mod certificates;
 #[cfg(feature = "cluster")]
@@ -17,6 +18,7 @@ pub mod cluster;
 pub mod database;
 pub mod deaf_relay;
 pub mod etcd_relay;
+pub mod header;
 pub mod ports;
 pub mod relay;
 pub mod wake_count;

@@ -4,6 +4,7 @@
 use krl::{Client, MemoryStore, Outcome, Server, Value};
 use krl_cache::{Cache, Row, Table};
 use krl_testing::database::{Database, Sql};
+use std::io::{BufRead, Write};
 use std::net::TcpListener;
 use std::ops::Range;
 use std::path::PathBuf;
@@ -54,6 +55,26 @@ const ITEM: &str = "
     CREATE TABLE item (id integer PRIMARY KEY, name text NOT NULL, price bigint);
     INSERT INTO item SELECT id, 'item ' || id, 10 * id FROM generate_series(0, 39) AS id;
     INSERT INTO krl.cached VALUES ('item', '{id}', 99, 16, true);";
+
+/// Tables for readers in other languages: with keys of several columns, with keys that are not unique,
+/// with columns of many types, and one that is not cached.
+pub const OTHER_TABLES: &str = "
+    CREATE TABLE place (country varchar(2), code uuid, \"The Name\" text NOT NULL,
+        PRIMARY KEY (country, code));
+    INSERT INTO place VALUES ('at', 'a0a0a0a0-a0a0-a0a0-a0a0-a0a0a0a0a0a0', 'Vienna');
+    INSERT INTO krl.cached VALUES ('place', '{country,code}', 119, 16, false);
+    CREATE TABLE note (author text, body text);
+    INSERT INTO note VALUES ('ada', 'one'), ('ada', 'two'), ('grace', 'three');
+    INSERT INTO krl.cached VALUES ('note', '{author}', 139, 1, false);
+    CREATE TABLE kinds (id smallint PRIMARY KEY, small smallint, number integer, big bigint,
+        single real, long double precision, is_so boolean, bytes bytea, json jsonb,
+        exact numeric, at timestamptz, local timestamp, day date, code uuid, words text[]);
+    INSERT INTO kinds VALUES (1, -2, -3, -4, 0.5, -0.25, true, '\\x00ff', '{\"a\": 1}', -1234.0500,
+        '2024-02-29 12:34:56.789+00', '1999-12-31 23:59:59.000001', '2024-02-29',
+        'a0a0a0a0-a0a0-a0a0-a0a0-a0a0a0a0a0a0', '{one,two}');
+    INSERT INTO kinds (id) VALUES (2);
+    INSERT INTO krl.cached VALUES ('kinds', '{id}', 159, 16, true);
+    CREATE TABLE plain (id bigint PRIMARY KEY);";
 
 static COUNT: AtomicU32 = AtomicU32::new(0);
 
@@ -112,6 +133,42 @@ impl Site {
         drop(self.worker.pin_for_write(keys).unwrap());
     }
 
+    /// Does what a program asks for, and answers each line by the line `done`:
+    ///
+    ///     sql STATEMENTS
+    ///     write FIRST END STATEMENTS      changes rows of these keys of krl
+    ///     take FIRST END                  takes them back
+    ///     define NONCE STATEMENTS         changes a definition
+    ///     stop                            ends the database
+    ///     start                           starts it again
+    pub fn serve(&mut self, asked: impl BufRead, mut answers: impl Write) {
+        for line in asked.lines() {
+            let line = line.unwrap();
+            let (what, rest) = line.split_once(' ').unwrap_or((&line, ""));
+            match what {
+                "sql" => self.sql.run(rest),
+                "write" => {
+                    let (keys, statements) = keys_of(rest);
+                    self.write(keys, statements);
+                }
+                "take" => self.take_back(keys_of(rest).0),
+                "define" => {
+                    let (nonce, statements) = rest.split_once(' ').expect("a nonce");
+                    self.define(nonce.parse().expect("a nonce"), statements);
+                }
+                "stop" => self.database.stop(),
+                "start" => {
+                    self.database.start_again();
+                    self.database.wait_for_answers();
+                    self.sql = self.database.connect();
+                }
+                _ => panic!("the program asks for {line}"),
+            }
+            // A program that has ended waits for nothing.
+            let _ = writeln!(answers, "done").and_then(|()| answers.flush());
+        }
+    }
+
     /// Changes a definition as a transaction does next to the extension, or starts it: each time
     /// with another nonce.
     pub fn define(&self, nonce: i64, statement: &str) {
@@ -141,6 +198,14 @@ impl Drop for Site {
     fn drop(&mut self) {
         let _ = std::fs::remove_dir_all(&self.folder);
     }
+}
+
+/// The keys of krl that a line begins with, and what follows them.
+fn keys_of(words: &str) -> (Range<u64>, &str) {
+    let mut words = words.splitn(3, ' ');
+    let mut key = || words.next().and_then(|word| word.parse().ok()).expect("a key of krl");
+    let keys = key()..key();
+    (keys, words.next().unwrap_or(""))
 }
 
 /// The keys of krl of stripes of the table `item`.

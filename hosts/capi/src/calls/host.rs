@@ -1,14 +1,12 @@
 //! The calls of `krl_host.h`.
-use super::put_out;
 use crate::code::Code;
-use crate::fault::{ErrorRoom, Fault, answer, quiet};
-use crate::fork;
-use crate::handle::{Handle, Kind};
+use crate::fault::{ErrorRoom, Fault, answer};
 use crate::host::{self, Asked, CallBack, Host, NEVER, NO_PIN};
-use crate::host_options::{HostOptions, host_options_at};
+use crate::host_options::HostOptions;
 use crate::input::{self, GivenRow, range};
 use krl::Row;
 use krl::sans_io::{Cached, Client as HostClient};
+use krl_ffi::{Handle, Kind, fork, options_at, put_out, quiet};
 use std::ffi::c_void;
 use std::ptr;
 use std::slice;
@@ -28,7 +26,7 @@ static HOSTS: Kind<Host> = Kind::new("client of a host");
 /// `client` is null or such a client's handle, which no other call frees as long as the answer lives.
 unsafe fn host<'a>(client: *const HostHandle) -> Result<&'a Host, Fault> {
     // SAFETY: the caller vouches for the handle.
-    unsafe { HOSTS.own_value(client) }
+    Ok(unsafe { HOSTS.own_value(client) }?)
 }
 
 #[unsafe(no_mangle)]
@@ -42,12 +40,10 @@ pub unsafe extern "C" fn krlh_open(
         // SAFETY: the caller vouches for the room, the options and their texts.
         unsafe { put_out("a client", client, ptr::null_mut()) }?;
         // SAFETY: as above.
-        let options = unsafe { host_options_at(options) }?;
+        let options = unsafe { options_at(options) }?;
         // SAFETY: as above.
         let begin = unsafe { options.begin() }?;
-        if !fork::watch() {
-            return Err(Fault::new(Code::OutOfMemory, "memory was refused"));
-        }
+        fork::watch()?;
         let opened = HostClient::open(begin, Duration::from_nanos(now.min(host::LAST_MOMENT)))?;
         let opened = HOSTS.open(Host::new(opened, now))?;
         // SAFETY: as above.

@@ -1,13 +1,13 @@
 //! The calls that make pins, and those that take them.
 use super::room::emptied;
-use super::{Client, Rows, own, put_out};
+use super::{Client, Rows, own};
 use crate::code::Code;
-use crate::fault::{ErrorRoom, Fault, answer, quiet};
-use crate::handle::{Handle, Kind};
+use crate::fault::{ErrorRoom, Fault, answer};
 use crate::input::{self, range};
 use crate::pin::OwnPin;
 use crate::writes::{GivenWrite, write_all, writes};
 use krl::Outcome;
+use krl_ffi::{Handle, Kind, put_out, quiet};
 use std::ffi::c_void;
 use std::ptr;
 

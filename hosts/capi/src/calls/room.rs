@@ -1,8 +1,8 @@
 //! Room for rows.
 use super::Rows;
-use crate::fault::{Fault, quiet};
-use crate::handle::Kind;
+use crate::fault::Fault;
 use krl::Row;
+use krl_ffi::{Kind, quiet};
 use std::ptr;
 
 static ROWS: Kind<Vec<Row>> = Kind::new("room for rows");

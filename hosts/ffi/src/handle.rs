@@ -2,9 +2,8 @@
 //!
 //! A handle's memory is never given back to the system, so that a call which takes a freed one
 //! detects that, and does not read memory that is now used for something else.
-use crate::code::Code;
-use crate::fault::Fault;
 use crate::fork::Process;
+use crate::misuse::Misuse;
 use std::cell::UnsafeCell;
 use std::collections::VecDeque;
 use std::mem;
@@ -41,13 +40,14 @@ pub struct Kind<T: 'static> {
 }
 
 impl<T: Send + Sync> Kind<T> {
-    /// A kind that faults call by this name.
+    /// A kind that errors call by this name.
+    #[must_use]
     pub const fn new(name: &'static str) -> Kind<T> {
         Kind { name, freed: Mutex::new(VecDeque::new()) }
     }
 
     /// A handle of this value.
-    pub fn open(&'static self, value: T) -> Result<*mut Handle<T>, Fault> {
+    pub fn open(&'static self, value: T) -> Result<*mut Handle<T>, Misuse> {
         let handle = self.next()?;
         // SAFETY: the handle is freed, and this call is the only one that has it: no call that C
         // makes may use it.
@@ -56,7 +56,7 @@ impl<T: Send + Sync> Kind<T> {
         Ok(ptr::from_ref(handle).cast_mut())
     }
 
-    fn next(&'static self) -> Result<&'static Handle<T>, Fault> {
+    fn next(&'static self) -> Result<&'static Handle<T>, Misuse> {
         let oldest = self
             .freed()
             .and_then(|mut freed| if freed.len() >= KEPT { freed.pop_front() } else { None });
@@ -78,7 +78,7 @@ impl<T: Send + Sync> Kind<T> {
     ///
     /// The handle is null or one of this kind, and no other call frees it or has it by `value_mut`
     /// as long as the answer lives.
-    unsafe fn content<'a>(&self, at: *const Handle<T>) -> Result<&'a Content<T>, Fault> {
+    unsafe fn content<'a>(&self, at: *const Handle<T>) -> Result<&'a Content<T>, Misuse> {
         // SAFETY: a handle's memory stays.
         let handle = unsafe { at.as_ref() }.ok_or_else(|| self.is("null"))?;
         if !handle.is_open.load(Ordering::Acquire) {
@@ -93,7 +93,7 @@ impl<T: Send + Sync> Kind<T> {
     /// # Safety
     ///
     /// As for `content`.
-    pub unsafe fn value<'a>(&self, at: *const Handle<T>) -> Result<&'a T, Fault> {
+    pub unsafe fn value<'a>(&self, at: *const Handle<T>) -> Result<&'a T, Misuse> {
         // SAFETY: the caller vouches for it.
         unsafe { self.content(at) }.map(|content| &content.value)
     }
@@ -103,13 +103,13 @@ impl<T: Send + Sync> Kind<T> {
     /// # Safety
     ///
     /// As for `content`.
-    pub unsafe fn own_value<'a>(&self, at: *const Handle<T>) -> Result<&'a T, Fault> {
+    pub unsafe fn own_value<'a>(&self, at: *const Handle<T>) -> Result<&'a T, Misuse> {
         // SAFETY: the caller vouches for it.
         let content = unsafe { self.content(at) }?;
         if content.process == Process::this() {
             Ok(&content.value)
         } else {
-            Err(Fault::new(Code::Forked, format!("the {} is the parent process's", self.name)))
+            Err(Misuse::Forked(self.name))
         }
     }
 
@@ -119,7 +119,7 @@ impl<T: Send + Sync> Kind<T> {
     ///
     /// The handle is null or one of this kind, and no other call uses it as long as the answer
     /// lives.
-    pub unsafe fn value_mut<'a>(&self, at: *mut Handle<T>) -> Result<&'a mut T, Fault> {
+    pub unsafe fn value_mut<'a>(&self, at: *mut Handle<T>) -> Result<&'a mut T, Misuse> {
         // SAFETY: as for `content`.
         let handle = unsafe { at.as_ref() }.ok_or_else(|| self.is("null"))?;
         if !handle.is_open.load(Ordering::Acquire) {
@@ -157,17 +157,16 @@ impl<T: Send + Sync> Kind<T> {
         end(value);
     }
 
-    fn is(&self, what: &str) -> Fault {
-        Fault::misuse(format!("the pointer to a {} is {what}", self.name))
+    fn is(&self, what: &str) -> Misuse {
+        Misuse::Invalid(format!("the pointer to a {} is {what}", self.name))
     }
 }
 
 impl<T> Handle<T> {
     /// A freed one. Its memory is never given back.
-    fn new() -> Result<&'static Handle<T>, Fault> {
+    fn new() -> Result<&'static Handle<T>, Misuse> {
         let mut one = Vec::new();
-        let refused = |_| Fault::new(Code::OutOfMemory, "memory was refused");
-        one.try_reserve_exact(1).map_err(refused)?;
+        one.try_reserve_exact(1).map_err(|_| Misuse::OutOfMemory)?;
         one.push(Handle { is_open: AtomicBool::new(false), content: UnsafeCell::new(None) });
         Ok(&one.leak()[0])
     }
@@ -195,8 +194,8 @@ mod tests {
                 let other = NUMBERS.open(number).unwrap();
                 assert_ne!(other, first);
                 NUMBERS.free(other, drop);
-                assert_eq!(NUMBERS.value(first).unwrap_err().code, Code::Misuse);
-                assert_eq!(NUMBERS.value_mut(first).unwrap_err().code, Code::Misuse);
+                assert!(matches!(NUMBERS.value(first), Err(Misuse::Invalid(_))));
+                assert!(matches!(NUMBERS.value_mut(first), Err(Misuse::Invalid(_))));
             }
             // No more memory is taken than that.
             assert_eq!(NUMBERS.open(9).unwrap(), first);

@@ -2,6 +2,7 @@
 //!
 //! The thread that keeps a client's connection is not there after a `fork`: nothing would ever take
 //! anything from the child's copy of the cache, which would answer stale rows.
+use crate::misuse::Misuse;
 use std::ffi::c_int;
 use std::sync::Once;
 use std::sync::atomic::{AtomicU32, Ordering};
@@ -27,18 +28,20 @@ pub struct Process(u32);
 
 impl Process {
     /// This process.
+    #[must_use]
     pub fn this() -> Process {
         Process(FORKS.load(Ordering::Relaxed))
     }
 
     /// Whether a fork has made it since the library watches.
+    #[must_use]
     pub fn is_child(self) -> bool {
         self.0 > 0
     }
 }
 
-/// Has forks counted from now on. Returns whether they are.
-pub fn watch() -> bool {
+/// Has forks counted from now on. Fails if there is no memory for that.
+pub fn watch() -> Result<(), Misuse> {
     static WATCH: Once = Once::new();
     static IS_WATCHED: AtomicU32 = AtomicU32::new(0);
     WATCH.call_once(|| {
@@ -46,5 +49,5 @@ pub fn watch() -> bool {
         let refused = unsafe { pthread_atfork(None, None, Some(note_fork)) };
         IS_WATCHED.store(u32::from(refused == 0), Ordering::Relaxed);
     });
-    IS_WATCHED.load(Ordering::Relaxed) == 1
+    if IS_WATCHED.load(Ordering::Relaxed) == 1 { Ok(()) } else { Err(Misuse::OutOfMemory) }
 }
