@@ -40,9 +40,9 @@ SELECT tgrelid::regclass AS relation, tgname, tgenabled, tgtype FROM pg_trigger
     WHERE tgname LIKE 'krl%' ORDER BY 1, 2;
 
 -- Stripes of keys that are no integers.
--- hosts/cache/src/reader/key.rs has the same keys and stripes.
+-- hosts/cache/src/key.rs has the same keys and stripes.
 SELECT krl.stripe(4096, 'lamp'), krl.stripe(4096, E'Gl\u00FChlampe');
-SELECT key, krl.stripe(1048576, VARIADIC key) FROM (VALUES ('{""}'::text[]), ('{a}'), ('{a,b}'), ('{ab,""}'),
+SELECT key, krl.stripe(1048574, VARIADIC key) FROM (VALUES ('{""}'::text[]), ('{a}'), ('{a,b}'), ('{ab,""}'),
     ('{"",ab}'), ('{a0eebc99-9c0b-4ef8-bb6d-6bb9bd380a11}'), ('{at,a0eebc99-9c0b-4ef8-bb6d-6bb9bd380a11}'),
     ('{-7,lamp}'), ('{-9223372036854775808,x,y}')) AS keys (key);
 SELECT krl.stripe(16, 'a', NULL);
