@@ -6,7 +6,8 @@
  * A transaction that changes the definition of a cached table, or of one of
  * its partitions, takes the mark of the table, and so all its rows back from
  * all caches: it may have rewritten the table, or have changed which rows
- * belong to it or who may see them.
+ * belong to it or who may see them.  One that changes what any tables may
+ * depend on, as a schema, a type or a role, takes the mark of the cluster.
  *
  *-------------------------------------------------------------------------
  */
@@ -19,16 +20,22 @@
 #include "catalog/indexing.h"
 #include "catalog/namespace.h"
 #include "catalog/objectaccess.h"
+#include "catalog/pg_authid.h"
 #include "catalog/pg_class.h"
 #include "catalog/pg_inherits.h"
+#include "catalog/pg_namespace.h"
 #include "catalog/pg_trigger.h"
+#include "commands/defrem.h"
 #include "commands/extension.h"
 #include "fmgr.h"
 #include "miscadmin.h"
 #include "nodes/parsenodes.h"
 #include "tcop/utility.h"
+#include "utils/acl.h"
 #include "utils/fmgroids.h"
+#include "utils/lsyscache.h"
 #include "utils/rel.h"
+#include "utils/syscache.h"
 
 #include "changes.h"
 #include "definitions.h"
@@ -87,19 +94,46 @@ note_table(Oid table)
 	return note_triggers(TriggerRelidNameIndexId, Anum_pg_trigger_tgrelid, table);
 }
 
-/* The same if an access to an object changes the definition of a cached table. */
+/* Any cached table of this database may be changed. */
 static void
-note_object(ObjectAccessType access, Oid class, Oid object, void *arg)
+note_all(void)
 {
-	if (access != OAT_DROP && access != OAT_POST_ALTER && access != OAT_TRUNCATE)
+	if (OidIsValid(get_extension_oid("krl", true)))
+		krl_note_mark(KRL_CLUSTER_MARK);
+}
+
+/* The same if the relation is a composite type, which columns of any table may have. */
+static void
+note_relation(Oid relation)
+{
+	if (!note_table(relation) && get_rel_relkind(relation) == RELKIND_COMPOSITE_TYPE)
+		note_all();
+}
+
+/* Whether an access changes an object: a column that is added to a relation is created. */
+static bool
+is_change(ObjectAccessType access, Oid class, int sub)
+{
+	return access == OAT_DROP || access == OAT_POST_ALTER || access == OAT_TRUNCATE ||
+		(access == OAT_POST_CREATE && class == RelationRelationId && sub != 0);
+}
+
+/* If an access to an object changes the definition of cached tables, their rows are taken back. */
+static void
+note_object(ObjectAccessType access, Oid class, Oid object, int sub, void *arg)
+{
+	if (!is_change(access, class, sub))
 		return;
 	if (class == TriggerRelationId)
 		(void) note_triggers(TriggerOidIndexId, Anum_pg_trigger_oid, object);
 	else if (class == RelationRelationId)
-		(void) note_table(object);
+		note_relation(object);
 	else if (class == InheritsRelationId && access == OAT_POST_ALTER && arg != NULL)
 		/* A partition is attached or detached, or a child inherits or no longer does. */
 		(void) note_table(((ObjectAccessPostAlter *) arg)->auxiliary_id);
+	else if (class == NamespaceRelationId && access == OAT_POST_ALTER)
+		/* The names of its tables may be those of others after this. */
+		note_all();
 }
 
 static void
@@ -108,7 +142,7 @@ on_object_access(ObjectAccessType access, Oid class, Oid object, int sub, void *
 	if (next_object_access)
 		next_object_access(access, class, object, sub, arg);
 	if (krl_shared && IsNormalProcessingMode() && IsTransactionState())
-		note_object(access, class, object, arg);
+		note_object(access, class, object, sub, arg);
 }
 
 static bool
@@ -140,14 +174,6 @@ refuse_concurrent_detach(const AlterTableStmt *statement)
 	}
 }
 
-/* A statement that may be of any tables. */
-static void
-note_all(void)
-{
-	if (OidIsValid(get_extension_oid("krl", true)))
-		krl_note_mark(KRL_CLUSTER_MARK);
-}
-
 /* A reader that has lost the right to read a table keeps nothing of it any longer. */
 static void
 note_revoked(const GrantStmt *statement)
@@ -161,6 +187,45 @@ note_revoked(const GrantStmt *statement)
 			(void) note_name(lfirst_node(RangeVar, cell));
 	else if (statement->objtype == OBJECT_TABLE || statement->objtype == OBJECT_SCHEMA)
 		note_all();
+}
+
+/* From PostgreSQL 16 on, GRANT .. WITH INHERIT FALSE revokes too. */
+static bool
+revokes_role(const GrantRoleStmt *statement)
+{
+#if PG_VERSION_NUM >= 160000
+	return !statement->is_grant || statement->opt != NIL;
+#else
+	return !statement->is_grant;
+#endif
+}
+
+/* Whether the option takes from the role what it has. */
+static bool
+is_taken(DefElem *option, Form_pg_authid role)
+{
+	if (strcmp(option->defname, "superuser") == 0)
+		return role->rolsuper && !defGetBoolean(option);
+	if (strcmp(option->defname, "inherit") == 0)
+		return role->rolinherit && !defGetBoolean(option);
+	return false;
+}
+
+/* Whether a statement takes rights from a role, or roles from a group. */
+static bool
+restricts_role(const AlterRoleStmt *statement)
+{
+	Oid			oid = get_rolespec_oid(statement->role, true);
+	HeapTuple	role = SearchSysCache1(AUTHOID, ObjectIdGetDatum(oid));
+	bool		result = statement->action < 0;
+	ListCell   *cell;
+
+	if (!HeapTupleIsValid(role))
+		return false;
+	foreach(cell, statement->options)
+		result |= is_taken(lfirst_node(DefElem, cell), (Form_pg_authid) GETSTRUCT(role));
+	ReleaseSysCache(role);
+	return result;
 }
 
 /* If a statement changes the definition of a cached table, or who may read it, its rows are taken back. */
@@ -194,12 +259,24 @@ note_statement(Node *statement)
 		case T_GrantStmt:
 			note_revoked((GrantStmt *) statement);
 			break;
-		case T_GrantRoleStmt:
-			if (!((GrantRoleStmt *) statement)->is_grant)
-				note_all();
-			break;
 		case T_DropOwnedStmt:
 			note_all();
+			break;
+		case T_AlterEnumStmt:
+			if (((AlterEnumStmt *) statement)->oldVal)
+				note_all();
+			break;
+			/* Roles are those of all databases. */
+		case T_GrantRoleStmt:
+			if (revokes_role((GrantRoleStmt *) statement))
+				krl_note_mark(KRL_CLUSTER_MARK);
+			break;
+		case T_AlterRoleStmt:
+			if (restricts_role((AlterRoleStmt *) statement))
+				krl_note_mark(KRL_CLUSTER_MARK);
+			break;
+		case T_DropRoleStmt:
+			krl_note_mark(KRL_CLUSTER_MARK);
 			break;
 		default:
 			break;

@@ -30,6 +30,17 @@ REVOKE ALL ON FUNCTION krl.changed() FROM PUBLIC;
 COMMENT ON FUNCTION krl.changed() IS
     'notes which stripes the transaction changes: the trigger of cached tables';
 
+-- A table that is dropped is no longer cached, whoever drops it.
+CREATE FUNCTION krl.forget_dropped() RETURNS event_trigger
+    LANGUAGE plpgsql SECURITY DEFINER SET search_path = pg_catalog AS $$
+BEGIN
+    DELETE FROM krl.cached WHERE relation IN (SELECT objid FROM pg_event_trigger_dropped_objects()
+        WHERE classid = 'pg_class'::regclass AND objsubid = 0);
+END $$;
+REVOKE ALL ON FUNCTION krl.forget_dropped() FROM PUBLIC;
+CREATE EVENT TRIGGER krl_dropped ON sql_drop EXECUTE FUNCTION krl.forget_dropped();
+ALTER EVENT TRIGGER krl_dropped ENABLE ALWAYS;
+
 CREATE FUNCTION krl.quiet(nonce bigint, relation regclass, mark integer, stripes integer[])
     RETURNS boolean LANGUAGE C STRICT VOLATILE AS 'MODULE_PATHNAME', 'krl_quiet';
 COMMENT ON FUNCTION krl.quiet(bigint, regclass, integer, integer[]) IS

@@ -111,6 +111,9 @@ typedef struct KrlShared
 	/* The value of the cluster's mark since this start, or 0 until it has it. */
 	pg_atomic_uint64 nonce;
 
+	/* The joining in which the first worker took the cluster's mark, or KRL_NOT_READY. */
+	pg_atomic_uint32 marked_in;
+
 	/* Readers keep nothing: krl's server is stopped, or is about to be. */
 	pg_atomic_uint32 is_closed;
 
@@ -169,6 +172,7 @@ extern uint64 krl_state(uint32 number, uint32 place, KrlPhase phase);
 extern uint32 krl_my_procno(void);
 extern void krl_set_latch(uint32 procno);
 extern void krl_wake_workers(int most);
+extern void krl_set_latches(void);
 extern bool krl_is_ready(KrlWorker *worker);
 extern void krl_read_text(KrlWorker *worker, const char *text, char *copy);
 extern void krl_join_again(void);

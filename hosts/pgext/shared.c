@@ -81,6 +81,7 @@ init_shared(void)
 	SpinLockInit(&krl_shared->mutex);
 	krl_shared->nbackends = max_backends();
 	pg_atomic_init_u64(&krl_shared->nonce, 0);
+	pg_atomic_init_u32(&krl_shared->marked_in, KRL_NOT_READY);
 	pg_atomic_init_u32(&krl_shared->joining, 0);
 	pg_atomic_init_u32(&krl_shared->server_procno, KRL_NO_PROCESS);
 	pg_atomic_init_u32(&krl_shared->server_runs, false);
@@ -182,6 +183,14 @@ krl_wake_workers(int most)
 	}
 }
 
+/* Has each worker look again what it should do. */
+void
+krl_set_latches(void)
+{
+	for (int number = 0; number < krl_workers; number++)
+		krl_set_latch(pg_atomic_read_u32(&krl_shared->workers[number].procno));
+}
+
 /* Copies the fault of a worker, or its failure. */
 void
 krl_read_text(KrlWorker *worker, const char *text, char *copy)
@@ -204,8 +213,7 @@ krl_join_again(void)
 {
 	pg_atomic_write_u64(&krl_shared->nonce, 0);
 	pg_atomic_fetch_add_u32(&krl_shared->joining, 1);
-	for (int worker = 0; worker < krl_workers; worker++)
-		krl_set_latch(pg_atomic_read_u32(&krl_shared->workers[worker].procno));
+	krl_set_latches();
 }
 
 /* The count of a key: that of the cluster's mark is the last one. */

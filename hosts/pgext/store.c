@@ -187,7 +187,7 @@ take_other_store(krlc_client *client, const char *found, uint64 end, krlc_error 
 
 /*
  * Whether the store of krl's server is the one that this cluster uses.  The
- * first worker names the store, or takes another one; the others wait for it.
+ * first worker names the store, or takes another one, before the others join.
  */
 bool
 krl_store_is_own(krlc_client *client, int worker, krlc_error *error)
@@ -204,9 +204,7 @@ krl_store_is_own(krlc_client *client, int worker, krlc_error *error)
 		return take_other_store(client, found, store.end, error);
 	if (worker == 0 && !has_store)
 		return name_store(client, found, error);
-	strlcpy(error->sentence, has_store
-			? "krl's server does not have the store of this cluster"
-			: "the first worker has not named the store of krl's server",
+	strlcpy(error->sentence, "krl's server does not have the store of this cluster",
 			sizeof(error->sentence));
 	return false;
 }

@@ -97,7 +97,8 @@ join(krlc_error *error)
 
 /*
  * Puts a nonce into the cluster's mark, which takes everything back from all
- * caches.  After that an even count means that nobody keeps anything by the key.
+ * caches.  After that an even count means that nobody keeps anything by the
+ * key, and the other workers may join.
  */
 static bool
 take_mark(krlc_error *error)
@@ -111,6 +112,8 @@ take_mark(krlc_error *error)
 	if (krlc_set(client, KRL_CLUSTER_MARK, &nonce, sizeof(nonce), MARK_MS, error) != KRLC_OK)
 		return false;
 	pg_atomic_write_u64(&krl_shared->nonce, nonce);
+	pg_atomic_write_u32(&krl_shared->marked_in, joined_in);
+	krl_set_latches();
 	return true;
 }
 
@@ -133,7 +136,6 @@ is_lease_covered(krlc_error *error)
 static bool
 get_ready(krlc_error *error)
 {
-	joined_in = pg_atomic_read_u32(&krl_shared->joining);
 	return (client || join(error)) &&
 		is_lease_covered(error) &&
 		krl_store_is_own(client, my_number, error) &&
@@ -156,6 +158,13 @@ try_to_get_ready(void)
 {
 	krlc_error	error = {0};
 
+	joined_in = pg_atomic_read_u32(&krl_shared->joining);
+	/* Readers that still ask the old primary may keep rows until this one has the mark. */
+	if (my_number > 0 && pg_atomic_read_u32(&krl_shared->marked_in) != joined_in)
+	{
+		set_fault("the first worker has not taken the mark of the cluster");
+		return false;
+	}
 	if (!get_ready(&error))
 	{
 		report_fault(error.sentence);

@@ -6,7 +6,7 @@ from checks.processes import expect, wait_until
 def make_standby(installation, primary, krl):
     """Makes a standby of the primary, and waits until it has all of its changes."""
     standby = Cluster(installation, "standby", 5433, f"krl.servers = '{krl.address}'", f"krl.lease = {LEASE}",
-                      "hot_standby_feedback = on", copy_of=primary)
+                      "krl.workers = 4", "hot_standby_feedback = on", copy_of=primary)
     place = primary.sql("SELECT pg_current_wal_flush_lsn()")
     replayed = f"SELECT pg_last_wal_replay_lsn() >= '{place}'"
     wait_until("the standby has replayed all", lambda: standby.sql(replayed) == "t")
@@ -14,12 +14,16 @@ def make_standby(installation, primary, krl):
 
 
 def check_standby(installation, primary, krl, reader):
-    """A standby that is promoted writes cached rows only after the workers of the old primary are gone."""
+    """A standby that is promoted writes cached rows only after the first worker of the old primary is gone."""
     primary.sql("BEGIN; UPDATE item SET n = 1 WHERE id = 5; PREPARE TRANSACTION 'prepared'")
     standby = make_standby(installation, primary, krl)
     expect("whether a standby lets readers keep rows", standby.quiet("item", 6), False)
     keys = primary.keep(reader, "item", 6)
     standby.control("promote")
+    waits = "fault = 'the first worker has not taken the mark of the cluster'"
+    started = f"SELECT bool_and(is_ready OR {waits}) FROM krl.workers WHERE number > 0"
+    wait_until("the other workers have started", lambda: standby.sql(started) == "t")
+    expect("how many workers work", standby.sql("SELECT count(*) FROM krl.workers WHERE is_ready"), "0")
     session = standby.session()
     session.run("SET krl.timeout = '500ms'")
     expect_refused("a write of the new primary", session.run("UPDATE item SET n = 2 WHERE id = 6"))
@@ -87,7 +91,9 @@ def check_dump(installation, cluster, reader_number):
 def check(installation):
     """Checks all of these."""
     krl = KrlServer(installation)
-    primary = Cluster(installation, "primary", 5432, f"krl.servers = '{krl.address}'", f"krl.lease = {LEASE}")
+    # The numbers of the other workers of its standby are free.
+    primary = Cluster(installation, "primary", 5432, f"krl.servers = '{krl.address}'", f"krl.lease = {LEASE}",
+                      "krl.workers = 1")
     primary.sql("CREATE EXTENSION krl")
     primary.make_table("item")
     primary.await_workers()

@@ -57,10 +57,10 @@ def check_suspended(cluster):
 
 
 def refuses_store(cluster):
-    """Waits until the workers have joined a server. Returns whether all of them refuse its store."""
-    found = "SELECT count(*) FILTER (WHERE is_ready), count(*) FILTER (WHERE fault = " \
+    """Waits until the workers have joined a server, or the first one refuses its store. Returns whether it does."""
+    found = "SELECT count(*) FILTER (WHERE is_ready), count(*) FILTER (WHERE number = 0 AND fault = " \
         "'krl''s server does not have the store of this cluster') FROM krl.workers"
-    return wait_until("the workers have joined", lambda: {"4|0": "no", "0|4": "yes"}.get(cluster.sql(found))) == "yes"
+    return wait_until("the workers have joined", lambda: {"4|0": "no", "0|1": "yes"}.get(cluster.sql(found))) == "yes"
 
 
 def check_copy(installation, cluster):

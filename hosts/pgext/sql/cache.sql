@@ -11,10 +11,10 @@ BEGIN
         PERFORM pg_sleep(0.02);
     END LOOP;
 END $$;
--- Waits until each worker is not ready for this reason.
+-- Waits until no worker is ready, the first one for this reason.
 CREATE FUNCTION await_fault(why text) RETURNS void LANGUAGE plpgsql AS $$
 BEGIN
-    WHILE EXISTS (SELECT FROM krl.workers WHERE is_ready OR fault IS DISTINCT FROM why) LOOP
+    WHILE EXISTS (SELECT FROM krl.workers WHERE is_ready OR number = 0 AND fault IS DISTINCT FROM why) LOOP
         IF clock_timestamp() > now() + interval '10 minutes' THEN
             RAISE EXCEPTION 'the workers are ready, or not for this reason: %',
                 (SELECT string_agg(fault, ', ') FROM krl.workers);

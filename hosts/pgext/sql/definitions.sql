@@ -77,6 +77,47 @@ ALTER TABLE child NO INHERIT item;
 SELECT quiet('item', 1);
 SELECT FROM since();
 
+-- A table that is cached and inherits gets a column with the other one.
+CREATE TABLE elder (id bigint PRIMARY KEY);
+CREATE TABLE younger (PRIMARY KEY (id)) INHERITS (elder);
+SELECT krl.cache('younger', stripes => 16);
+SELECT quiet('younger', 1);
+SELECT FROM since();
+ALTER TABLE elder ADD COLUMN n bigint;
+SELECT * FROM since();
+DROP TABLE younger, elder;
+
+-- A schema that is renamed: its tables have other names, which may be those of others next.
+CREATE SCHEMA shop;
+CREATE TABLE shop.lamp (id bigint PRIMARY KEY);
+SELECT krl.cache('shop.lamp', stripes => 16);
+SELECT quiet('shop.lamp', 1);
+SELECT FROM since();
+CREATE SCHEMA other;
+SELECT * FROM since();
+ALTER SCHEMA shop RENAME TO store;
+SELECT * FROM since();
+
+-- Types: columns of any table may be of one, or of an array or a domain of it.
+CREATE TYPE color AS ENUM ('red', 'green');
+CREATE TYPE size AS (width integer);
+ALTER TABLE store.lamp ADD COLUMN color color, ADD COLUMN size size;
+SELECT quiet('store.lamp', 1);
+SELECT FROM since();
+ALTER TYPE color ADD VALUE 'blue';
+SELECT * FROM since();
+ALTER TYPE color RENAME VALUE 'green' TO 'olive';
+SELECT * FROM since();
+SELECT quiet('store.lamp', 1);
+ALTER TYPE size ADD ATTRIBUTE height integer;
+SELECT * FROM since();
+
+-- A table that is dropped is no longer cached.
+SELECT quiet('store.lamp', 1);
+DROP SCHEMA store CASCADE;
+SELECT * FROM since();
+SELECT * FROM krl.cached WHERE relation NOT IN (SELECT oid FROM pg_class);
+
 -- The table of a bulk change, and no other one, is taken back by its mark.
 SELECT quiet('item', 1), quiet('part', 1);
 TRUNCATE item;

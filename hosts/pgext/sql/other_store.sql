@@ -16,3 +16,7 @@ SELECT FROM since();
 SELECT quiet('part', 5);
 UPDATE part SET n = 2 WHERE id = 5;
 SELECT * FROM since();
+
+-- The extension is dropped with the triggers of the cached tables.
+DROP EXTENSION krl CASCADE;
+SELECT tgname FROM pg_trigger WHERE tgname LIKE 'krl%';

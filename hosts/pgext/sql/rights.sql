@@ -44,13 +44,45 @@ SELECT * FROM since();
 SELECT quiet('part', 0);
 REVOKE CREATE ON SCHEMA public FROM reader;
 SELECT * FROM since();
+SELECT quiet('part', 0);
+DROP OWNED BY reader;
+SELECT * FROM since();
+
+-- Roles are those of all databases.
 CREATE ROLE readers ROLE reader;
 SELECT quiet('part', 0);
+SELECT current_database() AS this \gset
+\c postgres
 REVOKE readers FROM reader;
+\c :this
 SELECT * FROM since();
 SELECT quiet('part', 0);
-DROP OWNED BY readers;
+ALTER ROLE reader PASSWORD NULL NOSUPERUSER INHERIT;
+ALTER GROUP readers ADD USER reader;
 SELECT * FROM since();
+ALTER GROUP readers DROP USER reader;
+SELECT * FROM since();
+SELECT quiet('part', 0);
+ALTER ROLE reader NOINHERIT;
+SELECT * FROM since();
+SELECT quiet('part', 0);
+DROP ROLE readers;
+SELECT * FROM since();
+CREATE ROLE operator SUPERUSER;
+SELECT quiet('part', 0);
+ALTER ROLE operator NOSUPERUSER;
+SELECT * FROM since();
+
+-- Who drops a table needs no right to change krl.cached.
+CREATE TABLE owned (id bigint PRIMARY KEY);
+SELECT krl.cache('owned', stripes => 16);
+ALTER TABLE owned OWNER TO reader;
+SET ROLE reader;
+DROP TABLE owned;
+RESET ROLE;
+SELECT * FROM krl.cached WHERE relation NOT IN (SELECT oid FROM pg_class);
+SELECT FROM since();
+
 SET ROLE reader;
 SELECT krl.quiet(:nonce, 'part', :mark, '{0}');
 RESET ROLE;
