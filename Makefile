@@ -18,7 +18,7 @@ all:
 	hosts/packaging/library fits
 	hosts/packaging/library make $(LIBRARY)
 	cd hosts && export CARGO_TARGET_DIR=$(TARGET) && \
-	    $(CARGO) build --release $(CARGO_FLAGS) -p krl-server -p krl-client -p krl-cache-admin && \
+	    $(CARGO) build --release $(CARGO_FLAGS) -p krl-server -p krl-client && \
 	    $(CARGO) build --release $(CARGO_FLAGS) -p krl-client-c --lib && \
 	    $(CARGO) build --release $(CARGO_FLAGS) -p krl-cache-c --lib
 

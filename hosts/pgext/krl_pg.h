@@ -8,7 +8,7 @@
  * back from all caches (ask.c, answer.c) by background workers, which are
  * clients of krl (worker.c).  A reader that holds rows in krl asks whether somebody has
  * given notice of them (sql.c), and keeps what it selects after that only if
- * nobody has.  PROTOCOL.md has the argument that no cache is stale.
+ * nobody has.  docs/CACHE_PROTOCOL.md has the argument that no cache is stale.
  *
  *-------------------------------------------------------------------------
  */

@@ -23,6 +23,9 @@ part_packages() {
 part_pages() {
     has python3 unshare ip etcd etcdctl curl openssl ||
         not_run 'python3, unshare, ip, etcd, etcdctl, curl or openssl is missing: commands of pages'
+    if ! has pg_config make psql || [ ! -f "$(pg_config --pgxs)" ]; then
+        not_run 'there are no header files of PostgreSQL: commands of pages'
+    fi
     need_programs
     drive 0 'the commands of the pages' "$top/tests/pages" "$programs"
 }

@@ -1,5 +1,5 @@
 //! Whether rows in memory may be returned. What the readers promise rests on these functions;
-//! `hosts/pgext/PROTOCOL.md` has the argument.
+//! `docs/CACHE_PROTOCOL.md` has the argument.
 use crate::key::Stripe;
 use std::collections::BTreeSet;
 

@@ -3,7 +3,7 @@
 //! The database has the extension `krl` (`hosts/pgext`). A read from memory returns what a `SELECT`
 //! would return at one moment of the call, whoever writes: `psql`, `COPY`, cascades of foreign keys,
 //! functions, `TRUNCATE`. It sends nothing: before a transaction commits, the extension has its rows
-//! taken back from all readers by krl. `hosts/pgext/PROTOCOL.md` has the protocol and the argument
+//! taken back from all readers by krl. `docs/CACHE_PROTOCOL.md` has the protocol and the argument
 //! for it. The rules of krl are proved; this crate is tested, and not proved.
 //!
 //! ```no_run

@@ -1,0 +1,49 @@
+//! Reads a row of the table item (id bigint, name text, price bigint) until it comes from memory:
+//! `docs/CACHE.md` prepares the database.
+//!
+//!     read DATABASE KEY
+use krl_cache::{Cache, PostgresAddress};
+use std::env;
+use std::error::Error;
+use std::process::ExitCode;
+use std::thread;
+use std::time::{Duration, Instant};
+
+const PATIENCE: Duration = Duration::from_secs(60);
+const PAUSE: Duration = Duration::from_millis(10);
+
+fn run(database: PostgresAddress, key: i64) -> Result<(), Box<dyn Error>> {
+    let cache = Cache::builder(database, "krl-locks").open()?;
+    let items = cache.table("item")?;
+    let begun = Instant::now();
+    // The database answers the first read. Meanwhile the row is held in krl, and loaded.
+    while items.statistics().hits == 0 && begun.elapsed() < PATIENCE {
+        let Some(item) = items.get(key)? else { return Err(format!("no row {key}").into()) };
+        let (name, price): (&str, i64) = (item.get("name")?, item.get("price")?);
+        println!("{name} for {price}, {} from memory", items.statistics().hits);
+        thread::sleep(PAUSE);
+    }
+    println!("{:?}", items.statistics());
+    let fault = cache.fault();
+    cache.close();
+    fault.map_or(Ok(()), |fault| Err(fault.into()))
+}
+
+fn main() -> ExitCode {
+    let words: Vec<String> = env::args().skip(1).collect();
+    let parsed = match &words[..] {
+        [database, key] => database.parse().ok().zip(key.parse().ok()),
+        _ => None,
+    };
+    let Some((database, key)) = parsed else {
+        eprintln!("usage: read DATABASE KEY, a URL of PostgreSQL and a whole number");
+        return ExitCode::from(2);
+    };
+    match run(database, key) {
+        Ok(()) => ExitCode::SUCCESS,
+        Err(error) => {
+            eprintln!("read: {error}");
+            ExitCode::FAILURE
+        }
+    }
+}
