@@ -122,3 +122,17 @@ build_programs() {
     cargo_in "$top/hosts" 'the client for C' build -p krl-client-c --lib
     cargo_in "$top/hosts" 'the cache for C' build -p krl-cache-c --lib
 }
+
+# Whether the extension for PostgreSQL can be built.
+has_postgresql_headers() {
+    has pg_config make python3 && [ -f "$(pg_config --pgxs)" ]
+}
+
+# Makes a copy of PostgreSQL with the extension. $KRL_POSTGRESQL is the folder of its programs, which the user of
+# PostgreSQL enters.
+install_extension() {
+    chmod 711 "$work"
+    expect 0 'a PostgreSQL with the extension' "$top/hosts/pgext/check" "$programs" --install "$work/postgresql"
+    KRL_POSTGRESQL=$(tail -n 1 "$work/log")
+    export KRL_POSTGRESQL
+}

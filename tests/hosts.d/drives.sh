@@ -41,9 +41,10 @@ part_strangers() {
 }
 
 part_cache() {
+    has_postgresql_headers || not_run 'there are no header files of PostgreSQL: readers of a table that any SQL writes'
     need_programs
-    drive 0 'caches of a table in PostgreSQL' "$drive" cache "$work/cache" 60
-    ls /usr/lib/postgresql/*/bin/postgres >/dev/null 2>&1 || not_run 'there is no PostgreSQL: the shop'
-    drive 0 'a shop over such caches' env PROGRAMS="$programs" "$top/examples/shop/run" 6
+    install_extension
+    drive 0 'readers of a table that any SQL writes' "$drive" cache "$work/cache" 60
+    drive 0 'a shop over such a table' env PROGRAMS="$programs" "$top/examples/shop/run" 6
     "$top/examples/shop/draw" <"$work/log" | grep -q '</svg>' || fail 'what the shop prints is not drawn'
 }

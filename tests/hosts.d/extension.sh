@@ -2,9 +2,7 @@
 # Part of tests/hosts: the extension for PostgreSQL.
 
 part_extension() {
-    if ! has pg_config make python3 || [ ! -f "$(pg_config --pgxs)" ]; then
-        not_run 'there are no header files of PostgreSQL: the extension for it'
-    fi
+    has_postgresql_headers || not_run 'there are no header files of PostgreSQL: the extension for it'
     need_programs
     expect 0 'the extension for PostgreSQL' "$top/hosts/pgext/check" "$programs" --wrong
 }

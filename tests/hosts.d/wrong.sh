@@ -57,9 +57,14 @@ part_wrong_drives() {
     for edit in "$top"/hosts/drive/wrong/*.edit; do
         ! grep -q '^test: ' "$edit" || continue
         name=$(basename "$edit" .edit)
+        words=$(sed -n 's/^drive: //p' "$edit")
+        if [ "${words%% *}" = cache ] && ! has_postgresql_headers; then
+            lacks "there are no header files of PostgreSQL: wrong body $name"
+            continue
+        fi
+        [ "${words%% *}" != cache ] || [ -n "${KRL_POSTGRESQL-}" ] || install_extension
         edited "$edit"
         build_edited "wrong body $name" krl_drive
-        words=$(sed -n 's/^drive: //p' "$edit")
         # shellcheck disable=SC2086
         finds "wrong body $name" "$edited_programs/krl_drive" ${words:-kill 20}
     done

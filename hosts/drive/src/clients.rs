@@ -67,8 +67,12 @@ impl Process {
 
     /// Sends it a signal, such as `-STOP`.
     pub fn signal(&self, signal: &str) -> Result<(), Box<dyn Error>> {
-        let status = Command::new("kill").args([signal, &self.0.id().to_string()]).status()?;
-        if status.success() { Ok(()) } else { Err(format!("kill {signal}: {status}").into()) }
+        send_signal(self.id(), signal)
+    }
+
+    /// Its number.
+    pub fn id(&self) -> u32 {
+        self.0.id()
     }
 
     /// What it prints, if that was asked for as it was started.
@@ -80,6 +84,15 @@ impl Process {
     pub fn ended(&mut self) -> std::io::Result<Option<ExitStatus>> {
         self.0.try_wait()
     }
+}
+
+/// Sends a signal, such as `-STOP`, to the process of this number.
+pub fn send_signal(process: u32, signal: &str) -> Result<(), Box<dyn Error>> {
+    let output = Command::new("kill").args([signal, &process.to_string()]).output()?;
+    if output.status.success() {
+        return Ok(());
+    }
+    Err(String::from_utf8_lossy(&output.stderr).trim().to_string().into())
 }
 
 impl Drop for Process {

@@ -9,6 +9,7 @@
 //! krl_drive failover FOLDER ROUNDS SERVER [FAULTS [HOW..]]        breaks servers that stand by
 //! krl_drive frozen FOLDER ROUNDS SERVER                           freezes servers of a reader
 //! krl_drive shards FOLDER SECONDS KILLS                           kills servers of two shards
+//! krl_drive cache FOLDER SECONDS                                  kills readers of a cached table
 //! krl_drive haste FOLDER                                          measures a hasty client's neighbour
 //! krl_drive reaches FOLDER                                        measures long and short grants
 //! krl_drive strangers                                             connects what is no client
@@ -31,6 +32,7 @@
 mod applied;
 mod bench;
 mod bench_stores;
+mod cache;
 mod certificates;
 mod clients;
 mod cluster;
@@ -127,6 +129,7 @@ fn run(words: &[&str]) -> Found {
         ["shards", folder, seconds, kills] => {
             shards::run(Path::new(folder), seconds.parse()?, kills.parse()?)
         }
+        ["cache", folder, seconds] => cache::run(Path::new(folder), seconds.parse()?),
         ["strangers"] => strangers::run(),
         ["reports"] => long_reports::run(),
         ["large-stores", folder] => large_stores::run(Path::new(folder)),
@@ -145,6 +148,7 @@ fn run(words: &[&str]) -> Found {
         ["server", address, folder, store, lease] => {
             nodes::server(address, Path::new(folder), store, lease.parse()?)
         }
+        ["cache-reader", name, database, folder] => cache::read(name, database, Path::new(folder)),
         ["holder", address, folder] => takeover::hold(address, Path::new(folder)),
         ["reader", number, address, folder] => {
             nodes::reader(number.parse()?, address, Path::new(folder))

@@ -77,7 +77,7 @@ class Installation:
             run(self.top / "tests/edit", edit, self.folder / "tree")
         words = [f"PG_CONFIG={self.given.pg_config}", f"KRL_INCLUDE={self.top / 'hosts/capi/include'}"]
         words += [f"KRL_CLIENT={self.top / 'bin'}", f"KRL_SERVER={self.top / 'bin/krl-server'}", "with_llvm=no"]
-        run("make", "-C", self.source, "-j2", "all", "test/readers", *words)
+        run("make", "-C", self.source, "-j2", "all", *words)
         run("make", "-C", self.source, "install", f"DESTDIR={self.root}", *words)
 
     def run(self, name, *words):

@@ -18,6 +18,9 @@ const USER: &str = "postgres";
 #[derive(Debug)]
 pub struct Database {
     server: Child,
+    /// The folder of PostgreSQL's programs.
+    programs: PathBuf,
+    settings: Vec<String>,
     folder: PathBuf,
     at: SocketAddr,
 }
@@ -39,16 +42,26 @@ impl Database {
             eprintln!("NOT RUN: there is no PostgreSQL");
             return None;
         };
-        // Another process may take a free address before the server does.
-        let started = (0..5).find_map(|_| Database::start_once(&programs, settings));
-        Some(started.expect("PostgreSQL ends again and again"))
+        Some(Database::start_from(&programs, settings))
     }
 
-    /// Starts the server again that was stopped, at the same address and with its data.
+    /// One whose programs are in this folder, with these settings.
+    pub fn start_from(programs: &Path, settings: &[&str]) -> Database {
+        // Another process may take a free address before the server does.
+        let started = (0..5).find_map(|_| Database::start_once(programs, settings));
+        started.expect("PostgreSQL ends again and again")
+    }
+
+    /// Starts the server again that was stopped, at the same address, with its data and settings.
     pub fn start_again(&mut self) {
-        let programs = programs().expect("it was there");
-        let mut command = server(&programs, &self.folder.join("data"), self.at);
+        let mut command = server(&self.programs, &self.folder.join("data"), self.at);
+        command.args(&self.settings);
         self.server = command.spawn().unwrap();
+    }
+
+    /// Whether the server has not ended.
+    pub fn is_running(&mut self) -> bool {
+        self.server.try_wait().is_ok_and(|ended| ended.is_none())
     }
 
     fn start_once(programs: &Path, settings: &[&str]) -> Option<Database> {
@@ -66,10 +79,10 @@ impl Database {
         init.args(["--no-sync", "--encoding", "UTF8", "--locale", "C"]);
         assert!(init.stdout(Stdio::null()).stderr(Stdio::null()).status().unwrap().success());
         let at = ports::free_address().unwrap();
-        let mut command = server(programs, &data, at);
-        command.args(settings.iter().flat_map(|setting| ["-c", setting]));
-        let server = command.spawn().unwrap();
-        Database { server, folder, at }.answers()
+        let settings = settings.iter().flat_map(|setting| ["-c", setting]).map(String::from);
+        let settings: Vec<String> = settings.collect();
+        let server = server(programs, &data, at).args(&settings).spawn().unwrap();
+        Database { server, programs: programs.to_path_buf(), settings, folder, at }.answers()
     }
 
     /// This server, once it answers, or none if it has ended.
@@ -95,10 +108,7 @@ impl Database {
     }
 
     fn is_answering(&self) -> bool {
-        let runtime = tokio::runtime::Builder::new_current_thread().enable_all().build().unwrap();
-        let text: String = self.address();
-        let connecting = tokio_postgres::connect(&text, tokio_postgres::NoTls);
-        runtime.block_on(connecting).is_ok()
+        Sql::connect(&self.address::<String>()).is_ok()
     }
 
     /// Where the table is.
@@ -128,12 +138,7 @@ impl Database {
 
     /// A connection of its own.
     pub fn connect(&self) -> Sql {
-        let runtime = tokio::runtime::Builder::new_current_thread().enable_all().build().unwrap();
-        let text: String = self.address();
-        let (client, connection) =
-            runtime.block_on(tokio_postgres::connect(&text, tokio_postgres::NoTls)).unwrap();
-        runtime.spawn(connection);
-        Sql { client, runtime }
+        Sql::connect(&self.address::<String>()).unwrap()
     }
 
     /// Waits until at least this many statements wait for a lock.
@@ -170,13 +175,13 @@ impl Database {
     }
 
     fn end(&mut self, signal: &str) {
-        if self.server.try_wait().is_ok_and(|ended| ended.is_some()) {
+        if !self.is_running() {
             return;
         }
         let status = Command::new("kill").args([signal, &self.server.id().to_string()]).status();
         assert!(status.unwrap().success());
         let end = Instant::now() + Duration::from_secs(60);
-        while self.server.try_wait().is_ok_and(|ended| ended.is_none()) && Instant::now() < end {
+        while self.is_running() && Instant::now() < end {
             thread::sleep(Duration::from_millis(10));
         }
     }
@@ -200,23 +205,36 @@ pub struct Sql {
 }
 
 impl Sql {
-    /// Runs statements that answer nothing.
-    pub fn run(&self, statements: &str) {
-        self.runtime.block_on(self.client.batch_execute(statements)).unwrap();
+    /// A connection to the database at this address.
+    pub fn connect(address: &str) -> Result<Sql, tokio_postgres::Error> {
+        let runtime = tokio::runtime::Builder::new_current_thread().enable_all().build().unwrap();
+        let connecting = tokio_postgres::connect(address, tokio_postgres::NoTls);
+        let (client, connection) = runtime.block_on(connecting)?;
+        runtime.spawn(connection);
+        Ok(Sql { client, runtime })
     }
 
-    /// The same, or what the database reports.
-    pub fn try_run(&self, statements: &str) -> Result<(), String> {
-        let ended = self.runtime.block_on(self.client.batch_execute(statements));
-        ended.map_err(|error| match error.as_db_error() {
-            Some(reported) => reported.to_string(),
-            None => error.to_string(),
-        })
+    /// Runs statements that answer nothing.
+    pub fn run(&self, statements: &str) {
+        self.try_run(statements).unwrap();
+    }
+
+    /// The same, or why they were not run to the end.
+    pub fn try_run(&self, statements: &str) -> Result<(), tokio_postgres::Error> {
+        self.runtime.block_on(self.client.batch_execute(statements))
     }
 
     /// The rows of an answer.
     pub fn query(&self, asked: &str) -> Vec<tokio_postgres::Row> {
-        self.runtime.block_on(self.client.query(asked, &[])).unwrap()
+        self.try_query(asked).unwrap()
+    }
+
+    /// The same, or why there is none.
+    pub fn try_query(
+        &self,
+        asked: &str,
+    ) -> Result<Vec<tokio_postgres::Row>, tokio_postgres::Error> {
+        self.runtime.block_on(self.client.query(asked, &[]))
     }
 
     /// Asks again and again until the one number of the answer is as it should be.

@@ -1,0 +1,283 @@
+//! The drive of a cached table: processes keep rows of a table of PostgreSQL in memory, next to
+//! writers of plain SQL, and all of them, the extension's workers, krl's server and PostgreSQL are
+//! killed and stopped.
+mod check;
+mod faults;
+mod notes;
+mod reader;
+mod transactions;
+mod writer;
+
+use crate::Found;
+use crate::clients::{ENDING, Process, this, wait_for};
+use crate::kill::start_server;
+use crate::log::now;
+use crate::lossy::Draws;
+use crate::nodes::end_file;
+use check::{Change, Read, Verdict, Written, check};
+use faults::{Faults, Stopped};
+use krl_testing::database::{Database, Sql};
+use krl_testing::ports::free_address;
+use notes::{Counts, noted};
+pub use reader::run as read;
+use std::error::Error;
+use std::net::SocketAddr;
+use std::path::{Path, PathBuf};
+use std::sync::atomic::{AtomicBool, Ordering};
+use std::thread;
+use std::time::{Duration, Instant};
+use transactions::commit_prepared;
+use writer::Writer;
+
+/// The variable that names the folder of the programs of a PostgreSQL with the extension.
+const PROGRAMS: &str = "KRL_POSTGRESQL";
+
+/// The table, and what writes down its changes.
+const TABLE: [&str; 3] = [
+    include_str!("cache/table.sql"),
+    "CREATE EXTENSION krl",
+    "SELECT krl.cache('item', stripes => 32)",
+];
+
+/// The pairs of the table. The rows of the first ones are always there.
+const PAIRS: u64 = 20;
+const STABLE_PAIRS: u64 = 10;
+const KEYS: u64 = 2 * PAIRS;
+
+/// How many processes read, by how many threads each, and how many threads write.
+const READERS: u64 = 3;
+const THREADS: u64 = 2;
+const WRITERS: u64 = 6;
+
+/// Some rows have no room in the memory of a reader.
+const MEMORY: usize = 1 << 13;
+
+/// How long a reader waits for the database.
+const READ_TIMEOUT: Duration = Duration::from_secs(5);
+
+const LEASE: Duration = Duration::from_secs(2);
+
+/// The settings of PostgreSQL. Commits are not flushed unless the extension does so, and a change of
+/// many rows takes back the whole table.
+const SETTINGS: [&str; 14] = [
+    "shared_preload_libraries=krl",
+    "krl.lease=2s",
+    "krl.timeout=8s",
+    "krl.recall_limit=8",
+    "krl.stripes=1024",
+    "max_prepared_transactions=20",
+    "max_worker_processes=16",
+    "deadlock_timeout=200ms",
+    "checkpoint_timeout=30s",
+    "fsync=off",
+    "synchronous_commit=off",
+    "wal_writer_delay=10s",
+    "wal_writer_flush_after=1GB",
+    "autovacuum_naptime=5s",
+];
+
+/// Faults are this many milliseconds apart, and at most so many longer.
+const PAUSE: u64 = 300;
+const LONGER: u64 = 1500;
+
+/// At the end there are no more faults for this long.
+const CALM: Duration = Duration::from_secs(4);
+
+struct Drive {
+    folder: PathBuf,
+    database: Database,
+    server_at: SocketAddr,
+    server: Process,
+    readers: Vec<Process>,
+    /// How many readers were started.
+    spawned: u64,
+    draws: Draws,
+    faults: Faults,
+    stopped: Stopped,
+}
+
+/// Drives readers and writers for this many seconds, and compares what was read.
+pub fn run(folder: &Path, seconds: u64) -> Found {
+    let Some(programs) = std::env::var_os(PROGRAMS) else {
+        return Err(format!(
+            "{PROGRAMS} has to name the folder of the programs of a PostgreSQL with the extension: \
+             `hosts/pgext/check BIN --install FOLDER` makes one"
+        )
+        .into());
+    };
+    std::fs::create_dir_all(folder)?;
+    let mut drive = Drive::start(folder, Path::new(&programs))?;
+    let (database, is_over) = (drive.database.address::<String>(), AtomicBool::new(false));
+    thread::scope(|scope| {
+        let (database, is_over) = (database.as_str(), &is_over);
+        let write = |number| Writer { number, database, folder, is_over }.run();
+        let writers = (1..=WRITERS).map(|number| scope.spawn(move || write(number)));
+        let writers: Vec<_> = writers.collect();
+        let driven = drive.befall_for(Duration::from_secs(seconds));
+        is_over.store(true, Ordering::Relaxed);
+        for writer in writers {
+            writer.join().map_err(|_| "a writer panicked")??;
+        }
+        driven
+    })?;
+    drive.end()
+}
+
+impl Drive {
+    fn start(folder: &Path, programs: &Path) -> Result<Drive, Box<dyn Error>> {
+        let server_at = free_address()?;
+        let server = start_krl(folder, server_at)?;
+        let servers = format!("krl.servers={server_at}");
+        let settings: Vec<&str> = SETTINGS.into_iter().chain([servers.as_str()]).collect();
+        let database = Database::start_from(programs, &settings);
+        let sql = database.connect();
+        for statements in TABLE {
+            sql.run(statements);
+        }
+        let mut drive = Drive {
+            folder: folder.to_path_buf(),
+            database,
+            server_at,
+            server,
+            readers: Vec::new(),
+            spawned: 0,
+            draws: Draws(now()),
+            faults: Faults::default(),
+            stopped: Stopped::default(),
+        };
+        drive.readers = (0..READERS).map(|_| drive.start_reader()).collect::<Result<_, _>>()?;
+        Ok(drive)
+    }
+
+    fn start_server(&self) -> Result<Process, Box<dyn Error>> {
+        start_krl(&self.folder, self.server_at)
+    }
+
+    fn start_reader(&mut self) -> std::io::Result<Process> {
+        self.spawned += 1;
+        let (name, database) =
+            (format!("reader-{}", self.spawned), self.database.address::<String>());
+        Process::start(&mut this(&["cache-reader", &name, &database], &self.folder)?)
+    }
+
+    /// A connection to the database, if it answers.
+    fn sql(&self) -> Option<Sql> {
+        Sql::connect(&self.database.address::<String>()).ok()
+    }
+
+    /// Makes faults for this long, and then none for a while.
+    fn befall_for(&mut self, time: Duration) -> Result<(), Box<dyn Error>> {
+        let end = Instant::now() + time;
+        while Instant::now() < end {
+            let pause = PAUSE + self.draws.below(LONGER);
+            self.tend_for(Duration::from_millis(pause))?;
+            self.befall()?;
+        }
+        self.tend_for(CALM)
+    }
+
+    /// Tends the processes for this long.
+    fn tend_for(&mut self, time: Duration) -> Result<(), Box<dyn Error>> {
+        let end = Instant::now() + time;
+        while Instant::now() < end {
+            self.tend()?;
+            thread::sleep(Duration::from_millis(20));
+        }
+        Ok(())
+    }
+
+    /// Lets those continue that were stopped, and starts PostgreSQL again if it has ended.
+    fn tend(&mut self) -> Result<(), Box<dyn Error>> {
+        self.stopped.resume(Instant::now());
+        self.tend_database();
+        for reader in &mut self.readers {
+            if let Some(status) = reader.ended()? {
+                return Err(format!("a reader has ended by itself: {status}").into());
+            }
+        }
+        Ok(())
+    }
+
+    fn tend_database(&mut self) {
+        if !self.database.is_running() {
+            self.database.start_again();
+        }
+    }
+
+    /// Waits for the readers, and compares what all have noted.
+    fn end(mut self) -> Found {
+        self.stopped.resume_all();
+        std::fs::write(end_file(&self.folder), "")?;
+        for reader in &mut self.readers {
+            if let Some(fault) = wait_for(reader, Instant::now() + ENDING)? {
+                return Err(format!("a reader {fault}").into());
+            }
+        }
+        let (written, last) = self.read_everything()?;
+        let mut noted = noted(&self.folder)?;
+        noted.reads.push(last);
+        let verdict = check(&written, &noted.transactions, &noted.reads);
+        for shown in &verdict.shown {
+            eprintln!("{}", shown.chars().take(600).collect::<String>());
+        }
+        let Counts { reads, failed, hits, misses } = noted.counts;
+        println!(
+            "{}; {reads} reads ({} compared), {failed} without the database; {hits} keys from \
+             memory, {misses} from the database; {verdict}",
+            self.faults,
+            noted.reads.len()
+        );
+        judge(&verdict, hits)
+    }
+
+    /// What the database has in the end, when all prepared transactions have ended, and a read of
+    /// the whole table.
+    fn read_everything(&mut self) -> Result<(Written, Read), Box<dyn Error>> {
+        let end = Instant::now() + ENDING;
+        let sql = loop {
+            self.tend_database();
+            if let Some(sql) = self.sql().filter(|sql| commit_prepared(sql, "").is_some()) {
+                break sql;
+            }
+            if Instant::now() > end {
+                return Err("the prepared transactions do not end".into());
+            }
+            thread::sleep(Duration::from_millis(20));
+        };
+        let from = now();
+        let rows = sql.try_query("SELECT id, token FROM item ORDER BY id")?;
+        let rows = rows.iter().map(|row| (unsigned(row.get(0)), unsigned(row.get(1))));
+        let last = Read { from, to: now(), keys: 0..KEYS, rows: rows.collect() };
+        let committed = sql.try_query("SELECT token FROM committed")?;
+        let committed = committed.iter().map(|row| unsigned(row.get(0))).collect();
+        let changes = sql.try_query("SELECT id, token, has_row FROM history ORDER BY place")?;
+        let changes = changes.iter().map(|row| Change {
+            key: unsigned(row.get(0)),
+            token: unsigned(row.get(1)),
+            has_row: row.get(2),
+        });
+        Ok((Written { committed, changes: changes.collect() }, last))
+    }
+}
+
+/// Whether all is well. A run that did too little shows nothing.
+fn judge(verdict: &Verdict, hits: u64) -> Found {
+    if verdict.count_wrong() > 0 {
+        return Ok(false);
+    }
+    if hits == 0 {
+        return Err("nothing was read from memory".into());
+    }
+    if verdict.rows < 1000 || verdict.transactions < 100 {
+        return Err("too little was done to judge anything".into());
+    }
+    Ok(true)
+}
+
+fn start_krl(folder: &Path, at: SocketAddr) -> Result<Process, Box<dyn Error>> {
+    start_server(folder, &at.to_string(), "sqlite", u64::try_from(LEASE.as_millis())?)
+}
+
+fn unsigned(number: i64) -> u64 {
+    number.cast_unsigned()
+}
