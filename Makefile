@@ -19,8 +19,7 @@ all:
 	hosts/packaging/library make $(LIBRARY)
 	cd hosts && export CARGO_TARGET_DIR=$(TARGET) && \
 	    $(CARGO) build --release $(CARGO_FLAGS) -p krl-server -p krl-client && \
-	    $(CARGO) build --release $(CARGO_FLAGS) -p krl-client-c --lib && \
-	    $(CARGO) build --release $(CARGO_FLAGS) -p krl-cache-c --lib
+	    $(CARGO) build --release $(CARGO_FLAGS) -p krl-client-c -p krl-cache-c --lib
 
 install: all
 	LIBRARY=$(LIBRARY) PROGRAMS=$(TARGET)/release hosts/packaging/install $(DESTDIR)$(PREFIX)

@@ -115,12 +115,11 @@ need_programs() {
     build_programs
 }
 
-# The client for C is built by itself: together with the others cargo would build its libraries with what only they
+# The libraries for C are built by themselves: together with the others cargo would build them with what only those
 # need.
 build_programs() {
     cargo_in "$top/hosts" 'the build' build --workspace --exclude krl-client-c --bins --examples
-    cargo_in "$top/hosts" 'the client for C' build -p krl-client-c --lib
-    cargo_in "$top/hosts" 'the cache for C' build -p krl-cache-c --lib
+    cargo_in "$top/hosts" 'the libraries for C' build -p krl-client-c -p krl-cache-c --lib
 }
 
 # Whether the extension for PostgreSQL can be built.

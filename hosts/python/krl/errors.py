@@ -22,7 +22,7 @@ class Reason(_IntEnum):
 
 
 class Error(Exception): """All errors of this package, except those that Python itself raises."""
-class LibraryError(Error): """``libkrl_client.so`` was not found, or has another version."""
+class LibraryError(Error): """The library was not found, or has another version."""
 class JoinError(Error): """The client did not join. ``__cause__`` is what ended it, if one did."""
 class LockFileError(JoinError): """The lock file cannot be used, or is in use."""
 class LockFileTaken(LockFileError): """This or another process uses it, or those of all numbers."""
