@@ -79,6 +79,8 @@ class Table:
     def __init__(self, cache: "Cache", name: str) -> None:
         # A cache that nobody has gives everything back.
         self._cache, self.name, library = cache, name, calls()
+        if "\0" in name:
+            raise BadArgument(f"no name of a table has a zero in it, as {name!r} has")
         self._handle = Handle("table_free", calls=library)
         call("table_open", cache._own(), name.encode(), ctypes.byref(self._handle))
         self._cached_get = library.cached_get

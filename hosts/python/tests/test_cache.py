@@ -185,6 +185,7 @@ class TableTest(Site):
         for name, error, text in (
             ("plain", reader.NotCached, "the table plain is not cached"),
             ("missing", reader.DatabaseError, "does not exist"),
+            ("item\0", reader.BadArgument, "has a zero in it"),
         ):
             with self.assertRaisesRegex(error, text):
                 cache.table(name)

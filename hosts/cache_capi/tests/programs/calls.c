@@ -6,7 +6,7 @@ static krlcache_table *items;
 static krlcache_rows *rows;
 static krlcache_error error;
 
-static bool says(const char *what) { return strstr(error.sentence, what) != NULL; }
+static bool reports(const char *what) { return strstr(error.sentence, what) != NULL; }
 
 static void rows_from_memory(void) {
     krlcache_value key = integer(3), none = integer(51);
@@ -84,7 +84,7 @@ static void keys_of_several_columns(void) {
     EXPECT(KRLCACHE_OK, krlcache_get_all(notes, &ada, 1, rows, &error));
     WANT(krlcache_rows_count(rows) == 2 && is_text(rows, 0, "author", "ada"));
     EXPECT(KRLCACHE_SEVERAL_ROWS, krlcache_get(notes, &ada, 1, rows, &error));
-    WANT(says("the key ada has several rows: krlcache_get_all reads all of them"));
+    WANT(reports("the key ada has several rows: krlcache_get_all reads all of them"));
     WANT(krlcache_rows_count(rows) == 0);
     EXPECT(KRLCACHE_BAD_KEY, krlcache_range(notes, 0, 1, rows, &error));
     krlcache_table_free(places);
@@ -114,10 +114,10 @@ static void values_of_each_type(void) {
     /* The type does not fit, or there is no such column. */
     int64_t number = 0;
     EXPECT(KRLCACHE_BAD_COLUMN, krlcache_int64(rows, 0, column, &number, &error));
-    WANT(says("the column \"bytes\" is of type bytea, which this call does not read"));
+    WANT(reports("the column \"bytes\" is of type bytea, which this call does not read"));
     EXPECT(KRLCACHE_BAD_COLUMN, krlcache_double(rows, 0, 0, &single, &error));
     EXPECT(KRLCACHE_BAD_COLUMN, krlcache_int64(rows, 0, 15, &number, &error));
-    WANT(says("there is no column 15 in a row of 15"));
+    WANT(reports("there is no column 15 in a row of 15"));
     WANT(krlcache_find_column(rows, 0, "weight") == KRLCACHE_NO_COLUMN);
     EXPECT(KRLCACHE_BAD_COLUMN, krlcache_int64(rows, 0, KRLCACHE_NO_COLUMN, &number, &error));
     WANT(krlcache_column_type(rows, 0, 15) == 0 && krlcache_column_name(rows, 0, 15, &length) == NULL);
@@ -147,12 +147,12 @@ static void packed_rows(void) {
 static void errors(void) {
     krlcache_table *none = items;
     EXPECT(KRLCACHE_NOT_CACHED, krlcache_table_open(cache, "plain", &none, &error));
-    WANT(none == NULL && error.code == KRLCACHE_NOT_CACHED && says("the table plain is not cached"));
+    WANT(none == NULL && error.code == KRLCACHE_NOT_CACHED && reports("the table plain is not cached"));
     EXPECT(KRLCACHE_DATABASE, krlcache_table_open(cache, "missing", &none, &error));
-    WANT(says("relation \"missing\" does not exist"));
+    WANT(reports("relation \"missing\" does not exist"));
     krlcache_value lamp = text("lamp"), both[] = {integer(3), integer(4)};
     EXPECT(KRLCACHE_BAD_KEY, krlcache_get(items, &lamp, 1, rows, &error));
-    WANT(says("the key lamp is not one of public.item: expected an integer"));
+    WANT(reports("the key lamp is not one of public.item: expected an integer"));
     EXPECT(KRLCACHE_BAD_KEY, krlcache_cached_get(items, both, 2, rows, &error));
     WANT(strcmp(krlcache_code_name(KRLCACHE_BAD_KEY), "KRLCACHE_BAD_KEY") == 0);
     WANT(strcmp(krlcache_code_name(7), "?") == 0 && krlcache_version() == KRLCACHE_VERSION);
@@ -194,7 +194,7 @@ static void the_end(void) {
     EXPECT(KRLCACHE_OK, krlcache_get(items, &three, 1, rows, &error));
     WANT(is_text(rows, 0, "name", "lamp"));
     EXPECT(KRLCACHE_DATABASE, krlcache_get(items, &none, 1, rows, &error));
-    WANT(says("the database: cannot connect to "));
+    WANT(reports("the database: cannot connect to "));
     ask("start");
     krlcache_close(cache);
     EXPECT(KRLCACHE_MISS, krlcache_cached_get(items, &three, 1, rows, &error));
