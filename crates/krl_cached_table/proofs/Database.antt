@@ -1,78 +1,111 @@
 -- What happens to the database as a whole keeps a world sound.
-use Rattle.std.proofs.Common.{◌≡◌, ◌≢◌, ◌≤◌, ℕ, suc, Bool, true, false, refl, sym, true≢false, arith}
-use Rattle.krl_cached_table.specs.Worlds.{Setting, Recovering, Count, Load, World}
-use Rattle.krl_cached_table.specs.Steps.{crashed}
-use Rattle.krl_cached_table.specs.Promises.{HasTenures}
-use Rattle.krl_cached_table.proofs.Sound.{IsHome, Sound}
+use Rattle.std.proofs.Common.{◌≡◌, ◌≢◌, ◌≤◌, ◌<◌, ℕ, suc, inl, inr, Bool, true, false, refl, sym, subst, true≢false, arith}
+use Rattle.krl_cached_table.specs.Worlds.{Setting, Recovering, Count, PlaceStage, Held, Counted, Unnoticed, Quiet, Load, World}
+use Rattle.krl_cached_table.specs.Steps.{crashed, IsCompatible}
+use Rattle.krl_cached_table.proofs.Sound.{HasFound, IsRead, IsTrusted, CountsAsKept, IsGuarded, PlaceFacts, LoadFacts, Sound}
 use Rattle.krl_cached_table.proofs.Frames.{Frame, all_framed, going}
-use Rattle.krl_cached_table.proofs.Transactions.{crash_goes, crash_proper}
+use Rattle.krl_cached_table.proofs.Transactions.{crash_goes, crash_proper, crash_not_found}
 
--- It crashes
+-- It crashes, which ends each call of krl.quiet
 
-pub crash_kept : (g : Setting) (w : World) → Sound g w → Sound g (record w { is_up = false; transactions = λ t. crashed (w.transactions t).stage (w.transactions t) })
-crash_kept g w s = record {
-  compatible = s.compatible;
-  nonce = s.nonce;
-  proper = λ t. crash_proper g (w.transactions t) (w.transactions t).stage refl (s.proper t);
-  closed = s.closed;
-  recovered = λ up. absurd (true≢false (sym up));
-  loads = all_framed g w (record w { is_up = false; transactions = λ t. crashed (w.transactions t).stage (w.transactions t) })
-      (going g w (λ t. crashed (w.transactions t).stage (w.transactions t)) false s.compatible (λ t. crash_goes g w (w.transactions t) (w.transactions t).stage refl)) s;
-}
+module _ (g : Setting) (w : World) (loads : ℕ → Load) where
+  abbrev down : World
+  down = record w { is_up = false; loads = loads }
 
--- The workers draw another nonce, with these counts
+  place_cut_off : (l : Load) (p : ℕ) (s : PlaceStage) → PlaceFacts g w l p s → PlaceFacts g down (record l { found_open = false }) p s
+  place_cut_off l p Held h = tt
+  place_cut_off l p (Counted recalls) h = (h.0, λ t mark. ((h.1 t mark).0, λ found. absurd (true≢false (sym found))))
+  place_cut_off l p (Unnoticed recalls) h = (h.0, λ t mark. ((h.1 t mark).0, λ found. absurd (true≢false (sym found))))
+  place_cut_off l p Quiet h = h
 
-module _ (g : Setting) (w : World) (up : Bool) (counts : ℕ → Count) (s : Sound g w) where
+  cut_off : (l : Load) → LoadFacts g w l → LoadFacts g down (record l { found_open = false })
+  cut_off l h = record {
+    home = h.home;
+    answered = λ found. absurd (true≢false (sym found));
+    places = λ p listed. place_cut_off l p (l.stage p) (h.places p listed);
+    rows = h.rows;
+  }
+
+module _ (g : Setting) (w : World) where
+  abbrev without_running : World
+  without_running = record w { transactions = λ t. crashed (w.transactions t).stage (w.transactions t) }
+
+  abbrev all_cut_off : ℕ → Load
+  all_cut_off n = record (w.loads n) { found_open = false }
+
+  crashing : IsCompatible w.held → Frame g w without_running
+  crashing compatible = going g w without_running.transactions compatible (λ t. crash_goes g w (w.transactions t) (w.transactions t).stage refl)
+
+  pub crash_kept : Sound g w → Sound g (record without_running { is_up = false; loads = all_cut_off })
+  crash_kept s = record {
+    compatible = s.compatible;
+    nonce = s.nonce;
+    proper = λ t. crash_proper g (w.transactions t) (w.transactions t).stage refl (s.proper t);
+    closed = s.closed;
+    found = λ down t. crash_not_found (w.transactions t) (w.transactions t).stage refl;
+    recovered = λ up. absurd (true≢false (sym up));
+    loads = λ n. cut_off g without_running all_cut_off (w.loads n) (all_framed g w without_running (crashing s.compatible) s n);
+  }
+
+-- The workers draw another nonce. The counts are others after a crash only
+
+module _ (g : Setting) (w : World) (up : Bool) (counts : ℕ → Count) (still_up : w.is_up ≡ true → up ≡ true) (same : w.is_up ≡ true → counts ≡ w.counts) (same_found : (t : ℕ) → HasFound (w.transactions t) → counts ≡ w.counts) (s : Sound g w) where
   abbrev pub renewed : World
   renewed = record w { is_up = up; start = suc w.start; counts = counts }
+
+  still_kept : (p : ℕ) → IsGuarded w p → IsTrusted renewed → (counts p).is_kept ≡ true
+  still_kept p k (inl new) = let old : w.nonce ≤ w.start = s.nonce in absurd (omega arith)
+  still_kept p k (inr f) = subst (λ (k : ℕ → Count). (k p).is_kept ≡ true) (sym (same_found f.0 f.1)) (k.kept (inr f))
 
   renewing : Frame g w renewed
   renewing = record {
     home = λ l h. h;
-    tenures = λ l h t. t;
+    tenure = λ l p h t. t;
     start = omega arith;
-    active = λ l h t a. a;
-    open_since = λ l past e. absurd (omega arith);
-    counted = λ l past e c. absurd (omega arith);
-    mark_unnoticed = λ l h t a nobody. nobody;
-    unnoticed = λ l h t a past e u. absurd (omega arith);
-    guarded = λ l h t a k. record {
-      stripe = k.stripe;
-      mark = k.mark;
-      skipped = k.skipped;
-      kept = λ new. let old : w.nonce ≤ w.start = s.nonce in absurd (omega arith);
+    up = still_up;
+    active = λ p read a. a;
+    counted = λ p recalls up c. subst (λ (k : ℕ → Count). CountsAsKept (k p) recalls) (sym (same up)) c;
+    unnoticed = λ p recalls read active up u. record {
+      counted = subst (λ (k : ℕ → Count). CountsAsKept (k p) recalls) (sym (same up)) u.counted;
+      took = u.took;
+      skipped = λ t not_ended skip. subst (λ (k : ℕ → Count). recalls < (k p).recalls) (sym (same up)) (u.skipped t not_ended skip);
     };
-    rows = λ l k key e. refl;
+    guarded = λ p read mark active k. record {
+      took = k.took;
+      skipped = k.skipped;
+      kept = λ trusted. still_kept p k trusted;
+    };
+    rows = λ key k. refl;
   }
 
-  pub renewed_kept : (up ≡ true → (t : ℕ) → (w.transactions t).stage ≢ Recovering) → Sound g renewed
-  renewed_kept recovered = record {
+  pub renewed_kept : (up ≡ false → (t : ℕ) → HasFound (w.transactions t) → ⊥) → (up ≡ true → (t : ℕ) → (w.transactions t).stage ≢ Recovering) → Sound g renewed
+  renewed_kept found recovered = record {
     compatible = s.compatible;
     nonce = let old : w.nonce ≤ w.start = s.nonce in omega arith;
     proper = s.proper;
     closed = s.closed;
+    found = found;
     recovered = recovered;
     loads = all_framed g w renewed renewing s;
   }
 
 -- The cluster is suspended, and resumed
 
-module _ (g : Setting) (w : World) (closed suspended : Bool) (active : (l : Load) → IsHome g w l → HasTenures g w l → w.is_suspended ≡ false → suspended ≡ false) where
+module _ (g : Setting) (w : World) (closed suspended : Bool) (active : (p : ℕ) → IsRead g w p → w.is_suspended ≡ false → suspended ≡ false) where
   abbrev pub operated : World
   operated = record w { is_closed = closed; is_suspended = suspended }
 
   operating : Frame g w operated
   operating = record {
     home = λ l h. h;
-    tenures = λ l h t. t;
+    tenure = λ l p h t. t;
     start = omega arith;
+    up = λ up. up;
     active = active;
-    open_since = λ l past e. e;
-    counted = λ l past e c. c;
-    mark_unnoticed = λ l h t a nobody. nobody;
-    unnoticed = λ l h t a past e u. u;
-    guarded = λ l h t a k. k;
-    rows = λ l k key e. refl;
+    counted = λ p recalls up c. c;
+    unnoticed = λ p recalls read active up u. u;
+    guarded = λ p read mark active k. k;
+    rows = λ key k. refl;
   }
 
   pub operated_kept : (suspended ≡ true → closed ≡ true) → Sound g w → Sound g operated
@@ -81,6 +114,7 @@ module _ (g : Setting) (w : World) (closed suspended : Bool) (active : (l : Load
     nonce = s.nonce;
     proper = s.proper;
     closed = first;
+    found = s.found;
     recovered = s.recovered;
     loads = all_framed g w operated operating s;
   }

@@ -1,16 +1,16 @@
 -- What a read returns from memory is the table.
-use Rattle.std.proofs.Common.{◌≡◌, ◌<◌, ◌≤◌, ℕ, zero, suc, ◌+◌, Option, refl, sym, ◌∙◌, ap, subst, arith}
-use Rattle.krl_cached_table.specs.Worlds.{Setting, row_after, Kept, Load, World}
-use Rattle.krl_cached_table.specs.Steps.{Step, locks_change, takes_mark, transacts, counts_recall, becomes_visible, crashes, recovers, starts, closes, suspends, resumes, opens, joins_again, loads, counts_as_kept, Steps, none, more}
-use Rattle.krl_cached_table.specs.Promises.{HasTenures, AnswersAreTable, with_row, range, RangesAreTable}
-use Rattle.krl_cached_table.proofs.Sound.{IsHome, IsGuarded, AreRows, Facts}
+use Rattle.std.proofs.Common.{◌≡◌, true, ◌<◌, ◌≤◌, ℕ, zero, suc, ◌+◌, Option, refl, sym, ◌∙◌, ap, arith}
+use Rattle.krl_cached_table.specs.Worlds.{Setting, row_after, Load, World}
+use Rattle.krl_cached_table.specs.Steps.{Step, locks_change, takes_cluster_mark, transacts, counts_recall, becomes_visible, crashes, recovers, starts, closes, suspends, resumes, opens, joins_again, loads, counts_as_kept, Steps, none, more}
+use Rattle.krl_cached_table.specs.Promises.{HasTenure, AnswersAreTable, with_row, range, RangesAreTable}
+use Rattle.krl_cached_table.proofs.Sound.{IsHome, RowFacts}
 use Rattle.krl_cached_table.proofs.Worlds.{sound, later_tenure}
 
 -- No step gives a client an earlier tenure
 
 step_rises : (g : Setting) (w v : World) → Step g w v → (c p : ℕ) → w.tenure c p ≤ v.tenure c p
 step_rises g w v (locks_change held tenure compatible notes) c p = later_tenure g w held tenure notes c p
-step_rises g w v (takes_mark exclusive) c p = omega arith
+step_rises g w v (takes_cluster_mark exclusive) c p = omega arith
 step_rises g w v (transacts t x step) c p = omega arith
 step_rises g w v (counts_recall t q run took) c p = omega arith
 step_rises g w v (becomes_visible t committed) c p = omega arith
@@ -23,7 +23,7 @@ step_rises g w v resumes c p = omega arith
 step_rises g w v (opens active) c p = omega arith
 step_rises g w v joins_again c p = omega arith
 step_rises g w v (loads n l step) c p = omega arith
-step_rises g w v (counts_as_kept n held is_open) c p = omega arith
+step_rises g w v (counts_as_kept n q held found) c p = omega arith
 
 steps_rise : (g : Setting) (w v : World) → Steps g w v → (c p : ℕ) → w.tenure c p ≤ v.tenure c p
 steps_rise g w v none c p = omega arith
@@ -32,23 +32,22 @@ steps_rise g w v (more {v = u} before step) c p =
     let last : u.tenure c p ≤ v.tenure c p = step_rises g u v step c p in
     omega arith
 
--- so a client that has its tenures later has them now
-had_tenures : (g : Setting) (w v : World) (l : Load) → Steps g w v → IsHome g w l → HasTenures g v l → HasTenures g w l
-had_tenures g w v l later h t =
-    let stripe_past : l.stripe_tenure ≤ w.tenure l.client l.stripe = h.stripe_past in
-    let mark_past : l.mark_tenure ≤ w.tenure l.client g.mark = h.mark_past in
-    let stripe_rises : w.tenure l.client l.stripe ≤ v.tenure l.client l.stripe = steps_rise g w v later l.client l.stripe in
-    let mark_rises : w.tenure l.client g.mark ≤ v.tenure l.client g.mark = steps_rise g w v later l.client g.mark in
-    let stripe_then : v.tenure l.client l.stripe ≡ l.stripe_tenure = t.0 in
-    let mark_then : v.tenure l.client g.mark ≡ l.mark_tenure = t.1 in
-    (omega arith, omega arith)
+-- so a client that has its tenure later has it now
+had_tenure : (g : Setting) (w v : World) (l : Load) (p : ℕ) → Steps g w v → IsHome g w l → HasTenure v l p → HasTenure w l p
+had_tenure g w v l p later h t =
+    let past : l.tenures p ≤ w.tenure l.client p = h.past p t.0 in
+    let rises : w.tenure l.client p ≤ v.tenure l.client p = steps_rise g w v later l.client p in
+    let same : v.tenure l.client p ≡ l.tenures p = t.1 in
+    (t.0, omega arith)
 
 pub answers_are_table : AnswersAreTable
 answers_are_table g w key row reachable a =
     let l : Load = w.loads a.load in
-    let k : Facts g w l Kept = subst (Facts g w l) a.kept ((sound g w reachable).loads a.load) in
-    let rows : IsGuarded g w l × AreRows g w l = k.2 (had_tenures g w a.look l a.later k.0 a.tenures) in
-    sym a.taken ∙ rows.1 key a.stripe
+    let h : RowFacts g w l key = ((sound g w reachable).loads a.load).rows a.kept key (λ p i. listed (a.tenures p i).0 p (a.tenures p i).2) in
+    sym a.taken ∙ h.row (λ p i. had_tenure g w (a.tenures p i).0 l p (a.tenures p i).1 (h.quiet p i).0 (a.tenures p i).2)
+  where
+    listed : (v : World) (p : ℕ) → HasTenure v (w.loads a.load) p → (w.loads a.load).places p ≡ true
+    listed v p t = t.0
 
 -- Ranges
 

@@ -1,21 +1,18 @@
 -- What holds of each reachable world: what a reader answers from memory is the table.
-use Rattle.std.specs.Prelude.{◌≡◌, ℕ, zero, suc, ◌+◌, ◌≤◌, ◌<◌, true, Option, Some, None, List, [], ◌∷◌}
-use Rattle.krl_cached_table.specs.Worlds.{Setting, row_after, Kept, Load, World}
+use Rattle.std.specs.Prelude.{◌≡◌, ℕ, zero, suc, ◌+◌, ◌≤◌, ◌<◌, true, false, Option, Some, None, List, [], ◌∷◌}
+use Rattle.krl_cached_table.specs.Worlds.{Setting, IsPlaceOf, row_after, Load, World}
 use Rattle.krl_cached_table.specs.Steps.{Steps, Reachable}
 
--- the client's tenures of the stripe and of the mark are those that it took before it loaded the rows
-abbrev pub HasTenures : Setting → World → Load → Type 0
-HasTenures g w l = (w.tenure l.client l.stripe ≡ l.stripe_tenure) × (w.tenure l.client g.mark ≡ l.mark_tenure)
+-- the client's tenure of the place is the one that it took before it loaded the rows
+abbrev pub HasTenure : World → Load → ℕ → Type 0
+HasTenure w l p = (l.places p ≡ true) × (w.tenure l.client p ≡ l.tenures p)
 
--- at this moment a read takes the row of the key from memory, and at the same moment or later it looks at the tenures
+-- at this moment a read takes the row of the key from memory, and it looks at each tenure at the same moment or later
 pub record Answers (g : Setting) (w : World) (key : ℕ) (row : Option ℕ) : Type 0 where
   pub load : ℕ
-  pub kept : (w.loads load).stage ≡ Kept
-  pub stripe : g.stripe_of key ≡ (w.loads load).stripe
+  pub kept : (w.loads load).is_kept ≡ true
   pub taken : (w.loads load).rows key ≡ row
-  pub look : World
-  pub later : Steps g w look
-  pub tenures : HasTenures g look (w.loads load)
+  pub tenures : (p : ℕ) → IsPlaceOf g key p → (look : World) × Steps g w look × HasTenure look (w.loads load) p
 
 -- What a read returns is the table at that moment, whether the key has a row or not. A read of several keys takes all
 -- its rows at one moment, and looks at the tenures one after another
@@ -42,7 +39,8 @@ RangesAreTable =
 
 -- The laws are not empty. Somewhere a read finds in memory that a key has no row. Later, after a transaction has taken
 -- the stripe back, it finds the row that this transaction made. It still does after another transaction has skipped a
--- stripe of which nobody had kept a row
+-- stripe and the mark of another table, by which nobody had kept a row. If the database crashes before all this, then a
+-- transaction after its next start skips the stripe, and a later read finds its row
 pub record AnswersSomewhere : Type 0 where
   pub setting : Setting
   pub before : World
@@ -51,9 +49,18 @@ pub record AnswersSomewhere : Type 0 where
   pub reachable : Reachable setting before
   pub no_row : Answers setting before 3 None
   pub changed : Steps setting before after
-  pub took : (after.transactions 0).took_back 7 ≡ true
+  pub took : (after.transactions 0).took_back (setting.stripe_of 3) ≡ true
   pub row : Answers setting after 3 (Some 5)
   pub changed_elsewhere : Steps setting after last
-  pub skipped : (last.transactions 1).skipped 8 ≡ true
+  pub skipped_stripe : (last.transactions 1).skipped (setting.stripe_of 4) ≡ true
+  pub skipped_mark : (last.transactions 1).skipped (setting.mark_of 2) ≡ true
   pub other_row : row_after last.changes 4 ≡ Some 6
+  pub row_of_other_table : row_after last.changes 2 ≡ Some 8
   pub same_row : Answers setting last 3 (Some 5)
+  pub down : World
+  pub crashed : Steps setting before down
+  pub is_down : down.is_up ≡ false
+  pub restarted : World
+  pub changed_since : Steps setting down restarted
+  pub skipped_since : (restarted.transactions 0).skipped (setting.stripe_of 3) ≡ true
+  pub row_since : Answers setting restarted 3 (Some 5)

@@ -1,9 +1,9 @@
 -- What may happen, in any order, and what it leaves.
-use Rattle.std.specs.Prelude.{◌≡◌, ◌≢◌, ℕ, suc, ◌<◌, Bool, true, false, None, List, [], ◌∷◌, ◌++◌, ◌⊎◌, if◌then◌else◌, ◌==◌}
+use Rattle.std.specs.Prelude.{◌≡◌, ◌≢◌, ℕ, suc, ◌<◌, Bool, true, false, List, [], ◌∷◌, ◌++◌, ◌⊎◌, if◌then◌else◌, ◌==◌}
 use Rattle.krl_modes.specs.Parts.{keys_compatible, reads_key}
 use Rattle.krl_modes.specs.declared.part.KeyPart.{KeyPart}
 use Rattle.krl_modes.specs.declared.part.KeyPart.TheVariants as part
-use Rattle.krl_cached_table.specs.Worlds.{Setting, Change, row_after, Stage, Running, Prepared, Committed, Visible, Recovering, Ended, Transaction, Held, Counted, MarkUnnoticed, Unnoticed, Quiet, Kept, Load, World, new_count, first}
+use Rattle.krl_cached_table.specs.Worlds.{Setting, IsPlaceOf, Change, row_after, Stage, Running, Prepared, Committed, Visible, Recovering, Ended, Transaction, Held, Counted, Unnoticed, Quiet, Load, World, new_transaction, new_count, new_load, first}
 
 -- the same, but for one place
 abbrev pub put : {A : Type 0} → (ℕ → A) → ℕ → A → ℕ → A
@@ -16,11 +16,11 @@ put f n x m = if m == n then x else f m
 abbrev pub IsCompatible : (ℕ → ℕ → KeyPart) → Type 0
 IsCompatible held = (c d p : ℕ) → c ≢ d → keys_compatible (held c p) (held d p) ≡ true
 
--- the client may read the key
+-- the client may read the place
 abbrev pub Holds : World → ℕ → ℕ → Type 0
 Holds w c p = reads_key (w.held c p) ≡ true
 
--- a worker holds the key of krl so that nobody else may read it
+-- a worker holds the place so that nobody else may read it
 abbrev pub IsExclusive : Setting → World → ℕ → Type 0
 IsExclusive g w p = (d : ℕ) × (g.is_worker d ≡ true) × (w.held d p ≡ part.X)
 
@@ -28,7 +28,7 @@ IsExclusive g w p = (d : ℕ) × (g.is_worker d ≡ true) × (w.held d p ≡ par
 abbrev pub NobodyReads : Setting → World → Type 0
 NobodyReads g w = (c p : ℕ) → g.is_worker c ≡ false → Holds w c p → ⊥
 
--- each client has either another tenure of a key, or lost nothing of it
+-- each client has either another tenure of a place, or lost nothing of it
 abbrev pub NotesLosses : World → (ℕ → ℕ → KeyPart) → (ℕ → ℕ → ℕ) → Type 0
 NotesLosses w held tenure = (c p : ℕ) →
     (w.tenure c p < tenure c p)
@@ -48,7 +48,7 @@ has_locks Ended = false
 abbrev pub HasNotice : Transaction → ℕ → Type 0
 HasNotice x p = (has_locks x.stage ≡ true) × (x.gave_notice p ≡ true)
 
--- it gave notice of the key of krl, and after that took it back, or found that it need not
+-- it gave notice of the place, and after that took it back, or found that it need not
 abbrev pub IsSettled : Transaction → ℕ → Type 0
 IsSettled x p = (x.gave_notice p ≡ true) × ((x.took_back p ≡ true) ⊎ (x.skipped p ≡ true))
 
@@ -57,12 +57,14 @@ abbrev pub IsChanged : ℕ → List Change → Type 0
 IsChanged key [] = ⊥
 IsChanged key (c ∷ cs) = (key ≡ c.key) ⊎ IsChanged key cs
 
--- it may commit: of each changed key the stripe is settled, or the mark
+-- it may commit: of each changed key one place is settled
 abbrev pub AreSettled : Setting → Transaction → Type 0
-AreSettled g x = (key : ℕ) → IsChanged key x.changes → IsSettled x (g.stripe_of key) ⊎ IsSettled x g.mark
+AreSettled g x = (key : ℕ) → IsChanged key x.changes → (p : ℕ) × IsPlaceOf g key p × IsSettled x p
 
 -- what changes nothing but the transaction x
 pub data TransactionStep (g : Setting) (w : World) (x : Transaction) : Transaction → Type 0 where
+  -- another transaction, by the same number
+  begins_another : x.stage ≡ Ended → TransactionStep g w x new_transaction
   changes_row : (c : Change) → x.stage ≡ Running → TransactionStep g w x (record x { changes = c ∷ x.changes })
   gives_notice : (p : ℕ) → x.stage ≡ Running →
       TransactionStep g w x (record x { gave_notice = put x.gave_notice p true })
@@ -71,9 +73,13 @@ pub data TransactionStep (g : Setting) (w : World) (x : Transaction) : Transacti
       x.gave_notice p ≡ true →
       IsExclusive g w p ⊎ (w.is_suspended ≡ true) →
       TransactionStep g w x (record x { took_back = put x.took_back p true })
-  -- nobody keeps a row of the stripe. Before the mark has the nonce of this start, that is not known
-  skips : (p : ℕ) → x.stage ≡ Running → x.gave_notice p ≡ true → p ≢ g.mark →
+  -- before the cluster's mark has the nonce of this start, the counts do not show what readers keep
+  finds_nonce : x.stage ≡ Running → w.is_up ≡ true →
       w.nonce ≡ w.start →
+      TransactionStep g w x (record x { found_nonce = true })
+  -- nobody keeps a row by the place
+  skips : (p : ℕ) → x.stage ≡ Running → x.gave_notice p ≡ true →
+      x.found_nonce ≡ true →
       (w.counts p).is_kept ≡ false →
       TransactionStep g w x (record x { skipped = put x.skipped p true })
   prepares : x.stage ≡ Running → AreSettled g x → TransactionStep g w x (record x { stage = Prepared })
@@ -100,33 +106,25 @@ IsOpen w l = (w.is_up ≡ true) × (w.is_closed ≡ false) × (l.nonce ≡ w.sta
 abbrev pub NobodyGaveNotice : World → ℕ → Type 0
 NobodyGaveNotice w p = (t : ℕ) → HasNotice (w.transactions t) p → ⊥
 
--- what changes nothing but the load l. The parts of one call of krl.quiet are, in this order, counts_as_kept, below,
--- and sees_no_notice_of_mark, sees_no_notice and finds_count here
+-- What changes nothing but the load l. The parts of a call of krl.quiet are finds_open, and then, of each place,
+-- counts_as_kept, below, sees_no_notice and finds_count
 pub data LoadStep (g : Setting) (w : World) (l : Load) : Load → Type 0 where
-  begins : (c p : ℕ) → g.is_worker c ≡ false →
-      Holds w c p →
-      Holds w c g.mark →
-      LoadStep g w l (record {
-        stage = Held;
-        client = c;
-        stripe = p;
-        stripe_tenure = w.tenure c p;
-        mark_tenure = w.tenure c g.mark;
-        nonce = w.nonce;
-        recalls = 0;
-        rows = λ key. None;
-      })
-  -- by a client of another server of krl, or of one whose store went back. The mark has an older nonce there
-  begins_elsewhere : (other : Load) → other.stage ≡ Held → other.nonce < w.start → LoadStep g w l other
-  sees_no_notice_of_mark : l.stage ≡ Counted → IsOpen w l → NobodyGaveNotice w g.mark →
-      LoadStep g w l (record l { stage = MarkUnnoticed })
-  sees_no_notice : l.stage ≡ MarkUnnoticed → IsOpen w l → NobodyGaveNotice w l.stripe →
-      LoadStep g w l (record l { stage = Unnoticed })
-  finds_count : l.stage ≡ Unnoticed → IsOpen w l →
-      (w.counts l.stripe).recalls ≡ l.recalls →
-      (w.counts l.stripe).is_kept ≡ true →
-      LoadStep g w l (record l { stage = Quiet })
-  takes_rows : l.stage ≡ Quiet → LoadStep g w l (record l { stage = Kept; rows = row_after w.changes })
+  begins : (c : ℕ) (places : ℕ → Bool) → g.is_worker c ≡ false →
+      ((p : ℕ) → places p ≡ true → Holds w c p) →
+      LoadStep g w l (new_load c places (w.tenure c) w.nonce)
+  -- by a client of another server of krl, or of one whose store went back. The cluster's mark has an older nonce there
+  begins_elsewhere : (c nonce : ℕ) (places : ℕ → Bool) (tenures : ℕ → ℕ) → nonce < w.start →
+      LoadStep g w l (new_load c places tenures nonce)
+  finds_open : IsOpen w l → LoadStep g w l (record l { found_open = true; stage = λ p. Held })
+  sees_no_notice : (p recalls : ℕ) → l.stage p ≡ Counted recalls → l.found_open ≡ true → NobodyGaveNotice w p →
+      LoadStep g w l (record l { stage = put l.stage p (Unnoticed recalls) })
+  finds_count : (p recalls : ℕ) → l.stage p ≡ Unnoticed recalls → l.found_open ≡ true →
+      (w.counts p).recalls ≡ recalls →
+      (w.counts p).is_kept ≡ true →
+      LoadStep g w l (record l { stage = put l.stage p Quiet })
+  -- krl.quiet has returned true
+  takes_rows : ((p : ℕ) → l.places p ≡ true → l.stage p ≡ Quiet) →
+      LoadStep g w l (record l { is_kept = true; rows = row_after w.changes })
 
 -- All of it
 
@@ -142,7 +140,7 @@ pub data Step (g : Setting) (w : World) : World → Type 0 where
   -- locks are granted and given back, leases end, clients start and are killed
   locks_change : (held : ℕ → ℕ → KeyPart) (tenure : ℕ → ℕ → ℕ) → IsCompatible held → NotesLosses w held tenure →
       Step g w (record w { held = held; tenure = tenure })
-  takes_mark : IsExclusive g w g.mark → Step g w (record w { nonce = w.start })
+  takes_cluster_mark : IsExclusive g w g.cluster_mark → Step g w (record w { nonce = w.start })
   -- transactions
   transacts : (t : ℕ) (x : Transaction) → TransactionStep g w (w.transactions t) x →
       Step g w (record w { transactions = put w.transactions t x })
@@ -156,6 +154,7 @@ pub data Step (g : Setting) (w : World) : World → Type 0 where
   crashes : Step g w (record w {
     is_up = false;
     transactions = λ t. crashed (w.transactions t).stage (w.transactions t);
+    loads = λ n. record (w.loads n) { found_open = false };
   })
   recovers : (t : ℕ) → (w.transactions t).stage ≡ Recovering → Step g w (shown w t Ended)
   starts : w.is_up ≡ false →
@@ -169,12 +168,11 @@ pub data Step (g : Setting) (w : World) : World → Type 0 where
   joins_again : Step g w (record w { start = suc w.start })
   -- readers
   loads : (n : ℕ) (l : Load) → LoadStep g w (w.loads n) l → Step g w (record w { loads = put w.loads n l })
-  counts_as_kept : (n : ℕ) → (w.loads n).stage ≡ Held → IsOpen w (w.loads n) →
+  counts_as_kept : (n p : ℕ) → (w.loads n).stage p ≡ Held → (w.loads n).found_open ≡ true →
       Step g w (record w {
-        counts = put w.counts (w.loads n).stripe (record (w.counts (w.loads n).stripe) { is_kept = true });
+        counts = put w.counts p (record (w.counts p) { is_kept = true });
         loads = put w.loads n (record (w.loads n) {
-          stage = Counted;
-          recalls = (w.counts (w.loads n).stripe).recalls;
+          stage = put (w.loads n).stage p (Counted (w.counts p).recalls);
         });
       })
 

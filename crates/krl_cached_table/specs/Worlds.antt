@@ -1,16 +1,21 @@
--- A table of a database, of which clients of krl keep rows in memory. Keys of krl are the stripes, of which each key of
--- the table belongs to one, and the mark, which a reader holds with each stripe. A row is a number here.
-use Rattle.std.specs.Prelude.{ℕ, Bool, true, false, Option, None, List, [], ◌∷◌, if◌then◌else◌, ◌==◌}
+-- Tables of a database, of which clients of krl keep rows in memory. A place is a key of krl: a stripe of a table, to
+-- which some of its keys belong, the mark of a table, or that of the cluster. A row is a number here.
+use Rattle.std.specs.Prelude.{ℕ, Bool, true, false, Option, None, List, [], ◌∷◌, ◌≡◌, ◌⊎◌, if◌then◌else◌, ◌==◌}
 use Rattle.krl_modes.specs.declared.part.KeyPart.{KeyPart}
 use Rattle.krl_modes.specs.declared.part.KeyPart.TheVariants as part
 
 -- what does not change
 pub record Setting : Type 0 where
-  pub stripe_of : ℕ → ℕ  -- by key of the table
-  pub mark : ℕ
+  pub stripe_of : ℕ → ℕ  -- by key of a table
+  pub mark_of : ℕ → ℕ  -- by key: the mark of its table
+  pub cluster_mark : ℕ
   pub is_worker : ℕ → Bool  -- by client of krl. The others are readers
 
--- The table
+-- a reader holds each place of a key while it keeps the row, so a worker takes the row back by any of them
+abbrev pub IsPlaceOf : Setting → ℕ → ℕ → Type 0
+IsPlaceOf g key p = (p ≡ g.stripe_of key) ⊎ ((p ≡ g.mark_of key) ⊎ (p ≡ g.cluster_mark))
+
+-- The tables
 
 -- a key, and its row from then on
 pub record Change : Type 0 where
@@ -35,46 +40,45 @@ pub data Stage : Type 0 where
 pub record Transaction : Type 0 where
   pub stage : Stage
   pub changes : List Change  -- the last first
-  -- by key of krl
+  pub found_nonce : Bool  -- it found that the cluster's mark has the nonce of this start
+  -- by place
   pub gave_notice : ℕ → Bool
   pub took_back : ℕ → Bool
-  pub skipped : ℕ → Bool  -- it found that no reader had kept a row, and did not take the stripe back
+  pub skipped : ℕ → Bool  -- it found that no reader had kept a row by it, and did not take it back
 
--- a number that shared memory has of each stripe: twice how often it was taken back, and one more if a reader may have
--- kept a row of it since
+-- a number that shared memory has of each place: twice how often it was taken back, and one more if a reader may have
+-- kept a row by it since
 pub record Count : Type 0 where
   pub recalls : ℕ
   pub is_kept : Bool
 
 -- Readers
 
-pub data LoadStage : Type 0 where
-  Unused : LoadStage
-  Held : LoadStage  -- the reader has taken the tenures of the stripe and of the mark
-  Counted : LoadStage  -- rows of the stripe count as kept
-  MarkUnnoticed : LoadStage  -- nobody had given notice of the mark
-  Unnoticed : LoadStage  -- nor of the stripe
-  Quiet : LoadStage  -- the count was the same: krl.quiet has returned true
-  Kept : LoadStage  -- the rows are in memory
+-- what krl.quiet has found of a place
+pub data PlaceStage : Type 0 where
+  Held : PlaceStage  -- nothing yet: the reader has taken its tenure
+  Counted : ℕ → PlaceStage  -- it counts as kept, after so many recalls
+  Unnoticed : ℕ → PlaceStage  -- after that nobody had given notice
+  Quiet : PlaceStage  -- after that the count was still the same
 
--- a load of the rows of one stripe
+-- a load of rows
 pub record Load : Type 0 where
-  pub stage : LoadStage
   pub client : ℕ
-  pub stripe : ℕ
-  pub stripe_tenure : ℕ
-  pub mark_tenure : ℕ
-  pub nonce : ℕ  -- the value that the reader found in the mark
-  pub recalls : ℕ  -- of the count, when the stripe was counted as kept
-  pub rows : ℕ → Option ℕ  -- by key of the table
+  pub places : ℕ → Bool  -- those that the client held, and of which it asks krl.quiet
+  pub tenures : ℕ → ℕ  -- by place
+  pub nonce : ℕ  -- the value that the client found in the cluster's mark
+  pub found_open : Bool  -- krl.quiet has found the database open, and no crash has ended the call
+  pub stage : ℕ → PlaceStage  -- by place
+  pub is_kept : Bool  -- the rows are in memory
+  pub rows : ℕ → Option ℕ  -- by key of a table
 
 -- All of it
 
 pub record World : Type 0 where
   -- krl
-  pub held : ℕ → ℕ → KeyPart  -- by client and key
-  pub tenure : ℕ → ℕ → ℕ  -- by client and key: it is another one after each loss
-  pub nonce : ℕ  -- the value that the mark has
+  pub held : ℕ → ℕ → KeyPart  -- by client and place
+  pub tenure : ℕ → ℕ → ℕ  -- by client and place: it is another one after each loss
+  pub nonce : ℕ  -- the value that the cluster's mark has
   -- the database
   pub is_up : Bool
   pub start : ℕ  -- how often it started, or its workers joined krl again: it stands for the nonce that they drew then
@@ -82,7 +86,7 @@ pub record World : Type 0 where
   pub is_suspended : Bool  -- transactions commit without krl
   pub changes : List Change  -- of the transactions that became visible, the last first
   pub transactions : ℕ → Transaction
-  pub counts : ℕ → Count  -- by stripe
+  pub counts : ℕ → Count  -- by place
   -- memory
   pub loads : ℕ → Load
 
@@ -92,6 +96,7 @@ abbrev pub new_transaction : Transaction
 new_transaction = record {
   stage = Running;
   changes = [];
+  found_nonce = false;
   gave_notice = λ p. false;
   took_back = λ p. false;
   skipped = λ p. false;
@@ -100,19 +105,21 @@ new_transaction = record {
 abbrev pub new_count : Count
 new_count = record { recalls = 0; is_kept = false }
 
-abbrev pub no_load : Load
-no_load = record {
-  stage = Unused;
-  client = 0;
-  stripe = 0;
-  stripe_tenure = 0;
-  mark_tenure = 0;
-  nonce = 0;
-  recalls = 0;
+-- nothing has been asked, and nothing is in memory
+abbrev pub new_load : ℕ → (ℕ → Bool) → (ℕ → ℕ) → ℕ → Load
+new_load client places tenures nonce = record {
+  client = client;
+  places = places;
+  tenures = tenures;
+  nonce = nonce;
+  found_open = false;
+  stage = λ p. Held;
+  is_kept = false;
   rows = λ key. None;
 }
 
--- the table has the rows that these changes leave, nobody holds anything, and the mark has the nonce of no start
+-- the tables have the rows that these changes leave, nobody holds anything, and the cluster's mark has the nonce of no
+-- start
 abbrev pub first : List Change → World
 first changes = record {
   held = λ c p. part.N;
@@ -125,5 +132,5 @@ first changes = record {
   changes = changes;
   transactions = λ t. new_transaction;
   counts = λ p. new_count;
-  loads = λ n. no_load;
+  loads = λ n. new_load 0 (λ p. false) (λ p. 0) 0;
 }
