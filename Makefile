@@ -3,7 +3,7 @@
 #     make                        builds the programs in Rust, and the client and the cache for C
 #     make install PREFIX=/usr    puts them, the headers and the libraries there; DESTDIR stands before it
 #     make dist                   makes an archive of the same in OUT
-#     make deb                    makes a package for Debian of the same in OUT
+#     make deb                    makes a package for Debian of the same in OUT, and one of the extension for PostgreSQL
 #     make wheel                  makes a wheel of the client for Python in OUT
 PREFIX = /usr/local
 TARGET = $(CURDIR)/hosts/target
@@ -30,6 +30,11 @@ dist: all
 
 deb: all
 	LIBRARY=$(LIBRARY) PROGRAMS=$(TARGET)/release hosts/packaging/debian-package $(OUT)
+	@if [ -f "$$(pg_config --pgxs 2>/dev/null)" ]; then \
+	    PROGRAMS=$(TARGET)/release hosts/packaging/extension-package $(OUT); \
+	else \
+	    echo 'NOT MADE: the package of the extension: there are no header files of PostgreSQL' >&2; \
+	fi
 
 wheel: all
 	hosts/packaging/wheel $(TARGET)/release/libkrl_client.so $(OUT)

@@ -17,7 +17,13 @@ part_packages() {
     expect 0 'the crates, packaged' "$top/tests/package" $config
     has dpkg-deb || not_run 'there is no dpkg-deb: the package for Debian'
     expect 0 'the package for Debian' make_package debian-package
-    expect 0 'the package, tried in a folder of its own' "$top/tests/archive" "$work"/dist/*.deb
+    expect 0 'the package, tried in a folder of its own' "$top/tests/archive" "$work"/dist/krl_*.deb
+    if ! has pg_config make python3 || [ ! -f "$(pg_config --pgxs)" ]; then
+        not_run 'there are no header files of PostgreSQL: the package of the extension for it'
+    fi
+    expect 0 'the package of the extension' make_package extension-package
+    expect 0 'the extension of that package' "$top/hosts/pgext/check" "$programs" \
+        --package "$work"/dist/postgresql-*.deb --only regress
 }
 
 part_pages() {

@@ -57,7 +57,7 @@ class Installation:
         return self.inside("bindir") / name
 
     def build(self):
-        """Builds the extension, and installs it in a copy of PostgreSQL."""
+        """Builds the extension, unless it is given as a package, and installs it in a copy of PostgreSQL."""
         shutil.copytree(self.top / "hosts/pgext", self.source)
         # The programs find their folders from where they lie, so these are copies, and the rest are links.
         self.inside("bindir").mkdir(parents=True, exist_ok=True)
@@ -65,7 +65,10 @@ class Installation:
         for name in ("sharedir", "pkglibdir"):
             self.inside(name).mkdir(parents=True, exist_ok=True)
             run("cp", "-a", "-s", "-n", f"{self.where[name]}/.", self.inside(name))
-        self.make()
+        if self.given.package:
+            run("dpkg-deb", "-x", self.top / self.given.package.name, self.root)
+        else:
+            self.make()
 
     def copy(self, other):
         """Takes what another installation has built."""
