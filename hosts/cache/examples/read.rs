@@ -2,7 +2,7 @@
 //! `docs/CACHE.md` prepares the database.
 //!
 //!     read DATABASE KEY
-use krl_cache::{Cache, PostgresAddress};
+use krl_cache::{BadPostgresAddress, Cache, PostgresAddress};
 use std::env;
 use std::error::Error;
 use std::process::ExitCode;
@@ -29,15 +29,24 @@ fn run(database: PostgresAddress, key: i64) -> Result<(), Box<dyn Error>> {
     fault.map_or(Ok(()), |fault| Err(fault.into()))
 }
 
+/// The database and the key that the command line names, or what is wrong with it.
+fn parsed(words: &[String]) -> Result<(PostgresAddress, i64), String> {
+    let [database, key] = words else {
+        return Err("expected a URL of PostgreSQL and a key: read DATABASE KEY".to_string());
+    };
+    let database = database.parse().map_err(|bad: BadPostgresAddress| bad.to_string())?;
+    let key = key.parse().map_err(|_| format!("the key is a whole number, and not {key}"))?;
+    Ok((database, key))
+}
+
 fn main() -> ExitCode {
     let words: Vec<String> = env::args().skip(1).collect();
-    let parsed = match &words[..] {
-        [database, key] => database.parse().ok().zip(key.parse().ok()),
-        _ => None,
-    };
-    let Some((database, key)) = parsed else {
-        eprintln!("usage: read DATABASE KEY, a URL of PostgreSQL and a whole number");
-        return ExitCode::from(2);
+    let (database, key) = match parsed(&words) {
+        Ok(parsed) => parsed,
+        Err(why) => {
+            eprintln!("read: {why}");
+            return ExitCode::from(2);
+        }
     };
     match run(database, key) {
         Ok(()) => ExitCode::SUCCESS,

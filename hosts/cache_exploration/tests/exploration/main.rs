@@ -139,6 +139,7 @@ fn rules() -> Vec<(Rule, World)> {
         (Rule::TakesTheMark, crashes()),
         (Rule::HoldsBeforeTheQuestion, stripe()),
         (Rule::ReadsTheNonceAfterTheTenures, promotions()),
+        (Rule::AsksWhetherItIsQuiet, stripe()),
         (Rule::ComparesTheNonce, promotions()),
         (Rule::CountsAsKept(Key::Stripe), marks()),
         (Rule::CountsAsKept(Key::Table), marks()),

@@ -1,4 +1,5 @@
 //! A reader: what it holds, what it loads, and what it keeps.
+use crate::database::Database;
 use crate::krl::Client;
 use crate::world::{Content, Key, Keys, Nonce, Rule, Site, State, World};
 
@@ -187,27 +188,29 @@ fn begin(world: &World, state: &State, reader: Reader) -> Option<Load> {
 /// Asks one of the databases that answer. It counts the keys as kept.
 fn ask(world: &World, state: &State, number: usize, nonce: Nonce, next: &mut Vec<State>) {
     for site in state.answering() {
-        let (mut after, database) = (*state, state.database(*site));
-        let load = &mut after.readers[number].load;
-        if !world.keeps(Rule::SelectsAfterTheQuestion) && load.early.is_none() {
-            load.early = Some(database.content);
-            load.site = *site;
-            next.push(after);
-            continue;
-        }
-        if !database.is_open(world, Some(nonce)) {
-            *load = Load::default();
-            next.push(after);
-            continue;
-        }
-        load.site = *site;
-        load.are_counts_same = true;
-        load.at = LoadAt::Looking(world.keys);
-        if world.keeps(Rule::CountsBeforeTheLook) {
+        let load = Load { site: *site, ..state.readers[number].load };
+        let load = asked(world, *state.database(*site), load, nonce);
+        let mut after = *state;
+        after.readers[number].load = load;
+        if matches!(load.at, LoadAt::Looking(_)) && world.keeps(Rule::CountsBeforeTheLook) {
             count_as_kept(world, &mut after.database_mut(*site).kept);
         }
         next.push(after);
     }
+}
+
+/// What becomes of a load that asks this database.
+fn asked(world: &World, database: Database, load: Load, nonce: Nonce) -> Load {
+    if !world.keeps(Rule::SelectsAfterTheQuestion) && load.early.is_none() {
+        return Load { early: Some(database.content), ..load };
+    }
+    if !world.keeps(Rule::AsksWhetherItIsQuiet) {
+        return load.to(LoadAt::Quiet);
+    }
+    if !database.is_open(world, Some(nonce)) {
+        return Load::default();
+    }
+    Load { are_counts_same: true, ..load.to(LoadAt::Looking(world.keys)) }
 }
 
 fn count_as_kept(world: &World, kept: &mut Keys) {

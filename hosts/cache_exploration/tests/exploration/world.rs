@@ -103,6 +103,8 @@ pub enum Rule {
     /// A reader holds its keys before it asks `krl.quiet`.
     HoldsBeforeTheQuestion,
     ReadsTheNonceAfterTheTenures,
+    /// A reader keeps rows only if `krl.quiet` has returned true.
+    AsksWhetherItIsQuiet,
     /// `krl.quiet` compares the reader's nonce with that of the start.
     ComparesTheNonce,
     /// `krl.quiet` counts this key as kept.
