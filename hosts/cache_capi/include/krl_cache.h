@@ -338,8 +338,8 @@ KRLCACHE_NODISCARD uint32_t krlcache_double(const krlcache_rows *rows, size_t ro
 KRLCACHE_NODISCARD uint32_t krlcache_bool(const krlcache_rows *rows, size_t row, size_t column, bool *value,
                                           krlcache_error *error);
 
-/* Of a column of type text, varchar, char or name: `length` bytes without a zero at their end, borrowed from the
- * rows. */
+/* Of a column of type text, varchar, char, name, citext, json, jsonb or xml, or of an enum: `length` bytes without a
+ * zero at their end, borrowed from the rows. */
 KRLCACHE_NODISCARD uint32_t krlcache_text(const krlcache_rows *rows, size_t row, size_t column, const char **value,
                                           size_t *length, krlcache_error *error);
 

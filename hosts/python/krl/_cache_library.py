@@ -17,11 +17,11 @@ NAMED_BY = "KRL_CACHE_LIBRARY"
 KeyValue = int | str | UUID
 
 # Codes of the header.
-OK, ABSENT, MISS, ANSWERS, AWAY = 0, 2, 5, 15, 86
+OK, ABSENT, MISS, ANSWERS, BAD_COLUMN, AWAY = 0, 2, 5, 15, 84, 86
 
 _AT_ONCE = """version:i fault:ipp statistics_of:ippp cached_get:ippnpp cached_get_many:ippnnpp
     cached_range:ipttpp rows_new:p rows_share:pp rows_free:-p rows_count:np has_row:?pn packed:ppnpp
-    columns:npn column_name:ppnnp column_type:ipnn"""
+    columns:npn column_name:ppnnp column_type:ipnn text:ipnnppp"""
 _WAITING = """open:ippp close:-p table_open:ipspp table_free:-p get:ippnpp get_many:ippnnpp
     get_all:ippnpp range:ipttpp"""
 _OPTIONS = """size:n database:s user:s password:s lock_folder:s first_number:i end_number:i
@@ -64,6 +64,7 @@ class DatabaseError(CacheError, code=80): """The database refused the call, or w
 class NotCached(CacheError, code=81): """The table is not cached: call ``krl.cache`` in SQL."""
 class NoExtension(CacheError, code=82): """The database has no extension ``krl``."""
 class SeveralRows(CacheError, code=83): """The key has several rows: ``get_all`` reads them."""
+class BadColumn(CacheError, code=BAD_COLUMN): """A column is not as it is converted."""
 class SystemRefused(CacheError, OSError, code=85): """The folder or a thread was refused."""
 class Closed(CacheError, code=-1): """The cache is closed."""
 

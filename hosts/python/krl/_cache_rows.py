@@ -2,13 +2,13 @@
 
 import struct
 from collections.abc import Callable, Iterator, Mapping
-from ctypes import byref, c_size_t, string_at
+from ctypes import byref, c_size_t, c_void_p, string_at
 from datetime import date, datetime, time, timedelta, timezone
 from decimal import Decimal
 from typing import Any, NamedTuple
 from uuid import UUID
 
-from ._cache_library import Room, calls
+from ._cache_library import BAD_COLUMN, Room, calls
 from ._library import Handle
 
 _LENGTH = struct.Struct("=i").unpack_from
@@ -70,6 +70,7 @@ def _time(sent: bytes) -> time:
 
 
 _TEXTS = (18, 19, 25, 114, 142, 705, 1042, 1043)
+# Those of other types that `krlcache_text` reads are texts too, and others are bytes.
 _CONVERSIONS: dict[int, Callable[[bytes], Any]] = {
     16: lambda sent: sent != b"\0",
     20: _integer, 21: _integer, 23: _integer, 26: lambda sent: int.from_bytes(sent, "big"),
@@ -77,7 +78,7 @@ _CONVERSIONS: dict[int, Callable[[bytes], Any]] = {
     1082: _date, 1083: _time, 1114: _moment(_FIRST), 1184: _moment(_FIRST_IN_UTC),
     1700: _numeric, 2950: lambda sent: UUID(bytes=sent), 3802: _jsonb,
 } | dict.fromkeys(_TEXTS, _text)
-"""What columns are converted by, by the number of their type. Others are bytes."""
+"""What columns are converted by, by the number of their type."""
 
 
 class Layout(NamedTuple):
@@ -142,7 +143,9 @@ def _found(room: Room, place: int) -> Layout:
         at = library.column_name(room.rows, place, column, byref(length))
         names.append(string_at(at, length.value).decode())
         types.append(library.column_type(room.rows, place, column))
-    conversions = tuple(_CONVERSIONS.get(kind, bytes) for kind in types)
+    conversions = tuple(
+        _CONVERSIONS.get(kind) or _other(room, place, column) for column, kind in enumerate(types)
+    )
     keeper = Handle("rows_free", library.rows_share(room.rows), library)
     places = {name: place for place, name in enumerate(names)}
     layout = Layout(places, conversions, tuple(types), keeper)
@@ -151,6 +154,14 @@ def _found(room: Room, place: int) -> Layout:
             _layouts.clear()
         _layouts[room.layout.value] = layout
     return layout
+
+
+def _other(room: Room, place: int, column: int) -> Callable[[bytes], Any]:
+    """The conversion of a column whose type has no number of its own, such as an enum."""
+    out = byref(c_void_p()), byref(c_size_t())
+    if calls().text(room.rows, place, column, *out, None) == BAD_COLUMN:
+        return bytes
+    return _text
 
 
 def rows_in(room: Room) -> list[Row | None]:

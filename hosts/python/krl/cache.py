@@ -8,8 +8,8 @@ stale. ``krl_cache.h`` describes each call in full.
         shelf = items.range(10, 20)
 
 Values of a key are integers, texts and UUIDs. A column is an ``int``, ``float``, ``bool``, ``str``,
-``bytes``, ``Decimal``, ``UUID``, ``date``, ``time`` or ``datetime``, and ``None`` if it is NULL.
-Columns of other types are ``bytes``, as PostgreSQL sends them."""
+``bytes``, ``Decimal``, ``UUID``, ``date``, ``time`` or ``datetime``, and ``None`` if it is NULL. A
+value of an enum is a ``str``. Columns of other types are ``bytes``, as PostgreSQL sends them."""
 
 import asyncio
 import ctypes

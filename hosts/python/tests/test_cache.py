@@ -1,6 +1,6 @@
 """Tests of readers of cached tables, over a server of PostgreSQL that has functions in SQL in place
-of the extension. `KRL_SITE_PROGRAM` names the example `site` of the crate krl-cache, which starts it,
-and `KRL_CACHE_LIBRARY` the library.
+of the extension. `KRL_SITE_PROGRAM` names the example `site` of the crate krl-cache, which starts
+it, and `KRL_CACHE_LIBRARY` the library.
 """
 
 from __future__ import annotations
@@ -137,14 +137,15 @@ class TableTest(Site):
             {
                 "id": 1, "small": -2, "number": -3, "big": -4, "single": 0.5, "long": -0.25,
                 "is_so": True, "bytes": b"\0\xff", "json": '{"a": 1}', "words": None,
-                "exact": Decimal("-1234.0500"), "day": date(2024, 2, 29), "code": ID,
+                "mood": "glad", "exact": Decimal("-1234.0500"), "day": date(2024, 2, 29),
+                "code": ID,
                 "at": datetime(2024, 2, 29, 12, 34, 56, 789_000, timezone.utc),
                 "local": datetime(1999, 12, 31, 23, 59, 59, 1),
             },
         )
         self.assertEqual(str(row["exact"]), "-1234.0500")
         self.assertIsInstance(words, bytes, "PostgreSQL's binary format of an array")
-        self.assertEqual((row.types()["words"], row.get("weight"), len(row)), (1009, None, 15))
+        self.assertEqual((row.types()["words"], row.get("weight"), len(row)), (1009, None, 16))
         with self.assertRaises(KeyError):
             row["weight"]
         none = kinds.get(2)
@@ -358,7 +359,7 @@ class HeaderTest(unittest.TestCase):
         for name, types in named.items():
             self.assertEqual(types.replace("s", "p"), declared[name].replace("s", "p"), name)
         # Python converts columns by itself.
-        without = {"code_name", "find_column", "int64", "double", "bool", "text", "bytes"}
+        without = {"code_name", "find_column", "int64", "double", "bool", "bytes"}
         self.assertEqual(declared.keys() - named, without)
 
     def letter(self, parameter: str) -> str:
@@ -377,7 +378,7 @@ class HeaderTest(unittest.TestCase):
         self.assertEqual(lib.STATISTICS.size, 8 * len(reader.Statistics._fields))
         self.assertEqual(lib._INTEGER.size, 32)
         codes = {name: int(code) for name, code in re.findall(r"KRLCACHE_(\w+) = (\d+)", self.code)}
-        for name in ("OK", "ABSENT", "MISS", "ANSWERS", "AWAY"):
+        for name in ("OK", "ABSENT", "MISS", "ANSWERS", "BAD_COLUMN", "AWAY"):
             self.assertEqual(getattr(lib, name), codes[name])
         names = {"BadArgument": "MISUSE", "BadNumbers": "BAD_NUMBER", "DatabaseError": "DATABASE"}
         names |= {"Stopped": "INTERNAL", "SystemRefused": "SYSTEM"}

@@ -66,12 +66,13 @@ pub const OTHER_TABLES: &str = "
     CREATE TABLE note (author text, body text);
     INSERT INTO note VALUES ('ada', 'one'), ('ada', 'two'), ('grace', 'three');
     INSERT INTO krl.cached VALUES ('note', '{author}', 139, 1, false);
+    CREATE TYPE mood AS ENUM ('calm', 'glad');
     CREATE TABLE kinds (id smallint PRIMARY KEY, small smallint, number integer, big bigint,
         single real, long double precision, is_so boolean, bytes bytea, json jsonb,
-        exact numeric, at timestamptz, local timestamp, day date, code uuid, words text[]);
+        exact numeric, at timestamptz, local timestamp, day date, code uuid, words text[], mood mood);
     INSERT INTO kinds VALUES (1, -2, -3, -4, 0.5, -0.25, true, '\\x00ff', '{\"a\": 1}', -1234.0500,
         '2024-02-29 12:34:56.789+00', '1999-12-31 23:59:59.000001', '2024-02-29',
-        'a0a0a0a0-a0a0-a0a0-a0a0-a0a0a0a0a0a0', '{one,two}');
+        'a0a0a0a0-a0a0-a0a0-a0a0-a0a0a0a0a0a0', '{one,two}', 'glad');
     INSERT INTO kinds (id) VALUES (2);
     INSERT INTO krl.cached VALUES ('kinds', '{id}', 159, 16, true);
     CREATE TABLE plain (id bigint PRIMARY KEY);";

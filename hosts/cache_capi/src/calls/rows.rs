@@ -3,7 +3,7 @@ use crate::code::Code;
 use crate::fault::{ErrorRoom, Fault, answer};
 use crate::room::Room;
 use krl_cache::Row;
-use krl_cache::tokio_postgres::types::{FromSql, Type};
+use krl_cache::tokio_postgres::types::{FromSql, Kind as TypeKind, Type};
 use krl_ffi::{Handle, Kind, put_out, quiet};
 use std::ffi::{CStr, c_char, c_void};
 use std::ptr;
@@ -186,6 +186,20 @@ fn get<'r, T: FromSql<'r>>(row: &'r Row, column: usize) -> Result<Option<T>, Fau
     row.get_at(column).map_err(misfit)
 }
 
+/// A text, or what PostgreSQL sends as one: the name of a value of an enum, and JSON.
+fn text(row: &Row, column: usize) -> Result<Option<&str>, Fault> {
+    let of_type = row.columns()[column].sql_type();
+    let sent = match *of_type {
+        Type::JSON | Type::XML => row.bytes(column),
+        // The first byte is the version of the format.
+        Type::JSONB => row.bytes(column).and_then(|bytes| bytes.get(1..)),
+        _ if matches!(of_type.kind(), TypeKind::Enum(_)) => row.bytes(column),
+        _ => return get(row, column),
+    };
+    let misfit = |_| Fault::new(Code::BadColumn, "the column is not sent in UTF-8");
+    sent.map(std::str::from_utf8).transpose().map_err(misfit)
+}
+
 fn integer(row: &Row, column: usize) -> Result<Option<i64>, Fault> {
     match *row.columns()[column].sql_type() {
         Type::INT2 => Ok(get::<i16>(row, column)?.map(i64::from)),
@@ -255,7 +269,7 @@ pub unsafe extern "C" fn krlcache_text(
     // SAFETY: the caller vouches for the room.
     let put = |found: &str| unsafe { put_span(found.as_bytes(), value, length) };
     // SAFETY: the caller vouches for the rows and the room of the error.
-    unsafe { read(rows, (row, column), error, get::<&str>, put) }
+    unsafe { read(rows, (row, column), error, text, put) }
 }
 
 #[unsafe(no_mangle)]
