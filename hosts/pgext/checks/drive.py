@@ -1,5 +1,5 @@
-"""Readers that keep rows in memory next to writers of SQL, while readers, sessions, the extension's workers, krl's
-server and PostgreSQL are killed and stopped: krl_drive."""
+"""Readers that keep rows in memory next to writers of SQL, while they, sessions, workers of the extension, krl's server
+and PostgreSQL are killed and stopped: krl_drive."""
 import os
 import subprocess
 
