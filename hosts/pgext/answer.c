@@ -10,6 +10,9 @@
  * A client of krl waits for one lock at a time, for a lease if a reader that
  * has stopped holds it.  So a worker does one span of one request, and any
  * other worker does the others meanwhile, unless they have keys of this span.
+ * The spare worker does not wait while there are requests that nobody has
+ * tried: it sets its own aside, and leaves krl and joins again, since a client
+ * takes a request for a lock back by leaving only.
  *
  *-------------------------------------------------------------------------
  */
@@ -22,8 +25,8 @@
 
 #include "krl_pg.h"
 
-/* How long one call of krl's client waits before the worker looks again whether it has to end. */
-#define ATTEMPT_MS 1000
+/* How long one call of krl's client waits before the worker looks again what it should do. */
+#define ATTEMPT_MS 100
 #define ROWS_MS 5000
 
 #define RETRY_MS 10
@@ -70,7 +73,56 @@ hold_once(krlc_client *client, KrlSpan span, long milliseconds, krlc_error *erro
 	return code;
 }
 
-/* The same, again and again until the end. */
+static bool
+overlap(const KrlSpan *a, const KrlSpan *b)
+{
+	return a->lo < b->hi && b->lo < a->hi;
+}
+
+/* Whether a worker does some of these keys. */
+static bool
+is_claimed(KrlSpan span)
+{
+	bool		found = false;
+
+	SpinLockAcquire(&krl_shared->mutex);
+	for (int number = 0; number < krl_workers; number++)
+		found |= overlap(&krl_shared->workers[number].claimed, &span);
+	SpinLockRelease(&krl_shared->mutex);
+	return found;
+}
+
+/* The last worker is the spare one.  The first one stays in krl: another cluster could take its number. */
+static bool
+is_spare(void)
+{
+	return my_number > 0 && my_number == krl_workers - 1;
+}
+
+/*
+ * Whether this worker should do another request than the one for whose lock it
+ * waits: one that no other worker has begun for so long.
+ */
+static bool
+is_needed(void)
+{
+	TimestampTz latest = GetCurrentTimestamp() - ATTEMPT_MS * INT64CONST(1000);
+
+	if (!is_spare())
+		return false;
+	for (int procno = 0; procno < krl_shared->nbackends; procno++)
+	{
+		KrlRequest *request = krl_request_of(procno);
+		uint64		state = pg_atomic_read_u64(&request->state);
+
+		if (KRL_PHASE(state) == KRL_WAITS && request->begun <= latest &&
+			!is_claimed(request->spans[KRL_PLACE(state)]))
+			return true;
+	}
+	return false;
+}
+
+/* The same, again and again until the end, or until other requests need the worker. */
 static uint32
 hold(krlc_client *client, KrlSpan span, TimestampTz end, krlc_error *error)
 {
@@ -82,6 +134,8 @@ hold(krlc_client *client, KrlSpan span, TimestampTz end, krlc_error *error)
 
 		if (code == KRLC_OK || left <= 0 || krl_must_end())
 			return code;
+		if (code == KRLC_TIMED_OUT && is_needed())
+			return code;
 		if (code != KRLC_TIMED_OUT && code != KRLC_UNSERVED && code != KRLC_PIN_IS_VOID)
 			pg_usleep(RETRY_MS * 1000L);
 	}
@@ -89,16 +143,22 @@ hold(krlc_client *client, KrlSpan span, TimestampTz end, krlc_error *error)
 
 /*
  * The client still waits for a lock, and cannot ask for another one before it
- * has this one.  Meanwhile other workers do what waits.
+ * has this one.  Meanwhile other workers do what waits.  Returns whether they
+ * need this one before that.
  */
-static void
+static bool
 await_lock(krlc_client *client, KrlSpan span)
 {
 	krlc_error	error;
 
-	while (!krl_must_end() && krl_is_ready(my_worker) &&
-		   hold_once(client, span, ATTEMPT_MS, &error) == KRLC_TIMED_OUT)
-		;
+	while (!krl_must_end() && krl_is_ready(my_worker))
+	{
+		if (is_needed())
+			return true;
+		if (hold_once(client, span, ATTEMPT_MS, &error) != KRLC_TIMED_OUT)
+			return false;
+	}
+	return false;
 }
 
 static uint32
@@ -156,12 +216,6 @@ krl_insert_rows(krlc_client *client, KrlSpan span, TimestampTz end, krlc_error *
 	return code == KRLC_OK && span.lo < span.hi ? KRLC_STOPPED : code;
 }
 
-static bool
-overlap(const KrlSpan *a, const KrlSpan *b)
-{
-	return a->lo < b->hi && b->lo < a->hi;
-}
-
 /* Notes that this worker does these keys, unless another one does some of them. */
 static bool
 claim(KrlSpan span)
@@ -201,13 +255,13 @@ end_claim(void)
 
 /* Begins the next span of a backend's request, if that waits and no other worker does keys of the span. */
 static bool
-begin_task(uint32 procno)
+begin_task(uint32 procno, bool takes_set_aside)
 {
 	KrlRequest *request = krl_request_of(procno);
 	uint64		state = pg_atomic_read_u64(&request->state);
 	uint32		place = KRL_PLACE(state);
 
-	if (KRL_PHASE(state) != KRL_WAITS)
+	if (KRL_PHASE(state) != KRL_WAITS && !(takes_set_aside && KRL_PHASE(state) == KRL_SET_ASIDE))
 		return false;
 	pg_read_barrier();
 	task.procno = procno;
@@ -235,7 +289,8 @@ settle(uint32 place, KrlPhase phase)
 	uint64		running = task.state;
 	uint64		next = krl_state(KRL_NUMBER(running), place, phase);
 
-	if (pg_atomic_compare_exchange_u64(&task.request->state, &running, next) && phase != KRL_WAITS)
+	if (pg_atomic_compare_exchange_u64(&task.request->state, &running, next) &&
+		(phase == KRL_DONE || phase == KRL_FAILED))
 		krl_set_latch(task.procno);
 	task.request = NULL;
 }
@@ -251,34 +306,46 @@ fail(uint32 code, const krlc_error *error)
 	settle(my_number, KRL_FAILED);
 }
 
-static void
-do_task(krlc_client *client)
+static uint32
+run_task(krlc_client *client, krlc_error *error)
 {
-	krlc_error	error = {0};
 	TimestampTz begun = GetCurrentTimestamp();
 	uint32		code;
 
 	if (task.kind == KRL_MAKE_ROWS)
-		code = krl_insert_rows(client, task.span, task.end, &error);
-	else
-	{
-		code = recall(client, task.span, task.end, &error);
-		pg_atomic_fetch_add_u64(&my_worker->spans, 1);
-		pg_atomic_fetch_add_u64(&my_worker->microseconds, GetCurrentTimestamp() - begun);
-	}
-	if (code != KRLC_OK)
+		return krl_insert_rows(client, task.span, task.end, error);
+	code = recall(client, task.span, task.end, error);
+	pg_atomic_fetch_add_u64(&my_worker->spans, code == KRLC_OK);
+	pg_atomic_fetch_add_u64(&my_worker->microseconds, GetCurrentTimestamp() - begun);
+	return code;
+}
+
+static KrlAnswer
+do_task(krlc_client *client)
+{
+	krlc_error	error = {0};
+	uint32		code = run_task(client, &error);
+	bool		is_set_aside = code == KRLC_TIMED_OUT && GetCurrentTimestamp() < task.end;
+	bool		is_stuck = false;
+
+	if (is_set_aside)
+		settle(KRL_PLACE(task.state), KRL_SET_ASIDE);
+	else if (code != KRLC_OK)
 		fail(code, &error);
 	else if (task.is_last)
 		settle(KRL_PLACE(task.state), KRL_DONE);
 	else
 		settle(KRL_PLACE(task.state) + 1, KRL_WAITS);
 	if (code == KRLC_TIMED_OUT)
-		await_lock(client, task.span);
+		is_stuck = await_lock(client, task.span);
 	end_claim();
+	if (is_set_aside)
+		krl_wake_workers(1);
+	return is_stuck ? KRL_STUCK : KRL_ANSWERED;
 }
 
-static bool
-do_next_task(krlc_client *client)
+static KrlAnswer
+do_one_task(krlc_client *client, bool takes_set_aside)
 {
 	static uint32 first = 0;	/* the backends take turns */
 
@@ -286,26 +353,34 @@ do_next_task(krlc_client *client)
 	{
 		uint32		procno = (first + i) % krl_shared->nbackends;
 
-		if (!begin_task(procno))
+		if (!begin_task(procno, takes_set_aside))
 			continue;
-		do_task(client);
 		first = task.is_last ? procno + 1 : procno;
-		return true;
+		return do_task(client);
 	}
-	return false;
+	return KRL_IDLE;
 }
 
-/*
- * Does one span of a request that waits.  If there is none, returns false, and
- * the worker is woken for the next one.
- */
-bool
+/* The spare worker does first what nobody has tried. */
+static KrlAnswer
+do_next_task(krlc_client *client)
+{
+	KrlAnswer	answer = is_spare() ? do_one_task(client, false) : KRL_IDLE;
+
+	return answer == KRL_IDLE ? do_one_task(client, true) : answer;
+}
+
+/* Does one span of a request that waits.  If there is none, the worker is woken for the next one. */
+KrlAnswer
 krl_answer_one(krlc_client *client, int number)
 {
+	KrlAnswer	answer;
+
 	my_number = number;
 	my_worker = &krl_shared->workers[number];
-	if (do_next_task(client))
-		return true;
+	answer = do_next_task(client);
+	if (answer != KRL_IDLE)
+		return answer;
 	pg_atomic_write_u32(&my_worker->sleeps, true);
 	pg_memory_barrier();
 	return do_next_task(client);

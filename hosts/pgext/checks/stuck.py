@@ -1,6 +1,6 @@
 """A reader that has stopped delays only commits of rows that it keeps."""
 from checks.cluster import Cluster, KrlServer, expect_refused
-from checks.processes import expect
+from checks.processes import expect, wait_until
 
 # Longer than the check takes: what waits for the reader waits until it continues.
 LEASE = "300s"
@@ -31,7 +31,7 @@ def check_one_stripe(cluster, stopped, other):
     write_others(cluster, other, session)
     expect_waiting(cluster, sessions)
     shown = "SELECT count(*), count(*) FILTER (WHERE is_in_work) FROM krl.waiting WHERE relation = 'item'::regclass"
-    expect("which sessions wait, and which are in work", cluster.sql(shown), f"{WORKERS}|1")
+    wait_until("all sessions wait, and one is in work", lambda: cluster.sql(shown) == f"{WORKERS}|1", seconds=30)
     stopped.resume()
     for waiting in sessions:
         expect("a commit that has waited", waiting.result(), "")
@@ -54,6 +54,24 @@ def check_late_requests(cluster, stopped, other):
     expect("a commit of a row of the reader", session.run("UPDATE item SET n = n + 1 WHERE id = 30"), "")
 
 
+def check_many_stripes(cluster, stopped, other):
+    """More commits than there are workers wait for a reader that has stopped, and others do not."""
+    stripes = range(40, 40 + WORKERS + 2)
+    cluster.keep(stopped, "item", *stripes)
+    sessions = [cluster.session() for _ in stripes]
+    session = cluster.session()
+    stopped.stop()
+    for stripe, waiting in zip(stripes, sessions):
+        waiting.send(f"UPDATE item SET n = n + 1 WHERE id = {stripe}")
+        cluster.await_commit(waiting)
+    write_others(cluster, other, session)
+    expect_waiting(cluster, sessions)
+    stopped.resume()
+    for waiting in sessions:
+        expect("a commit that has waited", waiting.result(), "")
+        waiting.end()
+
+
 def check(installation):
     """Checks all of these."""
     krl = KrlServer(installation, lease=LEASE)
@@ -65,3 +83,4 @@ def check(installation):
     stopped, other = cluster.reader(krl.address, 0), cluster.reader(krl.address, 1)
     check_one_stripe(cluster, stopped, other)
     check_late_requests(cluster, stopped, other)
+    check_many_stripes(cluster, stopped, other)
