@@ -10,9 +10,9 @@
  * A client of krl waits for one lock at a time, for a lease if a reader that
  * has stopped holds it.  So a worker does one span of one request, and any
  * other worker does the others meanwhile, unless they have keys of this span.
- * If all workers wait and something else is to be done, a worker leaves its
- * span for later.  The client can take back its request for the lock only by
- * leaving krl's server, so it does that, and joins again.
+ * The spare worker does not wait while there are requests that nobody has
+ * tried: it sets its own aside, and leaves krl and joins again, since a client
+ * takes a request for a lock back by leaving only.
  *
  *-------------------------------------------------------------------------
  */
@@ -25,15 +25,8 @@
 
 #include "krl_pg.h"
 
-/*
- * How long one call of krl's client waits before the worker looks again whether
- * it has to end, or is to do something else; and after what time a span that it
- * has left is tried again.
- */
-#define ATTEMPT_MS 500
-#define AGAIN_MS 500
-
-#define FORGET_MS 1000
+/* How long one call of krl's client waits before the worker looks again what it should do. */
+#define ATTEMPT_MS 100
 #define ROWS_MS 5000
 
 #define RETRY_MS 10
@@ -86,50 +79,50 @@ overlap(const KrlSpan *a, const KrlSpan *b)
 	return a->lo < b->hi && b->lo < a->hi;
 }
 
-/* Whether a worker does some of these keys.  By krl_shared->mutex. */
+/* Whether a worker does some of these keys. */
 static bool
-is_claimed(const KrlSpan *span)
+is_claimed(KrlSpan span)
 {
-	for (int number = 0; number < krl_workers; number++)
-		if (overlap(&krl_shared->workers[number].claimed, span))
-			return true;
-	return false;
-}
-
-/* Whether a request waits that this worker would do if it had nothing to do. */
-static bool
-has_other_work(void)
-{
-	TimestampTz now = GetCurrentTimestamp();
 	bool		found = false;
 
 	SpinLockAcquire(&krl_shared->mutex);
-	for (int procno = 0; procno < krl_shared->nbackends && !found; procno++)
-	{
-		KrlRequest *request = krl_request_of(procno);
-		uint64		state = pg_atomic_read_u64(&request->state);
-
-		pg_read_barrier();
-		found = KRL_PHASE(state) == KRL_WAITS && request->again <= now &&
-			!is_claimed(&request->spans[KRL_PLACE(state)]);
-	}
+	for (int number = 0; number < krl_workers; number++)
+		found |= overlap(&krl_shared->workers[number].claimed, &span);
 	SpinLockRelease(&krl_shared->mutex);
 	return found;
 }
 
-/* Whether krl's server can be reached, so that only readers make this client wait. */
+/* The last worker is the spare one.  The first one stays in krl: another cluster could take its number. */
 static bool
-is_connected(krlc_client *client)
+is_spare(void)
 {
-	krlc_status status;
-
-	return krlc_status_at(client, 0, &status, NULL) == KRLC_OK && status.is_connected;
+	return my_number > 0 && my_number == krl_workers - 1;
 }
 
 /*
- * Takes the keys back from all caches.  What fails is tried again until the end,
- * or until a reader lets the client wait while there is something else to do.
+ * Whether this worker should do another request than the one for whose lock it
+ * waits: one that no other worker has begun for so long.
  */
+static bool
+is_needed(void)
+{
+	TimestampTz latest = GetCurrentTimestamp() - ATTEMPT_MS * INT64CONST(1000);
+
+	if (!is_spare())
+		return false;
+	for (int procno = 0; procno < krl_shared->nbackends; procno++)
+	{
+		KrlRequest *request = krl_request_of(procno);
+		uint64		state = pg_atomic_read_u64(&request->state);
+
+		if (KRL_PHASE(state) == KRL_WAITS && request->begun <= latest &&
+			!is_claimed(request->spans[KRL_PLACE(state)]))
+			return true;
+	}
+	return false;
+}
+
+/* The same, again and again until the end, or until other requests need the worker. */
 static uint32
 hold(krlc_client *client, KrlSpan span, TimestampTz end, krlc_error *error)
 {
@@ -141,11 +134,31 @@ hold(krlc_client *client, KrlSpan span, TimestampTz end, krlc_error *error)
 
 		if (code == KRLC_OK || left <= 0 || krl_must_end())
 			return code;
-		if (code == KRLC_TIMED_OUT && is_connected(client) && has_other_work())
+		if (code == KRLC_TIMED_OUT && is_needed())
 			return code;
 		if (code != KRLC_TIMED_OUT && code != KRLC_UNSERVED && code != KRLC_PIN_IS_VOID)
 			pg_usleep(RETRY_MS * 1000L);
 	}
+}
+
+/*
+ * The client still waits for a lock, and cannot ask for another one before it
+ * has this one.  Meanwhile other workers do what waits.  Returns whether they
+ * need this one before that.
+ */
+static bool
+await_lock(krlc_client *client, KrlSpan span)
+{
+	krlc_error	error;
+
+	while (!krl_must_end() && krl_is_ready(my_worker))
+	{
+		if (is_needed())
+			return true;
+		if (hold_once(client, span, ATTEMPT_MS, &error) != KRLC_TIMED_OUT)
+			return false;
+	}
+	return false;
 }
 
 static uint32
@@ -155,7 +168,7 @@ recall(krlc_client *client, KrlSpan span, TimestampTz end, krlc_error *error)
 
 	/* If it fails, the next reader calls the keys back. */
 	if (code == KRLC_OK && !krl_keep_locks)
-		(void) !krlc_forget(client, span.lo, span.hi, FORGET_MS, NULL);
+		(void) !krlc_forget(client, span.lo, span.hi, ATTEMPT_MS, NULL);
 	return code;
 }
 
@@ -240,22 +253,17 @@ end_claim(void)
 		krl_wake_workers(krl_workers);
 }
 
-/*
- * Begins the next span of a backend's request, if that waits for its first
- * attempt or may be tried again, and no other worker does keys of the span.
- */
+/* Begins the next span of a backend's request, if that waits and no other worker does keys of the span. */
 static bool
-begin_task(uint32 procno, bool is_again)
+begin_task(uint32 procno, bool takes_set_aside)
 {
 	KrlRequest *request = krl_request_of(procno);
 	uint64		state = pg_atomic_read_u64(&request->state);
 	uint32		place = KRL_PLACE(state);
 
-	if (KRL_PHASE(state) != KRL_WAITS)
+	if (KRL_PHASE(state) != KRL_WAITS && !(takes_set_aside && KRL_PHASE(state) == KRL_SET_ASIDE))
 		return false;
 	pg_read_barrier();
-	if ((request->again != 0) != is_again || request->again > GetCurrentTimestamp())
-		return false;
 	task.procno = procno;
 	task.kind = request->kind;
 	task.end = request->end;
@@ -281,7 +289,8 @@ settle(uint32 place, KrlPhase phase)
 	uint64		running = task.state;
 	uint64		next = krl_state(KRL_NUMBER(running), place, phase);
 
-	if (pg_atomic_compare_exchange_u64(&task.request->state, &running, next) && phase != KRL_WAITS)
+	if (pg_atomic_compare_exchange_u64(&task.request->state, &running, next) &&
+		(phase == KRL_DONE || phase == KRL_FAILED))
 		krl_set_latch(task.procno);
 	task.request = NULL;
 }
@@ -297,103 +306,84 @@ fail(uint32 code, const krlc_error *error)
 	settle(my_number, KRL_FAILED);
 }
 
-/* Leaves the span to whoever has time for it later. */
-static void
-put_off(void)
+static uint32
+run_task(krlc_client *client, krlc_error *error)
 {
-	task.request->again = TimestampTzPlusMilliseconds(GetCurrentTimestamp(), AGAIN_MS);
-	pg_write_barrier();
-	settle(KRL_PLACE(task.state), KRL_WAITS);
-}
-
-static void
-end_span(void)
-{
-	task.request->again = 0;
-	pg_write_barrier();
-	if (task.is_last)
-		settle(KRL_PLACE(task.state), KRL_DONE);
-	else
-		settle(KRL_PLACE(task.state) + 1, KRL_WAITS);
-}
-
-/* Does the task.  Returns whether the client still waits for a lock. */
-static bool
-do_task(krlc_client *client)
-{
-	krlc_error	error = {0};
 	TimestampTz begun = GetCurrentTimestamp();
 	uint32		code;
 
 	if (task.kind == KRL_MAKE_ROWS)
-		code = krl_insert_rows(client, task.span, task.end, &error);
-	else
-	{
-		code = recall(client, task.span, task.end, &error);
-		pg_atomic_fetch_add_u64(&my_worker->spans, code == KRLC_OK);
-		pg_atomic_fetch_add_u64(&my_worker->microseconds, GetCurrentTimestamp() - begun);
-	}
-	if (code == KRLC_OK)
-		end_span();
-	else if (code == KRLC_TIMED_OUT && GetCurrentTimestamp() < task.end)
-		put_off();
-	else
-		fail(code, &error);
-	end_claim();
-	return code == KRLC_TIMED_OUT;
+		return krl_insert_rows(client, task.span, task.end, error);
+	code = recall(client, task.span, task.end, error);
+	pg_atomic_fetch_add_u64(&my_worker->spans, code == KRLC_OK);
+	pg_atomic_fetch_add_u64(&my_worker->microseconds, GetCurrentTimestamp() - begun);
+	return code;
 }
 
-/* Begins a span that waits, if there is one: one that was put off after all others. */
-static bool
-begin_next_task(void)
+static KrlAnswer
+do_task(krlc_client *client)
+{
+	krlc_error	error = {0};
+	uint32		code = run_task(client, &error);
+	bool		is_set_aside = code == KRLC_TIMED_OUT && GetCurrentTimestamp() < task.end;
+	bool		is_stuck = false;
+
+	if (is_set_aside)
+		settle(KRL_PLACE(task.state), KRL_SET_ASIDE);
+	else if (code != KRLC_OK)
+		fail(code, &error);
+	else if (task.is_last)
+		settle(KRL_PLACE(task.state), KRL_DONE);
+	else
+		settle(KRL_PLACE(task.state) + 1, KRL_WAITS);
+	if (code == KRLC_TIMED_OUT)
+		is_stuck = await_lock(client, task.span);
+	end_claim();
+	if (is_set_aside)
+		krl_wake_workers(1);
+	return is_stuck ? KRL_STUCK : KRL_ANSWERED;
+}
+
+static KrlAnswer
+do_one_task(krlc_client *client, bool takes_set_aside)
 {
 	static uint32 first = 0;	/* the backends take turns */
 
-	for (int i = 0; i < 2 * krl_shared->nbackends && !krl_must_end(); i++)
+	for (int i = 0; i < krl_shared->nbackends && !krl_must_end(); i++)
 	{
 		uint32		procno = (first + i) % krl_shared->nbackends;
 
-		if (!begin_task(procno, i >= krl_shared->nbackends))
+		if (!begin_task(procno, takes_set_aside))
 			continue;
 		first = task.is_last ? procno + 1 : procno;
-		return true;
+		return do_task(client);
 	}
-	return false;
+	return KRL_IDLE;
 }
 
-/*
- * Does one span of a request that waits.  If there is none, the worker is woken
- * for the next one.
- */
-KrlAnswered
+/* The spare worker does first what nobody has tried. */
+static KrlAnswer
+do_next_task(krlc_client *client)
+{
+	KrlAnswer	answer = is_spare() ? do_one_task(client, false) : KRL_IDLE;
+
+	return answer == KRL_IDLE ? do_one_task(client, true) : answer;
+}
+
+/* Does one span of a request that waits.  If there is none, the worker is woken for the next one. */
+KrlAnswer
 krl_answer_one(krlc_client *client, int number)
 {
+	KrlAnswer	answer;
+
 	my_number = number;
 	my_worker = &krl_shared->workers[number];
-	if (!begin_next_task())
-	{
-		pg_atomic_write_u32(&my_worker->sleeps, true);
-		pg_memory_barrier();
-		if (!begin_next_task())
-			return KRL_ANSWERED_NONE;
-	}
-	return do_task(client) ? KRL_CLIENT_WAITS : KRL_ANSWERED_ONE;
-}
-
-/* How long the worker may sleep before a span that was put off is tried again. */
-long
-krl_until_next_attempt(long most)
-{
-	TimestampTz now = GetCurrentTimestamp();
-
-	for (int procno = 0; procno < krl_shared->nbackends; procno++)
-	{
-		KrlRequest *request = krl_request_of(procno);
-
-		if (KRL_PHASE(pg_atomic_read_u64(&request->state)) == KRL_WAITS && request->again > now)
-			most = Min(most, TimestampDifferenceMilliseconds(now, request->again) + 1);
-	}
-	return most;
+	answer = do_next_task(client);
+	if (answer != KRL_IDLE)
+		return answer;
+	pg_atomic_write_u32(&my_worker->sleeps, true);
+	pg_memory_barrier();
+	return do_next_task(client);
 }
 
 /* This worker ends: another one does what it was about to do. */

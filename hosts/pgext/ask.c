@@ -70,8 +70,8 @@ begin_request(KrlRequestKind kind)
 	pg_atomic_write_u64(&request->state, krl_state(number, 0, KRL_FREE));
 	pg_memory_barrier();
 	request->kind = kind;
-	request->end = TimestampTzPlusMilliseconds(GetCurrentTimestamp(), krl_timeout);
-	request->again = 0;
+	request->begun = GetCurrentTimestamp();
+	request->end = TimestampTzPlusMilliseconds(request->begun, krl_timeout);
 	request->nspans = 0;
 	return request;
 }

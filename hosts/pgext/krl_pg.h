@@ -8,7 +8,7 @@
  * back from all caches (ask.c, answer.c) by background workers, which are
  * clients of krl (worker.c).  A reader that holds rows in krl asks whether somebody has
  * given notice of them (sql.c), and keeps what it selects after that only if
- * nobody has.  docs/CACHE_PROTOCOL.md has the argument that no cache is stale.
+ * nobody has.  PROTOCOL.md has the argument that no cache is stale.
  *
  *-------------------------------------------------------------------------
  */
@@ -59,13 +59,15 @@ typedef enum KrlRequestKind
  * state has three parts: its phase; its place, which is the next span, or the
  * worker that failed; and its number, which grows with each request of the
  * backend.  The backend changes any phase to FREE, and FREE to WAITS.  A worker
- * changes WAITS to RUNS, and that to WAITS for the next span or for the same
- * one again, to DONE or to FAILED, if the number is still the same.
+ * changes WAITS and SET_ASIDE to RUNS, and that to WAITS for the next span, to
+ * SET_ASIDE for the same one, to DONE or to FAILED, if the number is still the
+ * same.
  */
 typedef enum KrlPhase
 {
 	KRL_FREE,
 	KRL_WAITS,
+	KRL_SET_ASIDE,				/* it waits, and the spare worker has tried it */
 	KRL_RUNS,
 	KRL_DONE,
 	KRL_FAILED
@@ -75,12 +77,20 @@ typedef enum KrlPhase
 #define KRL_PLACE(state) ((uint32) ((state) >> 8) & 0xff)
 #define KRL_NUMBER(state) ((uint32) ((state) >> 32))
 
+/* What a worker has done. */
+typedef enum KrlAnswer
+{
+	KRL_ANSWERED,
+	KRL_IDLE,					/* nothing waits */
+	KRL_STUCK					/* its client waits for a lock, and others need the worker */
+} KrlAnswer;
+
 typedef struct KrlRequest
 {
 	pg_atomic_uint64 state;
 	KrlRequestKind kind;
+	TimestampTz begun;
 	TimestampTz end;			/* when the backend no longer waits for it */
-	TimestampTz again;			/* when the span is tried again for which a reader has let it wait, or 0 */
 	int			nspans;
 	KrlSpan		spans[KRL_MAX_SPANS];
 } KrlRequest;
@@ -194,16 +204,8 @@ extern void krl_await_first_worker(void);
 extern void krl_drop_request(void);
 
 /* answer.c */
-typedef enum KrlAnswered
-{
-	KRL_ANSWERED_NONE,			/* no request waits */
-	KRL_ANSWERED_ONE,
-	KRL_CLIENT_WAITS			/* the client waits for a lock, and takes no other one */
-} KrlAnswered;
-
 extern bool krl_must_end(void);
-extern KrlAnswered krl_answer_one(krlc_client *client, int number);
-extern long krl_until_next_attempt(long most);
+extern KrlAnswer krl_answer_one(krlc_client *client, int number);
 extern void krl_return_request(void);
 extern uint32 krl_insert_rows(krlc_client *client, KrlSpan span, TimestampTz end,
 							  krlc_error *error);

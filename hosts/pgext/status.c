@@ -65,7 +65,8 @@ next_waiting(int procno, uint64 *state)
 	for (; procno < krl_shared->nbackends; procno++)
 	{
 		*state = pg_atomic_read_u64(&krl_request_of(procno)->state);
-		if (KRL_PHASE(*state) == KRL_WAITS || KRL_PHASE(*state) == KRL_RUNS)
+		if (KRL_PHASE(*state) == KRL_WAITS || KRL_PHASE(*state) == KRL_SET_ASIDE ||
+			KRL_PHASE(*state) == KRL_RUNS)
 			return procno;
 	}
 	return -1;

@@ -34,6 +34,7 @@ static int	my_number;
 static KrlWorker *my_worker;
 static krlc_client *client = NULL;
 static uint32 joined_in = 0;	/* the joining that the client made */
+static bool was_stuck = false;	/* it left for other requests: that it joins again is not reported */
 
 static void
 set_fault(const char *fault)
@@ -172,15 +173,17 @@ try_to_get_ready(void)
 	}
 	set_fault("");
 	pg_atomic_write_u32(&my_worker->ready_in, joined_in);
-	ereport(LOG,
+	ereport(was_stuck ? DEBUG1 : LOG,
 			(errmsg("krl: worker %d is client %d of krl's server at \"%s\"",
 					my_number, krl_first_client + my_number, krl_server_address())));
+	was_stuck = false;
 	return true;
 }
 
 static void
-leave(void)
+leave(const char *why)
 {
+	be_unready(why);
 	krlc_free(client);
 	client = NULL;
 }
@@ -189,23 +192,8 @@ leave(void)
 static void
 leave_if_suspended(void)
 {
-	if (!client || joined_in == pg_atomic_read_u32(&krl_shared->joining))
-		return;
-	be_unready("the cluster was suspended");
-	leave();
-}
-
-/* The client no longer waits for a lock after that.  Counts and the mark stay as they are. */
-static void
-leave_and_join(void)
-{
-	krlc_error	error = {0};
-
-	leave();
-	if (join(&error) && is_lease_covered(&error) && krl_store_is_own(client, my_number, &error))
-		return;
-	report_fault(error.sentence);
-	be_unready(error.sentence);
+	if (client && joined_in != pg_atomic_read_u32(&krl_shared->joining))
+		leave("the cluster was suspended");
 }
 
 /* Reads the settings and the files for TLS again. */
@@ -226,7 +214,7 @@ static long
 work(void)
 {
 	krlc_error	error = {0};
-	KrlAnswered answered;
+	KrlAnswer	answer;
 
 	CHECK_FOR_INTERRUPTS();
 	if (ConfigReloadPending)
@@ -234,13 +222,16 @@ work(void)
 	leave_if_suspended();
 	if (!krl_is_ready(my_worker) && !try_to_get_ready())
 		return REJOIN_MS;
-	answered = krl_answer_one(client, my_number);
-	if (answered == KRL_CLIENT_WAITS)
-		leave_and_join();
-	if (answered != KRL_ANSWERED_NONE)
+	answer = krl_answer_one(client, my_number);
+	if (answer == KRL_STUCK)
+	{
+		was_stuck = true;
+		leave("it has left krl's server to take back other rows");
+	}
+	if (answer != KRL_IDLE)
 		return 0;
 	if (is_lease_covered(&error))
-		return krl_until_next_attempt(IDLE_MS);
+		return IDLE_MS;
 	report_fault(error.sentence);
 	be_unready(error.sentence);
 	return REJOIN_MS;

@@ -1,6 +1,6 @@
 """A reader that has stopped delays only commits of rows that it keeps."""
 from checks.cluster import Cluster, KrlServer, expect_refused
-from checks.processes import expect
+from checks.processes import expect, wait_until
 
 # Longer than the check takes: what waits for the reader waits until it continues.
 LEASE = "300s"
@@ -31,27 +31,7 @@ def check_one_stripe(cluster, stopped, other):
     write_others(cluster, other, session)
     expect_waiting(cluster, sessions)
     shown = "SELECT count(*), count(*) FILTER (WHERE is_in_work) FROM krl.waiting WHERE relation = 'item'::regclass"
-    expect("which sessions wait, and which are in work", cluster.sql(shown), f"{WORKERS}|1")
-    stopped.resume()
-    for waiting in sessions:
-        expect("a commit that has waited", waiting.result(), "")
-        waiting.end()
-    expect("what the reader has after that", stopped.held(keys), keys[:2])
-
-
-def check_many_stripes(cluster, stopped, other):
-    """More commits of rows of the reader than there are workers occupy them only as long as nothing else is to be
-    done."""
-    stripes = range(30, 30 + 2 * WORKERS)
-    keys = cluster.keep(stopped, "item", *stripes)
-    sessions = [cluster.session() for _ in stripes]
-    session = cluster.session()
-    stopped.stop()
-    for stripe, waiting in zip(stripes, sessions):
-        waiting.send(f"UPDATE item SET n = n + 1 WHERE id = {stripe}")
-        cluster.await_commit(waiting)
-    write_others(cluster, other, session)
-    expect_waiting(cluster, sessions)
+    wait_until("all sessions wait, and one is in work", lambda: cluster.sql(shown) == f"{WORKERS}|1", seconds=30)
     stopped.resume()
     for waiting in sessions:
         expect("a commit that has waited", waiting.result(), "")
@@ -60,7 +40,7 @@ def check_many_stripes(cluster, stopped, other):
 
 
 def check_late_requests(cluster, stopped, other):
-    """A worker whose request has timed out does others, though its client still waited for a lock."""
+    """A worker whose client waits for a lock leaves other requests to the others, after its own has timed out too."""
     stripes = range(30, 30 + WORKERS - 1)
     cluster.keep(stopped, "item", *stripes)
     session = cluster.session()
@@ -74,6 +54,24 @@ def check_late_requests(cluster, stopped, other):
     expect("a commit of a row of the reader", session.run("UPDATE item SET n = n + 1 WHERE id = 30"), "")
 
 
+def check_many_stripes(cluster, stopped, other):
+    """More commits than there are workers wait for a reader that has stopped, and others do not."""
+    stripes = range(40, 40 + WORKERS + 2)
+    cluster.keep(stopped, "item", *stripes)
+    sessions = [cluster.session() for _ in stripes]
+    session = cluster.session()
+    stopped.stop()
+    for stripe, waiting in zip(stripes, sessions):
+        waiting.send(f"UPDATE item SET n = n + 1 WHERE id = {stripe}")
+        cluster.await_commit(waiting)
+    write_others(cluster, other, session)
+    expect_waiting(cluster, sessions)
+    stopped.resume()
+    for waiting in sessions:
+        expect("a commit that has waited", waiting.result(), "")
+        waiting.end()
+
+
 def check(installation):
     """Checks all of these."""
     krl = KrlServer(installation, lease=LEASE)
@@ -84,5 +82,5 @@ def check(installation):
     cluster.await_workers()
     stopped, other = cluster.reader(krl.address, 0), cluster.reader(krl.address, 1)
     check_one_stripe(cluster, stopped, other)
-    check_many_stripes(cluster, stopped, other)
     check_late_requests(cluster, stopped, other)
+    check_many_stripes(cluster, stopped, other)
