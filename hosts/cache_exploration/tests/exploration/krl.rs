@@ -72,15 +72,16 @@ pub fn next(world: &World, state: &State, next: &mut Vec<State>) {
 fn take_or_give_back(state: &State, key: Key) -> Option<State> {
     let mut after = *state;
     let client = &mut after.worker.client;
+    if client.has_ended {
+        return None;
+    }
     if client.given.has(key) {
         client.given = client.given.without(key);
-        client.has_ended &= !client.given.is_empty();
         return Some(after);
     }
-    let is_free = !state.reading_clients().any(|it| it.given.has(key));
-    let may_take = is_free && !client.has_ended && state.is_served();
     client.given = client.given.with(key);
-    may_take.then_some(after)
+    let is_free = !state.reading_clients().any(|it| it.given.has(key));
+    (is_free && state.is_served()).then_some(after)
 }
 
 /// The server gives others what a client had whose lease has ended.
