@@ -354,6 +354,11 @@ KRLCACHE_NODISCARD uint32_t krlcache_bytes(const krlcache_rows *rows, size_t row
  * long as some handle has had one of them without a break. Null if there is no such row. */
 const void *krlcache_packed(const krlcache_rows *rows, size_t row, size_t *length, const void **layout);
 
+/* `krlcache_cached_get` and `krlcache_packed` by one call, which reports no sentence. */
+KRLCACHE_NODISCARD uint32_t krlcache_cached_packed(krlcache_table *table, const krlcache_value *key, size_t columns,
+                                                   krlcache_rows *rows, const void **packed, size_t *length,
+                                                   const void **layout);
+
 #ifdef __cplusplus
 }
 #endif

@@ -5,7 +5,7 @@ import ctypes
 import functools
 import struct
 from collections.abc import Sequence
-from ctypes import byref, c_char, c_char_p, c_int64, c_size_t, c_uint32, c_void_p, string_at
+from ctypes import byref, c_char, c_char_p, c_int64, c_size_t, c_uint32, c_void_p
 from types import SimpleNamespace
 from typing import Any
 from uuid import UUID
@@ -20,8 +20,8 @@ KeyValue = int | str | UUID
 OK, ABSENT, MISS, ANSWERS, BAD_COLUMN, AWAY = 0, 2, 5, 15, 84, 86
 
 _AT_ONCE = """version:i fault:ipp statistics_of:ippp cached_get:ippnpp cached_get_many:ippnnpp
-    cached_range:ipttpp rows_new:p rows_share:pp rows_free:-p rows_count:np has_row:?pn packed:ppnpp
-    columns:npn column_name:ppnnp column_type:ipnn text:ipnnppp"""
+    cached_range:ipttpp cached_packed:ippnpppp rows_new:p rows_share:pp rows_free:-p rows_count:np
+    has_row:?pn packed:ppnpp columns:npn column_name:ppnnp column_type:ipnn text:ipnnppp"""
 _WAITING = """open:ippp close:-p table_open:ipspp table_free:-p get:ippnpp get_many:ippnnpp
     get_all:ippnpp range:ipttpp"""
 _OPTIONS = """size:n database:s user:s password:s lock_folder:s first_number:i end_number:i
@@ -116,17 +116,18 @@ def _value(value: KeyValue) -> Value:
 
 
 class Room:
-    """Room for the rows of one answer, and for what ``krlcache_packed`` writes."""
+    """Room for the rows of one answer, and for what ``krlcache_cached_packed`` writes."""
 
-    __slots__ = ("rows", "length", "layout", "_out", "_packed")
+    __slots__ = ("rows", "at", "length", "layout", "out", "_packed")
 
     def __init__(self) -> None:
         self.rows = Handle("rows_free", calls().rows_new(), calls())
         if self.rows.value is None:
             raise OutOfMemory("memory was refused")
-        self.length, self.layout, self._packed = c_size_t(), c_void_p(), calls().packed
-        self._out = byref(self.length), byref(self.layout)
+        self.at, self.length, self.layout = c_void_p(), c_size_t(), c_void_p()
+        self.out = byref(self.at), byref(self.length), byref(self.layout)
+        self._packed = calls().packed
 
-    def packed(self, place: int) -> bytes:
-        """The columns of the row at this place. From now on ``layout`` is that of the row."""
-        return string_at(self._packed(self.rows, place, *self._out), self.length.value)
+    def pack(self, place: int) -> None:
+        """Has the columns of the row at this place, and their layout."""
+        self.at.value = self._packed(self.rows, place, *self.out[1:])

@@ -132,8 +132,14 @@ class Row(Mapping[str, Any]):
 
 def row_at(room: Room, place: int) -> Row:
     """The row at a place of an answer, which has one there."""
-    packed = room.packed(place)
-    return Row(_layouts.get(room.layout.value) or _found(room, place), packed)
+    room.pack(place)
+    return packed_row(room, place)
+
+
+def packed_row(room: Room, place: int) -> Row:
+    """The same, after a call that has written where the columns of the row are."""
+    layout = _layouts.get(room.layout.value) or _found(room, place)
+    return Row(layout, string_at(room.at, room.length.value))
 
 
 def _found(room: Room, place: int) -> Layout:

@@ -28,7 +28,7 @@ from ._cache_library import NoExtension as NoExtension, NotCached as NotCached
 from ._cache_library import OutOfMemory as OutOfMemory, SeveralRows as SeveralRows
 from ._cache_library import Stopped as Stopped, SystemRefused as SystemRefused
 from ._cache_library import Room, call, calls, packed_key, refused
-from ._cache_rows import Row as Row, row_at, rows_in
+from ._cache_rows import Row as Row, packed_row, row_at, rows_in
 from ._library import Handle, made, workers
 from .client import Tls, _milliseconds
 
@@ -83,7 +83,7 @@ class Table:
             raise BadArgument(f"no name of a table has a zero in it, as {name!r} has")
         self._handle = Handle("table_free", calls=library)
         call("table_open", cache._own(), name.encode(), ctypes.byref(self._handle))
-        self._cached_get = library.cached_get
+        self._cached_packed = library.cached_packed
 
     def __repr__(self) -> str:
         return f"<krl.cache.Table {self.name}>"
@@ -101,9 +101,9 @@ class Table:
         """The same from memory only, or ``MISS`` if it is not there: it waits for nobody. Only
         ``get`` has what is missing loaded."""
         room, values = _taken_room(), packed_key(key)
-        code = self._cached_get(self._handle, values, len(key), room.rows, None)
+        code = self._cached_packed(self._handle, values, len(key), room.rows, *room.out)
         if code == OK:
-            row = row_at(room, 0)
+            row = packed_row(room, 0)
             _idle.append(room)
             return row
         _idle.append(room)

@@ -240,15 +240,15 @@ class TableTest(Site):
         items = self.cache().table("item")
         for key in (6, 7):
             self.from_memory(lambda: items.cached_get(key), lambda: items.get(key))
-        found, cached_get = [], items._cached_get
+        found, cached_packed = [], items._cached_packed
 
         def interrupted(*words: Any) -> int:
-            code: int = cached_get(*words)
-            items._cached_get = cached_get
+            code: int = cached_packed(*words)
+            items._cached_packed = cached_packed
             found.append(items.get(7))
             return code
 
-        items._cached_get = interrupted
+        items._cached_packed = interrupted
         found.append(items.get(6))
         self.assertEqual([row["id"] for row in found if row is not None], [7, 6])
 

@@ -1,10 +1,13 @@
 //! The calls that read a table.
-use super::rows::emptied;
+use super::rows::{emptied, put_packed};
 use super::{Rows, Table, own};
 use crate::code::Code;
 use crate::fault::{ErrorRoom, Fault, answer};
 use crate::key::{self, GivenValue};
 use crate::room::Room;
+use krl_cache::Key;
+use std::ffi::c_void;
+use std::ptr;
 
 /// Reads rows of a table into room.
 ///
@@ -50,12 +53,36 @@ pub unsafe extern "C" fn krlcache_cached_get(
 ) -> u32 {
     // SAFETY: the caller vouches for the key.
     let key = || unsafe { key::key(at, columns) };
-    let cached = |table: &krl_cache::Table, rows: &mut Room| {
-        let Some(mut found) = table.cached([key()?])? else { return Ok(Code::Miss) };
-        Ok(rows.put_one(found.pop().flatten()))
-    };
     // SAFETY: the caller vouches for the handles and the room.
-    unsafe { read(table, rows, error, cached) }
+    unsafe { read(table, rows, error, |table, rows| cached_one(table, rows, key()?)) }
+}
+
+fn cached_one(table: &krl_cache::Table, rows: &mut Room, key: Key) -> Result<Code, Fault> {
+    let Some(mut found) = table.cached([key])? else { return Ok(Code::Miss) };
+    Ok(rows.put_one(found.pop().flatten()))
+}
+
+#[unsafe(no_mangle)]
+pub unsafe extern "C" fn krlcache_cached_packed(
+    table: *mut Table,
+    at: *const GivenValue,
+    columns: usize,
+    rows: *mut Rows,
+    packed: *mut *const c_void,
+    length: *mut usize,
+    layout: *mut *const c_void,
+) -> u32 {
+    let cached = |table: &krl_cache::Table, rows: &mut Room| {
+        // SAFETY: the caller vouches for the key.
+        let code = cached_one(table, rows, unsafe { key::key(at, columns) }?)?;
+        if let Some(row) = rows.row(0) {
+            // SAFETY: the caller vouches for the room.
+            unsafe { put_packed(row, packed, length, layout) }?;
+        }
+        Ok(code)
+    };
+    // SAFETY: the caller vouches for the handles. There is no room for an error.
+    unsafe { read(table, rows, ptr::null_mut(), cached) }
 }
 
 #[unsafe(no_mangle)]

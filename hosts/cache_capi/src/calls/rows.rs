@@ -4,7 +4,7 @@ use crate::fault::{ErrorRoom, Fault, answer};
 use crate::room::Room;
 use krl_cache::Row;
 use krl_cache::tokio_postgres::types::{FromSql, Kind as TypeKind, Type};
-use krl_ffi::{Handle, Kind, put_out, quiet};
+use krl_ffi::{Handle, Kind, Misuse, put_out, quiet};
 use std::ffi::{CStr, c_char, c_void};
 use std::ptr;
 
@@ -127,17 +127,31 @@ pub unsafe extern "C" fn krlcache_packed(
     layout: *mut *const c_void,
 ) -> *const c_void {
     let packed = |rows: &Room| {
-        let row = rows.row(row)?;
-        let packed = row.packed();
+        let mut at = ptr::null();
         // SAFETY: the caller vouches for the room.
-        unsafe {
-            put_out("a length", length, packed.len()).ok()?;
-            put_out("a layout", layout, row.columns().as_ptr().cast()).ok()?;
-        }
-        Some(packed.as_ptr().cast())
+        unsafe { put_packed(rows.row(row)?, &raw mut at, length, layout) }.ok()?;
+        Some(at)
     };
     // SAFETY: the caller makes no call meanwhile that fills or frees the rows.
     unsafe { look(rows, ptr::null(), packed) }
+}
+
+/// Puts out where all columns of a row are, how many bytes they are, and what distinguishes them.
+///
+/// # Safety
+///
+/// Each pointer is null or points to room.
+pub(super) unsafe fn put_packed(
+    row: &Row,
+    at: *mut *const c_void,
+    length: *mut usize,
+    layout: *mut *const c_void,
+) -> Result<(), Misuse> {
+    // SAFETY: the caller vouches for the room.
+    unsafe {
+        put_span(row.packed(), at, length)?;
+        put_out("a layout", layout, row.columns().as_ptr().cast())
+    }
 }
 
 /// Reads a column, and puts out its value.
@@ -150,7 +164,7 @@ unsafe fn read<'r, T>(
     (row, column): (usize, usize),
     error: *mut ErrorRoom,
     convert: impl FnOnce(&'r Row, usize) -> Result<Option<T>, Fault>,
-    put: impl FnOnce(T) -> Result<(), krl_ffi::Misuse>,
+    put: impl FnOnce(T) -> Result<(), Misuse>,
 ) -> u32 {
     let read = || -> Unread {
         // SAFETY: the caller makes no call meanwhile that fills or frees the rows.
@@ -292,13 +306,9 @@ pub unsafe extern "C" fn krlcache_bytes(
 /// # Safety
 ///
 /// Each pointer is null or points to room.
-unsafe fn put_span<T>(
-    bytes: &[u8],
-    at: *mut *const T,
-    length: *mut usize,
-) -> Result<(), krl_ffi::Misuse> {
+unsafe fn put_span<T>(bytes: &[u8], at: *mut *const T, length: *mut usize) -> Result<(), Misuse> {
     if at.is_null() {
-        return Err(krl_ffi::Misuse::Invalid("the pointer to room for a value is null".into()));
+        return Err(Misuse::Invalid("the pointer to room for a value is null".into()));
     }
     // SAFETY: the caller vouches for the room.
     unsafe {

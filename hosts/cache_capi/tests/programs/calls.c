@@ -143,6 +143,13 @@ static void packed_rows(void) {
     WANT(krlcache_packed(rows, 0, &length, &layout) != NULL && layout != NULL);
     EXPECT(KRLCACHE_OK, krlcache_cached_get(items, &key, 1, rows, &error));
     WANT(krlcache_packed(rows, 0, &length, &other) != NULL && other == layout);
+    const void *again = NULL;
+    size_t length_again = 0;
+    EXPECT(KRLCACHE_OK, krlcache_cached_packed(items, &key, 1, rows, &again, &length_again, &other));
+    WANT(again == krlcache_packed(rows, 0, &length, &layout) && length == length_again && other == layout);
+    key = integer(38);
+    EXPECT(KRLCACHE_MISS, krlcache_cached_packed(items, &key, 1, rows, &again, &length_again, &other));
+    WANT(krlcache_rows_count(rows) == 0);
 }
 
 static void errors(void) {

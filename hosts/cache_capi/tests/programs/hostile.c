@@ -29,6 +29,7 @@ static void null_pointers(void) {
     EXPECT(KRLCACHE_MISUSE, krlcache_get(items, &three, 0, rows, NULL));
     EXPECT(KRLCACHE_MISUSE, krlcache_get(items, &three, SIZE_MAX, rows, &error));
     EXPECT(KRLCACHE_MISUSE, krlcache_cached_get(items, no_key, 1, rows, &error));
+    EXPECT(KRLCACHE_MISUSE, krlcache_cached_packed(items, no_key, 1, rows, NULL, NULL, NULL));
     EXPECT(KRLCACHE_MISUSE, krlcache_get_many(items, no_key, 1, 1, rows, &error));
     EXPECT(KRLCACHE_MISUSE, krlcache_get_many(items, &three, SIZE_MAX, 2, rows, &error));
     EXPECT(KRLCACHE_MISUSE, krlcache_cached_get_many(items, &three, 1, 0, rows, &error));
@@ -112,6 +113,7 @@ static void a_child(void) {
         krlcache_rows *other = krlcache_rows_new();
         EXPECT(KRLCACHE_FORKED, krlcache_cached_get(items, &three, 1, other, &error));
         WANT(krlcache_rows_count(other) == 0);
+        EXPECT(KRLCACHE_FORKED, krlcache_cached_packed(items, &three, 1, other, NULL, NULL, NULL));
         EXPECT(KRLCACHE_FORKED, krlcache_get(items, &three, 1, other, &error));
         EXPECT(KRLCACHE_FORKED, krlcache_range(items, 0, 3, other, &error));
         EXPECT(KRLCACHE_FORKED, krlcache_statistics_of(items, &counted, &error));
