@@ -1,5 +1,5 @@
-//! A table of PostgreSQL, read and written in three ways: by PostgreSQL only, with Redis as a cache next to it, and
-//! through krl-cache. `run.sh` starts the servers and calls this.
+//! A table of PostgreSQL, read in three ways: by PostgreSQL only, with Redis as a cache next to it, and by krl-cache.
+//! Each writes by plain SQL. `run.sh` starts the servers and calls this.
 mod acknowledged;
 mod cached;
 mod method;
@@ -7,8 +7,8 @@ mod plain;
 mod random;
 mod redis;
 mod report;
+mod single;
 mod slices;
-mod steps;
 
 use crate::method::{Done, Place, ROWS};
 use clap::Parser;
@@ -21,15 +21,12 @@ use std::time::Duration;
 #[derive(Debug, Parser)]
 #[command(name = "krl-cached-table", version)]
 struct Arguments {
-    /// PostgreSQL, as postgres://postgres@127.0.0.1:5432/postgres
+    /// PostgreSQL, as `postgres://postgres@127.0.0.1:5432/postgres`
     #[arg(long)]
     postgres: String,
     /// Redis, as 127.0.0.1:6379
     #[arg(long)]
     redis: String,
-    /// krl's server, as 127.0.0.1:7400
-    #[arg(long)]
-    krl: String,
     /// Where the lock files of krl's clients lie
     #[arg(long)]
     folder: PathBuf,
@@ -48,6 +45,9 @@ struct Arguments {
     /// How many threads each of the four processes has
     #[arg(long, default_value = "1", value_parser = clap::value_parser!(u8).range(1..=16))]
     threads: u8,
+    /// Measures single reads in place of that: of one thread, next to no writer
+    #[arg(long)]
+    single: bool,
     /// How often each way has its turn
     #[arg(long, default_value = "5")]
     turns: NonZeroU32,
@@ -70,7 +70,6 @@ fn run(arguments: &Arguments) -> Done {
     let place = Place {
         postgres: arguments.postgres.clone(),
         redis: arguments.redis.clone(),
-        krl: arguments.krl.clone(),
         folder: arguments.folder.clone(),
         bytes: arguments.bytes as usize,
     };
@@ -83,12 +82,15 @@ fn run(arguments: &Arguments) -> Done {
         time: Duration::from_millis(arguments.milliseconds.get().into()),
     };
     cached::make_rows(&place)?;
+    if arguments.single {
+        print!("{}", single::table(&place)?);
+        return Ok(());
+    }
     let measured = slices::measure(&place, &plan)?;
     println!(
         "{} of {ROWS} rows of {} bytes, reads of {}, {} of 1,000 calls write",
         plan.hot, place.bytes, plan.reads, plan.writes
     );
     print!("{}", report::table(&measured, plan.time));
-    print!("{}", report::parts(&measured));
     Ok(())
 }

@@ -1,5 +1,4 @@
 //! A way to read and to write a table.
-use crate::steps::Parts;
 use std::error::Error;
 use std::ops::Range;
 use std::path::PathBuf;
@@ -10,6 +9,9 @@ pub const ROWS: u64 = 4000;
 /// Processes of the application. Each has memory of its own.
 pub const PROCESSES: u8 = 4;
 
+/// So many rows are read at once before the turns.
+const WARM_UP: usize = 100;
+
 pub type Found<T> = Result<T, Box<dyn Error + Send + Sync>>;
 pub type Done = Found<()>;
 
@@ -18,7 +20,7 @@ pub type Done = Found<()>;
 pub struct Place {
     pub postgres: String,
     pub redis: String,
-    pub krl: String,
+    /// The lock files of krl's clients.
     pub folder: PathBuf,
     pub bytes: usize,
 }
@@ -34,9 +36,15 @@ pub trait Method {
     /// Changes a row, and returns how often it has been changed then.
     fn write(&mut self, key: u64) -> Found<u64>;
 
-    /// How long each part of a write took, if that is known.
-    fn parts(&self) -> Parts {
-        Parts::default()
+    /// Reads what can be kept, before the turns.
+    fn warm_up(&mut self) -> Done {
+        self.read_all()
+    }
+
+    /// Reads all rows once.
+    fn read_all(&mut self) -> Done {
+        let mut rows = Vec::new();
+        (0..ROWS).step_by(WARM_UP).try_for_each(|lo| self.read(lo..lo + WARM_UP as u64, &mut rows))
     }
 }
 

@@ -15,17 +15,20 @@ pub struct Plain {
 }
 
 impl Plain {
-    pub fn new(place: &Place) -> Found<Plain> {
+    /// A connection that reads and writes the table of this name.
+    pub fn new(place: &Place, table: &str) -> Found<Plain> {
         let runtime = Builder::new_current_thread().enable_all().build()?;
         let (client, range, some, update) = runtime.block_on(async {
             let (client, connection) = connect(&place.postgres, NoTls).await?;
             tokio::spawn(connection);
-            let range = "SELECT id, n, body FROM plain WHERE id >= $1 AND id < $2 ORDER BY id";
-            let some = "SELECT id, n, body FROM plain WHERE id = ANY ($1)";
-            let update = "UPDATE plain SET n = n + 1, body = $2 WHERE id = $1 RETURNING n";
-            let range = client.prepare(range).await?;
-            let some = client.prepare(some).await?;
-            let update = client.prepare(update).await?;
+            let select = format!("SELECT id, n, body FROM {table} WHERE");
+            let range = format!("{select} id >= $1 AND id < $2 ORDER BY id");
+            let some = format!("{select} id = ANY ($1)");
+            let update =
+                format!("UPDATE {table} SET n = n + 1, body = $2 WHERE id = $1 RETURNING n");
+            let range = client.prepare(&range).await?;
+            let some = client.prepare(&some).await?;
+            let update = client.prepare(&update).await?;
             Found::Ok((client, range, some, update))
         })?;
         Ok(Plain { runtime, client, range, some, update, bytes: place.bytes })
@@ -59,13 +62,15 @@ fn whole(row: &Row) -> (u64, u64, Vec<u8>) {
     (key.cast_unsigned(), count.cast_unsigned(), row.get(2))
 }
 
-/// Runs statements over a connection of their own.
-pub fn run(place: &Place, statements: &str) -> Done {
+/// Runs statements over a connection of their own, each text in a transaction.
+pub fn run(place: &Place, texts: &[&str]) -> Done {
     let runtime = Builder::new_current_thread().enable_all().build()?;
     runtime.block_on(async {
         let (client, connection) = connect(&place.postgres, NoTls).await?;
         tokio::spawn(connection);
-        client.batch_execute(statements).await
-    })?;
-    Ok(())
+        for statements in texts {
+            client.batch_execute(statements).await?;
+        }
+        Found::Ok(())
+    })
 }

@@ -13,7 +13,7 @@ pub struct Aside {
 
 impl Aside {
     pub fn new(place: &Place) -> Found<Aside> {
-        Ok(Aside { redis: Redis::connect(&place.redis)?, postgres: Plain::new(place)? })
+        Ok(Aside { redis: Redis::connect(&place.redis)?, postgres: Plain::new(place, "plain")? })
     }
 }
 

@@ -1,6 +1,5 @@
 //! The table.
 use crate::slices::{METHODS, Measured};
-use crate::steps::PARTS;
 use std::fmt::Write;
 use std::time::Duration;
 
@@ -29,23 +28,6 @@ pub fn table(measured: &[Measured; METHODS.len()], time: Duration) -> String {
             it.rows,
             it.stale
         );
-    }
-    text
-}
-
-/// A line with the middle time of each part of a write, for a way that knows them.
-pub fn parts(measured: &[Measured; METHODS.len()]) -> String {
-    let mut text = String::new();
-    for (name, it) in METHODS.iter().zip(measured) {
-        let known: Vec<String> = PARTS
-            .iter()
-            .zip(&it.parts)
-            .filter(|(_, times)| !times.is_empty())
-            .map(|(part_name, times)| format!("{part_name} {}", part(times, 50)))
-            .collect();
-        if !known.is_empty() {
-            let _ = writeln!(text, "\n{name}, parts of a write, p50: {}", known.join(", "));
-        }
     }
     text
 }

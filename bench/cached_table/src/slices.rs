@@ -1,12 +1,11 @@
 //! The turns: in each of them all threads read and write in the same way.
 use crate::acknowledged::{Acknowledged, count_stale};
-use crate::cached::{self, Cached, Items};
-use crate::method::{Done, Found, Method, PROCESSES, Place, ROWS};
+use crate::cached::{Cached, Process};
+use crate::method::{Done, Found, Method, PROCESSES, Place};
 use crate::plain::Plain;
 use crate::random::Random;
 use crate::redis::Aside;
-use crate::steps::Parts;
-use std::sync::{Arc, Barrier};
+use std::sync::Barrier;
 use std::time::{Duration, Instant};
 use std::{iter, thread};
 
@@ -36,8 +35,6 @@ pub struct Measured {
     pub writes: Vec<Duration>,
     pub rows: u64,
     pub stale: u64,
-    /// The parts of the writes, if they are known.
-    pub parts: Parts,
 }
 
 impl Measured {
@@ -48,7 +45,6 @@ impl Measured {
         self.writes.extend(other.writes);
         self.rows += other.rows;
         self.stale += other.stale;
-        self.parts.iter_mut().zip(other.parts).for_each(|(all, part)| all.extend(part));
     }
 }
 
@@ -56,21 +52,27 @@ impl Measured {
 pub fn measure(place: &Place, plan: &Plan) -> Found<[Measured; METHODS.len()]> {
     let acknowledged = METHODS.map(|_| Acknowledged::new());
     let barrier = Barrier::new(usize::from(PROCESSES) * usize::from(plan.threads));
-    let caches: Vec<Arc<Items>> =
-        (0..PROCESSES).map(|number| cached::open(place, number)).collect::<Found<_>>()?;
-    thread::scope(|scope| {
-        let run =
-            |cache, number| Caller::new(place, plan, cache, number)?.run(&acknowledged, &barrier);
-        let caches = caches.iter().flat_map(|cache| iter::repeat_n(cache, plan.threads.into()));
-        let start = |(number, cache)| scope.spawn(move || run(cache, number));
-        let started: Vec<_> = (0..).zip(caches).map(start).collect();
+    let processes: Vec<Process> =
+        (0..PROCESSES).map(|_| Process::open(place)).collect::<Found<_>>()?;
+    let measured = thread::scope(|scope| {
+        let run = |process, number| {
+            Caller::new(place, plan, process, number)?.run(&acknowledged, &barrier)
+        };
+        let of_thread =
+            processes.iter().flat_map(|process| iter::repeat_n(process, plan.threads.into()));
+        let start = |(number, process)| scope.spawn(move || run(process, number));
+        let started: Vec<_> = (0..).zip(of_thread).map(start).collect();
         let mut sums = <[Measured; METHODS.len()]>::default();
         for caller in started {
             let measured = caller.join().map_err(|_| "a thread panicked")??;
             sums.iter_mut().zip(measured).for_each(|(sum, one)| sum.add(one));
         }
-        Ok(sums)
-    })
+        Found::Ok(sums)
+    })?;
+    for process in processes {
+        process.cache.close();
+    }
+    Ok(measured)
 }
 
 /// A thread of a process of the application. It has connections of its own, and shares with the other threads of its
@@ -82,11 +84,11 @@ struct Caller<'p> {
 }
 
 impl<'p> Caller<'p> {
-    fn new(place: &Place, plan: &'p Plan, cache: &Arc<Items>, number: u64) -> Found<Caller<'p>> {
+    fn new(place: &Place, plan: &'p Plan, process: &Process, number: u64) -> Found<Caller<'p>> {
         let methods: [Box<dyn Method>; METHODS.len()] = [
-            Box::new(Plain::new(place)?),
+            Box::new(Plain::new(place, "plain")?),
             Box::new(Aside::new(place)?),
-            Box::new(Cached::new(cache, place.bytes)),
+            Box::new(Cached::new(place, process)?),
         ];
         Ok(Caller { plan, methods, random: Random::of(number) })
     }
@@ -96,7 +98,7 @@ impl<'p> Caller<'p> {
         acknowledged: &[Acknowledged; METHODS.len()],
         barrier: &Barrier,
     ) -> Found<[Measured; METHODS.len()]> {
-        self.warm_up()?;
+        self.methods.iter_mut().try_for_each(|method| method.warm_up())?;
         let mut measured = <[Measured; METHODS.len()]>::default();
         for _ in 0..self.plan.turns {
             for method in 0..METHODS.len() {
@@ -104,22 +106,7 @@ impl<'p> Caller<'p> {
                 self.take_turn(method, &acknowledged[method], &mut measured[method])?;
             }
         }
-        barrier.wait();
-        for (measured, method) in measured.iter_mut().zip(&self.methods) {
-            measured.parts = method.parts();
-        }
         Ok(measured)
-    }
-
-    /// Reads everything once.
-    fn warm_up(&mut self) -> Done {
-        let mut rows = Vec::new();
-        for method in &mut self.methods {
-            for lo in (0..ROWS).step_by(100) {
-                method.read(lo..lo + 100, &mut rows)?;
-            }
-        }
-        Ok(())
     }
 
     fn take_turn(
