@@ -11,17 +11,24 @@ edited() {
     for member in $(sed -n '/^members = \[$/,/^\]$/{/"/p}' "$top/hosts/Cargo.toml" | tr -d '",'); do
         cp -R "$top/hosts/$member" "$work/wrong/hosts"
     done
+    # The drive of a cached table has a reader over this package.
+    cp -R "$top/hosts/python" "$work/wrong/hosts"
     "$top/tests/edit" "$1" "$work/wrong" || fail "$(basename "$1"): the edit does not fit"
 }
 
-# Builds a program of the edited hosts as tests are built: `build_edited WHAT PROGRAM`. It is in $edited_programs. Cargo
-# takes what it has built of a copy for what it would build of the tree. In one folder, an edited server would take the
-# place of the tree's own, and be started by ./krl. So copies have another folder, which begins with the dependencies.
+# Builds packages of the edited hosts as tests are built: `build_edited WHAT PACKAGE..`. They are in $edited_programs.
+# Cargo takes what it has built of a copy for what it would build of the tree. In one folder, an edited server would
+# take the place of the tree's own, and be started by ./krl. So copies have another folder, which begins with the
+# dependencies.
 edited_programs=$work/target/tests
 build_edited() {
     find_crates
     [ -d "$work/target" ] || copy_dependencies
-    (profile=tests && cargo_in "$work/wrong/hosts" "$1: the build" build -p "$2" --target-dir "$work/target")
+    built_for=$1
+    shift
+    # shellcheck disable=SC2046
+    (profile=tests && cargo_in "$work/wrong/hosts" "$built_for: the build" \
+        build $(printf -- '-p %s ' "$@") --target-dir "$work/target")
 }
 
 copy_dependencies() {
@@ -64,7 +71,10 @@ part_wrong_drives() {
         fi
         [ "${words%% *}" != cache ] || [ -n "${KRL_POSTGRESQL-}" ] || install_extension
         edited "$edit"
-        build_edited "wrong body $name" krl_drive
+        # Of that drive, the readers in C and Python are over this library.
+        [ "${words%% *}" = cache ] && read_by=krl-cache-c || read_by=
+        # shellcheck disable=SC2086
+        build_edited "wrong body $name" krl_drive $read_by
         # shellcheck disable=SC2086
         finds "wrong body $name" "$edited_programs/krl_drive" ${words:-kill 20}
     done

@@ -5,11 +5,12 @@ mod check;
 mod faults;
 mod notes;
 mod reader;
+mod readers;
 mod transactions;
 mod writer;
 
 use crate::Found;
-use crate::clients::{ENDING, Process, this, wait_for};
+use crate::clients::{ENDING, Process, wait_for};
 use crate::kill::start_server;
 use crate::log::now;
 use crate::lossy::Draws;
@@ -18,8 +19,9 @@ use check::{Change, Read, Verdict, Written, check};
 use faults::{Faults, Stopped};
 use krl_testing::database::{Database, Sql};
 use krl_testing::ports::free_address;
-use notes::{Counts, noted};
+use notes::{CountsByLanguage, noted};
 pub use reader::run as read;
+use readers::{Language, Programs};
 use std::error::Error;
 use std::net::SocketAddr;
 use std::path::{Path, PathBuf};
@@ -30,7 +32,7 @@ use transactions::commit_prepared;
 use writer::Writer;
 
 /// The variable that names the folder of the programs of a PostgreSQL with the extension.
-const PROGRAMS: &str = "KRL_POSTGRESQL";
+const POSTGRESQL: &str = "KRL_POSTGRESQL";
 
 /// The table, and what writes down its changes.
 const TABLE: [&str; 3] = [
@@ -44,8 +46,7 @@ const PAIRS: u64 = 20;
 const STABLE_PAIRS: u64 = 10;
 const KEYS: u64 = 2 * PAIRS;
 
-/// How many processes read, by how many threads each, and how many threads write.
-const READERS: u64 = 3;
+/// By how many threads each process reads, and how many threads write.
 const THREADS: u64 = 2;
 const WRITERS: u64 = 6;
 
@@ -88,6 +89,8 @@ struct Drive {
     database: Database,
     server_at: SocketAddr,
     server: Process,
+    programs: Programs,
+    /// One of each language, in the order of [`Language::ALL`].
     readers: Vec<Process>,
     /// How many readers were started.
     spawned: u64,
@@ -98,15 +101,15 @@ struct Drive {
 
 /// Drives readers and writers for this many seconds, and compares what was read.
 pub fn run(folder: &Path, seconds: u64) -> Found {
-    let Some(programs) = std::env::var_os(PROGRAMS) else {
+    let Some(postgresql) = std::env::var_os(POSTGRESQL) else {
         return Err(format!(
-            "{PROGRAMS} has to name the folder of the programs of a PostgreSQL with the extension: \
+            "{POSTGRESQL} has to name the folder of the programs of a PostgreSQL with the extension: \
              `hosts/pgext/check BIN --install FOLDER` makes one"
         )
         .into());
     };
     std::fs::create_dir_all(folder)?;
-    let mut drive = Drive::start(folder, Path::new(&programs))?;
+    let mut drive = Drive::start(folder, Path::new(&postgresql))?;
     let (database, is_over) = (drive.database.address::<String>(), AtomicBool::new(false));
     thread::scope(|scope| {
         let (database, is_over) = (database.as_str(), &is_over);
@@ -124,12 +127,13 @@ pub fn run(folder: &Path, seconds: u64) -> Found {
 }
 
 impl Drive {
-    fn start(folder: &Path, programs: &Path) -> Result<Drive, Box<dyn Error>> {
+    fn start(folder: &Path, postgresql: &Path) -> Result<Drive, Box<dyn Error>> {
+        let programs = Programs::make(folder)?;
         let server_at = free_address()?;
         let server = start_krl(folder, server_at)?;
         let servers = format!("krl.servers={server_at}");
         let settings: Vec<&str> = SETTINGS.into_iter().chain([servers.as_str()]).collect();
-        let database = Database::start_from(programs, &settings);
+        let database = Database::start_from(postgresql, &settings);
         let sql = database.connect();
         for statements in TABLE {
             sql.run(statements);
@@ -139,13 +143,15 @@ impl Drive {
             database,
             server_at,
             server,
+            programs,
             readers: Vec::new(),
             spawned: 0,
             draws: Draws(now()),
             faults: Faults::default(),
             stopped: Stopped::default(),
         };
-        drive.readers = (0..READERS).map(|_| drive.start_reader()).collect::<Result<_, _>>()?;
+        let readers = Language::ALL.into_iter().map(|language| drive.start_reader(language));
+        drive.readers = readers.collect::<Result<_, _>>()?;
         Ok(drive)
     }
 
@@ -153,11 +159,10 @@ impl Drive {
         start_krl(&self.folder, self.server_at)
     }
 
-    fn start_reader(&mut self) -> std::io::Result<Process> {
+    fn start_reader(&mut self, language: Language) -> std::io::Result<Process> {
         self.spawned += 1;
-        let (name, database) =
-            (format!("reader-{}", self.spawned), self.database.address::<String>());
-        Process::start(&mut this(&["cache-reader", &name, &database], &self.folder)?)
+        let (name, database) = (language.name(self.spawned), self.database.address::<String>());
+        Process::start(&mut self.programs.command(language, &name, &database)?)
     }
 
     /// A connection to the database, if it answers.
@@ -190,9 +195,10 @@ impl Drive {
     fn tend(&mut self) -> Result<(), Box<dyn Error>> {
         self.stopped.resume(Instant::now());
         self.tend_database();
-        for reader in &mut self.readers {
+        for (language, reader) in Language::ALL.into_iter().zip(&mut self.readers) {
             if let Some(status) = reader.ended()? {
-                return Err(format!("a reader has ended by itself: {status}").into());
+                let fault = format!("the reader in {language:?} has ended by itself: {status}");
+                return Err(fault.into());
             }
         }
         Ok(())
@@ -208,9 +214,9 @@ impl Drive {
     fn end(mut self) -> Found {
         self.stopped.resume_all();
         std::fs::write(end_file(&self.folder), "")?;
-        for reader in &mut self.readers {
+        for (language, reader) in Language::ALL.into_iter().zip(&mut self.readers) {
             if let Some(fault) = wait_for(reader, Instant::now() + ENDING)? {
-                return Err(format!("a reader {fault}").into());
+                return Err(format!("the reader in {language:?} {fault}").into());
             }
         }
         let (written, last) = self.read_everything()?;
@@ -220,14 +226,13 @@ impl Drive {
         for shown in &verdict.shown {
             eprintln!("{}", shown.chars().take(600).collect::<String>());
         }
-        let Counts { reads, failed, hits, misses } = noted.counts;
         println!(
-            "{}; {reads} reads ({} compared), {failed} without the database; {hits} keys from \
-             memory, {misses} from the database; {verdict}",
+            "{}; {} reads are compared; {}; {verdict}",
             self.faults,
-            noted.reads.len()
+            noted.reads.len(),
+            noted.counts
         );
-        judge(&verdict, hits)
+        judge(&verdict, &noted.counts)
     }
 
     /// What the database has in the end, when all prepared transactions have ended, and a read of
@@ -247,7 +252,8 @@ impl Drive {
         let from = now();
         let rows = sql.try_query("SELECT id, token FROM item ORDER BY id")?;
         let rows = rows.iter().map(|row| (unsigned(row.get(0)), unsigned(row.get(1))));
-        let last = Read { from, to: now(), keys: 0..KEYS, rows: rows.collect() };
+        let rows = rows.collect();
+        let last = Read { reader: None, from, to: now(), keys: 0..KEYS, rows };
         let committed = sql.try_query("SELECT token FROM committed")?;
         let committed = committed.iter().map(|row| unsigned(row.get(0))).collect();
         let changes = sql.try_query("SELECT id, token, has_row FROM history ORDER BY place")?;
@@ -261,12 +267,12 @@ impl Drive {
 }
 
 /// Whether all is well. A run that did too little shows nothing.
-fn judge(verdict: &Verdict, hits: u64) -> Found {
+fn judge(verdict: &Verdict, counts: &CountsByLanguage) -> Found {
     if verdict.count_wrong() > 0 {
         return Ok(false);
     }
-    if hits == 0 {
-        return Err("nothing was read from memory".into());
+    if let Some(language) = Language::ALL.into_iter().find(|it| counts.of(*it).hits == 0) {
+        return Err(format!("nothing was read from memory in {language:?}").into());
     }
     if verdict.rows < 1000 || verdict.transactions < 100 {
         return Err("too little was done to judge anything".into());

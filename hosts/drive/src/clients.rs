@@ -274,7 +274,8 @@ pub fn this(words: &[&str], folder: &Path) -> std::io::Result<Command> {
     Ok(command(std::env::current_exe()?, words, folder))
 }
 
-fn command(program: PathBuf, words: &[&str], folder: &Path) -> Command {
+/// A program with these words, and the folder after them.
+pub fn command(program: PathBuf, words: &[&str], folder: &Path) -> Command {
     let mut command = Command::new(program);
     command.args(words).arg(folder);
     command

@@ -1,5 +1,5 @@
-"""Readers that keep rows in memory next to writers of SQL, while they, sessions, workers of the extension, krl's server
-and PostgreSQL are killed and stopped: krl_drive."""
+"""Readers in Rust, C and Python that keep rows in memory next to writers of SQL, while they, sessions, workers of the
+extension, krl's server and PostgreSQL are killed and stopped: krl_drive."""
 import os
 import subprocess
 
@@ -16,7 +16,9 @@ def check(installation):
     folder = installation.folder / "drive"
     words = [installation.top / "bin/krl_drive", "cache", folder, SECONDS]
     how = {"stdin": subprocess.DEVNULL, "stdout": subprocess.PIPE, "stderr": subprocess.STDOUT, "text": True}
+    # The user of PostgreSQL may not read the tree: the reader in Python takes the copy of the package.
     environment = {**os.environ, "KRL_POSTGRESQL": str(installation.inside("bindir"))}
+    environment["PYTHONPATH"] = str(installation.top / "hosts/python")
     ran = subprocess.run([str(word) for word in words], errors="replace", env=environment, timeout=LONGEST, **how)
     last = ran.stdout.strip().rpartition("\n")[2]
     if ran.returncode == WRONG:

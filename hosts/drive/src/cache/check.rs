@@ -6,6 +6,7 @@
 //! its moment have left? Each read comes after the transactions whose rows it has seen, and before
 //! those that changed these rows next. These edges must have no cycle, and along them no moment may
 //! have to be later than its answer.
+use super::readers::Language;
 use std::collections::{BTreeMap, HashMap};
 use std::fmt;
 use std::ops::Range;
@@ -41,6 +42,8 @@ pub struct NotedTransaction {
 /// A read, and the keys and tokens of the rows.
 #[derive(Clone, Debug, PartialEq, Eq)]
 pub struct Read {
+    /// The language of the reader; none if the drive itself has asked the database.
+    pub reader: Option<Language>,
     pub from: u64,
     pub to: u64,
     pub keys: Range<u64>,
@@ -55,6 +58,9 @@ pub struct Written {
     pub changes: Vec<Change>,
 }
 
+/// What is wrong, and the language of the reader, if it is known.
+type Wrong = (&'static str, Option<Language>);
+
 /// What the comparison came to.
 #[derive(Debug, Default)]
 pub struct Verdict {
@@ -65,7 +71,7 @@ pub struct Verdict {
     pub transactions: u64,
     /// Those whose writer did not learn the end.
     pub unanswered: u64,
-    pub wrong: BTreeMap<&'static str, u64>,
+    pub wrong: BTreeMap<Wrong, u64>,
     /// The first of each kind.
     pub shown: Vec<String>,
 }
@@ -75,11 +81,11 @@ impl Verdict {
         self.wrong.values().sum()
     }
 
-    fn wrong(&mut self, what: &'static str, example: impl FnOnce() -> String) {
-        let count = self.wrong.entry(what).or_default();
+    fn wrong(&mut self, wrong: Wrong, example: impl FnOnce() -> String) {
+        let count = self.wrong.entry(wrong).or_default();
         *count += 1;
         if *count <= 3 {
-            self.shown.push(format!("{what}: {}", example()));
+            self.shown.push(format!("{}: {}", wrong.0, example()));
         }
     }
 }
@@ -220,7 +226,7 @@ impl Order<'_> {
     fn add_changes(&mut self, changes: &[Change], transactions: &HashMap<u64, usize>) {
         for change in changes {
             let Some(&node) = transactions.get(&change.token) else {
-                self.verdict.wrong("a change of no transaction", || format!("{change:?}"));
+                self.verdict.wrong(("a change of no transaction", None), || format!("{change:?}"));
                 continue;
             };
             let history = self.keys.entry(change.key).or_default();
@@ -238,10 +244,12 @@ impl Order<'_> {
             let is_done = transactions.contains_key(&noted.token);
             match noted.end {
                 Some((_, End::Done)) if !is_done => {
-                    self.verdict.wrong("an answered transaction is lost", || format!("{noted:?}"));
+                    let wrong = ("an answered transaction is lost", None);
+                    self.verdict.wrong(wrong, || format!("{noted:?}"));
                 }
                 Some((_, End::NotDone)) if is_done => {
-                    self.verdict.wrong("a failed transaction is done", || format!("{noted:?}"));
+                    let wrong = ("a failed transaction is done", None);
+                    self.verdict.wrong(wrong, || format!("{noted:?}"));
                 }
                 _ => {}
             }
@@ -256,7 +264,8 @@ impl Order<'_> {
         if !rows.keys().eq(read.rows.iter().map(|(key, _)| key))
             || !rows.keys().all(|key| read.keys.contains(key))
         {
-            self.verdict.wrong("rows out of order or range", || format!("{read:?}"));
+            let wrong = ("rows out of order or range", read.reader);
+            self.verdict.wrong(wrong, || format!("{read:?}"));
         }
         for key in read.keys.clone() {
             let seen = match rows.get(&key) {
@@ -275,7 +284,8 @@ impl Order<'_> {
         let history = self.keys.get(&key);
         let count = history.and_then(|history| history.places.get(&token).copied());
         if count.is_none() {
-            self.verdict.wrong("a row that was never committed", || format!("{key} in {read:?}"));
+            let wrong = ("a row that was never committed", read.reader);
+            self.verdict.wrong(wrong, || format!("{key} in {read:?}"));
         }
         count
     }
@@ -290,7 +300,8 @@ impl Order<'_> {
                 Some(next)
             }
             [] => {
-                self.verdict.wrong("a row is missing", || format!("{key} in {read:?}"));
+                let wrong = ("a row is missing", read.reader);
+                self.verdict.wrong(wrong, || format!("{key} in {read:?}"));
                 None
             }
             _ => {
@@ -337,7 +348,8 @@ impl Order<'_> {
         if done < self.nodes.len() {
             let left = (0..before.len()).filter(|place| before[*place] > 0);
             let left: Vec<String> = left.take(6).map(|place| self.name(place)).collect();
-            self.verdict.wrong("reads and transactions in a circle", || left.join(", "));
+            let wrong = ("reads and transactions in a circle", None);
+            self.verdict.wrong(wrong, || left.join(", "));
         }
     }
 
@@ -346,13 +358,19 @@ impl Order<'_> {
         let Node { to, .. } = self.nodes[place];
         if earliest > to {
             let late = (earliest - to) / 1000;
+            let reader = self.reader(place).or_else(|| self.reader(cause));
             let (name, cause) = (self.name(place), self.name(cause));
-            self.verdict.wrong("a moment that is too late", || {
+            self.verdict.wrong(("a moment that is too late", reader), || {
                 format!("{late} us: {name} comes after {cause}")
             });
         }
         // What comes after it is judged by itself.
         earliest.min(to)
+    }
+
+    /// The reader of a node that is a read.
+    fn reader(&self, place: usize) -> Option<Language> {
+        self.reads.get(place.checked_sub(self.tokens.len())?)?.reader
     }
 
     fn name(&self, place: usize) -> String {
@@ -388,7 +406,7 @@ mod tests {
     }
 
     fn read(from: u64, to: u64, rows: &[(u64, u64)]) -> Read {
-        Read { from, to, keys: 1..3, rows: rows.to_vec() }
+        Read { reader: None, from, to, keys: 1..3, rows: rows.to_vec() }
     }
 
     /// The key 1 was written by the transactions 10 and 11, and 2 only by 11, which has deleted it
@@ -402,7 +420,11 @@ mod tests {
 
     fn wrong(reads: &[Read]) -> Vec<&'static str> {
         let (written, noted) = written();
-        check(&written, &noted, reads).wrong.into_keys().collect()
+        kinds(check(&written, &noted, reads))
+    }
+
+    fn kinds(verdict: Verdict) -> Vec<&'static str> {
+        verdict.wrong.into_keys().map(|(what, _)| what).collect()
     }
 
     #[test]
@@ -452,11 +474,22 @@ mod tests {
     fn what_a_writer_noted_has_to_be_so() {
         let (mut written, mut noted) = written();
         noted[1].end = Some((400, End::NotDone));
-        let found = check(&written, &noted, &[]).wrong.into_keys().collect::<Vec<_>>();
-        assert_eq!(found, ["a failed transaction is done"]);
+        assert_eq!(kinds(check(&written, &noted, &[])), ["a failed transaction is done"]);
         noted[1].end = Some((400, End::Done));
         written = Written { committed: vec![10], changes: vec![change(1, 10)] };
-        let found = check(&written, &noted, &[]).wrong.into_keys().collect::<Vec<_>>();
-        assert_eq!(found, ["an answered transaction is lost"]);
+        assert_eq!(kinds(check(&written, &noted, &[])), ["an answered transaction is lost"]);
+    }
+
+    #[test]
+    fn what_is_wrong_shows_the_reader() {
+        let (written, noted) = written();
+        let stale = |reader| Read { reader: Some(reader), ..read(410, 420, &[(1, 10)]) };
+        let reads = [stale(Language::C), stale(Language::Python), stale(Language::Python)];
+        let found = check(&written, &noted, &reads).wrong;
+        let (missing, late) = ("a row is missing", "a moment that is too late");
+        assert_eq!(found.get(&(missing, Some(Language::C))), Some(&1));
+        assert_eq!(found.get(&(missing, Some(Language::Python))), Some(&2));
+        // The transaction after the last of these reads is too late.
+        assert_eq!(found.get(&(late, Some(Language::Python))), Some(&1));
     }
 }

@@ -1,4 +1,5 @@
 //! What befalls the processes of the drive.
+use super::readers::Language;
 use super::{Drive, LEASE};
 use crate::clients::{ENDING, send_signal};
 use crate::lossy::Draws;
@@ -109,7 +110,7 @@ impl Drive {
             Fault::KillReader => {
                 let place = self.draws.place(self.readers.len());
                 self.readers[place].kill()?;
-                self.readers[place] = self.start_reader()?;
+                self.readers[place] = self.start_reader(Language::ALL[place])?;
             }
             Fault::StopReader => {
                 let place = self.draws.place(self.readers.len());

@@ -1,8 +1,9 @@
 //! What writers and readers note of what they did, a line each.
 use super::check::{End, NotedTransaction, Read};
+use super::readers::Language;
 use std::collections::BTreeMap;
 use std::error::Error;
-use std::fmt::Write as _;
+use std::fmt::{self, Write as _};
 use std::fs::{File, OpenOptions};
 use std::io::{self, Write as _};
 use std::ops::AddAssign;
@@ -22,12 +23,36 @@ pub struct Counts {
     pub misses: u64,
 }
 
+/// What the readers of each language have counted.
+#[derive(Debug, Default)]
+pub struct CountsByLanguage(BTreeMap<Language, Counts>);
+
+impl CountsByLanguage {
+    /// Those of one.
+    pub fn of(&self, language: Language) -> Counts {
+        self.0.get(&language).copied().unwrap_or_default()
+    }
+}
+
+impl fmt::Display for CountsByLanguage {
+    fn fmt(&self, f: &mut fmt::Formatter<'_>) -> fmt::Result {
+        let counts = self.0.iter().map(|(language, counts)| {
+            let Counts { reads, failed, hits, misses } = counts;
+            format!(
+                "in {language:?} {reads} reads, {failed} without the database, {hits} keys from \
+                 memory, {misses} from the database"
+            )
+        });
+        f.write_str(&counts.collect::<Vec<_>>().join("; "))
+    }
+}
+
 /// What all have noted.
 #[derive(Debug, Default)]
 pub struct Noted {
     pub transactions: Vec<NotedTransaction>,
     pub reads: Vec<Read>,
-    pub counts: Counts,
+    pub counts: CountsByLanguage,
 }
 
 impl Notes {
@@ -67,16 +92,16 @@ pub fn noted(folder: &Path) -> Result<Noted, Box<dyn Error>> {
     let mut noted = Noted::default();
     for entry in std::fs::read_dir(folder)? {
         let entry = entry?;
-        if entry.file_name().to_string_lossy().starts_with("notes-") {
-            noted.add(&std::fs::read_to_string(entry.path())?)?;
+        if let Some(thread) = entry.file_name().to_string_lossy().strip_prefix("notes-") {
+            noted.add(Language::of(thread), &std::fs::read_to_string(entry.path())?)?;
         }
     }
     Ok(noted)
 }
 
 impl Noted {
-    /// Adds the notes of a file.
-    fn add(&mut self, text: &str) -> Result<(), String> {
+    /// Adds the notes of a file, which may be that of a reader.
+    fn add(&mut self, reader: Option<Language>, text: &str) -> Result<(), String> {
         let mut transactions: BTreeMap<u64, NotedTransaction> = BTreeMap::new();
         let mut counts = Counts::default();
         for line in text.lines() {
@@ -98,7 +123,7 @@ impl Noted {
                 }
                 ("R", &[from, to, start, end, ref rows @ ..]) => {
                     let rows = rows.chunks_exact(2).map(|row| (row[0], row[1])).collect();
-                    self.reads.push(Read { from, to, keys: start..end, rows });
+                    self.reads.push(Read { reader, from, to, keys: start..end, rows });
                 }
                 ("C", &[reads, failed, hits, misses]) => {
                     counts = Counts { reads, failed, hits, misses };
@@ -107,7 +132,9 @@ impl Noted {
             }
         }
         self.transactions.extend(transactions.into_values());
-        self.counts += counts;
+        if let Some(language) = reader {
+            *self.counts.0.entry(language).or_default() += counts;
+        }
         Ok(())
     }
 }
@@ -132,18 +159,25 @@ mod tests {
     #[test]
     fn notes_are_read_as_they_were_written() {
         let mut noted = Noted::default();
-        noted.add("B 1 5\nC 2 0 1 1\nR 1 2 3 9 4 44 5 55\nE 1 7 Unknown\nB 2 8\n").unwrap();
-        noted.add("C 8 3 5 0\nC 9 3 6 0\n").unwrap();
+        noted.add(None, "B 1 5\nE 1 7 Unknown\nB 2 8\n").unwrap();
+        let (c, rust) = (Some(Language::C), Some(Language::Rust));
+        noted.add(c, "C 2 0 1 1\nR 1 2 3 9 4 44 5 55\n").unwrap();
+        noted.add(c, "C 8 3 5 0\nC 9 3 6 0\n").unwrap();
+        noted.add(rust, "C 1 0 1 0\n").unwrap();
         let transaction = |token, from, end| NotedTransaction { token, from, end };
         assert_eq!(
             noted.transactions,
             [transaction(1, 5, Some((7, End::Unknown))), transaction(2, 8, None)]
         );
-        let read = Read { from: 1, to: 2, keys: 3..9, rows: vec![(4, 44), (5, 55)] };
+        let rows = vec![(4, 44), (5, 55)];
+        let read = Read { reader: c, from: 1, to: 2, keys: 3..9, rows };
         assert_eq!(noted.reads, [read]);
-        assert_eq!(noted.counts, Counts { reads: 11, failed: 3, hits: 7, misses: 1 });
+        let counts = noted.counts.of(Language::C);
+        assert_eq!(counts, Counts { reads: 11, failed: 3, hits: 7, misses: 1 });
+        assert_eq!(noted.counts.of(Language::Rust).hits, 1);
+        assert_eq!(noted.counts.of(Language::Python), Counts::default());
         for bad in ["E 3 7 Done\n", "B 1\n", "E 1 7 Often\n", "X 1\n", "B\n"] {
-            assert!(noted.add(bad).is_err(), "{bad}");
+            assert!(noted.add(None, bad).is_err(), "{bad}");
         }
     }
 }

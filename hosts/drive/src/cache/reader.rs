@@ -1,6 +1,7 @@
 //! A process that keeps rows of the table in memory: two threads read.
 use super::check::Read;
 use super::notes::{Counts, Notes};
+use super::readers::Language;
 use super::{KEYS, MEMORY, READ_TIMEOUT, THREADS};
 use crate::Found;
 use crate::log::now;
@@ -44,6 +45,14 @@ enum Way {
     One,
     Several,
     Range,
+}
+
+/// Reads of the same keys.
+struct Burst {
+    keys: Range<u64>,
+    way: Way,
+    /// Whether memory is asked by a call of its own first.
+    is_cached_first: bool,
 }
 
 /// Runs the process of this name.
@@ -108,28 +117,31 @@ impl Reader {
         while !self.is_over.load(Ordering::Relaxed) {
             let start = draws.below(KEYS);
             let end = KEYS.min(start + 1 + draws.below(MOST_KEYS));
-            match draws.below(3) {
-                0 => self.read_burst(&(start..start + 1), Way::One, &mut notes)?,
-                1 => self.read_burst(&(start..end), Way::Several, &mut notes)?,
-                _ => self.read_burst(&(start..end), Way::Range, &mut notes)?,
-            }
+            let (keys, way) = match draws.below(3) {
+                0 => (start..start + 1, Way::One),
+                1 => (start..end, Way::Several),
+                _ => (start..end, Way::Range),
+            };
+            let is_cached_first = draws.below(2) == 0;
+            self.read_burst(&Burst { keys, way, is_cached_first }, &mut notes)?;
         }
         Ok(())
     }
 
     /// Reads the same keys again and again. Of reads after each other that show the same rows the
     /// first and the last are noted: if both fit an order of the transactions, those between do.
-    fn read_burst(&self, keys: &Range<u64>, way: Way, notes: &mut Notes) -> io::Result<()> {
+    fn read_burst(&self, burst: &Burst, notes: &mut Notes) -> io::Result<()> {
         let end = Instant::now() + BURST;
         let (mut first, mut last): (Option<Read>, Option<Read>) = (None, None);
         while Instant::now() < end {
             let from = now();
-            let Ok(rows) = self.rows(keys, way) else {
+            let Ok(rows) = self.rows(burst) else {
                 self.failed.fetch_add(1, Ordering::Relaxed);
                 thread::sleep(AWAY);
                 break;
             };
-            let read = Read { from, to: now(), keys: keys.clone(), rows };
+            let (to, keys) = (now(), burst.keys.clone());
+            let read = Read { reader: Some(Language::Rust), from, to, keys, rows };
             self.reads.fetch_add(1, Ordering::Relaxed);
             if first.as_ref().is_some_and(|first| first.rows == read.rows) {
                 last = Some(read);
@@ -144,18 +156,31 @@ impl Reader {
     }
 
     /// The keys and tokens of the rows.
-    fn rows(&self, keys: &Range<u64>, way: Way) -> Result<Vec<(u64, u64)>, ReadError> {
+    fn rows(&self, burst: &Burst) -> Result<Vec<(u64, u64)>, ReadError> {
+        let Burst { keys, way, is_cached_first } = burst;
         let range = keys.start.cast_signed()..keys.end.cast_signed();
-        let rows = match way {
-            Way::One => self.items.get(range.start)?.into_iter().collect(),
-            Way::Several => {
-                let rows = self.items.get_many(range.rev())?;
-                rows.into_iter().rev().flatten().collect()
-            }
-            Way::Range => self.items.range(range)?,
+        let cached = if *is_cached_first { self.cached(range.clone(), *way)? } else { None };
+        let rows = match (cached, way) {
+            (Some(rows), _) => rows,
+            (None, Way::One) => self.items.get(range.start)?.into_iter().collect(),
+            (None, Way::Several) => in_order(self.items.get_many(range.rev())?),
+            (None, Way::Range) => self.items.range(range)?,
         };
         rows.iter().map(key_and_token).collect()
     }
+
+    /// The rows, if all of them are in memory.
+    fn cached(&self, range: Range<i64>, way: Way) -> Result<Option<Vec<Row>>, ReadError> {
+        match way {
+            Way::One | Way::Several => Ok(self.items.cached(range.rev())?.map(in_order)),
+            Way::Range => self.items.cached_range(range),
+        }
+    }
+}
+
+/// The rows of keys that were asked for from the last one on.
+fn in_order(rows: Vec<Option<Row>>) -> Vec<Row> {
+    rows.into_iter().rev().flatten().collect()
 }
 
 fn key_and_token(row: &Row) -> Result<(u64, u64), ReadError> {
