@@ -324,5 +324,6 @@ fn a_full_table_is_loaded_in_a_moment() {
     assert_eq!(loaded(&address).1.rows.len(), 65_536);
     let took = begun.elapsed();
     eprintln!("65,536 rows: filled in {filled:?}, loaded in {took:?}");
-    assert!(took < Duration::from_secs(5), "{took:?}");
+    // A request for each row would take longer than to write all of them.
+    assert!(took < filled, "{took:?}");
 }
