@@ -323,22 +323,24 @@ impl World {
         }
     }
 
-    /// An operator evicts a client of which no process is left, but for one of a greater
-    /// incarnation that waits for this.
+    /// By which incarnation an operator evicts a client: if one is registered of which no process is
+    /// left, but for one of a greater incarnation that waits for this.
+    pub(super) fn successor(&self, victim: usize) -> Option<u64> {
+        let machine = &self.machines[victim];
+        let mut records = self.disk.snapshot().records.iter();
+        let known = records.find(|record| record.client == machine.number && !record.left)?;
+        let incarnation = known.incarnation + 1;
+        let is_older = |it: &Client<LockFile>| it.incarnations().current() <= incarnation;
+        (!machine.client.as_ref().is_some_and(is_older)).then_some(incarnation)
+    }
+
+    /// An operator evicts a client, if it may be evicted, and no other one is being evicted.
     pub(super) fn evict(&mut self, victim: usize) {
         let operator = self.weather.clients;
-        let number = self.machines[victim].number;
-        let records = &self.disk.snapshot().records;
-        let known = records.iter().find(|record| record.client == number && !record.left);
         let is_free = self.machines[operator].client.is_none();
-        let Some(known) = known.filter(|_| is_free) else { return };
-        let incarnation = known.incarnation + 1;
-        let machine = &self.machines[victim];
-        let is_older = |it: &Client<LockFile>| it.incarnations().current() <= incarnation;
-        if machine.client.as_ref().is_some_and(is_older) {
-            return;
-        }
-        let (seed, clock) = (self.dice.draw(), machine.clock);
+        let Some(incarnation) = self.successor(victim).filter(|_| is_free) else { return };
+        let Machine { number, clock, .. } = self.machines[victim];
+        let seed = self.dice.draw();
         self.machines[victim].stays_down = Some(Down::Evicted);
         let machine = &mut self.machines[operator];
         machine.clock = clock;

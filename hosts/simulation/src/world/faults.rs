@@ -37,12 +37,13 @@ impl World {
     fn evict_who_hinders(&mut self) {
         self.after(Duration::from_millis(500), Event::Fault);
         let waits = |machine: &Machine| machine.client.is_some() && machine.is_served != [true; 2];
-        let waiting: Vec<_> =
-            (0..self.weather.clients).filter(|it| waits(&self.machines[*it])).collect();
+        let hinders =
+            |client: &usize| waits(&self.machines[*client]) && self.successor(*client).is_some();
+        let hindering: Vec<_> = (0..self.weather.clients).filter(hinders).collect();
         let healed = self.healed.unwrap_or(self.now);
         let is_seen = self.now >= healed + SEES;
-        if !waiting.is_empty() && (is_seen || self.weather.terms == Terms::Each) {
-            let victim = self.fault_dice.pick(&waiting);
+        if !hindering.is_empty() && (is_seen || self.weather.terms == Terms::Each) {
+            let victim = self.fault_dice.pick(&hindering);
             self.evict(victim);
         }
     }
