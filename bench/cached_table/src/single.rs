@@ -30,7 +30,7 @@ pub fn table(place: &Place) -> Found<String> {
         black_box(items.range(first..first + RANGE)?);
         Ok(())
     })?;
-    // A table that is opened anew has nothing in memory, and each of its rows is read once.
+    // A table that was opened again has nothing in memory, and each of its rows is read once.
     let opened = (0..RUNS).map(|_| process.cache.table("item"));
     let mut opened = opened.collect::<Result<Vec<_>, _>>()?.into_iter();
     let rows = u32::try_from(ROWS)?;

@@ -165,7 +165,7 @@ impl Drive {
         Process::start(&mut self.programs.command(language, &name, &database)?)
     }
 
-    /// A connection to the database, if it answers.
+    /// A connection to the database, if it can be reached.
     fn sql(&self) -> Option<Sql> {
         Sql::connect(&self.database.address::<String>()).ok()
     }

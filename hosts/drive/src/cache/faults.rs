@@ -157,7 +157,7 @@ impl Drive {
         }
     }
 
-    /// A process of PostgreSQL of this kind, if it answers and there is one.
+    /// A process of PostgreSQL of this kind, if the database can be reached and there is one.
     fn draw_process(&mut self, kind: &str) -> Option<u32> {
         let asked = format!("SELECT pid FROM pg_stat_activity WHERE {kind}");
         let found = self.sql()?.try_query(&asked).ok()?;
