@@ -27,11 +27,13 @@ part_packages() {
 }
 
 part_pages() {
+    has python3 cc c++ || not_run 'python3, cc or c++ is missing: the programs of docs/CLIENTS.md'
+    need_programs
+    drive 0 'the programs' "$top/tests/clients" "$programs"
     has python3 unshare ip etcd etcdctl curl openssl ||
         not_run 'python3, unshare, ip, etcd, etcdctl, curl or openssl is missing: commands of pages'
     if ! has pg_config make psql || [ ! -f "$(pg_config --pgxs)" ]; then
         not_run 'there are no header files of PostgreSQL: commands of pages'
     fi
-    need_programs
     drive 0 'the commands of the pages' "$top/tests/pages" "$programs"
 }

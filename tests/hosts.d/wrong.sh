@@ -4,10 +4,10 @@
 # Makes a copy of the hosts with an edit, $work/wrong.
 edited() {
     rm -rf "$work/wrong"
-    mkdir -p "$work/wrong/hosts" "$work/wrong/docs"
+    mkdir -p "$work/wrong/hosts" "$work/wrong/examples"
     cp "$top/hosts/Cargo.toml" "$work/wrong/hosts"
-    # The tests of the client for C compare this page with their programs.
-    cp "$top/docs/CLIENTS.md" "$work/wrong/docs"
+    # They are examples of krl-client.
+    cp -R "$top/examples/clients" "$work/wrong/examples"
     for member in $(sed -n '/^members = \[$/,/^\]$/{/"/p}' "$top/hosts/Cargo.toml" | tr -d '",'); do
         cp -R "$top/hosts/$member" "$work/wrong/hosts"
     done

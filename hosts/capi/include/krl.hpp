@@ -2,13 +2,10 @@
  *
  *     krl::options options;
  *     options.servers = "127.0.0.1:7400";
- *     options.number = 3;
- *     options.lock_file = "client-3.lock";
  *     krl::client client(options);
  *     if (client.insert(15, "hello") == krl::outcome::exists)
  *         std::cout << "there is a row already\n";
- *     krl::rows rows = client.read(10, 20);
- *     for (auto [key, value] : rows)
+ *     for (auto [key, value] : client.read(10, 20))
  *         std::cout << key << '=' << value << '\n';
  *     auto [read, pin] = client.pin_for_update(10, 20);
  *
@@ -462,6 +459,16 @@ class client {
     /* The same, into rows that were there before. */
     answer<void> read(std::uint64_t lo, std::uint64_t hi, krl::rows &into, timeout time = {}) {
         return done(krlc_read, lo, hi, into.get(), detail::milliseconds(time));
+    }
+    /* The value of a row, read as a range is; none if there is no row. */
+    [[nodiscard]] answer<std::optional<std::string>> get(std::uint64_t key, timeout time = {}) {
+        krlc_row row;
+        krlc_error failed;
+        const std::uint32_t code = krlc_get(client_.get(), key, &row, detail::milliseconds(time), &failed);
+        return detail::answered(code, failed, [&] {
+            using value = std::optional<std::string>;
+            return code == KRLC_OK ? value((*krl::rows::iterator(&row)).value) : value();
+        });
     }
     /* Reads from the cache only, without a message: false if that does not have the whole range. */
     [[nodiscard]] answer<bool> cached(std::uint64_t lo, std::uint64_t hi, krl::rows &into) {

@@ -4,8 +4,7 @@
  * their rows in a cache, and answers reads from there without a message. A thread of the library keeps the connection
  * and makes it again after it breaks.
  *
- *     krlc_options options = {.size = sizeof options, .servers = "127.0.0.1:7400",
- *                             .number = 3, .lock_file = "client-3.lock"};
+ *     krlc_options options = {.size = sizeof options, .servers = "127.0.0.1:7400"};
  *     krlc_error error;
  *     krlc_client *client;
  *     krlc_rows *rows = krlc_rows_new();
@@ -256,7 +255,7 @@ typedef struct krlc_error {
 
 /* How a client joins. A pointer may be null and a number 0 where a default is named. Later versions append members, so
  * a caller sets `size` to the size of this struct and the rest to zero: `krlc_options options = {.size = sizeof
- * options}`. The texts are read by `krlc_join` only. */
+ * options, .servers = "127.0.0.1:7400"}`. The texts are read by `krlc_join` only. */
 typedef struct krlc_options {
     size_t size;
     /* The addresses of the servers over one store, with commas between them: "127.0.0.1:7400",
@@ -265,7 +264,10 @@ typedef struct krlc_options {
     /* The file of a map of shards. */
     const char *map;
     /* With `servers` and `number`, the lock file of this number on this machine, which is made if there is none. With
-     * `map` or `numbers`, an existing folder for such files: one for each number and each shard. */
+     * `map` or `numbers`, an existing folder for such files: one for each number and each shard. If it is null, and
+     * `number` and `numbers` are 0, the client takes the first number that is free, by a lock file in the folder `krl`
+     * of $XDG_STATE_HOME or of $HOME/.local/state, which is made if there is none. This is for servers with leases: a
+     * server without them cannot tell a silent client of another machine from one that is gone. */
     const char *lock_file;
     /* The client's number, from 0 to 63: one process at a time may be the client of a number. */
     uint32_t number;
@@ -358,7 +360,7 @@ KRLC_NODISCARD uint32_t krlc_keep_all(krlc_client *client, krlc_error *error);
  * client has none. Then the earlier ones stay. */
 KRLC_NODISCARD uint32_t krlc_reload_tls(krlc_client *client, krlc_error *error);
 
-/* The client's number: the one of `numbers` that was free. KRLC_NUMBERS if the client cannot be used. */
+/* The client's number: the one that was free. KRLC_NUMBERS if the client cannot be used. */
 uint32_t krlc_number(krlc_client *client);
 
 /* How many shards the client has joined: 1 without a map. 0 if the client cannot be used. */
@@ -398,6 +400,11 @@ KRLC_NODISCARD uint32_t krlc_tenure(krlc_client *client, uint64_t lo, uint64_t h
  * KRLC_STOPPED, KRLC_LEFT. */
 KRLC_NODISCARD uint32_t krlc_read(krlc_client *client, uint64_t lo, uint64_t hi, krlc_rows *rows, uint64_t timeout_ms,
                                   krlc_error *error);
+
+/* Reads one row, as `krlc_read` does: KRLC_OK, and then `row` receives it; or KRLC_ABSENT if there is none. Errors:
+ * KRLC_BAD_KEY, and those of `krlc_read`. */
+KRLC_NODISCARD uint32_t krlc_get(krlc_client *client, uint64_t key, krlc_row *row, uint64_t timeout_ms,
+                                 krlc_error *error);
 
 /* Waits for at most this many milliseconds, with 0 not at all, until the client no longer knows that the range has just
  * these rows. KRLC_OK means that a read may have something new; KRLC_UNCHANGED that the time is over. It sends nothing.

@@ -324,6 +324,28 @@ pub unsafe extern "C" fn krlc_read(
 }
 
 #[unsafe(no_mangle)]
+pub unsafe extern "C" fn krlc_get(
+    client: *mut Client,
+    key: u64,
+    row: *mut Row,
+    timeout_ms: u64,
+    error: *mut ErrorRoom,
+) -> u32 {
+    let get = || {
+        // SAFETY: the caller frees the client after this call.
+        let joined = unsafe { own(client) }?;
+        input::key(key)?;
+        let found = joined.within(timeout_ms).get(key)?;
+        let Some(value) = found else { return Ok(Code::Absent) };
+        // SAFETY: the caller vouches for the room.
+        unsafe { put_out("a row", row, Row { key, value }) }?;
+        Ok(Code::Ok)
+    };
+    // SAFETY: the caller vouches for the room of the error.
+    unsafe { answer(error, get) }
+}
+
+#[unsafe(no_mangle)]
 pub unsafe extern "C" fn krlc_wait_for_change(
     client: *mut Client,
     lo: u64,

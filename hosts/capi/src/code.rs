@@ -106,7 +106,7 @@ impl From<&JoinErrorKind> for Code {
     fn from(error: &JoinErrorKind) -> Code {
         match error {
             JoinErrorKind::LockFile { error: LockFileError::Taken, .. } => Code::LockFileTaken,
-            JoinErrorKind::LockFile { .. } => Code::LockFile,
+            JoinErrorKind::LockFile { .. } | JoinErrorKind::NoLockFolder(_) => Code::LockFile,
             JoinErrorKind::BadNumber => Code::BadNumber,
             JoinErrorKind::Incomplete(_) => Code::Misuse,
             JoinErrorKind::NoAnswer { .. } => Code::TimedOut,

@@ -4,7 +4,7 @@ use crate::code::Code;
 use crate::fault::Fault;
 use crate::input::range;
 use crate::tls::Tls;
-use krl::{Client, END, Place, ShardMap, evict};
+use krl::{Client, ClientBuilder, END, JoinError, Place, ShardMap, evict};
 use krl_ffi::text;
 use std::ffi::c_char;
 use std::ops::Range;
@@ -39,8 +39,7 @@ pub struct Options {
 #[derive(Debug)]
 pub struct Wish<'o> {
     place: Place,
-    lock_file: &'o Path,
-    number: Number,
+    number: Number<'o>,
     timeout: Option<Duration>,
     wait_if_in_use: Option<Duration>,
     keys: Range<u64>,
@@ -56,11 +55,15 @@ pub struct TlsTexts<'o> {
     pub table: Option<&'o str>,
 }
 
-/// One number; or several, of which the first free one is taken.
+/// A number.
 #[derive(Debug)]
-enum Number {
-    One(u8),
-    FirstOf(Vec<u8>),
+enum Number<'o> {
+    /// This one, with its lock file; with a map, the folder of its lock files.
+    One(u8, &'o Path),
+    /// The first of these that is free. The lock files are in the folder.
+    FirstOf(Vec<u8>, &'o Path),
+    /// The first one that is free. The lock files are in the user's folder.
+    Any,
 }
 
 impl Options {
@@ -75,8 +78,7 @@ impl Options {
             Ok(unsafe { text(what, at) }?)
         };
         let place = place_of(text("servers", self.servers)?, text("map", self.map)?)?;
-        let lock_file = text("lock_file", self.lock_file)?;
-        let lock_file = lock_file.ok_or(Fault::misuse("the option `lock_file` is null"))?;
+        let lock_file = text("lock_file", self.lock_file)?.map(Path::new);
         let tls = TlsTexts {
             authority: text("tls_authority", self.tls_authority)?,
             certificate: text("tls_certificate", self.tls_certificate)?,
@@ -85,8 +87,7 @@ impl Options {
         };
         Ok(Wish {
             place,
-            lock_file: Path::new(lock_file),
-            number: Number::new(self.number, self.numbers)?,
+            number: Number::new(self.number, self.numbers, lock_file)?,
             timeout: waited(self.timeout_ms),
             wait_if_in_use: waited(self.wait_if_in_use_ms),
             keys: self.keys()?,
@@ -109,23 +110,32 @@ fn waited(milliseconds: u64) -> Option<Duration> {
     (milliseconds > 0).then(|| Duration::from_millis(milliseconds))
 }
 
-impl Number {
-    fn new(number: u32, numbers: u64) -> Result<Number, Fault> {
-        if numbers == 0 {
-            let bad = |_| Fault::new(Code::BadNumber, "a client's number is 0 to 63");
-            return u8::try_from(number).map(Number::One).map_err(bad);
-        }
-        if number != 0 {
+impl<'o> Number<'o> {
+    fn new(number: u32, numbers: u64, lock_file: Option<&'o Path>) -> Result<Self, Fault> {
+        if number != 0 && numbers != 0 {
             return Err(Fault::misuse("the options `number` and `numbers` are both set"));
         }
-        Ok(Number::FirstOf((0..64).filter(|number| numbers >> number & 1 == 1).collect()))
+        let Some(lock_file) = lock_file else {
+            let is_any = number == 0 && numbers == 0;
+            let misuse = Fault::misuse("the option `lock_file` is null, and a number is set");
+            return if is_any { Ok(Number::Any) } else { Err(misuse) };
+        };
+        if numbers != 0 {
+            let set = (0..64).filter(|number| numbers >> number & 1 == 1).collect();
+            return Ok(Number::FirstOf(set, lock_file));
+        }
+        let bad = |_| Fault::new(Code::BadNumber, "a client's number is 0 to 63");
+        u8::try_from(number).map(|number| Number::One(number, lock_file)).map_err(bad)
     }
 
-    fn one(self) -> Result<u8, Fault> {
-        match self {
-            Number::One(number) => Ok(number),
-            Number::FirstOf(_) => Err(Fault::misuse("an eviction is of one number")),
-        }
+    fn builder(self, place: Place) -> Result<ClientBuilder, JoinError> {
+        Ok(match self {
+            Number::One(number, lock_file) => Client::builder(place, number, lock_file),
+            Number::FirstOf(numbers, folder) => {
+                Client::builder_with_numbers(place, numbers, folder)
+            }
+            Number::Any => Client::builder_with_any_number(place)?,
+        })
     }
 }
 
@@ -154,7 +164,10 @@ impl Wish<'_> {
         }
         match self.place {
             Place::Server(servers) => {
-                Ok(evict(self.tls.show_to(servers), self.number.one()?, self.lock_file)?)
+                let Number::One(number, lock_file) = self.number else {
+                    return Err(Fault::misuse("an eviction is of one number, by its lock file"));
+                };
+                Ok(evict(self.tls.show_to(servers), number, lock_file)?)
             }
             Place::Map(_) => Err(Fault::misuse("a client is evicted at one server, not a map")),
         }
@@ -162,13 +175,7 @@ impl Wish<'_> {
 
     /// Joins.
     pub fn join(self) -> Result<Joined, Fault> {
-        let builder = match self.number {
-            Number::One(number) => Client::builder(self.place, number, self.lock_file),
-            Number::FirstOf(numbers) => {
-                Client::builder_with_numbers(self.place, numbers, self.lock_file)
-            }
-        };
-        let mut builder = self.tls.show_by(builder.keys(self.keys));
+        let mut builder = self.tls.show_by(self.number.builder(self.place)?.keys(self.keys));
         if let Some(timeout) = self.timeout {
             builder = builder.timeout(timeout);
         }

@@ -167,6 +167,12 @@ fn each_call_with_leases() {
 }
 
 #[test]
+fn the_first_free_number_is_taken_by_lock_files_of_the_user() {
+    let world = World::leased("connect", Duration::from_secs(60));
+    world.runs("cc", "tests/programs/connect.c", MEMORY);
+}
+
+#[test]
 fn each_call_over_tls() {
     World::certified("tls").runs("cc", "tests/programs/calls.c", &[]);
 }
@@ -224,7 +230,6 @@ fn a_lease_that_ends_leaves_neither_rows_nor_pins() {
 }
 
 const README: &str = include_str!("../README.md");
-const CLIENTS: &str = include_str!("../../../docs/CLIENTS.md");
 
 /// Runs lines of a page in this language, as the body of a program with these headers.
 fn run_page(lines: &str, language: &str, compiler: &str, headers: &[&str]) -> String {
@@ -242,13 +247,9 @@ fn run_page(lines: &str, language: &str, compiler: &str, headers: &[&str]) -> St
 fn the_lines_of_the_pages() {
     let (headers, classes) = (["krl_client.h", "err.h", "stdio.h"], ["krl.hpp", "iostream"]);
     assert_eq!(run_page(&blocks(README, "c", 1), "c", "cc", &headers), "15=hello\n");
-    assert_eq!(run_page(&blocks(CLIENTS, "c", 1), "c", "cc", &headers), "15=world\n");
     for compiler in compilers(&[]) {
         let printed = run_page(&blocks(README, "cpp", 1), "cpp", compiler, &classes);
         assert_eq!(printed, "15=world\n");
-        let printed = run_page(&blocks(CLIENTS, "cpp", 2), "cpp", compiler, &classes);
-        let lines = ["1 rows, of which one has changed", "15=world", "KRLC_OK", "KRLC_OK"];
-        assert_eq!(printed, lines.join("\n") + "\nKRLC_ABSENT\n");
     }
 }
 

@@ -4,8 +4,7 @@ use crate::failure::Failure;
 use crate::output::print_note;
 use crate::place::Place;
 use crate::waiting::with_note_if_long;
-use krl::{Client, ClientBuilder, JoinError, JoinErrorKind, LockFileError, Refusal};
-use krl_cli::lock_folder;
+use krl::{Client, ClientBuilder, JoinError, JoinErrorKind, LockFileError, Refusal, lock_folder};
 use std::collections::VecDeque;
 use std::ops::Range;
 use std::path::PathBuf;
@@ -170,6 +169,7 @@ impl LockFiles {
 /// The user's folder of lock files and of the prompt's history. It is made if there is none.
 pub fn folder() -> Result<PathBuf, Failure> {
     lock_folder().map_err(|why| {
+        let why = JoinErrorKind::NoLockFolder(why);
         Failure::NotJoined(format!("{why}; or give the lock file by --number and --lock-file"))
     })
 }

@@ -7,7 +7,7 @@ cached tables of PostgreSQL."""
 from ._library import END as END, TOP as TOP, Row as Row
 from .client import Client as Client, Pin as Pin, Status as Status, Tls as Tls, Write as Write
 from .client import Delete as Delete, Insert as Insert, Put as Put, Set as Set
-from .client import evict as evict, join as join, join_map as join_map
+from .client import connect as connect, evict as evict, join as join, join_map as join_map
 from .errors import *
 
 __version__ = "0.1.0"

@@ -93,4 +93,5 @@ class Client(_Calls):
                 yield rows
 
 
-join, join_map = _awaited(threads.join, Client), _awaited(threads.join_map, Client)
+connect, join = _awaited(threads.connect, Client), _awaited(threads.join, Client)
+join_map = _awaited(threads.join_map, Client)

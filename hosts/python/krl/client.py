@@ -291,6 +291,13 @@ class Client(_Writer):
 weakref.finalize(Client, int)
 
 
+def connect(servers: str, timeout: float = 15.0, *, tls: Tls | None = None) -> Client:
+    """Joins the server by the first number that is free. The lock file is in the folder ``krl`` of
+    ``$XDG_STATE_HOME`` or ``$HOME/.local/state``. This is for servers with leases: without them, a
+    server cannot tell a silent client of another machine from one that is gone."""
+    return Client(servers, _options(0, tls, timeout, servers=servers))
+
+
 def join(servers: str, number: Numbers, lock_file: PathLike, timeout: float = 15.0,
          *, tls: Tls | None = None, wait_if_in_use: Seconds = None) -> Client:
     """Joins the server as the client of this number, from 0 to 63; or as that of the first free

@@ -58,9 +58,9 @@ class HeaderTest(unittest.TestCase):
         for name, types in named.items():
             self.assertEqual(types, declared[name], name)
         # What Python has no call for: it has names, rooms and timeouts of its own, makes each write
-        # as one of several, and has no tenures.
+        # as one of several, reads one row as a range, and has no tenures.
         writes = {"insert", "put", "set", "delete"}
-        without = {"cached_into", "code_name", "set_timeout", "tenure", *writes}
+        without = {"cached_into", "code_name", "get", "set_timeout", "tenure", *writes}
         without |= {f"pin_{write}" for write in writes}
         self.assertEqual(declared.keys() - named, without)
 

@@ -14,6 +14,7 @@ mod joined;
 pub(crate) mod joining;
 pub(crate) mod link;
 pub(crate) mod lock_file;
+pub(crate) mod lock_folder;
 pub(crate) mod numbers;
 pub(crate) mod pin;
 mod pinned;

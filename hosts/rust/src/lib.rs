@@ -3,7 +3,7 @@
 //!
 //! | You want to | Start at |
 //! | --- | --- |
-//! | read and write rows, and keep what was read | [`Client::join`], [`ClientBuilder`] |
+//! | read and write rows, and keep what was read | [`Client::connect`], [`ClientBuilder`] |
 //! | do the same in tasks of an executor | [`AsyncClient`] |
 //! | change several rows at one moment, or hold a range | [`Client::write_all`], [`Client::pin`] |
 //! | learn when a range changes | [`Client::changes`] |
@@ -75,6 +75,7 @@ pub use client::calls::Waited;
 pub use client::changes::Changes;
 pub use client::evict::evict;
 pub use client::lock_file::LockFileError;
+pub use client::lock_folder::lock_folder;
 pub use client::pin::Pin;
 pub use client::place::Place;
 pub use client::status::ShardStatus;

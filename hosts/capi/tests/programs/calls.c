@@ -97,6 +97,15 @@ static void reads(krlc_client *client, krlc_rows *rows) {
     EXPECT(KRLC_ABSENT, krlc_cached_row(client, 16, room));
     WANT(room[0].key == 15);
     EXPECT(KRLC_BAD_KEY, krlc_cached_row(client, KRLC_END, room));
+    EXPECT(KRLC_ABSENT, krlc_get(client, 19, room, 0, &error));
+    WANT(room[0].key == 15);
+    EXPECT(KRLC_BAD_KEY, krlc_get(client, KRLC_END, room, 0, &error));
+    EXPECT(KRLC_OK, krlc_forget(client, 10, 20, 0, &error));
+    EXPECT(KRLC_MISS, krlc_cached_row(client, 15, room));
+    room[0].key = 0;
+    EXPECT(KRLC_OK, krlc_get(client, 15, room, 0, &error));
+    WANT(room[0].key == 15 && room[0].length == 4 && memcmp(room[0].bytes, "five", 4) == 0);
+    EXPECT(KRLC_OK, krlc_cached_row(client, 15, room));
     EXPECT(KRLC_OK, krlc_forget(client, 10, 20, 0, &error));
     EXPECT(KRLC_BAD_RANGE, krlc_cached(client, 20, 10, rows));
     EXPECT(KRLC_BAD_RANGE, krlc_cached_into(client, 0, KRLC_TOP + 1, room, 3, &count));

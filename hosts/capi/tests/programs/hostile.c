@@ -28,6 +28,7 @@ static void null_pointers(krlc_client *client, krlc_rows *rows) {
     uint64_t tenure = 0;
     EXPECT(KRLC_MISUSE, krlc_tenure(NULL, 1, 2, &tenure));
     EXPECT(KRLC_MISUSE, krlc_read(NULL, 1, 2, rows, 0, NULL));
+    EXPECT(KRLC_MISUSE, krlc_get(NULL, 1, &row, 0, &error));
     EXPECT(KRLC_MISUSE, krlc_wait_for_change(NULL, 1, 2, NULL, 0, 1, &error));
     EXPECT(KRLC_MISUSE, krlc_forget(NULL, 1, 2, 0, &error));
     EXPECT(KRLC_MISUSE, krlc_insert(NULL, 1, "", 0, 0, &error));

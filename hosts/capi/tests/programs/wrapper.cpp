@@ -67,6 +67,7 @@ void reads_and_writes(krl::client &client, krl::client &other) {
     want(rows.size() == 1 && rows[0].value == "other", "the row of the other client");
     want(client.set(17, "set") == krl::outcome::applied, "a set of no row");
     want(client.set(17, "again") == krl::outcome::applied, "a set of a row");
+    want(client.get(17) == "again" && !client.get(18), "one row, and none");
     want(client.erase(17) == krl::outcome::applied, "an erase of what was set");
 }
 

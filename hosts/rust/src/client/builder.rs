@@ -2,9 +2,11 @@
 use crate::client::Client;
 use crate::client::joined::Joined;
 use crate::client::joining::{self, JoinPurpose, Waits};
+use crate::client::lock_folder::lock_folder;
 use crate::client::numbers;
 use crate::client::place::Place;
 use crate::client::shard_client::ShardClient;
+use crate::model::client_number::ClientNumber;
 use crate::model::error::{JoinError, JoinErrorKind};
 use crate::model::row::END;
 use crate::net::servers::Servers;
@@ -173,6 +175,40 @@ fn wait(joining: std::io::Result<ScopedJoinHandle<'_, JoinedShard>>) -> JoinedSh
 }
 
 impl Client {
+    /// Joins one server, or all shards of a map, as the client of the first number that is free:
+    /// [`Client::number`] returns which. The lock files are in the user's [`lock_folder`], so that
+    /// two processes of a user never take one number on one machine. The clients of other users and
+    /// machines are known by their leases: a number that the server reports as in use is passed
+    /// over. **A server without leases can't tell a silent client from one that is gone**: of such
+    /// a server, join by a number that no other process has.
+    ///
+    /// ```no_run
+    /// # use krl::{Client, Servers};
+    /// let servers: Servers = "127.0.0.1:7400".parse()?;
+    /// let client = Client::connect(servers)?;
+    /// println!("client {}", client.number());
+    /// # Ok::<(), Box<dyn std::error::Error>>(())
+    /// ```
+    ///
+    /// # Errors
+    ///
+    /// `NoLockFolder` if there is no such folder, and those of [`Client::join`]. If no number is
+    /// free, the error is that of the first number that the server reports as in use.
+    pub fn connect(place: impl Into<Place>) -> Result<Client, JoinError> {
+        Client::builder_with_any_number(place)?.join()
+    }
+
+    /// A builder for a client that joins as [`Client::connect`] does.
+    ///
+    /// # Errors
+    ///
+    /// `NoLockFolder` if there is no such folder.
+    pub fn builder_with_any_number(place: impl Into<Place>) -> Result<ClientBuilder, JoinError> {
+        let folder = lock_folder().map_err(JoinErrorKind::NoLockFolder)?;
+        let builder = Client::builder_with_numbers(place, 0..ClientNumber::COUNT, folder);
+        Ok(builder.wait_if_in_use(Duration::ZERO))
+    }
+
     /// Joins as the client of this number: one server, or all shards of a map. `lock_file` is the
     /// file of this number on this machine: it keeps a second process off the number. Of a map it
     /// is the folder of the lock files, which has to be there; it has one for each shard and

@@ -119,6 +119,10 @@ pub enum JoinErrorKind {
         /// Why it was not taken.
         error: LockFileError,
     },
+    /// There is no folder for lock files, which [`Client::connect`] needs.
+    ///
+    /// [`Client::connect`]: crate::Client::connect
+    NoLockFolder(io::Error),
     /// A number above 63.
     BadNumber,
     /// What a builder was given has none of this: a number, or keys of a shard.
@@ -372,6 +376,9 @@ impl fmt::Display for JoinErrorKind {
             JoinErrorKind::LockFile { path, error } => {
                 write!(f, "the lock file {}: {error}", path.display())
             }
+            JoinErrorKind::NoLockFolder(error) => {
+                write!(f, "there is no folder for lock files: {error}")
+            }
             JoinErrorKind::BadNumber => f.write_str("a client's number is 0 to 63"),
             JoinErrorKind::Incomplete(what) => write!(f, "a client can't join without {what}"),
             JoinErrorKind::NoAnswer { servers, fault } => {
@@ -406,9 +413,9 @@ impl std::error::Error for JoinError {
         match &self.kind {
             JoinErrorKind::LockFile { error, .. } => Some(error),
             JoinErrorKind::NoAnswer { fault, .. } => fault.as_ref().map(|fault| fault as _),
-            JoinErrorKind::NothingListens { fault: error, .. } | JoinErrorKind::NoThread(error) => {
-                Some(error)
-            }
+            JoinErrorKind::NothingListens { fault: error, .. }
+            | JoinErrorKind::NoLockFolder(error)
+            | JoinErrorKind::NoThread(error) => Some(error),
             JoinErrorKind::OtherShard(other) => Some(other),
             JoinErrorKind::BadNumber
             | JoinErrorKind::Incomplete(_)
