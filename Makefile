@@ -5,6 +5,7 @@
 #     make dist                   makes an archive of the same in OUT
 #     make deb                    makes a package for Debian of the same in OUT, and one of the extension for PostgreSQL
 #     make wheel                  makes a wheel of the client for Python in OUT
+#     make release VERSION=0.1.0  makes all that goes next to a tag in OUT: docs/maintainers/RELEASE.md
 PREFIX = /usr/local
 TARGET = $(CURDIR)/hosts/target
 LIBRARY = $(TARGET)/library
@@ -39,4 +40,7 @@ deb: all
 wheel: all
 	hosts/packaging/wheel $(TARGET)/release/libkrl_client.so $(OUT)
 
-.PHONY: all deb dist install wheel
+release:
+	hosts/packaging/release $(VERSION) $(OUT)
+
+.PHONY: all deb dist install release wheel

@@ -24,6 +24,7 @@ part_packages() {
     expect 0 'the package of the extension' make_package extension-package
     expect 0 'the extension of that package' "$top/hosts/pgext/check" "$programs" \
         --package "$work"/dist/postgresql-*.deb --only regress
+    drive 0 'the packages, installed' "$top/tests/installed" "$work/dist"
 }
 
 part_pages() {
