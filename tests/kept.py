@@ -1,8 +1,10 @@
 """What the gate keeps on this machine, so that a later run takes it over: the names of a crate's functions, which
-`rt ci` prints only if it proves the crate, and that all wrong bodies of a crate were refused.
+`rt ci` prints only if it proves the crate, that all wrong bodies of a crate were refused, and that a committed library
+is the one that was built.
 
-Each file is named by the checksum of all that it was made from: the kit, the crate's sources and those below it, and
-for wrong bodies also the edits and the scripts that try them. So it never goes stale. They are in
+Each file is named by the checksum of all that it was made from: the kit, the crate's sources and those below it, for
+wrong bodies also the edits and the scripts that try them, and for a library also what is committed and the scripts that
+build it. So it never goes stale. They are in
 $XDG_CACHE_HOME/krl or ~/.cache/krl; if that cannot be written, nothing is kept."""
 import contextlib
 import hashlib
@@ -90,6 +92,12 @@ class Kept:
 
     def keep_functions(self, name, functions):
         self.write("functions", self.sums[name][0], "\n".join(functions))
+
+    def total_with(self, name, files):
+        """The checksum of the kit, of a crate, those below it, and these files."""
+        total = hashlib.sha256(f"{self.sums[name][0]}\n".encode())
+        add(total, files)
+        return total.hexdigest()
 
     def were_refused(self, name):
         """Whether all wrong bodies of a crate were refused, as they and the crate stand."""

@@ -1,9 +1,12 @@
 # shellcheck shell=sh
 # The parts of the gate: how one is run and reported. ./check and tests/hosts read this. $work is a folder of theirs.
 
-# A part that fails adds to this file how only that part is run.
+# A part that fails adds to the first file how only that part is run, and to the second one what it found. A part of
+# tests/hosts adds its name to the third one if that is final: it is not run again.
 KRL_FAILED=${KRL_FAILED-$work/failed}
-export KRL_FAILED
+KRL_FOUND=${KRL_FOUND-$work/found}
+KRL_FINAL=${KRL_FINAL-$work/final}
+export KRL_FAILED KRL_FOUND KRL_FINAL
 
 # Leaves in $clock the seconds of the clock, and in $processor those of a processor that this shell and the commands
 # that it has waited for took. $1 is a file that nothing else writes.
@@ -32,9 +35,11 @@ part() {
     [ "$outcome" = passed ]
 }
 
-# Prints how each part is run that failed.
+# Prints how each part is run that failed, and what these found.
 list_failed() {
-    [ ! -s "$KRL_FAILED" ] || sed 's/^/FAILED: /' "$KRL_FAILED" >&2
+    [ -s "$KRL_FAILED" ] || return 0
+    sort -u "$KRL_FAILED" | sed 's/^/FAILED: /' >&2
+    [ ! -s "$KRL_FOUND" ] || sed 's/^/    /' "$KRL_FOUND" >&2
 }
 
 # Ends a process and what it has started.

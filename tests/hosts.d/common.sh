@@ -15,8 +15,10 @@ work=$(mktemp -d)
 
 # The failed tests of cargo may stand far above the end of what it printed.
 fail() {
-    printf 'hosts: %s\n' "$1" >&2
-    ! grep '^---- .* ----$' "$work/log" >&2 2>/dev/null || echo '..' >&2
+    {
+        printf 'hosts: %s: %s\n' "$part" "$1"
+        ! grep '^---- .* ----$' "$work/log" 2>/dev/null || echo '..'
+    } | tee -a "$KRL_FOUND" >&2
     [ ! -s "$work/log" ] || tail -n 40 "$work/log" >&2
     exit 1
 }
@@ -45,17 +47,30 @@ expect() {
     status=$1 what=$2 ended=0
     shift 2
     "$@" >"$work/log" 2>&1 </dev/null || ended=$?
+    [ "$ended" != "${found_wrong-}" ] || echo "$part" >>"$KRL_FINAL"
     [ "$ended" = "$status" ] || fail "$what: status $ended, and not $status"
 }
 
-# Runs the drive or the simulation, and shows its last line, with the seconds of the clock and of a processor.
+# Runs the drive or the simulation, and shows its last line, with the seconds of the clock and of a processor. What
+# either finds wrong is final. That it came to no end, or too late, is not.
 drive() {
     read_clocks "$work/times"
     began=$clock spent=$processor
+    [ "$3" = "$simulation" ] && found_wrong=1 || found_wrong=3
     expect "$@"
+    found_wrong=
     read_clocks "$work/times"
     printf 'hosts: %s: %s (%s seconds, %s of a processor)\n' \
         "$2" "$(tail -n 1 "$work/log")" $((clock - began)) $((processor - spent)) >&2
+}
+
+# Leaves in $memory a folder in memory, if there is room for stores: what has to come soon does not wait for a disk on
+# which other parts have written.
+keep_in_memory() {
+    memory=$work
+    [ -w /dev/shm ] && [ "$(df -k --output=avail /dev/shm | tail -n 1)" -gt 1000000 ] || return 0
+    memory=$(mktemp -d /dev/shm/krl.XXXXXX)
+    trap 'rm -rf "$memory"; leave' EXIT
 }
 
 # Runs a drive that has to find something wrong: `finds WHAT PROGRAM DRIVE ROUNDS WORD..`. Whether a kill falls where it

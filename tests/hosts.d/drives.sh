@@ -27,10 +27,11 @@ part_kills() {
 
 part_leases() {
     need_programs
-    drive 0 'leases' "$drive" leases "$work/leases" 12
-    drive 0 'leases over a network that loses, repeats and swaps' "$drive" leases "$work/leases-lossy" 6 lossy
-    drive 0 'who wants what a dead client holds' "$drive" takeover "$work/takeover" 12
-    drive 0 'a hasty client' "$drive" haste "$work/haste"
+    keep_in_memory
+    drive 0 'leases' "$drive" leases "$memory/leases" 12
+    drive 0 'leases over a network that loses, repeats and swaps' "$drive" leases "$memory/leases-lossy" 6 lossy
+    drive 0 'who wants what a dead client holds' "$drive" takeover "$memory/takeover" 12
+    drive 0 'a hasty client' "$drive" haste "$memory/haste"
 }
 
 part_strangers() {

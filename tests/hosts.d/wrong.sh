@@ -53,7 +53,7 @@ part_wrong() {
     need_programs
     sums >"$work/sums"
     expect 0 'the wrong hosts' "$top/tests/wrong_hosts" --work "$work/tried"
-    sed 's/^/hosts: /' "$work/log" >&2
+    printf 'hosts: wrong hosts: %s\n' "$(tail -n 1 "$work/log")" >&2
     compare_sums
 }
 
@@ -87,17 +87,18 @@ part_wrong_drives() {
 part_failover() {
     has etcd || not_run 'there is no etcd: servers that stand by'
     need_programs
+    keep_in_memory
     drive 0 'stores of the greatest room' "$drive" large-stores "$work/large-stores"
     rm -rf "$work/large-stores"
     drive 0 'a frozen server, noticed by a client that only reads' \
-        "$drive" frozen "$work/frozen" 2 "$programs/krl-server"
+        "$drive" frozen "$memory/frozen" 2 "$programs/krl-server"
     sums >"$work/sums"
     edited "$top/hosts/drive/heedless.edit"
     build_edited 'heedless servers' krl-server
     compare_sums
     heedless=$edited_programs/krl-server
-    drive 0 'servers that stand by' "$drive" failover "$work/failover" "${KRL_FAULTS-12}" "$heedless"
+    drive 0 'servers that stand by' "$drive" failover "$memory/failover" "${KRL_FAULTS-12}" "$heedless"
     drive 0 'servers that stand by, without leases of clients' \
-        "$drive" failover "$work/failover-leaseless" 4 "$heedless" kill,wake,cut,cross leaseless
+        "$drive" failover "$memory/failover-leaseless" 4 "$heedless" kill,wake,cut,cross leaseless
     sed -n 's/^NOT RUN/hosts: NOT RUN/p' "$work/log" >&2
 }
