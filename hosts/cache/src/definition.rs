@@ -2,10 +2,11 @@
 use crate::error::ReadError;
 use crate::held::{self, Held, MarkTenures};
 use crate::key::{Key, KeyValue, Stripe, Stripes};
-use crate::locks::{Locks, Marks};
+use crate::locks::{CLUSTER_MARK, Locks, Marks};
 use crate::memory::{Memory, Rows};
 use crate::session::{Quiet, Session};
 use crate::sql::{KeyType, Selection, TableSql};
+use std::cell::LazyCell;
 use std::num::NonZeroU32;
 use std::sync::Arc;
 
@@ -29,6 +30,9 @@ const CACHED: &str = "
 
 /// Reports whether nobody is about to change the definition of a table.
 const QUIET_DEFINITION: &str = "SELECT krl.quiet($1, $2::text::regclass, $3, '{}')";
+
+/// What no tenure is.
+const NO_TENURE: u64 = u64::MAX;
 
 /// A table as it was defined at a moment. It is found again if one of its marks was lost since: each
 /// change of a definition takes one. The rows in memory are of one definition.
@@ -118,6 +122,37 @@ impl Definition {
         let found = self.memory.find(wanted.stripe, wanted.key);
         let now = self.look().and_then(|look| look.held(wanted.stripe));
         found.is_some_and(|(then, _)| held::may_return(then, now))
+    }
+
+    /// By what the stripe of each key is held now. `found` is by what it was held when its rows were
+    /// loaded that are in memory.
+    pub fn held(&self, wanted: &[Wanted<'_>], found: &[Option<Held>]) -> Vec<Option<Held>> {
+        let look = LazyCell::new(|| self.look());
+        let held = |(still, wanted): (Option<Held>, &Wanted<'_>)| {
+            still.or_else(|| look.and_then(|look| look.held(wanted.stripe)))
+        };
+        self.held_still(wanted, found).into_iter().zip(wanted).map(held).collect()
+    }
+
+    /// What was found that is held still. One question to krl's client is enough for that.
+    fn held_still(&self, wanted: &[Wanted<'_>], found: &[Option<Held>]) -> Vec<Option<Held>> {
+        let Some(Holding { locks, marks }) = &self.holding else { return vec![None; found.len()] };
+        let of_marks = [
+            (marks.of_table.into(), marks.tenures.table),
+            (CLUSTER_MARK, marks.tenures.cluster),
+        ];
+        let of_stripe = |(wanted, found): (&Wanted<'_>, &Option<Held>)| {
+            let tenure = found.map_or(NO_TENURE, |then| then.stripe);
+            (self.stripes.key_of_krl(wanted.stripe), tenure)
+        };
+        let of_stripes = wanted.iter().zip(found).map(of_stripe);
+        let unbroken = locks.held_since(of_marks.into_iter().chain(of_stripes));
+        let (of_marks, of_stripes) = unbroken.split_at(of_marks.len());
+        let still = |(is_unbroken, then): (&bool, &Option<Held>)| {
+            let are_unbroken = [of_marks[0], of_marks[1], *is_unbroken];
+            held::held_since(self.number, marks.tenures, (*then)?.stripe, are_unbroken)
+        };
+        of_stripes.iter().zip(found).map(still).collect()
     }
 
     /// What is held now, if the marks have been held since the definition was found.

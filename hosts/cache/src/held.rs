@@ -23,6 +23,17 @@ pub(crate) struct MarkTenures {
     pub table: u64,
 }
 
+/// What the marks and a stripe are held by now, by a definition that was found while the marks were
+/// held by `marks`. `stripe` is a tenure that the stripe had. None if one of the three was lost since.
+pub(crate) fn held_since(
+    definition: u64,
+    marks: MarkTenures,
+    stripe: u64,
+    are_unbroken: [bool; 3],
+) -> Option<Held> {
+    are_unbroken.iter().all(|is| *is).then_some(Held { definition, marks, stripe })
+}
+
 /// Whether rows in memory are those of the database at the moment at which they are held by `now`.
 /// They were loaded while they were held by `then`.
 pub(crate) fn may_return(then: Held, now: Option<Held>) -> bool {
@@ -40,10 +51,10 @@ pub(crate) fn may_return(then: Held, now: Option<Held>) -> bool {
 /// looks, since all of them were loaded before it, and each is held without a break until after it.
 pub(crate) fn find<R>(
     found: impl FnOnce() -> Vec<Option<(Held, R)>>,
-    held_now: impl FnOnce() -> Vec<Option<Held>>,
+    held_now: impl FnOnce(&[Option<(Held, R)>]) -> Vec<Option<Held>>,
 ) -> (Vec<Option<(Held, R)>>, Missing) {
     let found = found();
-    let held = held_now();
+    let held = held_now(&found);
     let is_here = |place: &usize| {
         found[*place].as_ref().is_some_and(|(then, _)| may_return(*then, held[*place]))
     };
@@ -115,6 +126,15 @@ mod tests {
     }
 
     #[test]
+    fn what_was_lost_since_is_not_held() {
+        let held = |are_unbroken| held_since(3, MARKS, 7, are_unbroken);
+        assert_eq!(held([true; 3]), Some(HELD));
+        for lost in 0..3 {
+            assert_eq!(held(std::array::from_fn(|part| part != lost)), None, "{lost}");
+        }
+    }
+
+    #[test]
     fn no_row_of_another_definition_is_returned() {
         for definition in [2, 4] {
             assert!(!may_return(HELD, Some(Held { definition, ..HELD })));
@@ -125,7 +145,7 @@ mod tests {
     fn what_is_not_here_or_was_lost_is_missing() {
         let (found, missing) = find(
             || vec![Some((HELD, 1)), Some((HELD, 2)), None, Some((HELD, 4))],
-            || vec![Some(HELD), Some(Held { stripe: 8, ..HELD }), Some(HELD), None],
+            |_| vec![Some(HELD), Some(Held { stripe: 8, ..HELD }), Some(HELD), None],
         );
         assert_eq!(found[0], Some((HELD, 1)));
         assert_eq!(missing.places, [1, 2, 3]);
@@ -138,7 +158,7 @@ mod tests {
             is_found.set(true);
             vec![Some((HELD, 1))]
         };
-        let (_, missing) = find(found, || vec![is_found.get().then_some(HELD)]);
+        let (_, missing) = find(found, |_| vec![is_found.get().then_some(HELD)]);
         assert_eq!(missing.places, []);
     }
 

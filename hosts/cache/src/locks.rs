@@ -1,12 +1,12 @@
 //! The client of krl by which a process holds stripes.
 use crate::cache::KrlPlace;
 use crate::held::MarkTenures;
-use krl::{Client, Error, JoinError, Servers};
+use krl::{Client, Error, JoinError, Servers, Tenure};
 use std::ops::{Range, RangeInclusive};
 use std::time::Duration;
 
 /// The key of krl of the mark of all tables, which a reader holds with each stripe.
-const CLUSTER_MARK: u64 = 1 << 40;
+pub(crate) const CLUSTER_MARK: u64 = 1 << 40;
 
 /// How long a client waits to join, and for a lock.
 const JOIN: Duration = Duration::from_secs(5);
@@ -50,6 +50,13 @@ impl Locks {
     /// The tenure of a key, if it is held.
     pub fn tenure(&self, key: u64) -> Option<u64> {
         self.client.tenure(key..=key).ok().flatten().map(u64::from)
+    }
+
+    /// Whether each key has been held without a break since it had this tenure.
+    pub fn held_since(&self, since: impl IntoIterator<Item = (u64, u64)>) -> Vec<bool> {
+        let since = since.into_iter().map(|(key, tenure)| (key..key + 1, tenure.into()));
+        let since: Vec<(Range<u64>, Tenure)> = since.collect();
+        self.client.held_since(&since).unwrap_or_else(|_| vec![false; since.len()])
     }
 
     /// The tenures of the marks, if both are held.

@@ -198,7 +198,7 @@ impl<'r> Read<'r> {
     /// What is in memory, and which rows are missing or may not be returned.
     fn find(&self) -> (Vec<Found>, Missing) {
         let find = |wanted: &Wanted<'_>| self.definition.memory.find(wanted.stripe, wanted.key);
-        held::find(|| self.wanted.iter().map(find).collect(), || self.held())
+        held::find(|| self.wanted.iter().map(find).collect(), |found| self.held(found))
     }
 
     /// From memory, if it has all rows. Otherwise the database selects those that are missing, if
@@ -242,7 +242,7 @@ impl<'r> Read<'r> {
         for (place, (rows, held)) in places.iter().zip(loaded) {
             found[*place] = held.map(|held| (held, rows));
         }
-        let (found, missing) = held::find(|| found, || self.held());
+        let (found, missing) = held::find(|| found, |found| self.held(found));
         if !missing.places.is_empty() {
             return Ok(None);
         }
@@ -262,10 +262,10 @@ impl<'r> Read<'r> {
     }
 
     /// By what each key is held now.
-    fn held(&self) -> Vec<Option<Held>> {
-        let look = self.definition.look();
-        let held = |wanted: &Wanted<'_>| look.and_then(|look| look.held(wanted.stripe));
-        self.wanted.iter().map(held).collect()
+    fn held(&self, found: &[Found]) -> Vec<Option<Held>> {
+        let then = |found: &Found| found.as_ref().map(|(then, _)| *then);
+        let then: Vec<Option<Held>> = found.iter().map(then).collect();
+        self.definition.held(&self.wanted, &then)
     }
 
     /// Reports to the loader what is to be loaded from now on. It learns nothing if it is late.

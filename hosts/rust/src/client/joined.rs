@@ -141,6 +141,18 @@ impl Joined {
         Ok(parts.iter().map(|part| self.client(part.shard).tenure(&part.keys, room)).sum())
     }
 
+    /// Whether each range, which is not empty, was held without a break since it had this tenure.
+    pub fn held_since(&self, since: &[(Range<u64>, Tenure)]) -> Result<Vec<bool>, Error> {
+        if let Some(only) = self.only() {
+            return Ok(only.held_since(since));
+        }
+        let mut room = Vec::new();
+        let mut is_held = |(keys, since): &(Range<u64>, Tenure)| {
+            Ok(self.tenure(keys, &mut room)? == Some(*since))
+        };
+        since.iter().map(&mut is_held).collect()
+    }
+
     /// Whether the caches know all parts at one moment. If so the rows are there.
     pub fn is_known(&self, parts: &[Part], rows: &mut Vec<Row>) -> bool {
         rows.clear();

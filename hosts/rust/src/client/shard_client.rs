@@ -52,6 +52,11 @@ impl ShardClient {
         self.link.cache().tenure(keys, room, Moment::now).ok().flatten()
     }
 
+    /// Whether the client has held each range without a break since it had this tenure.
+    pub fn held_since(&self, since: &[(Range<u64>, Tenure)]) -> Vec<bool> {
+        self.link.cache().held_since(since, Moment::now)
+    }
+
     /// Leaves, and waits until the deadline for the server to keep that. Then its thread has ended,
     /// and its number is free.
     pub fn leave_by(&self, end: Instant) -> Result<(), ErrorKind> {

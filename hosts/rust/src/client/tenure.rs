@@ -4,7 +4,7 @@ use crate::client::scratch::with_room;
 use crate::model::error::{Error, ErrorKind};
 use crate::model::range::keys_of;
 use crate::proved::losses::Tenure;
-use std::ops::RangeBounds;
+use std::ops::{Range, RangeBounds};
 
 impl Client {
     /// The tenure of the range, or `None` if the cache does not cover it. **If two calls return the
@@ -43,5 +43,22 @@ impl Client {
             return Err(ErrorKind::BadRange.into());
         }
         with_room(|room| self.joined.tenure(&keys, room))
+    }
+
+    /// Returns for each of these ranges whether the client has held it without a break since
+    /// [`Client::tenure`] returned the tenure next to it: whether that call would return the same
+    /// one again. It takes much less time than that call for each range, since it scans none of
+    /// them. It sends nothing, and waits for no longer than [`Client::cached`].
+    ///
+    /// # Errors
+    ///
+    /// Those of [`Client::tenure`].
+    pub fn held_since(&self, since: &[(Range<u64>, Tenure)]) -> Result<Vec<bool>, Error> {
+        for (keys, _) in since {
+            if keys_of(keys)?.is_empty() {
+                return Err(ErrorKind::BadRange.into());
+            }
+        }
+        self.joined.held_since(since)
     }
 }

@@ -102,6 +102,21 @@ impl Cache {
         })
     }
 
+    /// Whether the client has held each of these ranges without a break since it had this tenure,
+    /// all at one moment. What takes a part of what it held has noted a loss there. The clock of
+    /// leases is read after that.
+    pub fn held_since(
+        &self,
+        since: &[(Range<u64>, Tenure)],
+        clock: impl FnOnce() -> io::Result<Moment>,
+    ) -> Vec<bool> {
+        self.0.read(|incarnation| {
+            let is_unbroken = |(keys, since): &_| incarnation.losses.tenure(keys) == *since;
+            let unbroken: Vec<bool> = since.iter().map(is_unbroken).collect();
+            if incarnation.end.allows(clock) { unbroken } else { vec![false; since.len()] }
+        })
+    }
+
     /// Keeps the cache as it is, as long as the answer lives: the client takes no message and no
     /// call meanwhile. A thread that holds several has to take them in the order of their shards.
     pub fn hold(&self) -> CacheGuard<'_> {
@@ -257,9 +272,10 @@ impl ClientHandle {
             .map(drop)
     }
 
-    /// Sends the write, and returns its number.
+    /// Sends the write, and returns its number. Until it is answered, what the client knows of its
+    /// key may be older than the server's row.
     pub fn write(&mut self, write: &Write) -> Result<u64, Code> {
-        self.call(|handle| match write {
+        self.call_and_lose(&keys_of(write), |handle| match write {
             Write::Insert(Row { key, value }) => {
                 let bytes = value.as_bytes();
                 // SAFETY: as for any handle, and that many bytes of the value are there to be read.
@@ -279,7 +295,7 @@ impl ClientHandle {
     /// Sends the write, which takes the lock that it needs if that is free, and returns its number.
     /// A delete takes nothing: it is sent as by [`ClientHandle::write`].
     pub fn write_with_lock(&mut self, write: &Write) -> Result<u64, Code> {
-        self.call(|handle| match write {
+        self.call_and_lose(&keys_of(write), |handle| match write {
             Write::Insert(Row { key, value }) => {
                 let bytes = value.as_bytes();
                 // SAFETY: as for any handle, and that many bytes of the value are there to be read.
@@ -402,8 +418,8 @@ impl ClientHandle {
 
     /// Sends Bye. After that only this call, which sends it again, and `take` do anything.
     pub fn leave(&mut self) -> Result<(), Code> {
-        // SAFETY: `call` gives the handle to this call only.
-        self.call(|handle| unsafe { ffi::krl_client_leave(handle) }).map(drop)
+        // SAFETY: `call_and_lose` gives the handle to this call only.
+        self.call_and_lose(&(0..u64::MAX), |handle| unsafe { ffi::krl_client_leave(handle) })
     }
 
     /// Appends what waits to be sent, as frames. If nothing can wait, nobody's scan is held up.
@@ -460,6 +476,12 @@ impl Incarnation {
     ) -> Result<Scan, Code> {
         found_by_lease(|| self.handle.scan_after(keys, rows), &self.end, clock)
     }
+}
+
+/// The key that a write changes, as a range.
+fn keys_of(write: &Write) -> Range<u64> {
+    let (Write::Insert(Row { key, .. }) | Write::Put(Row { key, .. }) | Write::Delete(key)) = write;
+    *key..key.saturating_add(1)
 }
 
 /// What the library found by a scan.

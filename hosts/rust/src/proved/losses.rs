@@ -35,6 +35,13 @@ impl Sum for Tenure {
     }
 }
 
+impl From<u64> for Tenure {
+    /// The tenure that has this number.
+    fn from(number: u64) -> Tenure {
+        Tenure(number)
+    }
+}
+
 impl From<Tenure> for u64 {
     /// A number that is equal for equal tenures only.
     fn from(tenure: Tenure) -> u64 {

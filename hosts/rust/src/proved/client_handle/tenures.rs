@@ -16,6 +16,10 @@ fn tenure(cache: &Cache, keys: &Range<u64>) -> Option<Tenure> {
     cache.tenure(keys, &mut Vec::with_capacity(2), Moment::now).unwrap()
 }
 
+fn is_held_since(cache: &Cache, keys: &Range<u64>, since: Tenure) -> bool {
+    cache.held_since(&[(keys.clone(), since)], Moment::now) == [true]
+}
+
 fn is_taken_by_another(world: &mut Held) {
     world.take_last();
     world.give_last_back();
@@ -60,6 +64,8 @@ fn each_loss_and_each_write_ends_the_tenure_of_what_it_meets() {
         let [first, of_last, all] = now();
         assert_eq!(first, last[0], "nothing was lost there");
         assert!(of_last != last[1] && all != last[2]);
+        assert!(is_held_since(&cache, &FIRST, first));
+        assert!(!is_held_since(&cache, &LAST, last[1]) && !is_held_since(&cache, &ALL, last[2]));
         last = [first, of_last, all];
     }
     for _ in 0..3 {
@@ -68,6 +74,22 @@ fn each_loss_and_each_write_ends_the_tenure_of_what_it_meets() {
         assert!((0..3).all(|range| next[range] != last[range]));
         last = next;
     }
+}
+
+#[test]
+fn nothing_is_held_on_from_a_write_that_is_sent_or_from_a_leave() {
+    let mut world = World::new(|client| client);
+    let cache = world.scanned.cache();
+    let since = |keys: &Range<u64>| tenure(&cache, keys).expect("it holds all");
+    world.lock_last(Mode::X);
+    let (first, last) = (since(&FIRST), since(&LAST));
+    let row = Row { key: LAST.start, value: Value::from(7) };
+    world.scanned.write(&Write::Put(row)).unwrap();
+    assert!(!is_held_since(&cache, &LAST, last) && is_held_since(&cache, &FIRST, first));
+    world.settle();
+    let first = since(&FIRST);
+    world.scanned.leave().unwrap();
+    assert!(!is_held_since(&cache, &FIRST, first));
 }
 
 #[test]
@@ -82,6 +104,7 @@ fn what_takes_nothing_ends_no_tenure() {
     world.scanned.unpin(pin).unwrap();
     world.lock_last(Mode::X);
     assert_eq!(tenure(&cache, &ALL), before);
+    assert!(is_held_since(&cache, &ALL, before.unwrap()));
 }
 
 #[test]
@@ -103,7 +126,10 @@ fn a_tenure_ends_with_the_lease() {
     let stamp = lease.greet(moment(1000)).unwrap().stamp;
     assert!(lease.take(Grant { incarnation: 1, stamp, length: 600 }, moment(1001)));
     let tenure = |now| cache.tenure(&ALL, &mut Vec::new(), || Ok(moment(now))).unwrap();
-    assert!(tenure(1599).is_some() && tenure(1600).is_none());
+    let since = tenure(1599).unwrap();
+    assert_eq!(tenure(1600), None);
+    let is_held = |now| cache.held_since(&[(ALL, since)], || Ok(moment(now)));
+    assert_eq!([is_held(1599), is_held(1600)], [[true], [false]]);
 }
 
 /// What a thread finds that compares the tenures of the last row.
@@ -121,6 +147,9 @@ fn follow(cache: &Cache, turn: &AtomicU64, is_over: &AtomicBool) -> Found {
     let begun = turn.load(Ordering::SeqCst);
     while !is_over.load(Ordering::Relaxed) {
         let now = turn.load(Ordering::SeqCst);
+        if now != begun && is_held_since(cache, &LAST, since) {
+            return Found::Outlasted;
+        }
         match tenure(cache, &LAST) {
             Some(tenure) if tenure != since => return Found::Ended,
             Some(_) if now != begun => return Found::Outlasted,
