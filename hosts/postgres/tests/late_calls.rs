@@ -52,8 +52,8 @@ fn of_two_commits_that_wait_for_the_head_one_is_made() {
 #[test]
 fn a_commit_that_comes_after_another_start_is_not_made() {
     let Some(database) = Database::start() else { return };
+    loaded(&database.address()).commit(&BEGIN).unwrap();
     let mut old = loaded(&database.address()).with_commit_timeout(Duration::from_millis(300));
-    old.commit(&BEGIN).unwrap();
     let sql = database.connect();
     sql.run(LOCK_HEAD);
     let lost = old.commit(&[put(1, 1)]);

@@ -190,8 +190,8 @@ struct Serving {
 enum Task {
     /// Its callers.
     Work,
-    /// An operator evicts the client of this machine.
-    Evict { victim: usize, joining: Option<Call<()>>, leaving: Option<Call<()>> },
+    /// An operator evicts the client of this machine, and gives up at a moment.
+    Evict { victim: usize, joining: Option<Call<()>>, leaving: Option<Call<()>>, until: Duration },
 }
 
 /// Why a client is not started.

@@ -21,6 +21,10 @@ const FAR: Duration = Duration::from_secs(3 * 24 * 3600);
 const ATTEMPTS: u32 = 20;
 const TAKE_AT_LEAST: Duration = Duration::from_secs(2);
 
+/// An operator gives up an eviction after this time, as `evict` does: a process of a greater
+/// incarnation may have joined since, and then none of the operator's messages is taken.
+const EVICTION: Duration = Duration::from_secs(10);
+
 /// The incarnation that begins at this time of a clock.
 pub(super) fn incarnation_at(time: Duration) -> u64 {
     STARTED + super::nanoseconds(time)
@@ -349,15 +353,18 @@ impl World {
         let machine = &mut self.machines[operator];
         let time = machine.clock.at(self.now);
         let joining = machine.client.as_mut().map(|it| it.join(time));
-        machine.task = Task::Evict { victim, joining, leaving: None };
+        let until = self.now + EVICTION;
+        machine.task = Task::Evict { victim, joining, leaving: None, until };
     }
 
-    /// The operator's client leaves when it has joined, and ends when it has left.
+    /// The operator's client leaves when it has joined, and ends when it has left, or gives up.
     pub(super) fn look_at_eviction(&mut self, operator: usize) {
         let machine = &mut self.machines[operator];
         let time = machine.clock.at(self.now);
-        let Task::Evict { victim, joining, leaving } = &mut machine.task else { return };
-        let (victim, Some(it)) = (*victim, &mut machine.client) else { return };
+        let Task::Evict { victim, joining, leaving, until } = &mut machine.task else { return };
+        let (victim, is_late, Some(it)) = (*victim, *until <= self.now, &mut machine.client) else {
+            return;
+        };
         if joining.as_ref().is_some_and(|call| call.answer().is_some()) {
             *joining = None;
             *leaving = Some(it.leave(time));
@@ -365,6 +372,8 @@ impl World {
         let has_left = leaving.as_ref().and_then(Call::answer);
         if let Some(left) = has_left {
             self.counts.evicted += u64::from(left.is_ok());
+        }
+        if has_left.is_some() || is_late {
             self.end_eviction(operator, victim);
         }
     }
