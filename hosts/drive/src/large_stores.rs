@@ -13,7 +13,7 @@ use std::error::Error;
 use std::path::Path;
 use std::rc::Rc;
 use std::thread;
-use std::time::Instant;
+use std::time::{Duration, Instant};
 
 /// How far apart the keys are.
 const STEP: u64 = 1 << 40;
@@ -25,6 +25,9 @@ const BATCH: u64 = 2_000;
 /// How many clients write to each server, and how many times each of them writes.
 const WRITERS: u8 = 16;
 const WRITES: u64 = 50;
+
+/// How long a commit may take: the machine may be busy with something else.
+const PATIENCE: Duration = Duration::from_secs(120);
 
 type Opened = Result<Box<dyn Store>, Box<dyn Error>>;
 
@@ -39,14 +42,20 @@ pub fn run(folder: &Path) -> Found {
     let cluster = Cluster::start(folder, Rc::new(Site::Here))?;
     let (address, credentials) = (cluster.address(), Credentials::default());
     let make = || Ok(EtcdStore::create(&address, &credentials, &full)?);
-    let open = || -> Opened { Ok(Box::new(EtcdStore::open(&address, &credentials)?)) };
+    let open = || -> Opened {
+        let store = EtcdStore::open(&address, &credentials)?;
+        Ok(Box::new(store.with_commit_timeout(PATIENCE)))
+    };
     is_right &= self::is_right("etcd", folder, &full, make, open)?;
     drop(cluster);
 
     let Some(database) = Database::start() else { return Ok(is_right) };
     let address: PostgresAddress = database.address();
     let make = || Ok(PostgresStore::create(&address, None, &full)?);
-    let open = || -> Opened { Ok(Box::new(PostgresStore::open(&address, None)?)) };
+    let open = || -> Opened {
+        let store = PostgresStore::open(&address, None)?;
+        Ok(Box::new(store.with_commit_timeout(PATIENCE)))
+    };
     Ok(is_right & self::is_right("PostgreSQL", folder, &full, make, open)?)
 }
 
