@@ -64,9 +64,12 @@ part_seeds() {
     drive 0 'worlds of seeds that failed once' "$simulation" --file "$top/hosts/simulation/seeds.txt"
 }
 
+# Worlds that no other commit has had, and that this one has again on another machine.
 part_simulation() {
     part_seeds
-    drive 0 'worlds of fresh seeds' "$simulation" --fresh 120
+    tree=$(git -C "$top" rev-parse 'HEAD^{tree}' 2>/dev/null | cut -c 1-12)
+    first=$(printf %d "0x${tree:-1}")
+    drive 0 'worlds of this commit' "$simulation" --seeds "$first..$((first + 1000000))" --events 40000000
 }
 
 # The example, with leases and without.
