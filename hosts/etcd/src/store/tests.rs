@@ -6,8 +6,11 @@ use krl::{Room, Row, Value, Write};
 use krl_testing::cluster::Cluster;
 use std::thread;
 
+/// How long a commit may take: the machine may be busy with something else.
+const PATIENCE: Duration = Duration::from_secs(60);
+
 fn open(address: &EtcdAddress) -> EtcdStore {
-    EtcdStore::open(address, &Credentials::default()).unwrap()
+    EtcdStore::open(address, &Credentials::default()).unwrap().with_commit_timeout(PATIENCE)
 }
 
 fn loaded(address: &EtcdAddress) -> (EtcdStore, Snapshot) {
