@@ -10,3 +10,4 @@ pub mod Crosses
 pub mod Shared
 pub mod Loans
 mod CallLemmas
+mod ClientCallLemmas

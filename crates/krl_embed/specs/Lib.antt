@@ -16,3 +16,4 @@ pub mod Waits
 pub mod Leases
 pub mod Shards
 pub mod Calls
+pub mod ClientCalls
