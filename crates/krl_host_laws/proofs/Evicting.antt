@@ -2,6 +2,7 @@
 use Rattle.std.proofs.Common.{◌≡◌, ℕ, ◌≤◌, ◌<◌, ◌∙◌, Some, None, [], ◌∷◌, inl, refl, ap}
 use Rattle.krl_modes.specs.declared.limits.TheConstants.{MAX_CLIENTS}
 use Rattle.krl_modes.specs.declared.point.TheConstants.{END}
+use Rattle.krl_messages.specs.Members.{In}
 use Rattle.krl_messages.proofs.Members.{in_left, in_right}
 use Rattle.krl_client.specs.Clients.{begun}
 use Rattle.krl_client.specs.Commands.{says_bye}
@@ -13,11 +14,23 @@ use Rattle.krl_steps.specs.declared.answer.Answer.TheVariants as answered
 use Rattle.krl_world.specs.declared.message.Message.TheVariants as message
 use Rattle.krl_world.specs.States.{ClientPlace, State, client_of, with_client, seated, from_clients}
 use Rattle.krl_world.specs.Steps.{Takes, of_client, if_runs, named, command_refusal}
-use Rattle.krl_host_laws.specs.Hosts.{HostWorld, acts, begins, IsReached, moved}
-use Rattle.krl_host_laws.specs.Evictions.{CanEvict, EvictionsAreMoves}
+use Rattle.krl_host_laws.specs.Hosts.{HostWorld, Moves, acts, begins, moved}
+use Rattle.krl_host_laws.specs.Evictions.{EvictionsAreMoves}
 use Rattle.krl_host_laws.proofs.Incarnations.{at_set, in_range, running}
 
-module _ (w : HostWorld) (c n : ℕ) (r : IsReached w) (in_number : c < MAX_CLIENTS) (off : client_of w.world c ≡ None) (less : (w.world.places c).last_incarnation < n) (le : n ≤ END) where
+-- two moves lead to where a Hello and a Bye of incarnation n have left the client, and nothing else is new
+pub record LeavesAtOnce (w : HostWorld) (c n : ℕ) : Type 0 where
+  pub mid : HostWorld
+  pub after : HostWorld
+  pub first : Moves w mid
+  pub second : Moves mid after
+  pub host : after.host ≡ w.host
+  pub server : after.world.server ≡ w.world.server
+  pub gone : client_of after.world c ≡ None
+  pub hello : In (message.ToServer (says_hello (begun c n))) after.world.sent
+  pub bye : In (message.ToServer (says_bye (begun c n))) after.world.sent
+
+module _ (w : HostWorld) (c n : ℕ) (in_number : c < MAX_CLIENTS) (off : client_of w.world c ≡ None) (less : (w.world.places c).last_incarnation < n) (le : n ≤ END) where
   abbrev started : State
   started = seated w.world c (running c n) (says_hello (begun c n) ∷ [])
 
@@ -33,13 +46,12 @@ module _ (w : HostWorld) (c n : ℕ) (r : IsReached w) (in_number : c < MAX_CLIE
     (begun c n, runs, (refl, refl)),
   )
 
-  can_evict : CanEvict w c n
-  can_evict = record {
+  pub leaves_at_once : LeavesAtOnce w c n
+  leaves_at_once = record {
+    mid = record w { world = started };
     after = record w { world = left };
-    reached =
-        moved (record w { world = started }) (record w { world = left })
-        (moved w (record w { world = started }) r (begins c n in_number off less le))
-        (acts (step.Command c command.Leave) answered.Done left (λ e. cc) leaves);
+    first = begins c n in_number off less le;
+    second = acts (step.Command c command.Leave) answered.Done left (λ e. cc) leaves;
     host = refl;
     server = refl;
     gone = ap (λ (p : ClientPlace). p.client) (at_set started.places c (record { last_incarnation = (started.places c).last_incarnation; client = None }));
@@ -48,4 +60,14 @@ module _ (w : HostWorld) (c n : ℕ) (r : IsReached w) (in_number : c < MAX_CLIE
   }
 
 pub evictions_are_moves : EvictionsAreMoves
-evictions_are_moves w c n r lt off less le = can_evict w c n r lt off less le
+evictions_are_moves w c n r lt off less le =
+    let x = leaves_at_once w c n lt off less le in
+    record {
+      after = x.after;
+      reached = moved x.mid x.after (moved w x.mid r x.first) x.second;
+      host = x.host;
+      server = x.server;
+      gone = x.gone;
+      hello = x.hello;
+      bye = x.bye;
+    }

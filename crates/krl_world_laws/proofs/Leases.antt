@@ -1,1 +1,2 @@
 pub mod Leased
+pub mod Evicting

@@ -1,2 +1,3 @@
 pub mod Leased
 pub mod Laws
+pub mod Evictions

@@ -2,6 +2,7 @@
 //! and of any number of hosts over one store.
 ghost use Rattle.krl_world_laws.specs.Systems.{worlds, hosts, fenced_hosts};
 ghost use Rattle.krl_world_laws.specs.Leases.Laws.{ScansAreIndex, WorldsAreReached};
+ghost use Rattle.krl_world_laws.specs.Leases.Evictions.{EvictionsAreRuns};
 
 /// What a process reads, and hands over after a check of its lease, is that range of the index that
 /// survives at the moment when it was read: even if the process runs on after its eviction, of
@@ -18,4 +19,11 @@ pub fn worlds_are_reached()
     ensures of_worlds { WorldsAreReached worlds }
     ensures of_hosts { WorldsAreReached hosts }
     ensures of_fenced_hosts { WorldsAreReached fenced_hosts }
+{}
+
+/// Whenever an incarnation's lease has ended, events of one world, with its host and its leases,
+/// lead to its eviction: a Hello and a Bye have left, as if a later incarnation had started and
+/// left at once.
+pub fn evictions_are_runs()
+    ensures { EvictionsAreRuns }
 {}
