@@ -1,7 +1,7 @@
 -- In each reachable world server and client agree on the client's lock request.
 use Rattle.krl_world.proofs.Reaching.{by_reaching}
 use Rattle.krl_progress.proofs.Names.{◌≡◌, ◌≢◌, ℕ, suc, ◌≤◌, inl, inr, ⊎_elim, ◌∙◌, Bool, true, false, Option, Some, None, List, [], ◌∷◌, ◌++◌, is_some, refl, sym, ap, subst, arith, nat_eq, if◌then◌else◌, eq-eqb, eqb-true, eqb-false, same_Some, In, in_both}
-use Rattle.krl_progress.proofs.Names.{ToServer, ToClient, Client, Server, Durable, durable_of, ServerStep, start, nudge, Step, Up, Down, State, ClientPlace, client_of, with_client, seated, served, opened, Runs, IsReachable, from_clients, from_server, AppliedWrite}
+use Rattle.krl_progress.proofs.Names.{ToServer, ToClient, Client, Server, Durable, durable_of, ServerStep, start, nudge, Up, Down, State, ClientPlace, client_of, with_client, seated, served, opened, IsReachable, from_clients, from_server, AppliedWrite}
 use Rattle.krl_queue.specs.declared.waiter.Waiter.{Waiter}
 use Rattle.krl_queue.specs.Waiting.{first_of}
 use Rattle.krl_table.specs.Rows.{waits}
@@ -17,7 +17,6 @@ use Rattle.krl_server.proofs.Functions.WaitersByClient.{waiter_waits}
 use Rattle.krl_modes.proofs.Basics.{not_both}
 use Rattle.krl_world.specs.declared.message.Message.TheVariants as message
 use Rattle.krl_world.proofs.Refinement.Mirrors.{in_from_clients, not_from_clients, in_from_server, not_from_server}
-use Rattle.krl_world.proofs.Functions.Shapes.{reachable_stays}
 use Rattle.krl_progress.specs.Requests.{untaken, queued, answered, RequestIsKnown, RequestsAreKnown}
 use Rattle.krl_progress.proofs.Recovers.{next_reachable, same_up}
 use Rattle.krl_progress.proofs.Standings.{standing}

@@ -1,7 +1,7 @@
 -- In each reachable world: a push that is on its way is one that its client waits for.
 use Rattle.krl_world.proofs.Reaching.{by_reaching}
-use Rattle.krl_progress.proofs.Names.{◌≡◌, ℕ, suc, ◌<◌, ◌⊎◌, inl, inr, ⊎_elim, ◌∙◌, true, false, Some, None, List, [], ◌∷◌, ◌++◌, is_some, refl, sym, ap, subst, arith, In, in_both}
-use Rattle.krl_progress.proofs.Names.{ToServer, ToClient, Client, Server, Durable, ServerStep, start, nudge, Step, Up, Down, State, client_of, with_client, seated, served, opened, Runs, IsReachable, from_clients, from_server, AppliedWrite}
+use Rattle.krl_progress.proofs.Names.{◌≡◌, ℕ, suc, ◌<◌, ◌⊎◌, inl, inr, ⊎_elim, ◌∙◌, true, false, Some, None, List, [], ◌++◌, is_some, refl, sym, ap, subst, arith, In, in_both}
+use Rattle.krl_progress.proofs.Names.{ToServer, ToClient, Client, Server, Durable, ServerStep, start, nudge, Up, Down, State, client_of, with_client, seated, served, opened, IsReachable, from_clients, from_server, AppliedWrite}
 use Rattle.krl_messages.specs.declared.to_client.PushBody.{PushBody}
 use Rattle.krl_messages.specs.declared.to_client.PushBody.TheVariants as push
 use Rattle.krl_client.specs.Clients.{begun, is_waiting, outstanding}
@@ -10,9 +10,8 @@ use Rattle.krl_client.specs.Messages.{accepted}
 use Rattle.krl_modes.proofs.Basics.{not_both}
 use Rattle.krl_world.specs.declared.message.Message.TheVariants as message
 use Rattle.krl_world.proofs.Refinement.Mirrors.{in_from_clients, not_from_server}
-use Rattle.krl_world.proofs.Functions.Shapes.{reachable_stays}
 use Rattle.krl_progress.specs.Requests.{IsAwaited, PushesAreAwaited}
-use Rattle.krl_progress.proofs.Recovers.{next_reachable, same_up}
+use Rattle.krl_progress.proofs.Recovers.{same_up}
 use Rattle.krl_progress.proofs.Standings.{standing}
 use Rattle.krl_progress.proofs.CallsBack.{in_order}
 use Rattle.krl_progress.proofs.Moves.{some_is}

@@ -186,9 +186,10 @@ module _ (b : Block) (waiter_inc blocker_inc epoch : ℕ) (some : 1 ≤ epoch) w
   -- what is sent after number n, and handed over in the next round
   one : (n m : ℕ) (x : Message) (Z Y : State → Type 0) (w v : State) (steps : List Step) → Lasts b waiter_inc blocker_inc epoch some m Z → Lasts b waiter_inc blocker_inc epoch some m Y → ((i : ℕ) → Hits b waiter_inc blocker_inc epoch some m (With i x Z) (step.Deliver i) Y) → AlongAt m w → Sent n x w → Z w → IsRound w n steps → (r : Runs w steps v) → Throughout (IsBlocked b) w steps v r → AlongAt m v × Y v
   one n m x Z Y w v steps z_lasts y_lasts hits h sent z round r all =
-      hits_in b waiter_inc blocker_inc epoch some m (With sent.index x Z) Y (step.Deliver sent.index)
-      (λ u y s a before after e t. (still sent.index x u y s a e.0 t, z_lasts u y s a before after e.1 t)) y_lasts (hits sent.index)
-      steps w v round.stays (round.handed sent.index sent.above (within w.sent sent.index x sent.sent)) h (sent.sent, z) r all
+      let hand = round.handed sent.index sent.above (within w.sent sent.index x sent.sent) in
+      hits_in b waiter_inc blocker_inc epoch some m (With hand.copy x Z) Y (step.Deliver hand.copy)
+      (λ u y s a before after e t. (still hand.copy x u y s a e.0 t, z_lasts u y s a before after e.1 t)) y_lasts (hits hand.copy)
+      steps w v round.stays hand.delivers h (hand.same ∙ sent.sent, z) r all
 
   four_rounds : (w v : State) → AlongAt (length w.sent) w → RoundsWhile (IsBlocked b) 4 (length w.sent) w v → ⊥
   four_rounds w v h r1 =

@@ -19,7 +19,7 @@ use Rattle.krl_progress.proofs.FirstBlocks.{run_end, rounds_end}
 use Rattle.krl_progress.proofs.Standstill.{no_standstill}
 
 -- rounds in which something holds are rounds
-forget : (P : State → Type 0) (n from : ℕ) (w v : State) → RoundsWhile P n from w v → Rounds n from w v
+pub forget : (P : State → Type 0) (n from : ℕ) (w v : State) → RoundsWhile P n from w v → Rounds n from w v
 forget P zero from w v r = r
 forget P (suc n) from w v r = (r.0, r.1, r.2, r.3, forget P n (length w.sent) r.1 v r.5)
 

@@ -172,10 +172,12 @@ module _ (f : FirstWait) (inc epoch : ℕ) (some : 1 ≤ epoch) where
       let n2 = length r1.1.sent in
       let x = f1.1 in
       let said = lock_said f.waiter.client inc epoch (f.seen f.waiter.client) some n1 x.req x.point x.hi x.mode in
-      let f2 = hit (StandsFirst f) (AlongAt n2) (along f inc epoch some n2) (λ u. message_at u.sent x.sent.index ≡ Some said) (Acked f inc epoch some n2) (step.Deliver x.sent.index)
-      (λ u y s a g after e t. still x.sent.index said u y s a e t) (acked_lasts f inc epoch some n2)
-      (λ u y a g after e t. hit_lock f inc epoch some n2 x.req x.point x.hi x.mode x.sent.index u y a g after e t)
-      r2.0 r1.1 r2.1 r2.2.stays (r2.2.handed x.sent.index x.sent.above (within r1.1.sent x.sent.index said x.sent.sent)) (again n1 r1.1 f1.0) x.sent.sent r2.3 r2.4 in
+      let hand = r2.2.handed x.sent.index x.sent.above (within r1.1.sent x.sent.index said x.sent.sent) in
+      let sent : message_at r1.1.sent hand.copy ≡ Some said = hand.same ∙ x.sent.sent in
+      let f2 = hit (StandsFirst f) (AlongAt n2) (along f inc epoch some n2) (λ u. message_at u.sent hand.copy ≡ Some said) (Acked f inc epoch some n2) (step.Deliver hand.copy)
+      (λ u y s a g after e t. still hand.copy said u y s a e t) (acked_lasts f inc epoch some n2)
+      (λ u y a g after e t. hit_lock f inc epoch some n2 x.req x.point x.hi x.mode hand.copy u y a g after e t)
+      r2.0 r1.1 r2.1 r2.2.stays hand.delivers (again n1 r1.1 f1.0) sent r2.3 r2.4 in
       rounds_stay f inc epoch some n2 m (length r1.1.sent) r2.1 v f2.0 f2.1 r2.5
 
 -- at the end nobody blocks

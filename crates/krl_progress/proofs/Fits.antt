@@ -35,9 +35,7 @@ use Rattle.krl_table.specs.Sound.{IsTable}
 use Rattle.krl_steps.specs.declared.step.Step.{Step}
 use Rattle.krl_world.proofs.Refinement.ServerMoves.{Way, stays, reads, stops, begins, way}
 use Rattle.krl_progress.proofs.Names.{ServerPlace, Up, Down, State, Runs, IsReachable, opened, CanOpen, start}
-use Rattle.krl_progress.proofs.Recovers.{next_reachable}
 use Rattle.krl_progress.proofs.CallsBack.{in_order}
-use Rattle.krl_world.proofs.Functions.Shapes.{reachable_stays}
 use Rattle.krl_server.specs.Steps.{start}
 use Rattle.krl_server.proofs.Outputs.Ends.{pushes_durable}
 use Rattle.krl_server.proofs.Invariant.Kept.{server_keeps}

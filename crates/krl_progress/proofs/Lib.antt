@@ -46,6 +46,11 @@ pub mod Speaks
 pub mod Parts
 pub mod Manned
 pub mod QuietRounds
+pub mod Somebody
 pub mod Growing
 pub mod Outlasting
+pub mod HostActs
+pub mod HostShows
+pub mod HostProgress
+pub mod HostMakes
 mod Names

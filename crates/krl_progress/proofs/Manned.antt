@@ -1,11 +1,10 @@
 -- A manned world stays so through good rounds: a client that comes to hold or wait for something runs in the server's
 -- epoch. So lock requests are answered if nobody asks for more.
-use Rattle.krl_progress.proofs.Names.{◌≡◌, ℕ, zero, suc, ◌≤◌, ◌<◌, ◌⊎◌, inl, inr, ⊎_elim, ◌∙◌, false, Some, List, [], ◌∷◌, length, refl, sym, ap, subst, arith, END, In, all_follow}
-use Rattle.krl_progress.proofs.Names.{ToServer, ToClient, Client, Record, Durable, record_of, Server, is_recovering, Step, Answer, Up, Down, State, client_of, opened, Runs, Takes, IsReachable, ServerStep, Link, IsRecord, Stands, epoch_said}
+use Rattle.krl_progress.proofs.Names.{◌≡◌, ℕ, zero, suc, ◌≤◌, ◌<◌, ◌⊎◌, inl, inr, ⊎_elim, ◌∙◌, false, Some, List, [], ◌∷◌, length, refl, sym, subst, arith, END, In, all_follow}
+use Rattle.krl_progress.proofs.Names.{ToServer, Client, Record, record_of, Server, is_recovering, Step, Answer, Up, Down, State, client_of, Runs, Takes, IsReachable, ServerStep, Stands, epoch_said}
 use Rattle.krl_messages.specs.declared.to_server.ToServerBody.TheVariants as said
 use Rattle.krl_messages.specs.declared.to_server.Request.{Request}
-use Rattle.krl_server.specs.Servers.{incarnation_of, incarnation_or_0}
-use Rattle.krl_client.specs.Clients.{is_waiting}
+use Rattle.krl_server.specs.Servers.{incarnation_of}
 use Rattle.krl_world.specs.declared.message.Message.TheVariants as message
 use Rattle.krl_world.proofs.Refinement.Mirrors.{machine_of, ServerShows}
 use Rattle.krl_world.proofs.Refinement.Openings.{first_of}

@@ -1,5 +1,5 @@
 -- A client that holds or waits for something did so before, or the server reads its request.
-use Rattle.krl_progress.proofs.Names.{◌≡◌, ◌≢◌, ℕ, suc, ◌<◌, ◌⊎◌, inl, inr, ⊎_elim, ◌∙◌, Bool, true, false, ◌&&◌, Option, Some, None, List, refl, sym, ap, subst, nat_eq, eqb-true, ne_eqb, same_Some, eq_cases, if◌then◌else◌, END, In}
+use Rattle.krl_progress.proofs.Names.{◌≡◌, ◌≢◌, ℕ, suc, ◌<◌, ◌⊎◌, inl, inr, ⊎_elim, ◌∙◌, true, false, ◌&&◌, Option, Some, None, List, refl, sym, ap, subst, nat_eq, eqb-true, ne_eqb, same_Some, eq_cases, if◌then◌else◌, In}
 use Rattle.krl_progress.proofs.Names.{ToServer, ToClient, WriteOp, Outcome, Record, Server, Durable, record_of, left_by, is_recovering, lists, case_of, Registers, Done, effect, acknowledged, writes, holding, slot_of, span_of, is_slot, op_key, Turn, next_turn, answer_first, Answered, stops, goes_on, Kind, kind_of, Ends, at_once, recovers, serves, ServerStep}
 use Rattle.krl_modes.specs.declared.mode.Mode.{Mode}
 use Rattle.krl_modes.specs.declared.mode.Mode.TheVariants as mode
@@ -15,13 +15,12 @@ use Rattle.krl_messages.specs.declared.to_server.Request.{Request}
 use Rattle.krl_queue.specs.declared.waiter.Waiter.{Waiter}
 use Rattle.krl_durable.specs.Registers.{new_record}
 use Rattle.krl_durable.specs.Writes.{applied_by, noted}
-use Rattle.krl_table.specs.Rows.{Row, Rows, mode_at, set_row}
+use Rattle.krl_table.specs.Rows.{Row, Rows, mode_at}
 use Rattle.krl_table.specs.Calls.{with_mode, with_queue, queue_with, mode_beside}
 use Rattle.krl_server.specs.Cases.{judged}
 use Rattle.krl_server.specs.Effects as effects
 use Rattle.krl_server.specs.Effects.{rows_after}
 use Rattle.krl_server.specs.Takes.{lock_for}
-use Rattle.krl_server.specs.Servers.{incarnation_of, incarnation_or_0}
 use Rattle.krl_server.specs.Soundness.{IsSound}
 use Rattle.krl_server.proofs.Tests.{if_both, if_case}
 use Rattle.krl_server.proofs.Cased.{by_said, IsFrom}
@@ -35,7 +34,7 @@ use Rattle.krl_server.proofs.Invariant.WaitersAfter as after
 use Rattle.krl_progress.specs.Standstills.{HasPart, holds, waits}
 use Rattle.krl_progress.proofs.WritesMove.{nobody_listed}
 use Rattle.krl_progress.proofs.Knowing.{inc_in}
-use Rattle.krl_progress.proofs.Queues.{Stands, turn_stands, turn_came}
+use Rattle.krl_progress.proofs.Queues.{turn_stands, turn_came}
 use Rattle.krl_progress.proofs.Sinking.{turn_others}
 use Rattle.krl_progress.proofs.KeepsFirst.{applied_part}
 

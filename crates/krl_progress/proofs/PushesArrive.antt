@@ -51,18 +51,20 @@ module _ (c inc epoch seen0 : ℕ) (some : 1 ≤ epoch) (room : seen0 < END) whe
   second_round : (w v : State) (m n : ℕ) (steps : List Step) → IsRound w m steps → Runs w steps v → GoingAt n w → RisenAt w ⊎ (StaysAt w × AskedAt m w) → OrAt n (PushedAt n) v
   second_round w v m n steps round runs h (inl r) = risen_round n (PushedAt n) (pushed_lasts c inc epoch seen0 some room n) w v m steps round runs h r
   second_round w v m n steps round runs h (inr x) =
-      one c inc epoch seen0 some room n (λ u. message_at u.sent x.1.sent.index ≡ Some (said_by c inc epoch seen0 some room n x.1.body)) (PushedAt n) (step.Deliver x.1.sent.index)
-      (λ u y s a calm e t. still_sent (loses_a_node s) u y x.1.sent.index _ (moves u y s a t) e) (pushed_lasts c inc epoch seen0 some room n) refl
-      (hit_request c inc epoch seen0 some room n x.1.sent.index x.1.body)
-      w v steps round.stays (round.handed x.1.sent.index x.1.sent.above (within w.sent x.1.sent.index _ x.1.sent.sent)) (h, inr (x.0, x.1.sent.sent)) runs
+      let hand = round.handed x.1.sent.index x.1.sent.above (within w.sent x.1.sent.index _ x.1.sent.sent) in
+      one c inc epoch seen0 some room n (λ u. message_at u.sent hand.copy ≡ Some (said_by c inc epoch seen0 some room n x.1.body)) (PushedAt n) (step.Deliver hand.copy)
+      (λ u y s a calm e t. still_sent (loses_a_node s) u y hand.copy _ (moves u y s a t) e) (pushed_lasts c inc epoch seen0 some room n) refl
+      (hit_request c inc epoch seen0 some room n hand.copy x.1.body)
+      w v steps round.stays hand.delivers (h, inr (x.0, hand.same ∙ x.1.sent.sent)) runs
 
   third_round : (w v : State) (m n : ℕ) (steps : List Step) → IsRound w m steps → Runs w steps v → GoingAt n w → RisenAt w ⊎ (StaysAt w × PushedAt m w) → OrAt n (λ u. ⊥) v
   third_round w v m n steps round runs h (inl r) = risen_round n (λ u. ⊥) (λ u y s a calm e t. e) w v m steps round runs h r
   third_round w v m n steps round runs h (inr x) =
-      one c inc epoch seen0 some room n (λ u. message_at u.sent x.1.sent.index ≡ Some (pushed c inc epoch seen0 some room n x.1.body)) (λ u. ⊥) (step.Deliver x.1.sent.index)
-      (λ u y s a calm e t. still_sent (loses_a_node s) u y x.1.sent.index _ (moves u y s a t) e) (λ u y s a calm e t. e) refl
-      (hit_push c inc epoch seen0 some room n x.1.sent.index x.1.body x.1.fits)
-      w v steps round.stays (round.handed x.1.sent.index x.1.sent.above (within w.sent x.1.sent.index _ x.1.sent.sent)) (h, inr (x.0, x.1.sent.sent)) runs
+      let hand = round.handed x.1.sent.index x.1.sent.above (within w.sent x.1.sent.index _ x.1.sent.sent) in
+      one c inc epoch seen0 some room n (λ u. message_at u.sent hand.copy ≡ Some (pushed c inc epoch seen0 some room n x.1.body)) (λ u. ⊥) (step.Deliver hand.copy)
+      (λ u y s a calm e t. still_sent (loses_a_node s) u y hand.copy _ (moves u y s a t) e) (λ u y s a calm e t. e) refl
+      (hit_push c inc epoch seen0 some room n hand.copy x.1.body x.1.fits)
+      w v steps round.stays hand.delivers (h, inr (x.0, hand.same ∙ x.1.sent.sent)) runs
 
   three_rounds : (w v : State) → GoingAt (length w.sent) w → StaysAt w → Rounds 3 (length w.sent) w v → RisenAt v
   three_rounds w v h waits r1 =

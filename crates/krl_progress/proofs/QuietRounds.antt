@@ -1,6 +1,6 @@
 -- Undisturbed rounds can be made: ticks and deliveries ask for no more, and bring a client no more pushes than it is owed.
-use Rattle.krl_progress.proofs.Names.{◌≡◌, ◌≢◌, ℕ, zero, suc, ◌+◌, ◌≤◌, ◌<◌, inl, inr, ⊎_elim, ◌∙◌, Bool, true, false, Option, Some, None, is_some, List, [], ◌∷◌, length, refl, sym, ap, subst, arith, nat_eq, if◌then◌else◌, eq-eqb, ne_eqb, eq_cases, END, In, all_follow}
-use Rattle.krl_progress.proofs.Names.{ToServer, ToClient, Client, Message, Pieces, Server, Step, Answer, ServerPlace, Up, Down, State, ClientPlace, client_of, with_client, message_at, ServerReads, ClientReads, Delivers, Runs, Takes, IsReachable}
+use Rattle.krl_progress.proofs.Names.{◌≡◌, ◌≢◌, ℕ, zero, suc, ◌+◌, ◌≤◌, ◌<◌, inl, inr, ◌∙◌, false, Option, Some, None, is_some, List, [], ◌∷◌, length, refl, sym, ap, subst, arith, nat_eq, if◌then◌else◌, eq-eqb, ne_eqb, END, In, all_follow}
+use Rattle.krl_progress.proofs.Names.{ToServer, ToClient, Client, Message, Server, Step, Answer, ServerPlace, Up, Down, State, ClientPlace, client_of, with_client, message_at, ServerReads, ClientReads, Delivers, Runs, Takes}
 use Rattle.krl_modes.specs.Spans.{Bounds}
 use Rattle.krl_messages.specs.declared.to_client.PushBody.{PushBody}
 use Rattle.krl_messages.specs.declared.to_client.PushBody.TheVariants as push
@@ -8,13 +8,12 @@ use Rattle.krl_messages.specs.declared.to_client.ToClientBody.TheVariants as tol
 use Rattle.krl_client.specs.Clients.{is_waiting, outstanding, meets_pin}
 use Rattle.krl_client.specs.Messages as receiver
 use Rattle.krl_client.specs.Messages.{Case, Ignores, AcksAgain, Adopts, Accepts, Lowers, accepted, joined}
-use Rattle.krl_steps.specs.declared.step.Step.TheVariants as step
 use Rattle.krl_world.specs.declared.message.Message.TheVariants as message
 use Rattle.krl_world.proofs.Progress.CanGoOn.{can_go_on}
 use Rattle.krl_world.proofs.Refinement.Taken.{at_in}
 use Rattle.krl_progress.specs.Requests.{IsAwaited}
 use Rattle.krl_progress.specs.Blocks.{Throughout, RoundsWhile}
-use Rattle.krl_progress.specs.Locks.{IsManned, IsUndisturbed, AsksNoMore, HasRoom, UndisturbedRoundsCanBeMade}
+use Rattle.krl_progress.specs.Locks.{AsksNoMore, HasRoom, UndisturbedRoundsCanBeMade}
 use Rattle.krl_progress.proofs.Standings.{standing}
 use Rattle.krl_progress.proofs.Seated.{not_waiting_on}
 use Rattle.krl_progress.proofs.Doings.{Goes, same, locks, adopts, accepts, WriteGoes, client_goes, reads_write, reads_number, accepted_same}

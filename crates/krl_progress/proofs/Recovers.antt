@@ -355,18 +355,20 @@ module _ (c inc epoch : ℕ) (some : 1 ≤ epoch) where
   second_round : (w v : State) (m n : ℕ) (steps : List Step) → IsRound w m steps → Runs w steps v → At c inc epoch n w → Heard c w ⊎ Said c inc m (IsCall epoch) w → Or c inc epoch n (Told c inc epoch n) v
   second_round w v m n steps round runs h (inl heard) = heard_round n (Told c inc epoch n) (told_kept c inc epoch n) w v m steps round runs h heard
   second_round w v m n steps round runs h (inr x) =
-      one c inc epoch n (λ u. message_at u.sent x.index ≡ Some (from_client c inc x.body)) (Told c inc epoch n) (step.Deliver x.index)
-      (λ u y s answer calm at e t. message_kept c inc epoch n x.index _ u y s answer calm e t) (told_kept c inc epoch n)
-      (λ u y answer at e t. ⊎_elim (λ (a : Heard c y). inl a) (λ (b : Told c inc epoch n y × (epoch_said x.body ≢ epoch)). inr b.0) (hit_call c inc epoch n x.index x.body x.is u y answer at e t)) refl
-      w v steps round.stays (round.handed x.index x.above (within w.sent x.index _ x.sent)) h x.sent runs
+      let hand = round.handed x.index x.above (within w.sent x.index _ x.sent) in
+      one c inc epoch n (λ u. message_at u.sent hand.copy ≡ Some (from_client c inc x.body)) (Told c inc epoch n) (step.Deliver hand.copy)
+      (λ u y s answer calm at e t. message_kept c inc epoch n hand.copy _ u y s answer calm e t) (told_kept c inc epoch n)
+      (λ u y answer at e t. ⊎_elim (λ (a : Heard c y). inl a) (λ (b : Told c inc epoch n y × (epoch_said x.body ≢ epoch)). inr b.0) (hit_call c inc epoch n hand.copy x.body x.is u y answer at e t)) refl
+      w v steps round.stays hand.delivers h (hand.same ∙ x.sent) runs
 
   third_round : (w v : State) (m n : ℕ) (steps : List Step) → IsRound w m steps → Runs w steps v → At c inc epoch n w → Heard c w ⊎ Told c inc epoch m w → Or c inc epoch n (Joined c epoch) v
   third_round w v m n steps round runs h (inl heard) = heard_round n (Joined c epoch) (joined_kept c inc epoch n) w v m steps round runs h heard
   third_round w v m n steps round runs h (inr x) =
-      one c inc epoch n (λ u. message_at u.sent x.index ≡ Some (message.ToClient (epoch_message c inc epoch))) (Joined c epoch) (step.Deliver x.index)
-      (λ u y s answer calm at e t. message_kept c inc epoch n x.index _ u y s answer calm e t) (joined_kept c inc epoch n)
-      (λ u y answer at e t. inr (hit_epoch c inc epoch n x.index u y answer at e t)) refl
-      w v steps round.stays (round.handed x.index x.above (within w.sent x.index _ x.sent)) h x.sent runs
+      let hand = round.handed x.index x.above (within w.sent x.index _ x.sent) in
+      one c inc epoch n (λ u. message_at u.sent hand.copy ≡ Some (message.ToClient (epoch_message c inc epoch))) (Joined c epoch) (step.Deliver hand.copy)
+      (λ u y s answer calm at e t. message_kept c inc epoch n hand.copy _ u y s answer calm e t) (joined_kept c inc epoch n)
+      (λ u y answer at e t. inr (hit_epoch c inc epoch n hand.copy u y answer at e t)) refl
+      w v steps round.stays hand.delivers h (hand.same ∙ x.sent) runs
 
   fourth_round : (w v : State) (m n : ℕ) (steps : List Step) → IsRound w m steps → Runs w steps v → At c inc epoch n w → Heard c w ⊎ Joined c epoch w → Or c inc epoch n (Said c inc n (IsReport c inc epoch n)) v
   fourth_round w v m n steps round runs h (inl heard) = heard_round n (Said c inc n (IsReport c inc epoch n)) (said_kept c inc epoch n (IsReport c inc epoch n)) w v m steps round runs h heard
@@ -378,10 +380,11 @@ module _ (c inc epoch : ℕ) (some : 1 ≤ epoch) where
   fifth_round : (w v : State) (m n : ℕ) (steps : List Step) → IsRound w m steps → Runs w steps v → At c inc epoch n w → Heard c w ⊎ Said c inc m (IsReport c inc epoch m) w → Or c inc epoch n (Heard c) v
   fifth_round w v m n steps round runs h (inl heard) = heard_round n (Heard c) (heard_kept c inc epoch n) w v m steps round runs h heard
   fifth_round w v m n steps round runs h (inr x) =
-      one c inc epoch n (λ u. message_at u.sent x.index ≡ Some (from_client c inc x.body)) (Heard c) (step.Deliver x.index)
-      (λ u y s answer calm at e t. message_kept c inc epoch n x.index _ u y s answer calm e t) (heard_kept c inc epoch n)
-      (λ u y answer at e t. inl (hit_report c inc epoch n x.index x.body x.is some u y answer at e t)) refl
-      w v steps round.stays (round.handed x.index x.above (within w.sent x.index _ x.sent)) h x.sent runs
+      let hand = round.handed x.index x.above (within w.sent x.index _ x.sent) in
+      one c inc epoch n (λ u. message_at u.sent hand.copy ≡ Some (from_client c inc x.body)) (Heard c) (step.Deliver hand.copy)
+      (λ u y s answer calm at e t. message_kept c inc epoch n hand.copy _ u y s answer calm e t) (heard_kept c inc epoch n)
+      (λ u y answer at e t. inl (hit_report c inc epoch n hand.copy x.body x.is some u y answer at e t)) refl
+      w v steps round.stays hand.delivers h (hand.same ∙ x.sent) runs
 
   pub five_rounds : (w v : State) → At c inc epoch (length w.sent) w → Rounds 5 (length w.sent) w v → Heard c v
   five_rounds w v h r1 =

@@ -1,5 +1,5 @@
 -- What a client sends after it has joined an epoch is of an incarnation that was registered by then.
-use Rattle.krl_progress.proofs.Names.{◌≡◌, ℕ, ◌≤◌, Option, refl, sym, subst, arith, Value, In, Link, Shared, at_link, Reachable, stepped, eq_cases}
+use Rattle.krl_progress.proofs.Names.{ℕ, ◌≤◌, Option, sym, subst, arith, Value, In, Link, Shared, at_link, Reachable, stepped, eq_cases}
 use Rattle.krl_messages.proofs.Members.{each_more}
 use Rattle.krl_machine.specs.Links.{Head, LinkStep, accepts, lowers, issues, speaks, writes_again, registers}
 use Rattle.krl_machine.specs.Worlds.{World, Changed, Step, raises, applies, crash, start, finish, begun}

@@ -1,6 +1,6 @@
 -- Whose requests a step adds to what was sent: those of a client that runs.
-use Rattle.krl_progress.proofs.Names.{◌≡◌, ℕ, suc, if◌then◌else◌, ◌⊎◌, inl, inr, ⊎_elim, ◌∙◌, false, Option, Some, None, List, [], ◌∷◌, ◌++◌, refl, sym, ap, subst, nat_eq, in_both, In}
-use Rattle.krl_progress.proofs.Names.{ToServer, ToClient, Client, Pieces, Message, AppliedWrite, Step, Command, Answer, ServerPlace, Up, Down, State, ClientPlace, client_of, with_client, seated, served, message_at, ServerReads, ClientReads, Delivers, Obeys, nudged, started, crashed, Takes, from_clients, from_server, span, applies, case_of, nudge, begun}
+use Rattle.krl_progress.proofs.Names.{◌≡◌, ℕ, suc, if◌then◌else◌, ◌⊎◌, inl, inr, ⊎_elim, ◌∙◌, Option, Some, None, List, [], ◌∷◌, ◌++◌, refl, sym, ap, subst, nat_eq, in_both, In}
+use Rattle.krl_progress.proofs.Names.{ToServer, ToClient, Client, Pieces, Message, AppliedWrite, Step, Command, Answer, ServerPlace, Up, Down, State, ClientPlace, client_of, seated, served, message_at, ServerReads, ClientReads, Delivers, Obeys, nudged, started, crashed, Takes, from_clients, from_server, span, applies, case_of, nudge, begun}
 use Rattle.krl_messages.specs.declared.to_server.ToServerBody.TheVariants as said
 use Rattle.krl_messages.specs.declared.to_server.Request.{Request}
 use Rattle.krl_messages.specs.declared.write_op.WriteOp.{WriteOp}

@@ -125,8 +125,10 @@ taken_in_two c seen req w v rw h r1 =
     let x = f1.1 in
     let said = lock_said c k.incarnation epoch seen some n1 req x.point x.hi x.mode in
     let now : Along c seen req k.incarnation epoch some n2 r1.1 = record { untaken = f1.0.untaken; at = at_again c k.incarnation epoch n1 r1.1 f1.0.at } in
-    let f2 = hit (IsUntaken c seen req) (Along c seen req k.incarnation epoch some n2) (along c seen req k.incarnation epoch some n2) (λ u. message_at u.sent x.sent.index ≡ Some said) (λ u. ⊥) (step.Deliver x.sent.index)
-    (λ u y s a g after e t. still x.sent.index said u y s a e t) (λ u y s a g after e t. e)
-    (λ u y a g after e t. hit_lock c seen req k.incarnation epoch some n2 x.point x.hi x.mode x.reach x.sent.index u y a g after e t)
-    r2.0 r1.1 r2.1 r2.2.stays (r2.2.handed x.sent.index x.sent.above (within r1.1.sent x.sent.index said x.sent.sent)) now x.sent.sent r2.3 r2.4 in
+    let hand = r2.2.handed x.sent.index x.sent.above (within r1.1.sent x.sent.index said x.sent.sent) in
+    let sent : message_at r1.1.sent hand.copy ≡ Some said = hand.same ∙ x.sent.sent in
+    let f2 = hit (IsUntaken c seen req) (Along c seen req k.incarnation epoch some n2) (along c seen req k.incarnation epoch some n2) (λ u. message_at u.sent hand.copy ≡ Some said) (λ u. ⊥) (step.Deliver hand.copy)
+    (λ u y s a g after e t. still hand.copy said u y s a e t) (λ u y s a g after e t. e)
+    (λ u y a g after e t. hit_lock c seen req k.incarnation epoch some n2 x.point x.hi x.mode x.reach hand.copy u y a g after e t)
+    r2.0 r1.1 r2.1 r2.2.stays hand.delivers now sent r2.3 r2.4 in
     f2.1

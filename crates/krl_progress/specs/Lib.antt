@@ -9,3 +9,5 @@ pub mod FirstWaits
 pub mod Standstills
 pub mod Calm
 pub mod Locks
+pub mod HostRounds
+pub mod HostLaws

@@ -1,5 +1,5 @@
 -- That lock requests are answered.
-use Rattle.std.specs.Prelude.{◌≡◌, ◌<◌, ℕ, suc, false, Some, length}
+use Rattle.std.specs.Prelude.{◌≡◌, ◌<◌, ℕ, suc, true, false, Some, length}
 use Rattle.krl_modes.specs.declared.point.TheConstants.{END}
 use Rattle.krl_modes.specs.Spans.{Bounds}
 use Rattle.krl_durable.specs.Registers.{record_of}
@@ -73,3 +73,21 @@ UndisturbedRoundsCanBeMade =
     (w : State) (n : ℕ) → IsReachable w → IsManned w → HasRoom w →
     (reqs : ℕ → ℕ) × (writes : ℕ → ℕ) × (v : State) × IsUndisturbed reqs writes w
     × RoundsWhile (IsUndisturbed reqs writes) n (length w.sent) w v
+
+-- A client waits for a lock in such rounds, and when they end its request is answered. So `locks_are_answered` is not
+-- only about worlds in which nobody ever waits.
+pub record SomebodyIsAnswered : Type 0 where
+  pub reqs : ℕ → ℕ
+  pub writes : ℕ → ℕ
+  pub before : State
+  pub reached : IsReachable before
+  pub undisturbed : IsUndisturbed reqs writes before
+  pub waiter : Client
+  pub runs : client_of before 0 ≡ Some waiter
+  pub waits : is_waiting waiter.asked ≡ true
+  pub after : State
+  pub rounds : RoundsWhile (IsUndisturbed reqs writes) 1161 (length before.sent) before after
+  pub answered : Client
+  pub runs_on : client_of after 0 ≡ Some answered
+  pub same_request : answered.req ≡ waiter.req
+  pub no_longer : is_waiting answered.asked ≡ false

@@ -9,7 +9,7 @@ ghost use Rattle.krl_progress.specs.FirstWaits.{FirstWaitsEndIn};
 ghost use Rattle.krl_progress.specs.Standstills.{NoStandstillIn};
 ghost use Rattle.krl_progress.specs.Calm.{SomebodyMovesOnIn};
 ghost use Rattle.krl_progress.specs.Locks.{LocksAreAnsweredIn, MannedWorldsAnswerIn};
-ghost use Rattle.krl_progress.specs.Locks.{UndisturbedRoundsCanBeMade};
+ghost use Rattle.krl_progress.specs.Locks.{UndisturbedRoundsCanBeMade, SomebodyIsAnswered};
 ghost use Rattle.krl_progress.specs.Pushes.{PushesArriveIn};
 ghost use Rattle.krl_progress.specs.Requests.{RequestsAreKnown, PushesAreAwaited};
 ghost use Rattle.krl_progress.specs.Requests.{RequestsAreRegistered};
@@ -111,6 +111,11 @@ pub fn somebody_moves_on()
 /// something runs. Push numbers are not spent.
 pub fn locks_are_answered()
     ensures { LocksAreAnsweredIn 1161 }
+{}
+
+/// Somebody waits for a lock in such rounds, and is answered.
+pub fn somebody_is_answered()
+    ensures { SomebodyIsAnswered }
 {}
 
 /// In every reachable world: if the server runs, the incarnation of each request that was sent is

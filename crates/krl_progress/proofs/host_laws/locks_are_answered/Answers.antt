@@ -1,0 +1,5 @@
+use Rattle.krl_progress.proofs.HostProgress as progress
+use Rattle.krl_progress.proofs.host_laws.locks_are_answered.Goals as goal
+
+pub returns : goal.returns
+returns c = progress.locks_are_answered
