@@ -27,7 +27,8 @@ of krl do).
 
 A row is printed as KEY=VALUE, one a line. What is printed reads back: insert,
 put and set take KEY=VALUE in place of KEY VALUE. A value that is no text is
-printed as u64: and a number if it has eight bytes, else as hex: and digits.
+printed as u64: and a number if it has eight bytes, otherwise as hex: and
+digits.
 
 The client's number: one process at a time is the client of a number, from 0
 to 63. Without --number the first free one from 63 down to 56 is taken, so
