@@ -9,6 +9,7 @@ import sys
 import threading
 from collections.abc import Callable
 from pathlib import Path
+from unittest.mock import patch
 
 import krl
 from krl import Outcome, Row
@@ -40,6 +41,20 @@ class SignalsTest(Served):
                 assert process.stdout is not None
                 self.assertEqual(process.stdout.read(), "interrupted\n")
                 timer.cancel()
+
+
+class NumbersTest(Served):
+    SERVED_BY = ("--lease", "60s")
+
+    def test_connect_takes_a_number_that_nobody_has(self) -> None:
+        # Each folder stands for that of another user or machine.
+        with patch.dict(os.environ, XDG_STATE_HOME=str(self.folder / "here")):
+            first, second = (krl.connect(self.address, PATIENCE) for _ in range(2))
+        with patch.dict(os.environ, XDG_STATE_HOME=str(self.folder / "there")):
+            third = krl.connect(self.address, PATIENCE)
+        self.assertEqual([it.number for it in (first, second, third)], [0, 1, 2])
+        for client in (first, second, third):
+            client.leave()
 
 
 class ForkTest(Served):
