@@ -15,12 +15,12 @@ WIDTH = 100
 
 HEAD = """# The types that definitions take from the code
 
-`tests/statement --write` makes this page from the sources, and `tests/statement` compares it with them. A definition
-imports a type of the code by `use Rattle.CRATE.specs.declared.FILE.TYPE`, and its variants by `TYPE.TheVariants as
-name`. Here is each type and constant that the files of *What to read to know what is proved* in `docs/ARCHITECTURE.md`
-import, lowest first. In definitions a `u64` or `usize` is a number, `ℕ`, that knows no greatest one; a `bool` is a
-`Bool`; a `Vec<T>` or `[T; n]` is a `List T`. A field is read as `h.span`. What a variant carries follows it, in the
-order of its declaration: `write.Insert k v`.
+For reviewers. `tests/statement --write` makes this page from the sources, and `tests/statement` compares it with them.
+A definition imports a type of the code by `use Rattle.CRATE.specs.declared.FILE.TYPE`, and its variants by
+`TYPE.TheVariants as name`. Here is each type and constant that the files of *What to read to know what is proved* in
+`docs/ARCHITECTURE.md` import, lowest first. In definitions a `u64` or `usize` is a number, `ℕ`, that knows no greatest
+one; a `bool` is a `Bool`; a `Vec<T>` or `[T; n]` is a `List T`. A field is read as `h.span`. What a variant carries
+follows it, in the order of its declaration: `write.Insert k v`.
 """
 TABLE = """
 ## What stands for other types
