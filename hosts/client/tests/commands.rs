@@ -188,9 +188,11 @@ fn a_server_that_does_not_answer_is_status_3() {
     let client = world.client(1);
     assert_eq!(client.insert(15, Value::from(1)), Ok(Outcome::Applied));
     let (_, pin) = client.pin_for_read(10..20).unwrap();
-    let ended = world.run(&["--timeout", "300ms", "put", "15", "a"]);
+    // The client has to join within the time, for which a busy machine may need longer.
+    let put = |time| world.run(&["--timeout", time, "put", "15", "a"]);
+    let has_joined = |ended: &Ended| ended.errors.contains("the write was not made");
+    let ended = ["300ms", "5s", "60s"].into_iter().map(put).find(has_joined).unwrap();
     assert_eq!((ended.status, ended.out.as_str()), (3, ""), "{ended:?}");
-    assert!(ended.errors.contains("the write was not made"), "{ended:?}");
     assert!(ended.errors.contains("another client holds what it needs"), "{ended:?}");
     assert!(!ended.errors.contains("may have been applied"), "{ended:?}");
     drop(pin);
