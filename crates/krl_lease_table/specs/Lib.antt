@@ -1,0 +1,5 @@
+pub mod Standings
+pub mod Rows
+pub mod Tables
+pub mod Systems
+pub mod Laws

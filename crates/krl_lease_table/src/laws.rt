@@ -1,0 +1,8 @@
+//! What holds of a server whose host does what its lease table answers: each function's contract is
+//! a law, and its body is empty.
+ghost use Rattle.krl_lease_table.specs.Laws.{EvictedAnswerNothing};
+
+/// An incarnation that was evicted answers nothing any more, whichever calls the host makes.
+pub fn evicted_answer_nothing()
+    ensures { EvictedAnswerNothing }
+{}
