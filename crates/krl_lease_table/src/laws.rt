@@ -1,8 +1,13 @@
 //! What holds of a server whose host does what its lease table answers: each function's contract is
 //! a law, and its body is empty.
-ghost use Rattle.krl_lease_table.specs.Laws.{EvictedAnswerNothing};
+ghost use Rattle.krl_lease_table.specs.Laws.{EvictedAnswerNothing, StartsAsStored};
 
 /// An incarnation that was evicted answers nothing any more, whichever calls the host makes.
 pub fn evicted_answer_nothing()
     ensures { EvictedAnswerNothing }
+{}
+
+/// A server that opens its table begins as that law asks for.
+pub fn starts_as_stored()
+    ensures { StartsAsStored }
 {}

@@ -10,7 +10,7 @@ mod sign;
 mod standing;
 mod table;
 
-pub use laws::evicted_answer_nothing;
+pub use laws::{evicted_answer_nothing, starts_as_stored};
 pub use refused::Refused;
 pub use row::Row;
 pub use sign::{Asked, Grant, Heard, Older, Sign, Signer};
