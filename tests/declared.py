@@ -11,7 +11,7 @@ USE = re.compile(r"(?m)^(?:ghost )?use Rattle\.([\w.]+?)(?:\.\{([^}]*)\}| as (\w
 FIELD_TYPE = re.compile(r"(?:: |\(|<|\[|, )([A-Z]\w*)")
 # These are the same in definitions, or are stated at the head of the page.
 PLAIN = {"Option", "Vec", "Result"}
-WIDTH = 100
+WIDTH = 120
 
 HEAD = """# The types that definitions take from the code
 
@@ -56,7 +56,7 @@ def compact(declaration):
     head, _, variants = bare.partition("{\n")
     if len(line) <= WIDTH:
         return line
-    if not re.fullmatch(r"(?: {4}\w+(?:\(\w+\))?,\n)+\}", variants):
+    if not re.fullmatch(r"(?: {4}\w+(?:\([\w, ]+\))?,\n)+\}", variants):
         return bare
     lines = textwrap.fill(" ".join(variants[:-1].split()), WIDTH, initial_indent="    ", subsequent_indent="    ")
     return f"{head}{{\n{lines}\n}}"
