@@ -109,7 +109,7 @@ fn the_lines_of_the_page() {
 fn the_lines_of_the_page_on_caches_are_those_of_this_one() {
     let page = Path::new(PACKAGE).join("../../docs/CACHE.md");
     let page = fs::read_to_string(page).unwrap_or_default();
-    for language in ["c", "cpp"] {
-        assert!(README.contains(&blocks(&page, language, 1)), "{language}");
-    }
+    let shown = blocks(&page, "cpp", 1);
+    assert!(page.is_empty() || !shown.is_empty());
+    assert!(README.contains(&shown), "{shown}");
 }

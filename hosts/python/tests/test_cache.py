@@ -305,7 +305,9 @@ class PageTest(Site):
                 exec(lines.replace("/var/lib/shop/krl", self.folder), {})
             printed.append(out.getvalue().splitlines())
         self.assertEqual([len(lines) for lines in printed], [11, 1])
-        for block in re.findall(r"```python\n(.*?)```", CACHES.read_text(), flags=re.DOTALL):
+        shown = re.findall(r"```python\n(.*?)```", CACHES.read_text(), flags=re.DOTALL)
+        self.assertTrue(shown)
+        for block in shown:
             self.assertIn(block, blocks)
         self.assertEqual([lines[0] for lines in printed], ["item 15 150", "item 15"])
 
