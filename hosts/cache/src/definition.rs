@@ -126,31 +126,38 @@ impl Definition {
 
     /// By what the stripe of each key is held now. `found` is by what it was held when its rows were
     /// loaded that are in memory.
-    pub fn held(&self, wanted: &[Wanted<'_>], found: &[Option<Held>]) -> Vec<Option<Held>> {
+    pub fn held(
+        &self,
+        wanted: &[Wanted<'_>],
+        found: impl Iterator<Item = Option<Held>> + Clone,
+    ) -> Vec<Option<Held>> {
         let look = LazyCell::new(|| self.look());
-        let held = |(still, wanted): (Option<Held>, &Wanted<'_>)| {
-            still.or_else(|| look.and_then(|look| look.held(wanted.stripe)))
-        };
-        self.held_still(wanted, found).into_iter().zip(wanted).map(held).collect()
+        let mut held = self.held_still(wanted, found);
+        for (held, wanted) in held.iter_mut().zip(wanted) {
+            *held = held.or_else(|| look.and_then(|look| look.held(wanted.stripe)));
+        }
+        held
     }
 
     /// What was found that is held still. One question to krl's client is enough for that.
-    fn held_still(&self, wanted: &[Wanted<'_>], found: &[Option<Held>]) -> Vec<Option<Held>> {
-        let Some(Holding { locks, marks }) = &self.holding else { return vec![None; found.len()] };
-        let of_marks = [
-            (marks.of_table.into(), marks.tenures.table),
-            (CLUSTER_MARK, marks.tenures.cluster),
-        ];
-        let of_stripe = |(wanted, found): (&Wanted<'_>, &Option<Held>)| {
+    fn held_still(
+        &self,
+        wanted: &[Wanted<'_>],
+        found: impl Iterator<Item = Option<Held>> + Clone,
+    ) -> Vec<Option<Held>> {
+        let Some(Holding { locks, marks }) = &self.holding else { return vec![None; wanted.len()] };
+        let of_marks =
+            [(marks.of_table.into(), marks.tenures.table), (CLUSTER_MARK, marks.tenures.cluster)];
+        let of_stripe = |(wanted, found): (&Wanted<'_>, Option<Held>)| {
             let tenure = found.map_or(NO_TENURE, |then| then.stripe);
             (self.stripes.key_of_krl(wanted.stripe), tenure)
         };
-        let of_stripes = wanted.iter().zip(found).map(of_stripe);
+        let of_stripes = wanted.iter().zip(found.clone()).map(of_stripe);
         let unbroken = locks.held_since(of_marks.into_iter().chain(of_stripes));
         let (of_marks, of_stripes) = unbroken.split_at(of_marks.len());
-        let still = |(is_unbroken, then): (&bool, &Option<Held>)| {
+        let still = |(is_unbroken, then): (&bool, Option<Held>)| {
             let are_unbroken = [of_marks[0], of_marks[1], *is_unbroken];
-            held::held_since(self.number, marks.tenures, (*then)?.stripe, are_unbroken)
+            held::held_since(self.number, marks.tenures, then?.stripe, are_unbroken)
         };
         of_stripes.iter().zip(found).map(still).collect()
     }

@@ -191,7 +191,10 @@ impl<'r> Read<'r> {
         keys: &'r [Key],
         range: Option<&'r RangeInclusive<i64>>,
     ) -> Result<Read<'r>, ReadError> {
-        let wanted = keys.iter().map(|key| definition.locate(key)).collect::<Result<_, _>>()?;
+        let mut wanted = Vec::with_capacity(keys.len());
+        for key in keys {
+            wanted.push(definition.locate(key)?);
+        }
         Ok(Read { table, definition, wanted, range })
     }
 
@@ -254,18 +257,18 @@ impl<'r> Read<'r> {
     /// All rows, which are read from memory.
     fn hits(&self, found: Vec<Found>) -> Vec<Arc<Rows>> {
         self.table.inner.counters.hits.add(found.len());
-        let hit = |(_, rows): (Held, Arc<Rows>)| {
+        let mut hits = Vec::with_capacity(found.len());
+        for (_, rows) in found.into_iter().flatten() {
             rows.note_read();
-            rows
-        };
-        found.into_iter().flatten().map(hit).collect()
+            hits.push(rows);
+        }
+        hits
     }
 
     /// By what each key is held now.
     fn held(&self, found: &[Found]) -> Vec<Option<Held>> {
         let then = |found: &Found| found.as_ref().map(|(then, _)| *then);
-        let then: Vec<Option<Held>> = found.iter().map(then).collect();
-        self.definition.held(&self.wanted, &then)
+        self.definition.held(&self.wanted, found.iter().map(then))
     }
 
     /// Reports to the loader what is to be loaded from now on. It learns nothing if it is late.
@@ -366,8 +369,12 @@ fn one_of_each(keys: &[Key], found: Vec<Arc<Rows>>) -> Result<Vec<Option<Row>>, 
     found.into_iter().zip(keys).map(row).collect()
 }
 
-fn flat(rows: &[Arc<Rows>]) -> Vec<Row> {
-    rows.iter().flat_map(|rows| rows.rows.iter().cloned()).collect()
+fn flat(found: &[Arc<Rows>]) -> Vec<Row> {
+    let mut rows = Vec::with_capacity(found.len());
+    for of_key in found {
+        rows.extend_from_slice(&of_key.rows);
+    }
+    rows
 }
 
 /// The first key of a range and the last one, if it has any.
