@@ -54,7 +54,8 @@ read_mark(HeapTuple tuple, TupleDesc desc, uint64 *mark)
 
 	if (trigger->tgnargs < 1 || !krl_is_trigger_function(trigger->tgfoid))
 		return false;
-	arguments = heap_getattr(tuple, Anum_pg_trigger_tgargs, desc, &isnull);
+	/* heap_getattr() calls a function that older minor versions of PostgreSQL lack. */
+	arguments = fastgetattr(tuple, Anum_pg_trigger_tgargs, desc, &isnull);
 	*mark = strtoul(VARDATA_ANY(DatumGetByteaPP(arguments)), NULL, 10);
 	/* krl.stripes is less than it was. */
 	if (*mark >= (uint64) krl_stripes)
