@@ -7,8 +7,10 @@ use crate::table::Table;
 use krl::TlsConfig;
 use krl_postgres::Connector;
 use std::fmt;
+use std::fs;
+use std::io;
 use std::ops::Range;
-use std::path::PathBuf;
+use std::path::{Path, PathBuf};
 use std::sync::atomic::{AtomicU64, Ordering};
 use std::sync::mpsc::{SyncSender, sync_channel};
 use std::sync::{Arc, Mutex, MutexGuard, PoisonError};
@@ -108,7 +110,7 @@ impl CacheBuilder {
     /// the folder of the lock files cannot be made, or there is no thread.
     pub fn open(self) -> Result<Cache, ReadError> {
         let CacheBuilder { database, user, krl, memory, timeout } = self;
-        std::fs::create_dir_all(&krl.lock_folder)?;
+        make_lock_folder(&krl.lock_folder)?;
         let connector = Connector::new(&database, user.as_ref()).map_err(ReadError::Database)?;
         let (idle, definitions, fault) = (Mutex::default(), AtomicU64::new(0), Mutex::default());
         let shared = Shared { connector, memory, timeout, idle, definitions, fault };
@@ -216,9 +218,30 @@ impl Shared {
     }
 }
 
+/// Makes the folder of the lock files, unless it is there.
+fn make_lock_folder(folder: &Path) -> io::Result<()> {
+    fs::create_dir_all(folder).map_err(|error| {
+        let folder = folder.display();
+        io::Error::new(error.kind(), format!("the folder of lock files, {folder}: {error}"))
+    })
+}
+
 impl fmt::Debug for Cache {
     fn fmt(&self, f: &mut fmt::Formatter<'_>) -> fmt::Result {
         let database = self.shared.connector.address();
         f.debug_struct("Cache").field("database", &database).finish_non_exhaustive()
+    }
+}
+
+#[cfg(test)]
+mod tests {
+    use super::*;
+
+    #[test]
+    fn a_folder_that_cannot_be_made_is_named() {
+        let below_a_file = "/proc/version/locks";
+        let builder = Cache::builder("postgres://localhost/shop".parse().unwrap(), below_a_file);
+        let refused = builder.open().map(Cache::close).unwrap_err().to_string();
+        assert!(refused.contains(below_a_file), "{refused}");
     }
 }

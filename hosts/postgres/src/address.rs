@@ -1,5 +1,6 @@
 //! Where a store in PostgreSQL is.
 use crate::security::{Mode, Security};
+use nix::unistd::{Uid, User};
 use std::error::Error;
 use std::fmt;
 use std::net::IpAddr;
@@ -14,7 +15,8 @@ use tokio_postgres::config::{Host, SslMode};
 /// As text: `postgres://krl@10.0.0.1:5432,10.0.0.2:5432/krl?sslmode=verify-full`, as PostgreSQL's
 /// own programs take it, and without a password. `sslmode` is `disable`, `require`, `verify-ca` or
 /// `verify-full`; it has to be there, unless all hosts are this machine, and is `disable` then.
-/// `sslrootcert`, `sslcert` and `sslkey` name files as they do for PostgreSQL's programs.
+/// `sslrootcert`, `sslcert` and `sslkey` name files as they do for PostgreSQL's programs. If it names
+/// no user, the user is that of the process.
 #[derive(Clone, Debug, PartialEq, Eq)]
 pub struct PostgresAddress {
     text: String,
@@ -52,6 +54,9 @@ impl PostgresAddress {
         config.ssl_mode(if is_plain { SslMode::Disable } else { SslMode::Require });
         if let Some((name, password)) = user {
             config.user(name).password(password);
+        }
+        if let (None, Some(name)) = (config.get_user(), user_of_process()) {
+            config.user(&name);
         }
         config
     }
@@ -112,6 +117,12 @@ fn password_of_user(text: &str) -> Option<Range<usize>> {
     let end = if rest[..first].contains(':') { last } else { rest[..end_of_hosts].rfind('@')? };
     let colon = rest[..end].find(':')?;
     Some(start + colon + 1..start + end)
+}
+
+/// As whom PostgreSQL's own programs connect by an address that names no user.
+fn user_of_process() -> Option<String> {
+    let user = User::from_uid(Uid::effective()).ok().flatten();
+    user.map(|user| user.name)
 }
 
 /// Why the driver does not read a text.
@@ -262,6 +273,21 @@ mod tests {
             assert_eq!(address.to_string(), text);
             assert!(address.config(None).get_dbname().is_some());
         }
+    }
+
+    #[test]
+    fn the_user_is_that_of_the_process_unless_one_is_named() {
+        let config = |text: &str, user| text.parse::<PostgresAddress>().unwrap().config(user);
+        let process = user_of_process();
+        let given = ("reader".to_string(), "secret".to_string());
+        for (text, user, expected) in [
+            ("postgres://localhost/x", None, process.as_deref()),
+            ("postgres://krl@localhost/x", None, Some("krl")),
+            ("postgres://krl@localhost/x", Some(&given), Some("reader")),
+        ] {
+            assert_eq!(config(text, user).get_user(), expected, "{text}");
+        }
+        assert!(process.is_some());
     }
 
     #[test]
