@@ -1,7 +1,9 @@
 -- Calls leave a belief.
 use Rattle.std.proofs.Common.{◌≡◌, ◌≢◌, ℕ, suc, ◌≤◌, ◌<◌, Bool, true, false, ◌&&◌, not, List, [], ◌∷◌, Option, Some, None, is_some, refl, sym, subst, arith, nat_lt, nat_le, if◌then◌else◌, leb-true, eqb-true}
+use Rattle.std.specs.Bool.{beq}
+use Rattle.std.specs.Cmp.{booleans_Decides}
 use Rattle.krl_cache.proofs.Names.{eqb-false, and_parts, nat_tests, END, TOP, RangePart, KeyPart, Mode, range_meet, key_meet, reads_key, range_of, key_of, Bounds, contains, Value, Holding}
-use Rattle.krl_cache.proofs.Names.{AllByRecursion, has_its_value, same, ends_at_end, have_values, Belief, IsBelief, is_span, is_last, adopt, adopt_all, lower, CallsKeepBelief}
+use Rattle.krl_cache.proofs.Names.{AllByRecursion, has_its_value, ends_at_end, have_values, Belief, IsBelief, is_span, is_last, adopt, adopt_all, lower, CallsKeepBelief}
 use Rattle.krl_modes.specs.declared.part.RangePart.TheVariants as range
 use Rattle.krl_modes.specs.declared.part.KeyPart.TheVariants as key
 use Rattle.krl_modes.proofs.Basics.{None-if_not_some, Some-if_some}
@@ -9,10 +11,8 @@ use Rattle.krl_modes.proofs.SpanLaws.{inside_span}
 
 -- Points of the last slot
 
-pub same_of : (a b : Bool) → same a b ≡ true → a ≡ b
-same_of true b e = sym e
-same_of false true e = absurd (cc)
-same_of false false e = refl
+pub same_of : (a b : Bool) → beq a b ≡ true → a ≡ b
+same_of a b e = (booleans_Decides a b).0 e
 
 pub past_end : TOP ≡ suc END
 past_end = refl

@@ -1,6 +1,6 @@
 -- Some pieces describe each belief, put together from its last point down. No call makes them.
 use Rattle.krl_cache.proofs.Names.{◌≡◌, ◌≢◌, ◌⊎◌, ℕ, zero, suc, ◌+◌, ◌≤◌, ◌<◌, inl, inr, Bool, true, false, ◌||◌, cond, List, [], ◌∷◌, refl, sym, ap, ◌∙◌, arith, nat_eq, nat_tests, leb_tells}
-use Rattle.krl_cache.proofs.Names.{eqb_tells, END, TOP, RangePart, KeyPart, reads_key, contains, RangePiece, Belief, IsBelief, range_reported_at, key_said, AreInOrder, DiffersFromNext, AreMerged}
+use Rattle.krl_cache.proofs.Names.{eqb_tells, END, TOP, RangePart, KeyPart, reads_key, contains, RangePiece, Belief, IsBelief, first_range_at, first_key_at, AreInOrder, DiffersFromNext, AreMerged}
 use Rattle.krl_cache.proofs.Names.{AreAscending, Describes, BeliefsAreDescribed}
 use Rattle.krl_modes.specs.declared.part.RangePart.TheVariants as range
 use Rattle.krl_modes.specs.declared.part.KeyPart.TheVariants as key
@@ -23,8 +23,8 @@ keys_from f p (suc n) = key_before (reads_key (f p)) p (f p) (keys_from f (suc p
 record SaysFrom (f : ℕ → RangePart) (p n : ℕ) (xs : List RangePiece) : Type 0 where
   in_order : AreInOrder p xs
   merged : AreMerged xs
-  inside : (q : ℕ) → p ≤ q → q < p + n → range_reported_at xs q ≡ f q
-  after : (q : ℕ) → p + n ≤ q → range_reported_at xs q ≡ range.N
+  inside : (q : ℕ) → p ≤ q → q < p + n → first_range_at xs q ≡ f q
+  after : (q : ℕ) → p + n ≤ q → first_range_at xs q ≡ range.N
 
 abbrev number_of : RangePart → ℕ
 number_of range.N = 0
@@ -55,7 +55,7 @@ in_order_lower : (a b : ℕ) (xs : List RangePiece) → a ≤ b → AreInOrder b
 in_order_lower a b [] l h = tt
 in_order_lower a b (x ∷ xs) l h = (omega (arith, l, h.0), h.1, h.2, h.3)
 
-pub in_order_before : (lo q : ℕ) (xs : List RangePiece) → AreInOrder lo xs → q < lo → range_reported_at xs q ≡ range.N
+pub in_order_before : (lo q : ℕ) (xs : List RangePiece) → AreInOrder lo xs → q < lo → first_range_at xs q ≡ range.N
 in_order_before lo q [] h l = refl
 in_order_before lo q (x ∷ xs) h l =
     let out : contains x.span q ≡ false = before_window x.span.lo x.span.hi q (omega (arith, h.0, l)) in
@@ -69,11 +69,11 @@ alone p r = record { span = record { lo = p; hi = suc p }; part = r }
 abbrev longer : ℕ → RangePiece → RangePiece
 longer p y = record { span = record { lo = p; hi = y.span.hi }; part = y.part }
 
-says_alone : (p q : ℕ) (r : RangePart) (xs : List RangePiece) → range_reported_at (alone p r ∷ xs) q ≡ cond (nat_eq q p) r (range_reported_at xs q)
-says_alone p q r xs = let one : contains (record { lo = p; hi = suc p }) q ≡ nat_eq q p = grind (arith, nat_tests) in ap (λ (t : Bool). cond t r (range_reported_at xs q)) one
+says_alone : (p q : ℕ) (r : RangePart) (xs : List RangePiece) → first_range_at (alone p r ∷ xs) q ≡ cond (nat_eq q p) r (first_range_at xs q)
+says_alone p q r xs = let one : contains (record { lo = p; hi = suc p }) q ≡ nat_eq q p = grind (arith, nat_tests) in ap (λ (t : Bool). cond t r (first_range_at xs q)) one
 
-says_longer : (p q : ℕ) (y : RangePiece) (ys : List RangePiece) → y.span.lo ≡ suc p → y.span.lo < y.span.hi → range_reported_at (longer p y ∷ ys) q ≡ cond (nat_eq q p) y.part (range_reported_at (y ∷ ys) q)
-says_longer p q y ys e l = both (contains (record { lo = p; hi = y.span.hi }) q) (contains y.span q) (nat_eq q p) (range_reported_at ys q) (grind (arith, nat_tests))
+says_longer : (p q : ℕ) (y : RangePiece) (ys : List RangePiece) → y.span.lo ≡ suc p → y.span.lo < y.span.hi → first_range_at (longer p y ∷ ys) q ≡ cond (nat_eq q p) y.part (first_range_at (y ∷ ys) q)
+says_longer p q y ys e l = both (contains (record { lo = p; hi = y.span.hi }) q) (contains y.span q) (nat_eq q p) (first_range_at ys q) (grind (arith, nat_tests))
   where
     both : (b c t : Bool) (r : RangePart) → b ≡ (t || c) → cond b y.part r ≡ cond t y.part (cond c y.part r)
     both true true true r h = refl
@@ -85,17 +85,17 @@ says_longer p q y ys e l = both (contains (record { lo = p; hi = y.span.hi }) q)
     both false false false r h = refl
 
 -- one more point in front
-says_more : (f : ℕ → RangePart) (p n : ℕ) (r : RangePart) (xs ys : List RangePiece) → f p ≡ r → SaysFrom f (suc p) n xs → ((q : ℕ) → range_reported_at ys q ≡ cond (nat_eq q p) r (range_reported_at xs q)) → AreInOrder p ys → AreMerged ys → SaysFrom f p (suc n) ys
+says_more : (f : ℕ → RangePart) (p n : ℕ) (r : RangePart) (xs ys : List RangePiece) → f p ≡ r → SaysFrom f (suc p) n xs → ((q : ℕ) → first_range_at ys q ≡ cond (nat_eq q p) r (first_range_at xs q)) → AreInOrder p ys → AreMerged ys → SaysFrom f p (suc n) ys
 says_more f p n r xs ys here h said order merged = record {
   in_order = order;
   merged = merged;
   inside = λ q a b. said q ∙ elim (eqb_tells q p) [
-    | inl e ↦ ap (λ (t : Bool). cond t r (range_reported_at xs q)) e.0 ∙ sym here ∙ ap f (sym e.1)
-    | inr e ↦ ap (λ (t : Bool). cond t r (range_reported_at xs q)) e.0 ∙ h.inside q (omega (arith, a, e.1)) (omega (arith, b))
+    | inl e ↦ ap (λ (t : Bool). cond t r (first_range_at xs q)) e.0 ∙ sym here ∙ ap f (sym e.1)
+    | inr e ↦ ap (λ (t : Bool). cond t r (first_range_at xs q)) e.0 ∙ h.inside q (omega (arith, a, e.1)) (omega (arith, b))
   ];
   after = λ q a. said q ∙ elim (eqb_tells q p) [
     | inl e ↦ absurd (omega (arith, a, e.1))
-    | inr e ↦ ap (λ (t : Bool). cond t r (range_reported_at xs q)) e.0 ∙ h.after q (omega (arith, a))
+    | inr e ↦ ap (λ (t : Bool). cond t r (first_range_at xs q)) e.0 ∙ h.after q (omega (arith, a))
   ];
 }
 
@@ -111,8 +111,8 @@ says_none f p n xs here h =
     says_more f p n range.N xs xs here h
     (λ q. elim (eqb_tells q p) [
       | inl e ↦
-          in_order_before (suc p) q xs h.in_order (omega (arith, e.1)) ∙ sym (ap (λ (t : Bool). cond t range.N (range_reported_at xs q)) e.0)
-      | inr e ↦ sym (ap (λ (t : Bool). cond t range.N (range_reported_at xs q)) e.0)
+          in_order_before (suc p) q xs h.in_order (omega (arith, e.1)) ∙ sym (ap (λ (t : Bool). cond t range.N (first_range_at xs q)) e.0)
+      | inr e ↦ sym (ap (λ (t : Bool). cond t range.N (first_range_at xs q)) e.0)
     ])
     (in_order_lower p (suc p) xs (omega arith) h.in_order) h.merged
 
@@ -168,33 +168,33 @@ not_read key.S e = absurd (let bad : true ≡ false = e in cc)
 not_read key.U e = absurd (let bad : true ≡ false = e in cc)
 not_read key.X e = absurd (let bad : true ≡ false = e in cc)
 
-says_here : (p : ℕ) (part : KeyPart) (ks : List KeyPiece) (t : Bool) → reads_key part ≡ t → key_said ks p ≡ key.N → key_said (key_before t p part ks) p ≡ part
-says_here p part ks true r h = let same : nat_eq p p ≡ true = grind (arith, nat_tests) in ap (λ (t : Bool). cond t part (key_said ks p)) same
+says_here : (p : ℕ) (part : KeyPart) (ks : List KeyPiece) (t : Bool) → reads_key part ≡ t → first_key_at ks p ≡ key.N → first_key_at (key_before t p part ks) p ≡ part
+says_here p part ks true r h = let same : nat_eq p p ≡ true = grind (arith, nat_tests) in ap (λ (t : Bool). cond t part (first_key_at ks p)) same
 says_here p part ks false r h = h ∙ sym (not_read part r)
 
-says_elsewhere : (p q : ℕ) (part : KeyPart) (ks : List KeyPiece) (t : Bool) → nat_eq q p ≡ false → key_said (key_before t p part ks) q ≡ key_said ks q
-says_elsewhere p q part ks true ne = ap (λ (t : Bool). cond t part (key_said ks q)) ne
+says_elsewhere : (p q : ℕ) (part : KeyPart) (ks : List KeyPiece) (t : Bool) → nat_eq q p ≡ false → first_key_at (key_before t p part ks) q ≡ first_key_at ks q
+says_elsewhere p q part ks true ne = ap (λ (t : Bool). cond t part (first_key_at ks q)) ne
 says_elsewhere p q part ks false ne = refl
 
-keys_before : (f : ℕ → KeyPart) (p n q : ℕ) → q < p → key_said (keys_from f p n) q ≡ key.N
+keys_before : (f : ℕ → KeyPart) (p n q : ℕ) → q < p → first_key_at (keys_from f p n) q ≡ key.N
 unfolding keys_from
 keys_before f p zero q a = refl
 keys_before f p (suc n) q a =
     let ne : nat_eq q p ≡ false = grind (arith, nat_tests) in
     says_elsewhere p q (f p) (keys_from f (suc p) n) (reads_key (f p)) ne ∙ keys_before f (suc p) n q (omega (arith, a))
 
-keys_inside : (f : ℕ → KeyPart) (p n q : ℕ) → p ≤ q → q < p + n → key_said (keys_from f p n) q ≡ f q
+keys_inside : (f : ℕ → KeyPart) (p n q : ℕ) → p ≤ q → q < p + n → first_key_at (keys_from f p n) q ≡ f q
 unfolding keys_from
 keys_inside f p zero q a b = absurd (omega (arith, a, b))
 keys_inside f p (suc n) q a b =
     elim (eqb_tells q p) [
       | inl e ↦
-          ap (λ (m : ℕ). key_said (key_before (reads_key (f p)) p (f p) (keys_from f (suc p) n)) m) e.1
+          ap (λ (m : ℕ). first_key_at (key_before (reads_key (f p)) p (f p) (keys_from f (suc p) n)) m) e.1
           ∙ says_here p (f p) (keys_from f (suc p) n) (reads_key (f p)) refl (keys_before f (suc p) n p (omega arith)) ∙ ap f (sym e.1)
       | inr e ↦ says_elsewhere p q (f p) (keys_from f (suc p) n) (reads_key (f p)) e.0 ∙ keys_inside f (suc p) n q (omega (arith, a, e.1)) (omega (arith, b))
     ]
 
-keys_after : (f : ℕ → KeyPart) (p n q : ℕ) → p + n ≤ q → key_said (keys_from f p n) q ≡ key.N
+keys_after : (f : ℕ → KeyPart) (p n q : ℕ) → p + n ≤ q → first_key_at (keys_from f p n) q ≡ key.N
 unfolding keys_from
 keys_after f p zero q a = refl
 keys_after f p (suc n) q a =

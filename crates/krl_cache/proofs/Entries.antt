@@ -1,6 +1,6 @@
 -- Entries in the order of their points, picked, and what is made of them.
 use Rattle.krl_cache.proofs.Names.{◌≡◌, ℕ, suc, ◌≤◌, ◌<◌, Bool, true, false, cond, max, List, [], ◌∷◌, map, Option, None, Some, refl, ap, subst, ◌∙◌, arith, nat_eq, filter_map, cons_option}
-use Rattle.krl_cache.proofs.Names.{option_and_then, nat_cmp, eq_by_cmp, is_lt, find, is_sorted, nat_tests, and_from, END, KeyPart, Entry, key_said, AreAscending, part_of, lies_in, pick, tagged}
+use Rattle.krl_cache.proofs.Names.{option_and_then, nat_cmp, eq_by_cmp, is_lt, find, is_sorted, nat_tests, and_from, END, KeyPart, Entry, first_key_at, AreAscending, part_of, lies_in, pick, tagged}
 use Rattle.krl_cache.proofs.Names.{key_piece, RiseWithin, AreRead}
 use Rattle.std.specs.FinMap.Entries.{below_all}
 use Rattle.krl_cache.proofs.Windows.{inside_window}
@@ -90,12 +90,12 @@ part_in : (b : Bool) (e : Entry) (o : Option Entry) (r : KeyPart) → r ≡ part
 part_in true e o r h = refl
 part_in false e o r h = h
 
-pub keys_say : (es : List (ℕ × Entry)) (p : ℕ) → key_said (map key_piece es) p ≡ part_of (find nat_cmp p es)
+pub keys_say : (es : List (ℕ × Entry)) (p : ℕ) → first_key_at (map key_piece es) p ≡ part_of (find nat_cmp p es)
 keys_say [] p = refl
 keys_say (e ∷ es) p =
     let test : nat_eq p e.0 ≡ eq_by_cmp nat_cmp p e.0 = grind (arith, nat_tests) in
-    ap (λ (b : Bool). cond b e.1.part (key_said (map key_piece es) p)) test
-    ∙ part_in (eq_by_cmp nat_cmp p e.0) e.1 (find nat_cmp p es) (key_said (map key_piece es) p) (keys_say es p)
+    ap (λ (b : Bool). cond b e.1.part (first_key_at (map key_piece es) p)) test
+    ∙ part_in (eq_by_cmp nat_cmp p e.0) e.1 (find nat_cmp p es) (first_key_at (map key_piece es) p) (keys_say es p)
 
 pub keys_ascend : (a b : ℕ) (es : List (ℕ × Entry)) → b ≤ suc END → RiseWithin a b es → AreRead es → AreAscending a (map key_piece es)
 keys_ascend a b [] t h r = tt

@@ -1,7 +1,7 @@
 -- What the maps of a cache stand for, after each call.
 use Rattle.krl_cache.proofs.Names.{◌≡◌, ℕ, suc, ◌≤◌, ◌<◌, inl, inr, Bool, true, false, cond, List, [], ◌∷◌, map, Option, None, Some, refl, sym, ap, subst, ◌∙◌, arith, filter, filter_map, cons_option}
 use Rattle.krl_cache.proofs.Names.{IsStrictlySortedBy, option_and_then, nat_cmp, is_eq, keys_of, find, entries_between, Included, Excluded, nat_tests, eqb_tells, TOP, RangePart, KeyPart, Mode}
-use Rattle.krl_cache.proofs.Names.{range_meet, key_meet, reads_key, range_of, key_of, Bounds, contains, Value, Holding, RangePiece, Entry, is_last, no_belief, AreRows, range_reported_at, key_said}
+use Rattle.krl_cache.proofs.Names.{range_meet, key_meet, reads_key, range_of, key_of, Bounds, contains, Value, Holding, RangePiece, Entry, is_last, no_belief, AreRows, first_range_at, first_key_at}
 use Rattle.krl_cache.proofs.Names.{AreMerged, AreAscending, Describes, part_of, value_of, lies_in, pick, tagged, row_value, key_piece, entry_of, own_entry, entry_lowered, StandWithin, RiseWithin}
 use Rattle.krl_cache.proofs.Names.{AreRead, at, part_at, Maps, maps_believe, AreMapsKept, AreStartsMerged, EndsAlike, row_of, Rise}
 use Rattle.krl_modes.specs.declared.part.KeyPart.TheVariants as key
@@ -119,7 +119,7 @@ maps_rows s x rows lo hi kept sorted l el eh e =
     rows_are (maps_believe x) s TOP x.entries x.entries rows lo hi (λ p. ap value_of (at_find x.entries p)) (rise_within 0 TOP x.entries (omega arith) (rise_of x.entries sorted) (λ q v f. (kept.entries q v f).0)) l el eh refl
     (e ∙ ap (λ (xs : List (ℕ × Entry)). filter_map row_of xs) (between lo hi x.entries) ∙ rows_chosen lo hi x.entries)
 
-pub maps_describe : (x : Maps) (rs : List RangePiece) (keys : List KeyPiece) → AreMapsKept x → IsStrictlySortedBy nat_cmp (keys_of x.entries) → StandWithin 0 TOP rs → AreMerged rs → ((p : ℕ) → range_reported_at rs p ≡ part_at (at x.starts) p) → keys ≡ map key_piece x.entries → Describes (record { ranges = rs; keys = keys }) (maps_believe x)
+pub maps_describe : (x : Maps) (rs : List RangePiece) (keys : List KeyPiece) → AreMapsKept x → IsStrictlySortedBy nat_cmp (keys_of x.entries) → StandWithin 0 TOP rs → AreMerged rs → ((p : ℕ) → first_range_at rs p ≡ part_at (at x.starts) p) → keys ≡ map key_piece x.entries → Describes (record { ranges = rs; keys = keys }) (maps_believe x)
 maps_describe x rs keys kept sorted stand merged said e =
     let rise = rise_of x.entries sorted in
     record {
@@ -128,5 +128,5 @@ maps_describe x rs keys kept sorted stand merged said e =
       keys_in_order = subst (λ (k : List KeyPiece). AreAscending 0 k) (sym e)
           (keys_ascend 0 TOP x.entries (omega arith) (rise_within 0 TOP x.entries (omega arith) rise (λ q v f. (kept.entries q v f).0)) (all_read 0 x.entries rise (λ q v f. (kept.entries q v f).1)));
       ranges = said;
-      keys = λ p. ap (λ (k : List KeyPiece). key_said k p) e ∙ keys_say x.entries p ∙ ap part_of (sym (at_find x.entries p));
+      keys = λ p. ap (λ (k : List KeyPiece). first_key_at k p) e ∙ keys_say x.entries p ∙ ap part_of (sym (at_find x.entries p));
     }

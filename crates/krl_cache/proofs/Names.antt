@@ -18,7 +18,7 @@ pub use Rattle.std.specs.declared.ops.Bound.TheVariants.{Excluded, Unbounded, In
 pub use Rattle.krl_cache.specs.Backs.{AreBefore, IsBelow, Skips, back_of, part_last, list_to, TakesFrom}
 pub use Rattle.krl_cache.specs.Beliefs.{is_covered, is_last, IsLeastUncovered, AreRows, lower, adopt, Belief, adopt_all, CoversAll, no_belief, is_span}
 pub use Rattle.krl_cache.specs.Laws.{CallsKeepBelief, IsBelief, RowsAreDetermined, BeliefsAreDescribed}
-pub use Rattle.krl_cache.specs.Kept.{range_reported_at, Describes, DiffersFromNext, AreInOrder, key_said, AreMerged, AreAscending}
+pub use Rattle.krl_cache.specs.Kept.{first_range_at, Describes, DiffersFromNext, AreInOrder, first_key_at, AreMerged, AreAscending}
 pub use Rattle.krl_cache.specs.Lists.{belief_by, value_of, part_of}
 pub use Rattle.krl_cache.specs.Entries.{row_value, entry_of, pick, lies_in, own_entry, key_piece, AreRead, tagged, StandWithin, RiseWithin, entry_lowered}
 pub use Rattle.krl_cache.specs.MapSteps.{AreNext, piece_of, AreMapsKept, KeepsParts, EndsAlike, IsUndone, IsPlaced, HoldsBefore, AreStartsMerged, BeginsAnew, HasEnds, lowered_part, CanUndo, IsChanged, IsPast, gone, IsFree, row_of, IsFirst}
@@ -28,8 +28,7 @@ pub use Rattle.krl_cache.specs.Several.{parts_after, is_slot_of, CanUndoBoth, en
 pub use Rattle.krl_cache.specs.Sifts.{Stands, StandsAt, Rise, AreOut, Sifts, IsSifted}
 pub use Rattle.krl_cache.specs.Walks.{left_of, is_known, IsGap, AreKnown, StandsFrom, TakesBelow, Walks}
 pub use Rattle.krl_cache.specs.declared.entry.Entry.{Entry}
-pub use Rattle.krl_messages.specs.Holdings.{ends_at_end, same, has_its_value}
-pub use Rattle.krl_messages.specs.Several.{have_values}
+pub use Rattle.krl_messages.specs.Holdings.{ends_at_end, has_its_value, have_values}
 pub use Rattle.krl_messages.specs.Ascending.{IsBefore, Ascend}
 pub use Rattle.krl_messages.specs.Values.{Value}
 pub use Rattle.krl_messages.specs.declared.holding.Holding.{Holding}

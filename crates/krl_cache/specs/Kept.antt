@@ -16,14 +16,14 @@ use Rattle.krl_cache.specs.Beliefs.{Belief}
 -- What lists state of a point: the first that speaks of it, otherwise N
 
 -- of its range part
-abbrev pub range_reported_at : List RangePiece → ℕ → RangePart
-range_reported_at [] p = range.N
-range_reported_at (x ∷ xs) p = if contains x.span p then x.part else range_reported_at xs p
+abbrev pub first_range_at : List RangePiece → ℕ → RangePart
+first_range_at [] p = range.N
+first_range_at (x ∷ xs) p = if contains x.span p then x.part else first_range_at xs p
 
 -- of its key part
-abbrev pub key_said : List KeyPiece → ℕ → KeyPart
-key_said [] p = key.N
-key_said (k ∷ ks) p = if nat_eq p k.point then k.part else key_said ks p
+abbrev pub first_key_at : List KeyPiece → ℕ → KeyPart
+first_key_at [] p = key.N
+first_key_at (k ∷ ks) p = if nat_eq p k.point then k.part else first_key_at ks p
 
 -- spans from lo on, in order, none empty, none past END
 abbrev pub AreInOrder : ℕ → List RangePiece → Type 0
@@ -52,5 +52,5 @@ pub record Describes (ps : Pieces) (b : Belief) : Type 0 where
   pub ranges_in_order : AreInOrder 0 ps.ranges
   pub merged : AreMerged ps.ranges
   pub keys_in_order : AreAscending 0 ps.keys
-  pub ranges : (p : ℕ) → range_reported_at ps.ranges p ≡ b.range_at p
-  pub keys : (p : ℕ) → key_said ps.keys p ≡ b.key_at p
+  pub ranges : (p : ℕ) → first_range_at ps.ranges p ≡ b.range_at p
+  pub keys : (p : ℕ) → first_key_at ps.keys p ≡ b.key_at p

@@ -1,7 +1,6 @@
 //! What every form of a cache does.
 ghost use Rattle.std.specs.Prelude.{◌≡◌, true, IfOk, OnOk, OnErr, MatchResult};
-ghost use Rattle.krl_messages.specs.Holdings.{has_its_value};
-ghost use Rattle.krl_messages.specs.Several.{have_values};
+ghost use Rattle.krl_messages.specs.Holdings.{has_its_value, have_values};
 ghost use Rattle.krl_cache.specs.Beliefs as beliefs;
 ghost use Rattle.krl_cache.specs.Laws as laws;
 ghost use Rattle.krl_cache.specs.Kept.{Describes};

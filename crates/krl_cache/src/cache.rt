@@ -8,7 +8,7 @@ ghost use Rattle.std.specs.declared.ops.Bound.TheVariants.{Included, Excluded};
 ghost use Rattle.krl_modes.specs.declared.point.TheConstants.{TOP};
 ghost use Rattle.krl_cache.specs.Beliefs as beliefs;
 ghost use Rattle.krl_cache.specs.Founds.{scanned_of};
-ghost use Rattle.krl_cache.specs.Kept.{range_reported_at, AreMerged};
+ghost use Rattle.krl_cache.specs.Kept.{first_range_at, AreMerged};
 ghost use Rattle.krl_cache.specs.Entries.{key_piece, StandWithin};
 ghost use Rattle.krl_cache.specs.Maps.{Maps, maps_believe, at, part_at};
 ghost use Rattle.krl_cache.specs.MapSteps.{IsPast, AreStartsMerged, row_of, piece_of, is_held};
@@ -95,7 +95,7 @@ fn ranges_of(
     requires merged { AreStartsMerged (at starts.now.entries) }
     ensures stand { IfOk result (λ list. StandWithin 0 TOP list.items) }
     ensures said { IfOk result
-        (λ list. (p : ℕ) → range_reported_at list.items p ≡ part_at (at starts.now.entries) p) }
+        (λ list. (p : ℕ) → first_range_at list.items p ≡ part_at (at starts.now.entries) p) }
     ensures merged { IfOk result (λ list. AreMerged list.items) }
 {
     let mut list = Vec::new(alloc);

@@ -8,7 +8,7 @@ use Rattle.krl_modes.specs.declared.part.RangePart.TheVariants as range
 use Rattle.krl_modes.specs.Parts.{range_meet}
 use Rattle.krl_modes.specs.Spans.{Bounds, contains}
 use Rattle.krl_messages.specs.declared.range_pieces.RangePiece.{RangePiece}
-use Rattle.krl_cache.specs.Kept.{range_reported_at}
+use Rattle.krl_cache.specs.Kept.{first_range_at}
 use Rattle.krl_cache.specs.Entries.{lies_in, StandWithin}
 use Rattle.krl_cache_laws.specs.Lists.{clip}
 use Rattle.krl_cache.proofs.Pieces.{said-append, said_after, stand-append}
@@ -37,16 +37,16 @@ none : (b : Bool) (keep : RangePart) → range.N ≡ cond b (range_meet range.N 
 none true keep = refl
 none false keep = refl
 
-pub said-clip : (lo hi : ℕ) (keep : RangePart) (xs : List RangePiece) (p : ℕ) → range_reported_at (filter_map (clip lo hi keep) xs) p ≡ cond (lies_in lo hi p) (range_meet (range_reported_at xs p) keep) range.N
+pub said-clip : (lo hi : ℕ) (keep : RangePart) (xs : List RangePiece) (p : ℕ) → first_range_at (filter_map (clip lo hi keep) xs) p ≡ cond (lies_in lo hi p) (range_meet (first_range_at xs p) keep) range.N
 said-clip lo hi keep [] p = none (lies_in lo hi p) keep
 said-clip lo hi keep (x ∷ xs) p =
     let rest = said-clip lo hi keep xs p in
-    elim (nat_lt (max x.span.lo lo) (min x.span.hi hi)) as (λ (b : Bool). nat_lt (max x.span.lo lo) (min x.span.hi hi) ≡ b → range_reported_at (filter_map (clip lo hi keep) (x ∷ xs)) p ≡ cond (lies_in lo hi p) (range_meet (range_reported_at (x ∷ xs) p) keep) range.N) [
+    elim (nat_lt (max x.span.lo lo) (min x.span.hi hi)) as (λ (b : Bool). nat_lt (max x.span.lo lo) (min x.span.hi hi) ≡ b → first_range_at (filter_map (clip lo hi keep) (x ∷ xs)) p ≡ cond (lies_in lo hi p) (range_meet (first_range_at (x ∷ xs) p) keep) range.N) [
       | true ↦ λ t.
           rw t
           (ap (λ (r : RangePart). cond (lies_in (max x.span.lo lo) (min x.span.hi hi) p) (range_meet x.part keep) r) rest
-          ∙ clipped_here (contains x.span p) (lies_in lo hi p) (lies_in (max x.span.lo lo) (min x.span.hi hi) p) x.part (range_reported_at xs p) keep (in_both x.span.lo x.span.hi lo hi p))
-      | false ↦ λ t. rw t (rest ∙ clipped_away (contains x.span p) (lies_in lo hi p) x.part (range_reported_at xs p) keep (in_none x.span.lo x.span.hi lo hi p t))
+          ∙ clipped_here (contains x.span p) (lies_in lo hi p) (lies_in (max x.span.lo lo) (min x.span.hi hi) p) x.part (first_range_at xs p) keep (in_both x.span.lo x.span.hi lo hi p))
+      | false ↦ λ t. rw t (rest ∙ clipped_away (contains x.span p) (lies_in lo hi p) x.part (first_range_at xs p) keep (in_none x.span.lo x.span.hi lo hi p t))
     ] refl
 
 pub stand-clip : (lo hi : ℕ) (keep : RangePart) (a b from : ℕ) (xs : List RangePiece) → StandWithin a b xs → from ≤ hi → from ≤ max a lo → StandWithin from hi (filter_map (clip lo hi keep) xs)
@@ -71,17 +71,17 @@ three : (lo hi top p : ℕ) (r m : RangePart) → lo < hi → (top ≤ p → r �
 three lo hi top p r m l out t = grind (arith, nat_tests)
 
 -- the pieces below the span and above it, and others on the span itself
-pub said_in_place : (lo hi top : ℕ) (xs mid : List RangePiece) (p : ℕ) → StandWithin 0 top xs → StandWithin lo hi mid → lo < hi → hi ≤ top → range_reported_at ((filter_map (clip 0 lo range.X) xs ++ mid) ++ filter_map (clip hi top range.X) xs) p ≡ cond (lies_in lo hi p) (range_reported_at mid p) (range_reported_at xs p)
+pub said_in_place : (lo hi top : ℕ) (xs mid : List RangePiece) (p : ℕ) → StandWithin 0 top xs → StandWithin lo hi mid → lo < hi → hi ≤ top → first_range_at ((filter_map (clip 0 lo range.X) xs ++ mid) ++ filter_map (clip hi top range.X) xs) p ≡ cond (lies_in lo hi p) (first_range_at mid p) (first_range_at xs p)
 said_in_place lo hi top xs mid p kept stand l t =
     let below = filter_map (clip 0 lo range.X) xs in
     let above = filter_map (clip hi top range.X) xs in
     let first : StandWithin 0 lo below = stand-clip 0 lo range.X 0 top 0 xs kept (omega arith) (omega arith) in
     let last : StandWithin hi top above = stand-clip hi top range.X 0 top hi xs kept t (omega arith) in
     said-append 0 hi top (below ++ mid) above p (stand-append 0 lo hi below mid first stand) last
-    ∙ ap (λ (r : RangePart). cond (nat_lt p hi) r (range_reported_at above p)) (said-append 0 lo hi below mid p first stand)
-    ∙ ap (λ (r : RangePart). cond (nat_lt p hi) (cond (nat_lt p lo) r (range_reported_at mid p)) (range_reported_at above p)) (said-clip 0 lo range.X xs p ∙ within 0 lo p (range_reported_at xs p))
-    ∙ ap (λ (r : RangePart). cond (nat_lt p hi) (cond (nat_lt p lo) (cond (lies_in 0 lo p) (range_reported_at xs p) range.N) (range_reported_at mid p)) r) (said-clip hi top range.X xs p ∙ within hi top p (range_reported_at xs p))
-    ∙ three lo hi top p (range_reported_at xs p) (range_reported_at mid p) l (λ out. said_after 0 top xs p kept out) t
+    ∙ ap (λ (r : RangePart). cond (nat_lt p hi) r (first_range_at above p)) (said-append 0 lo hi below mid p first stand)
+    ∙ ap (λ (r : RangePart). cond (nat_lt p hi) (cond (nat_lt p lo) r (first_range_at mid p)) (first_range_at above p)) (said-clip 0 lo range.X xs p ∙ within 0 lo p (first_range_at xs p))
+    ∙ ap (λ (r : RangePart). cond (nat_lt p hi) (cond (nat_lt p lo) (cond (lies_in 0 lo p) (first_range_at xs p) range.N) (first_range_at mid p)) r) (said-clip hi top range.X xs p ∙ within hi top p (first_range_at xs p))
+    ∙ three lo hi top p (first_range_at xs p) (first_range_at mid p) l (λ out. said_after 0 top xs p kept out) t
 
 pub stand_in_place : (lo hi top : ℕ) (xs mid : List RangePiece) → StandWithin 0 top xs → StandWithin lo hi mid → hi ≤ top → StandWithin 0 top ((filter_map (clip 0 lo range.X) xs ++ mid) ++ filter_map (clip hi top range.X) xs)
 stand_in_place lo hi top xs mid kept stand t =
@@ -109,10 +109,10 @@ pub found_over : (a b : ℕ) (xs : List RangePiece) (p : ℕ) (x : RangePiece) �
 found_over a b xs p x h e = inside_window x.span.lo x.span.hi p (found_from a b xs p x h e).1
 
 -- the piece that is found over p holds from p to its end
-pub found_said : (a b : ℕ) (xs : List RangePiece) (p q : ℕ) (x : RangePiece) → StandWithin a b xs → find (λ y. contains y.span p) xs ≡ Some x → p ≤ q → q < x.span.hi → range_reported_at xs q ≡ x.part
+pub found_said : (a b : ℕ) (xs : List RangePiece) (p q : ℕ) (x : RangePiece) → StandWithin a b xs → find (λ y. contains y.span p) xs ≡ Some x → p ≤ q → q < x.span.hi → first_range_at xs q ≡ x.part
 found_said a b [] p q x h e l u = absurd (let bad : None ≡ Some x = e in cc)
 found_said a b (y ∷ xs) p q x h e l u =
-    elim (contains y.span p) as (λ (t : Bool). contains y.span p ≡ t → cond t (Some y) (find (λ z. contains z.span p) xs) ≡ Some x → range_reported_at (y ∷ xs) q ≡ x.part) [
+    elim (contains y.span p) as (λ (t : Bool). contains y.span p ≡ t → cond t (Some y) (find (λ z. contains z.span p) xs) ≡ Some x → first_range_at (y ∷ xs) q ≡ x.part) [
       | true ↦ λ t s.
           let same : y ≡ x = cc in
           let over : q < y.span.hi = subst (λ (z : RangePiece). q < z.span.hi) (sym same) u in
@@ -124,18 +124,18 @@ found_said a b (y ∷ xs) p q x h e l u =
           rw (past_window y.span.lo y.span.hi q (omega (arith, rest.0, at.0, l))) (found_said y.span.hi b xs p q x h.2 s l u)
     ] refl e
 
-pub found_none : (xs : List RangePiece) (p : ℕ) → find (λ y. contains y.span p) xs ≡ None → range_reported_at xs p ≡ range.N
+pub found_none : (xs : List RangePiece) (p : ℕ) → find (λ y. contains y.span p) xs ≡ None → first_range_at xs p ≡ range.N
 found_none [] p e = refl
 found_none (y ∷ xs) p e =
-    elim (contains y.span p) as (λ (t : Bool). contains y.span p ≡ t → cond t (Some y) (find (λ z. contains z.span p) xs) ≡ None → cond t y.part (range_reported_at xs p) ≡ range.N) [
+    elim (contains y.span p) as (λ (t : Bool). contains y.span p ≡ t → cond t (Some y) (find (λ z. contains z.span p) xs) ≡ None → cond t y.part (first_range_at xs p) ≡ range.N) [
       | true ↦ λ t s. absurd (let bad : Some y ≡ None = s in cc)
       | false ↦ λ t s. found_none xs p s
     ] refl e
 
-pub found_part : (xs : List RangePiece) (p : ℕ) (x : RangePiece) → find (λ y. contains y.span p) xs ≡ Some x → x.part ≡ range_reported_at xs p
+pub found_part : (xs : List RangePiece) (p : ℕ) (x : RangePiece) → find (λ y. contains y.span p) xs ≡ Some x → x.part ≡ first_range_at xs p
 found_part [] p x e = absurd (let bad : None ≡ Some x = e in cc)
 found_part (y ∷ xs) p x e =
-    elim (contains y.span p) as (λ (t : Bool). cond t (Some y) (find (λ z. contains z.span p) xs) ≡ Some x → x.part ≡ cond t y.part (range_reported_at xs p)) [
+    elim (contains y.span p) as (λ (t : Bool). cond t (Some y) (find (λ z. contains z.span p) xs) ≡ Some x → x.part ≡ cond t y.part (first_range_at xs p)) [
       | true ↦ λ s. let same : y ≡ x = cc in ap (λ (z : RangePiece). z.part) (sym same)
       | false ↦ λ s. found_part xs p x s
     ] e
@@ -144,7 +144,7 @@ found_part (y ∷ xs) p x e =
 
 pub record IsPlaced (s : Bounds) (top : ℕ) (xs mid list : List RangePiece) : Type 0 where
   pub stand : StandWithin 0 top list
-  pub said : (p : ℕ) → range_reported_at list p ≡ cond (contains s p) (range_reported_at mid p) (range_reported_at xs p)
+  pub said : (p : ℕ) → first_range_at list p ≡ cond (contains s p) (first_range_at mid p) (first_range_at xs p)
 
 pub placed : (s : Bounds) (top : ℕ) (xs mid l0 l1 l2 l3 : List RangePiece) (lo hi : ℕ) → StandWithin 0 top xs → StandWithin s.lo s.hi mid → s.lo < s.hi → s.hi ≤ top → lo ≡ s.lo → hi ≡ s.hi → l0 ≡ [] → l1 ≡ l0 ++ filter_map (clip 0 lo range.X) xs → l2 ≡ l1 ++ mid → l3 ≡ l2 ++ filter_map (clip hi top range.X) xs → IsPlaced s top xs mid l3
 placed s top xs mid l0 l1 l2 l3 lo hi kept stand l t el eh e0 e1 e2 e3 =
@@ -154,7 +154,7 @@ placed s top xs mid l0 l1 l2 l3 lo hi kept stand l t el eh e0 e1 e2 e3 =
     ∙ ap (λ (n : ℕ). (filter_map (clip 0 s.lo range.X) xs ++ mid) ++ filter_map (clip n top range.X) xs) eh in
     record {
       stand = subst (λ (l : List RangePiece). StandWithin 0 top l) (sym whole) (stand_in_place s.lo s.hi top xs mid kept stand t);
-      said = λ p. ap (λ (l : List RangePiece). range_reported_at l p) whole ∙ said_in_place s.lo s.hi top xs mid p kept stand l t;
+      said = λ p. ap (λ (l : List RangePiece). first_range_at l p) whole ∙ said_in_place s.lo s.hi top xs mid p kept stand l t;
     }
 
 pub twice : {A : Type 0} (w : Bool) (m a b r : A) → m ≡ cond w a b → cond w m r ≡ cond w a r
@@ -168,6 +168,6 @@ pub mid_stands : (s : Bounds) (keep : RangePart) (top : ℕ) (xs : List RangePie
 mid_stands s keep top xs lo hi kept l el eh =
     subst (λ (n : ℕ). StandWithin s.lo n (filter_map (clip lo hi keep) xs)) eh (stand-clip lo hi keep 0 top s.lo xs kept (omega (arith, l, eh)) (omega (arith, el)))
 
-pub mid_says : (s : Bounds) (keep : RangePart) (xs : List RangePiece) (lo hi p : ℕ) → lo ≡ s.lo → hi ≡ s.hi → range_reported_at (filter_map (clip lo hi keep) xs) p ≡ cond (contains s p) (range_meet (range_reported_at xs p) keep) range.N
+pub mid_says : (s : Bounds) (keep : RangePart) (xs : List RangePiece) (lo hi p : ℕ) → lo ≡ s.lo → hi ≡ s.hi → first_range_at (filter_map (clip lo hi keep) xs) p ≡ cond (contains s p) (range_meet (first_range_at xs p) keep) range.N
 mid_says s keep xs lo hi p el eh =
-    said-clip lo hi keep xs p ∙ ap (λ (n : ℕ). cond (lies_in n hi p) (range_meet (range_reported_at xs p) keep) range.N) el ∙ ap (λ (n : ℕ). cond (lies_in s.lo n p) (range_meet (range_reported_at xs p) keep) range.N) eh
+    said-clip lo hi keep xs p ∙ ap (λ (n : ℕ). cond (lies_in n hi p) (range_meet (first_range_at xs p) keep) range.N) el ∙ ap (λ (n : ℕ). cond (lies_in s.lo n p) (range_meet (first_range_at xs p) keep) range.N) eh

@@ -6,7 +6,7 @@ use Rattle.krl_modes.specs.declared.part.RangePart.{RangePart}
 use Rattle.krl_modes.specs.declared.part.RangePart.TheVariants as range
 use Rattle.krl_modes.specs.Spans.{contains}
 use Rattle.krl_messages.specs.declared.range_pieces.RangePiece.{RangePiece}
-use Rattle.krl_cache.specs.Kept.{range_reported_at, DiffersFromNext, AreMerged}
+use Rattle.krl_cache.specs.Kept.{first_range_at, DiffersFromNext, AreMerged}
 use Rattle.krl_cache.specs.Entries.{lies_in, StandWithin}
 use Rattle.krl_cache_laws.specs.Lists.{GoesOn, IsBoth, AddsBehind}
 use Rattle.krl_cache.proofs.Pieces.{said_before, stand_lower}
@@ -20,12 +20,12 @@ stand_without a b (z ∷ zs) x ys h = (h.0, h.1, stand_without z.span.hi b zs x 
 inside : (x : RangePiece) (p : ℕ) → contains x.span p ≡ true → p < x.span.hi
 inside x p e = grind (arith, nat_tests)
 
-said_without : (a b : ℕ) (xs : List RangePiece) (x : RangePiece) (ys : List RangePiece) → x.part ≡ range.N → StandWithin a b (xs ++ x ∷ ys) → (p : ℕ) → range_reported_at (xs ++ ys) p ≡ range_reported_at (xs ++ x ∷ ys) p
+said_without : (a b : ℕ) (xs : List RangePiece) (x : RangePiece) (ys : List RangePiece) → x.part ≡ range.N → StandWithin a b (xs ++ x ∷ ys) → (p : ℕ) → first_range_at (xs ++ ys) p ≡ first_range_at (xs ++ x ∷ ys) p
 said_without a b [] x ys e h p = by_test (contains x.span p) refl
   where
-    by_test : (t : Bool) → contains x.span p ≡ t → range_reported_at ys p ≡ cond (contains x.span p) x.part (range_reported_at ys p)
-    by_test true f = said_before x.span.hi b ys p h.2 (inside x p f) ∙ sym e ∙ sym (ap (λ (t : Bool). cond t x.part (range_reported_at ys p)) f)
-    by_test false f = sym (ap (λ (t : Bool). cond t x.part (range_reported_at ys p)) f)
+    by_test : (t : Bool) → contains x.span p ≡ t → first_range_at ys p ≡ cond (contains x.span p) x.part (first_range_at ys p)
+    by_test true f = said_before x.span.hi b ys p h.2 (inside x p f) ∙ sym e ∙ sym (ap (λ (t : Bool). cond t x.part (first_range_at ys p)) f)
+    by_test false f = sym (ap (λ (t : Bool). cond t x.part (first_range_at ys p)) f)
 said_without a b (z ∷ zs) x ys e h p = ap (λ (r : RangePart). cond (contains z.span p) z.part r) (said_without z.span.hi b zs x ys e h.2 p)
 
 pub adds_none : (old : List RangePiece) (x : RangePiece) → x.part ≡ range.N → AddsBehind old x old
@@ -49,9 +49,9 @@ either : (t u : Bool) (r s : RangePart) → cond (t || u) r s ≡ cond t r (cond
 either true u r s = refl
 either false u r s = refl
 
-said_both : (a b : ℕ) (xs : List RangePiece) (last x both : RangePiece) (ys : List RangePiece) → IsBoth last x both → StandWithin a b ((xs ++ last ∷ []) ++ x ∷ ys) → (p : ℕ) → range_reported_at ((xs ++ both ∷ []) ++ ys) p ≡ range_reported_at ((xs ++ last ∷ []) ++ x ∷ ys) p
+said_both : (a b : ℕ) (xs : List RangePiece) (last x both : RangePiece) (ys : List RangePiece) → IsBoth last x both → StandWithin a b ((xs ++ last ∷ []) ++ x ∷ ys) → (p : ℕ) → first_range_at ((xs ++ both ∷ []) ++ ys) p ≡ first_range_at ((xs ++ last ∷ []) ++ x ∷ ys) p
 said_both a b [] last x both ys i h p =
-    let rest = range_reported_at ys p in
+    let rest = first_range_at ys p in
     ap (λ (n : ℕ). cond (lies_in n both.span.hi p) both.part rest) i.lo
     ∙ ap (λ (n : ℕ). cond (lies_in last.span.lo n p) both.part rest) i.hi
     ∙ ap (λ (r : RangePart). cond (lies_in last.span.lo x.span.hi p) r rest) i.part
@@ -92,7 +92,7 @@ merged_behind (z ∷ zs) last x e apart m = (m.0, next zs m.1, merged_behind zs 
 adds_more : (old : List RangePiece) (x : RangePiece) → (AreMerged old → AreMerged (old ++ x ∷ [])) → AddsBehind old x (old ++ x ∷ [])
 adds_more old x merged = record {
   stand = λ rest h. subst (λ (l : List RangePiece). StandWithin 0 TOP l) (sym (append_assoc old (x ∷ []) rest)) h;
-  said = λ rest h p. ap (λ (l : List RangePiece). range_reported_at l p) (append_assoc old (x ∷ []) rest);
+  said = λ rest h p. ap (λ (l : List RangePiece). first_range_at l p) (append_assoc old (x ∷ []) rest);
   merged = merged;
 }
 

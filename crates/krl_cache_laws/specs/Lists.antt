@@ -8,7 +8,7 @@ use Rattle.krl_modes.specs.Parts.{range_meet}
 use Rattle.krl_messages.specs.declared.range_pieces.RangePiece.{RangePiece}
 use Rattle.krl_cache.specs.declared.entry.Entry.{Entry}
 use Rattle.krl_cache.specs.Beliefs.{Belief, is_covered}
-use Rattle.krl_cache.specs.Kept.{range_reported_at, AreMerged}
+use Rattle.krl_cache.specs.Kept.{first_range_at, AreMerged}
 use Rattle.krl_cache.specs.Lists.{belief_by}
 use Rattle.krl_cache.specs.Entries.{StandWithin, RiseWithin, AreRead}
 
@@ -27,7 +27,7 @@ pub record Lists : Type 0 where
   pub entries : List (ℕ × Entry)
 
 abbrev pub lists_believe : Lists → Belief
-lists_believe x = belief_by (range_reported_at x.ranges) (λ p. find nat_cmp p x.entries)
+lists_believe x = belief_by (first_range_at x.ranges) (λ p. find nat_cmp p x.entries)
 
 -- entries in the order of their points, none past END, each read
 pub record ArePlaced (es : List (ℕ × Entry)) : Type 0 where
@@ -55,7 +55,7 @@ pub record AddsBehind (old : List RangePiece) (x : RangePiece) (new : List Range
   pub stand : (rest : List RangePiece) → StandWithin 0 TOP (old ++ x ∷ rest) → StandWithin 0 TOP (new ++ rest)
   pub said :
       (rest : List RangePiece) → StandWithin 0 TOP (old ++ x ∷ rest) → (p : ℕ)
-      → range_reported_at (new ++ rest) p ≡ range_reported_at (old ++ x ∷ rest) p
+      → first_range_at (new ++ rest) p ≡ first_range_at (old ++ x ∷ rest) p
   pub merged : AreMerged old → AreMerged new
 
 -- the part holds at each point from p on below the end

@@ -5,8 +5,7 @@ use Rattle.krl_cache_laws.specs.declared.run.CacheCall.TheVariants as call
 use Rattle.krl_cache_laws.specs.declared.run.CacheReply.{CacheReply}
 use Rattle.krl_cache_laws.specs.declared.run.CacheReply.TheVariants as cache_reply
 use Rattle.krl_messages.specs.declared.pieces.Pieces.{Pieces}
-use Rattle.krl_messages.specs.Holdings.{has_its_value}
-use Rattle.krl_messages.specs.Several.{have_values}
+use Rattle.krl_messages.specs.Holdings.{has_its_value, have_values}
 use Rattle.krl_cache.specs.Beliefs.{Belief, adopt, adopt_all, lower, Scans, CoversAll}
 use Rattle.krl_cache.specs.Kept.{Describes}
 
@@ -49,20 +48,20 @@ IsReply b (call.Scan s) r = FoundIs b (call.Scan s) r
 IsReply b call.Pieces r = FoundIs b call.Pieces r
 
 -- a call takes memory: a scan does if each point is known
-abbrev pub TakesMemory : Belief → CacheCall → Type 0
-TakesMemory b (call.RangeAt p) = ⊥
-TakesMemory b (call.KeyAt p) = ⊥
-TakesMemory b (call.ValueAt p) = ⊥
-TakesMemory b (call.Adopt h) = Unit {0}
-TakesMemory b (call.AdoptAll hs) = Unit {0}
-TakesMemory b (call.Lower s keep) = Unit {0}
-TakesMemory b (call.Scan s) = CoversAll b s
-TakesMemory b call.Pieces = Unit {0}
+abbrev pub NeedsMemory : Belief → CacheCall → Type 0
+NeedsMemory b (call.RangeAt p) = ⊥
+NeedsMemory b (call.KeyAt p) = ⊥
+NeedsMemory b (call.ValueAt p) = ⊥
+NeedsMemory b (call.Adopt h) = Unit {0}
+NeedsMemory b (call.AdoptAll hs) = Unit {0}
+NeedsMemory b (call.Lower s keep) = Unit {0}
+NeedsMemory b (call.Scan s) = CoversAll b s
+NeedsMemory b call.Pieces = Unit {0}
 
 -- the call is answered and has its effect, or its memory is refused and nothing changes
 abbrev pub IsStep : Belief → CacheCall → CacheReply → Belief → Type 0
 IsStep b c r n = (IsReply b c r × (n ≡ after c b))
-    ⊎ (TakesMemory b c × (r ≡ cache_reply.OutOfMemory) × (n ≡ b))
+    ⊎ (NeedsMemory b c × (r ≡ cache_reply.OutOfMemory) × (n ≡ b))
 
 -- each call in turn
 abbrev pub Runs : Belief → List CacheCall → List CacheReply → Belief → Type 0

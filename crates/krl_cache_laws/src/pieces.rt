@@ -7,7 +7,7 @@ ghost use Rattle.krl_modes.specs.declared.part.RangePart.TheVariants as range;
 ghost use Rattle.krl_modes.specs.Parts.{range_meet};
 ghost use Rattle.krl_modes.specs.Spans.{contains};
 ghost use Rattle.krl_cache.specs.Beliefs as beliefs;
-ghost use Rattle.krl_cache.specs.Kept.{range_reported_at, AreMerged};
+ghost use Rattle.krl_cache.specs.Kept.{first_range_at, AreMerged};
 ghost use Rattle.krl_cache.specs.Entries.{StandWithin};
 ghost use Rattle.krl_messages.specs.declared.range_pieces.RangePiece.{RangePiece};
 ghost use Rattle.krl_cache_laws.specs.Lists.{clip, Holds, GoesOn, IsBoth, AddsBehind};
@@ -106,7 +106,7 @@ fn merged(alloc: Global, pieces: &[RangePiece]) -> Result<Vec<RangePiece>, Alloc
     requires { StandWithin 0 TOP pieces.now }
     ensures stand { IfOk result (λ list. StandWithin 0 TOP list.items) }
     ensures said { IfOk result
-        (λ list. (p : ℕ) → range_reported_at list.items p ≡ range_reported_at pieces.now p) }
+        (λ list. (p : ℕ) → first_range_at list.items p ≡ first_range_at pieces.now p) }
     ensures merged { IfOk result (λ list. AreMerged list.items) }
 {
     let mut list = Vec::new(alloc);
@@ -127,8 +127,8 @@ fn cut_with(
     ensures span { beliefs.is_span span ≡ true }
     ensures stand { IfOk result (λ list. StandWithin 0 TOP list.items) }
     ensures said { IfOk result
-        (λ list. (p : ℕ) → range_reported_at list.items p
-        ≡ (if contains span p then part else range_reported_at pieces.now p)) }
+        (λ list. (p : ℕ) → first_range_at list.items p
+        ≡ (if contains span p then part else first_range_at pieces.now p)) }
 {
     let lo = span.lo();
     let hi = span.hi();
@@ -150,8 +150,8 @@ pub fn pieces_with(
     ensures span { beliefs.is_span span ≡ true }
     ensures stand { IfOk result (λ list. StandWithin 0 TOP list.items) }
     ensures said { IfOk result
-        (λ list. (p : ℕ) → range_reported_at list.items p
-        ≡ (if contains span p then part else range_reported_at pieces.now p)) }
+        (λ list. (p : ℕ) → first_range_at list.items p
+        ≡ (if contains span p then part else first_range_at pieces.now p)) }
     ensures merged { IfOk result (λ list. AreMerged list.items) }
 {
     let list = cut_with(alloc, pieces, span, part)?;
@@ -168,9 +168,9 @@ fn cut_lowered(
     requires { StandWithin 0 TOP pieces.now }
     ensures stand { IfOk result (λ list. StandWithin 0 TOP list.items) }
     ensures said { IfOk result
-        (λ list. (p : ℕ) → range_reported_at list.items p
+        (λ list. (p : ℕ) → first_range_at list.items p
         ≡ (if contains span p
-        then range_meet (range_reported_at pieces.now p) keep else range_reported_at pieces.now p)) }
+        then range_meet (first_range_at pieces.now p) keep else first_range_at pieces.now p)) }
 {
     let lo = span.lo();
     let hi = span.hi();
@@ -191,9 +191,9 @@ pub fn pieces_lowered(
     requires { StandWithin 0 TOP pieces.now }
     ensures stand { IfOk result (λ list. StandWithin 0 TOP list.items) }
     ensures said { IfOk result
-        (λ list. (p : ℕ) → range_reported_at list.items p
+        (λ list. (p : ℕ) → first_range_at list.items p
         ≡ (if contains span p
-        then range_meet (range_reported_at pieces.now p) keep else range_reported_at pieces.now p)) }
+        then range_meet (first_range_at pieces.now p) keep else first_range_at pieces.now p)) }
     ensures merged { IfOk result (λ list. AreMerged list.items) }
 {
     let list = cut_lowered(alloc, pieces, span, keep)?;
@@ -214,7 +214,7 @@ fn piece_at(pieces: &[RangePiece], p: u64) -> Option<RangePiece>
 pub fn part_from(pieces: &[RangePiece], p: u64) -> (RangePart, u64)
     requires stand { StandWithin 0 TOP pieces.now }
     requires point { p < TOP }
-    ensures { Holds (range_reported_at pieces.now) p result.0 result.1 }
+    ensures { Holds (first_range_at pieces.now) p result.0 result.1 }
 {
     match piece_at(pieces, p) {
         Some(piece) => (piece.part, piece.span.hi()),
@@ -224,7 +224,7 @@ pub fn part_from(pieces: &[RangePiece], p: u64) -> (RangePart, u64)
 
 // The range part at the point.
 pub fn part_at(pieces: &[RangePiece], p: u64) -> RangePart
-    ensures { result ≡ range_reported_at pieces.now p }
+    ensures { result ≡ first_range_at pieces.now p }
 {
     match piece_at(pieces, p) {
         Some(piece) => piece.part,

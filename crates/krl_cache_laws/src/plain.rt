@@ -1,7 +1,7 @@
 //! A cache in plain lists.
 ghost use Rattle.std.specs.Prelude.{true, ◌≡◌, ◌≤◌, ◌<◌, ℕ, IfOk, OnOk, OnErr, MatchOption, false};
 ghost use Rattle.krl_modes.specs.declared.point.TheConstants.{TOP};
-ghost use Rattle.krl_messages.specs.Several.{have_values};
+ghost use Rattle.krl_messages.specs.Holdings.{have_values};
 ghost use Rattle.krl_cache.specs.Beliefs as beliefs;
 ghost use Rattle.krl_cache.specs.Laws as laws;
 ghost use Rattle.krl_cache_laws.specs.Lists.{lists_believe, KnowsFrom};

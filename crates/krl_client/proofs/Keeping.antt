@@ -12,15 +12,16 @@ use Rattle.krl_messages.specs.declared.to_client.ToClientBody.{ToClientBody}
 use Rattle.krl_messages.specs.declared.to_client.ToClientBody.TheVariants as told
 use Rattle.krl_messages.specs.declared.to_client.PushBody.{PushBody}
 use Rattle.krl_messages.specs.declared.to_client.PushBody.TheVariants as push
-use Rattle.krl_messages.specs.Writes.{op_key, takes_lock}
+use Rattle.krl_messages.specs.Writes.{op_key, can_seize}
 use Rattle.krl_cache.specs.Laws.{IsBelief}
 use Rattle.krl_cache.specs.Beliefs.{is_span}
 use Rattle.krl_cache.proofs.Calls.{calls_keep_belief, adopted_all}
 use Rattle.krl_client.specs.declared.refused.CommandRefused.TheVariants as refused
 use Rattle.krl_client.specs.declared.refused.StartRefused.TheVariants as start
-use Rattle.krl_client.specs.Clients.{Client, LockRequest, NotAsked, Granted, Absent, Dropped, Waiting, LastWrite, Unwritten, Outstanding, Judged, outstanding, has_joined, is_waiting, is_writing_in, meets_pin, if_taken, free_from, free_pin, with_pin, begun}
-use Rattle.krl_client.specs.Commands.{start_refusal, lock_refusal, locked, write_refusal, wrote, take_refusal, took, holds_for, lowered, pin_refusal, pinned, unpinned}
-use Rattle.krl_client.specs.Messages.{Case, Ignores, AcksAgain, Adopts, Accepts, Lowers, case_of, case_of_body, after, fits, dropped, joined, judged_as, accepted}
+use Rattle.krl_client.specs.Clients.{Client, LockRequest, NotAsked, Granted, Absent, Dropped, Waiting, LastWrite, Unwritten, Outstanding, Judged, outstanding, has_joined, is_waiting, is_writing_in, meets_pin, free_from, free_pin, with_pin, begun}
+use Rattle.krl_client.specs.Splits.{if_taken}
+use Rattle.krl_client.specs.Commands.{start_refusal, lock_refusal, locked, write_refusal, wrote, seize_refusal, seized, holds_for, belief_lowered, pin_refusal, pinned, unpinned}
+use Rattle.krl_client.specs.Messages.{ClientCase, Ignores, AcksAgain, Adopts, Accepts, Lowers, client_case_of, client_case_of_body, after, fits, request_dropped, joined, judged_as, accepted}
 use Rattle.krl_client.specs.Keeps.{IsPin, IsClient, LiesOnSpan, BringsSpan, ClientKeeps}
 use Rattle.krl_client.proofs.Tests.{passed}
 use Rattle.krl_client.proofs.Cases.{next_fits}
@@ -100,12 +101,12 @@ write_keeps k change e i =
       belief = i.belief;
     }
 
-pub take_keeps : (k : Client) (change : WriteOp) → take_refusal k change ≡ None → IsClient k → IsClient (took k change)
-take_keeps k change e i =
+pub seize_keeps : (k : Client) (change : WriteOp) → seize_refusal k change ≡ None → IsClient k → IsClient (seized k change)
+seize_keeps k change e i =
     let one = passed (nat_le END (op_key change)) refused.BadPoint _ e in
     let two = passed (not (has_joined k)) refused.NotJoined _ one.1 in
     let three = passed (is_some (outstanding k.written)) refused.Writing _ two.1 in
-    let four = passed (not (takes_lock change || holds_for k.belief change)) refused.NotHeld _ three.1 in
+    let four = passed (not (can_seize change || holds_for k.belief change)) refused.NotHeld _ three.1 in
     let five = passed (nat_le END k.writes) refused.Spent None four.1 in
     let below = leb-false END k.writes five.0 in
     let key : op_key change < END = leb-false END (op_key change) one.0 in
@@ -121,7 +122,7 @@ take_keeps k change e i =
       belief = i.belief;
     }
 
-pub lower_keeps : (k : Client) (s : Bounds) (keep : Mode) → IsClient k → IsClient (lowered k s keep)
+pub lower_keeps : (k : Client) (s : Bounds) (keep : Mode) → IsClient k → IsClient (belief_lowered k s keep)
 lower_keeps k s keep i = record {
   number = i.number;
   incarnation = i.incarnation;
@@ -186,7 +187,7 @@ spanned k s e = yes (is_span s) (passed (not (is_span s)) refused.BadSpan _ e).0
 
 -- Messages
 
-none_waits : (a : LockRequest) (point hi : ℕ) (mode : Mode) → dropped a ≡ Waiting point hi mode → ⊥
+none_waits : (a : LockRequest) (point hi : ℕ) (mode : Mode) → request_dropped a ≡ Waiting point hi mode → ⊥
 none_waits NotAsked point hi mode e = cc
 none_waits (Waiting p j m) point hi mode e = cc
 none_waits Granted point hi mode e = cc
@@ -261,14 +262,14 @@ accepts_belief k (push.Grant req hs) f s i = adopted_all hs k.belief s f i
 accepts_belief k (push.Absent req point) f s i = i
 accepts_belief k (push.Answer number outcome h) f s i = calls_keep_belief.adopt h k.belief s f i
 
-abbrev Keeps : Client → Case → Type 0
+abbrev Keeps : Client → ClientCase → Type 0
 Keeps k x = IsClient k → IsClient (after k x)
 
-keeps_either : (k : Client) (b : Bool) (x y : Case) → (b ≡ true → Keeps k x) → Keeps k y → Keeps k (if b then x else y)
+keeps_either : (k : Client) (b : Bool) (x y : ClientCase) → (b ≡ true → Keeps k x) → Keeps k y → Keeps k (if b then x else y)
 keeps_either k true x y f h = f refl
 keeps_either k false x y f h = h
 
-body_keeps : (k : Client) (what : ToClientBody) → BringsSpan what → Keeps k (case_of_body k what)
+body_keeps : (k : Client) (what : ToClientBody) → BringsSpan what → Keeps k (client_case_of_body k what)
 body_keeps k (told.Epoch epoch) s = keeps_either k (nat_lt k.epoch epoch) (Adopts epoch) Ignores (λ t. join_keeps k epoch) (λ i. i)
 body_keeps k (told.Push epoch number what) s =
     keeps_either k (nat_eq epoch k.epoch && fits what) _ Ignores
@@ -279,16 +280,16 @@ body_keeps k (told.Push epoch number what) s =
 body_keeps k (told.Callback epoch s keep) b =
     keeps_either k (nat_eq epoch k.epoch && not (is_writing_in k s || meets_pin k s)) (Lowers s keep) Ignores (λ t. lower_keeps k s keep) (λ i. i)
 
-message_keeps : (k : Client) (m : ToClient) → BringsSpan m.body → Keeps k (case_of k m)
+message_keeps : (k : Client) (m : ToClient) → BringsSpan m.body → Keeps k (client_case_of k m)
 message_keeps k m s =
-    keeps_either k (nat_eq m.client k.number && nat_eq m.incarnation k.incarnation) (case_of_body k m.body) Ignores (λ t. body_keeps k m.body s) (λ i. i)
+    keeps_either k (nat_eq m.client k.number && nat_eq m.incarnation k.incarnation) (client_case_of_body k m.body) Ignores (λ t. body_keeps k m.body s) (λ i. i)
 
 pub client_keeps : ClientKeeps
 client_keeps = record {
   start = start_keeps;
   lock = lock_keeps;
   write = write_keeps;
-  take = take_keeps;
+  seize = seize_keeps;
   lower = lower_keeps;
   pin = λ k s id e. pin_keeps k s id (spanned k s e);
   unpin = unpin_keeps;

@@ -4,7 +4,8 @@ use Rattle.std.proofs.Math.Seq.{get_or-append_seam}
 use Rattle.std.proofs.lemmas.Bool.Decides.{eqb_tells}
 use Rattle.std.proofs.lemmas.Bool.{or_from, or_left, or_right}
 use Rattle.krl_modes.specs.Spans.{Bounds}
-use Rattle.krl_client.specs.Clients.{if_taken, free_from, pin_meets, meets_one, with_pin}
+use Rattle.krl_client.specs.Clients.{free_from, meets_one, with_pin}
+use Rattle.krl_client.specs.Splits.{if_taken, pin_meets}
 use Rattle.krl_client.specs.Fields.{pins_of}
 
 taken : (s : Option Bounds) (i : ℕ) (later : Option ℕ) → is_some s ≡ true → if_taken s i later ≡ later

@@ -2,7 +2,7 @@
 use Rattle.std.specs.Prelude.{ℕ, zero, suc, Bool, true, false, ◌||◌, Option, Some, None, if◌then◌else◌, nat_eq, nat_lt}
 use Rattle.krl_modes.specs.declared.mode.Mode.{Mode}
 use Rattle.krl_modes.specs.Spans.{Bounds, contains, meets}
-use Rattle.krl_modes.specs.Limits.{max_pins}
+use Rattle.krl_modes.specs.declared.limits.TheConstants.{MAX_PINS}
 use Rattle.krl_messages.specs.declared.write_op.WriteOp.{WriteOp}
 use Rattle.krl_messages.specs.declared.outcome.Outcome.{Outcome}
 use Rattle.krl_messages.specs.declared.to_server.ToServer.{ToServer}
@@ -10,6 +10,7 @@ use Rattle.krl_messages.specs.declared.to_server.ToServerBody.{ToServerBody}
 use Rattle.krl_messages.specs.declared.to_server.ToServerBody.TheVariants as said
 use Rattle.krl_messages.specs.declared.to_server.RequestBody.{RequestBody}
 use Rattle.krl_messages.specs.Writes.{op_key}
+use Rattle.krl_messages.specs.Members.{map_or}
 use Rattle.krl_cache.specs.Beliefs.{Belief, no_belief}
 
 -- the last lock request of this incarnation
@@ -33,7 +34,7 @@ pub record Client : Type 0 where
   pub asked : LockRequest
   pub writes : ℕ  -- the number of its last write
   pub written : LastWrite
-  pub takes : Bool  -- its last write takes the lock that it needs, if that is free
+  pub seizes : Bool  -- its last write seizes the lock that it needs, if that is free
   pub belief : Belief
   pub pins : ℕ → Option Bounds  -- 0 to 7
 
@@ -52,7 +53,7 @@ begun number incarnation = record {
   asked = NotAsked;
   writes = 0;
   written = Unwritten;
-  takes = false;
+  seizes = false;
   belief = no_belief;
   pins = no_pins;
 }
@@ -73,41 +74,29 @@ abbrev pub outstanding : LastWrite → Option WriteOp
 outstanding (Outstanding change) = Some change
 outstanding other = None
 
-abbrev pub is_in : Bounds → Option WriteOp → Bool
-is_in s None = false
-is_in s (Some change) = contains s (op_key change)
-
 -- the span contains the outstanding write's key
 abbrev pub is_writing_in : Client → Bounds → Bool
-is_writing_in k s = is_in s (outstanding k.written)
+is_writing_in k s = map_or (outstanding k.written) false (λ change. contains s (op_key change))
 
 -- Its pins
-
-abbrev pub pin_meets : Bounds → Option Bounds → Bool
-pin_meets s None = false
-pin_meets s (Some t) = meets s t
 
 -- the span meets one of the first n pins
 abbrev pub meets_one : (ℕ → Option Bounds) → ℕ → Bounds → Bool
 meets_one pins zero s = false
-meets_one pins (suc n) s = pin_meets s (pins n) || meets_one pins n s
+meets_one pins (suc n) s = map_or (pins n) false (meets s) || meets_one pins n s
 
 -- the span meets a pin
 abbrev pub meets_pin : Client → Bounds → Bool
-meets_pin k s = meets_one k.pins max_pins s
-
-abbrev pub if_taken : Option Bounds → ℕ → Option ℕ → Option ℕ
-if_taken None i later = Some i
-if_taken (Some s) i later = later
+meets_pin k s = meets_one k.pins MAX_PINS s
 
 -- the least free id from i on, of n
 abbrev pub free_from : (ℕ → Option Bounds) → ℕ → ℕ → Option ℕ
 free_from pins i zero = None
-free_from pins i (suc n) = if_taken (pins i) i (free_from pins (suc i) n)
+free_from pins i (suc n) = map_or (pins i) (Some i) (λ s. free_from pins (suc i) n)
 
 -- the least free id
 abbrev pub free_pin : Client → Option ℕ
-free_pin k = free_from k.pins 0 max_pins
+free_pin k = free_from k.pins 0 MAX_PINS
 
 -- the pins with another one of this id
 abbrev pub with_pin : (ℕ → Option Bounds) → ℕ → Option Bounds → ℕ → Option Bounds

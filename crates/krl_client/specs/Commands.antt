@@ -4,15 +4,14 @@ use Rattle.krl_modes.specs.declared.point.TheConstants.{END}
 use Rattle.krl_modes.specs.declared.mode.Mode.{Mode}
 use Rattle.krl_modes.specs.Parts.{lets_insert, is_range_X, is_key_X}
 use Rattle.krl_modes.specs.Spans.{Bounds, contains}
-use Rattle.krl_modes.specs.declared.limits.TheConstants.{MAX_CLIENTS}
-use Rattle.krl_modes.specs.Limits.{max_pins}
+use Rattle.krl_modes.specs.declared.limits.TheConstants.{MAX_CLIENTS, MAX_PINS}
 use Rattle.krl_messages.specs.declared.write_op.WriteOp.{WriteOp}
 use Rattle.krl_messages.specs.declared.write_op.WriteOp.TheVariants as write
 use Rattle.krl_messages.specs.declared.to_server.ToServer.{ToServer}
 use Rattle.krl_messages.specs.declared.to_server.RequestBody.TheVariants as asked
 use Rattle.krl_messages.specs.declared.to_server.ToServerBody.TheVariants as said
 use Rattle.krl_messages.specs.Values.{Value}
-use Rattle.krl_messages.specs.Writes.{op_key, takes_lock}
+use Rattle.krl_messages.specs.Writes.{op_key, can_seize}
 use Rattle.krl_cache.specs.declared.scanned.Scanned.TheVariants as scanned
 use Rattle.krl_cache.specs.Beliefs.{Belief, is_span, lower, Scans}
 use Rattle.krl_client.specs.declared.refused.CommandRefused.{CommandRefused}
@@ -70,14 +69,14 @@ write_refusal k change =
     ∷ []
     )
 
--- of a write that takes the lock that it needs. What the client holds matters only to a write that takes none
-abbrev pub take_refusal : Client → WriteOp → Option CommandRefused
-take_refusal k change =
+-- of a write that seizes the lock that it needs. What the client holds matters only to a write that seizes none
+abbrev pub seize_refusal : Client → WriteOp → Option CommandRefused
+seize_refusal k change =
     first_reason (
     due command_refused.BadPoint (nat_le END (op_key change))
     ∷ due command_refused.NotJoined (not (has_joined k))
     ∷ due command_refused.Writing (is_some (outstanding k.written))
-    ∷ due command_refused.NotHeld (not (takes_lock change || holds_for k.belief change))
+    ∷ due command_refused.NotHeld (not (can_seize change || holds_for k.belief change))
     ∷ due command_refused.Spent (nat_le END k.writes)
     ∷ []
     )
@@ -106,7 +105,7 @@ pin_refusal k s =
 abbrev pub unpin_refusal : Client → ℕ → Option CommandRefused
 unpin_refusal k id =
     first_reason (
-    due command_refused.NotHeld (nat_le max_pins id || not (is_some (k.pins id)))
+    due command_refused.NotHeld (nat_le MAX_PINS id || not (is_some (k.pins id)))
     ∷ []
     )
 
@@ -126,22 +125,22 @@ locked k point hi mode = record k { req = suc k.req; asked = Waiting point hi mo
 abbrev pub says_lock : Client → ℕ → ℕ → Mode → ToServer
 says_lock k point hi mode = requests k (asked.Lock k.req point hi mode)
 
--- a write is asked for, and whether it takes the lock that it needs
+-- a write is asked for, and whether it seizes the lock that it needs
 abbrev pub issued : Client → WriteOp → Bool → Client
-issued k change takes = record k { writes = suc k.writes; written = Outstanding change; takes = takes }
+issued k change seizes = record k { writes = suc k.writes; written = Outstanding change; seizes = seizes }
 
 abbrev pub wrote : Client → WriteOp → Client
 wrote k change = issued k change false
 
-abbrev pub took : Client → WriteOp → Client
-took k change = issued k change true
+abbrev pub seized : Client → WriteOp → Client
+seized k change = issued k change true
 
 abbrev pub says_write : Client → WriteOp → ToServer
-says_write k change = requests k (asked.Write k.writes change k.takes)
+says_write k change = requests k (asked.Write k.writes change k.seizes)
 
 -- of each point of the span it keeps the meet of what it holds and this mode
-abbrev pub lowered : Client → Bounds → Mode → Client
-lowered k s keep = record k { belief = lower s keep k.belief }
+abbrev pub belief_lowered : Client → Bounds → Mode → Client
+belief_lowered k s keep = record k { belief = lower s keep k.belief }
 
 abbrev pub says_release : Client → Bounds → Mode → ToServer
 says_release k s keep = requests k (asked.Release s keep)
@@ -160,15 +159,15 @@ says_bye k = from k said.Bye
 -- Scans
 
 -- Pending exactly if the outstanding write's key lies in the span; otherwise what the cache finds
-pub data Answers (k : Client) (s : Bounds) : ScanAnswer → Type 0 where
+pub data ScanGives (k : Client) (s : Bounds) : ScanAnswer → Type 0 where
   is_pending :
       (change : WriteOp)
       → outstanding k.written ≡ Some change → contains s (op_key change) ≡ true
-      → Answers k s (scan_answer.Pending (op_key change))
+      → ScanGives k s (scan_answer.Pending (op_key change))
   finds_rows :
       (rows : List (ℕ × Value))
       → is_writing_in k s ≡ false → Scans k.belief s (scanned.Rows rows)
-      → Answers k s (scan_answer.Rows rows)
+      → ScanGives k s (scan_answer.Rows rows)
   misses :
       (p : ℕ)
-      → is_writing_in k s ≡ false → Scans k.belief s (scanned.Miss p) → Answers k s (scan_answer.Miss p)
+      → is_writing_in k s ≡ false → Scans k.belief s (scanned.Miss p) → ScanGives k s (scan_answer.Miss p)

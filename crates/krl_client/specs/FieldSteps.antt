@@ -8,7 +8,7 @@ use Rattle.krl_cache.specs.Kept.{Describes}
 use Rattle.krl_client.specs.declared.refused.CommandRefused.{CommandRefused}
 use Rattle.krl_client.specs.declared.refused.CommandRefused.TheVariants.{OutOfMemory}
 use Rattle.krl_client.specs.Clients.{Client, LastWrite, Unwritten, Outstanding, Judged, from}
-use Rattle.krl_client.specs.Messages.{Case, after, sends, says_report, says_ack}
+use Rattle.krl_client.specs.Messages.{ClientCase, after, sends, says_report, says_ack}
 use Rattle.krl_client.specs.Ticks.{tick}
 
 -- the last write after an answer, which may be to an older one
@@ -46,7 +46,7 @@ pub record IsTick (k : Client) (list : List ToServer) : Type 0 where
   pub says : list ≡ tick pieces k
 
 -- the client after a message of this case, and what it sends, if the pieces state what is believed
-pub record Follows (k : Client) (x : Case) (next : Client) (list : List ToServer) : Type 0 where
+pub record Follows (k : Client) (x : ClientCase) (next : Client) (list : List ToServer) : Type 0 where
   pub client : next ≡ after k x
   pub pieces : Pieces
   pub described : Describes pieces k.belief

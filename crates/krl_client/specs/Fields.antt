@@ -27,7 +27,7 @@ abbrev pub pins_of : List (Option Bounds) → ℕ → Option Bounds
 pins_of spans id = slice_index_or spans id None
 
 -- what the fields hold, apart from its memory
-pub record Fields : Type 0 where
+pub record KeptClient : Type 0 where
   pub number : ℕ
   pub incarnation : ℕ
   pub epoch : ℕ
@@ -36,12 +36,12 @@ pub record Fields : Type 0 where
   pub asked : kept_asked.LockRequest
   pub writes : ℕ
   pub written : kept_written.LastWrite
-  pub takes : Bool
+  pub seizes : Bool
   pub cache : Maps
   pub pins : List (Option Bounds)
 
 -- the client that it stands for
-abbrev pub meaning : Fields → Client
+abbrev pub meaning : KeptClient → Client
 meaning k = record {
   number = k.number;
   incarnation = k.incarnation;
@@ -51,7 +51,7 @@ meaning k = record {
   asked = asked_of k.asked;
   writes = k.writes;
   written = written_of k.written;
-  takes = k.takes;
+  seizes = k.seizes;
   belief = maps_believe k.cache;
   pins = pins_of k.pins;
 }

@@ -5,8 +5,7 @@ use Rattle.std.specs.List.{AllByRecursion}
 use Rattle.krl_modes.specs.declared.point.TheConstants.{END}
 use Rattle.krl_modes.specs.declared.mode.Mode.{Mode}
 use Rattle.krl_modes.specs.Spans.{Bounds}
-use Rattle.krl_modes.specs.declared.limits.TheConstants.{MAX_CLIENTS}
-use Rattle.krl_modes.specs.Limits.{max_pins}
+use Rattle.krl_modes.specs.declared.limits.TheConstants.{MAX_CLIENTS, MAX_PINS}
 use Rattle.krl_messages.specs.declared.write_op.WriteOp.{WriteOp}
 use Rattle.krl_messages.specs.declared.to_client.ToClient.{ToClient}
 use Rattle.krl_messages.specs.declared.to_client.ToClientBody.{ToClientBody}
@@ -17,8 +16,8 @@ use Rattle.krl_messages.specs.Writes.{op_key}
 use Rattle.krl_cache.specs.Laws.{IsBelief}
 use Rattle.krl_cache.specs.Beliefs.{is_span}
 use Rattle.krl_client.specs.Clients.{Client, Waiting, outstanding, free_pin, begun}
-use Rattle.krl_client.specs.Commands.{start_refusal, lock_refusal, locked, write_refusal, wrote, take_refusal, took, lowered, pin_refusal, pinned, unpinned}
-use Rattle.krl_client.specs.Messages.{case_of, after}
+use Rattle.krl_client.specs.Commands.{start_refusal, lock_refusal, locked, write_refusal, wrote, seize_refusal, seized, belief_lowered, pin_refusal, pinned, unpinned}
+use Rattle.krl_client.specs.Messages.{client_case_of, after}
 
 -- a write of this number, and the key is one
 pub record IsWrite (number : ℕ) (change : WriteOp) : Type 0 where
@@ -33,7 +32,7 @@ pub record IsRequest (number point hi : ℕ) : Type 0 where
 
 -- the id is one, and the pin is a span
 pub record IsPin (id : ℕ) (s : Bounds) : Type 0 where
-  pub below : id < max_pins
+  pub below : id < MAX_PINS
   pub span : is_span s ≡ true
 
 pub record IsClient (k : Client) : Type 0 where
@@ -68,15 +67,15 @@ pub record ClientKeeps : Type 0 where
   pub write :
       (k : Client) (change : WriteOp) → write_refusal k change ≡ None
       → IsClient k → IsClient (wrote k change)
-  pub take :
-      (k : Client) (change : WriteOp) → take_refusal k change ≡ None
-      → IsClient k → IsClient (took k change)
+  pub seize :
+      (k : Client) (change : WriteOp) → seize_refusal k change ≡ None
+      → IsClient k → IsClient (seized k change)
   pub lower :
-      (k : Client) (s : Bounds) (keep : Mode) → IsClient k → IsClient (lowered k s keep)
+      (k : Client) (s : Bounds) (keep : Mode) → IsClient k → IsClient (belief_lowered k s keep)
   pub pin :
       (k : Client) (s : Bounds) (id : ℕ) → pin_refusal k s ≡ None → free_pin k ≡ Some id
       → IsClient k → IsClient (pinned k s id)
   pub unpin : (k : Client) (id : ℕ) → IsClient k → IsClient (unpinned k id)
   pub message :
       (k : Client) (m : ToClient) → BringsSpan m.body
-      → IsClient k → IsClient (after k (case_of k m))
+      → IsClient k → IsClient (after k (client_case_of k m))

@@ -9,8 +9,8 @@ use Rattle.krl_messages.specs.declared.to_client.ToClientBody.TheVariants as tol
 use Rattle.krl_messages.specs.declared.to_client.PushBody.{PushBody}
 use Rattle.krl_cache.specs.Beliefs.{Belief}
 use Rattle.krl_client.specs.Clients.{Client, is_writing_in, meets_pin}
-use Rattle.krl_client.specs.Commands.{lower_refusal, lowered}
-use Rattle.krl_client.specs.Messages.{Case, Accepts, Lowers, case_of, after, sends}
+use Rattle.krl_client.specs.Commands.{lower_refusal, belief_lowered}
+use Rattle.krl_client.specs.Messages.{ClientCase, Accepts, Lowers, client_case_of, after, sends}
 use Rattle.krl_client.specs.Ticks.{tick}
 
 -- the second belief is at most the first at each point
@@ -30,16 +30,16 @@ IsNextPush k m what =
 pub record RisesByPushes : Type 0 where
   pub message :
       (k : Client) (m : ToClient)
-      → ((what : PushBody) × (case_of k m ≡ Accepts what) × IsNextPush k m what)
-      ⊎ IsNoMore k.belief (after k (case_of k m)).belief
+      → ((what : PushBody) × (client_case_of k m ≡ Accepts what) × IsNextPush k m what)
+      ⊎ IsNoMore k.belief (after k (client_case_of k m)).belief
   pub lower :
-      (k : Client) (s : Bounds) (keep : Mode) → IsNoMore k.belief (lowered k s keep).belief
+      (k : Client) (s : Bounds) (keep : Mode) → IsNoMore k.belief (belief_lowered k s keep).belief
 
 -- no callback and no command lowers a span that has the outstanding write's key in it, or meets a
 -- pin, whatever mode is kept
 pub record KeepsWhatItNeeds : Type 0 where
   pub callback :
-      (k : Client) (m : ToClient) (s : Bounds) (keep : Mode) → case_of k m ≡ Lowers s keep
+      (k : Client) (m : ToClient) (s : Bounds) (keep : Mode) → client_case_of k m ≡ Lowers s keep
       → (is_writing_in k s ≡ false) × (meets_pin k s ≡ false)
   pub lower :
       (k : Client) (s : Bounds) → lower_refusal k s ≡ None
@@ -47,5 +47,5 @@ pub record KeepsWhatItNeeds : Type 0 where
 
 -- no call gives more than three messages
 pub record GivesFew : Type 0 where
-  pub message : (ps : Pieces) (k : Client) (x : Case) → length (sends ps k x) ≤ 3
+  pub message : (ps : Pieces) (k : Client) (x : ClientCase) → length (sends ps k x) ≤ 3
   pub tick : (ps : Pieces) (k : Client) → length (tick ps k) ≤ 3

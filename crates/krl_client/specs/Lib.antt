@@ -1,4 +1,5 @@
 pub mod Clients
+pub mod Splits
 pub mod Shown
 pub mod Commands
 pub mod Messages

@@ -13,18 +13,17 @@ use Rattle.krl_messages.specs.declared.to_client.ToClientBody.{ToClientBody}
 use Rattle.krl_messages.specs.declared.to_client.ToClientBody.TheVariants as told
 use Rattle.krl_messages.specs.declared.to_client.PushBody.{PushBody}
 use Rattle.krl_messages.specs.declared.to_client.PushBody.TheVariants as push
-use Rattle.krl_messages.specs.Holdings.{has_its_value}
-use Rattle.krl_messages.specs.Several.{have_values}
+use Rattle.krl_messages.specs.Holdings.{has_its_value, have_values}
 use Rattle.krl_cache.specs.Beliefs.{adopt, adopt_all}
 use Rattle.krl_client.specs.Clients.{Client, LockRequest, NotAsked, Granted, Absent, Dropped, Waiting, LastWrite, Unwritten, Outstanding, Judged, is_waiting, is_writing_in, meets_pin, from, requests}
-use Rattle.krl_client.specs.Commands.{lowered, says_release}
+use Rattle.krl_client.specs.Commands.{belief_lowered, says_release}
 
 -- what a message comes to
-pub data Case : Type 0 where
-  Ignores AcksAgain : Case
-  Adopts : (epoch : ℕ) → Case
-  Accepts : (what : PushBody) → Case
-  Lowers : (span : Bounds) (keep : Mode) → Case
+pub data ClientCase : Type 0 where
+  Ignores AcksAgain : ClientCase
+  Adopts : (epoch : ℕ) → ClientCase
+  Accepts : (what : PushBody) → ClientCase
+  Lowers : (span : Bounds) (keep : Mode) → ClientCase
 
 -- each holding of a push has its value by the rule
 abbrev pub fits : PushBody → Bool
@@ -33,9 +32,9 @@ fits (push.Absent req point) = true
 fits (push.Answer number outcome h) = has_its_value h
 
 -- the case of a message to this incarnation
-abbrev pub case_of_body : Client → ToClientBody → Case
-case_of_body k (told.Epoch epoch) = if nat_lt k.epoch epoch then Adopts epoch else Ignores
-case_of_body k (told.Push epoch number what) =
+abbrev pub client_case_of_body : Client → ToClientBody → ClientCase
+client_case_of_body k (told.Epoch epoch) = if nat_lt k.epoch epoch then Adopts epoch else Ignores
+client_case_of_body k (told.Push epoch number what) =
     if nat_eq epoch k.epoch && fits what
     then (
     if nat_eq number (suc k.seen) && nat_le number END
@@ -43,16 +42,16 @@ case_of_body k (told.Push epoch number what) =
     else (if nat_eq number k.seen then AcksAgain else Ignores)
     )
     else Ignores
-case_of_body k (told.Callback epoch s keep) =
+client_case_of_body k (told.Callback epoch s keep) =
     if nat_eq epoch k.epoch && not (is_writing_in k s || meets_pin k s)
     then Lowers s keep
     else Ignores
 
 -- a message of another client or incarnation is ignored
-abbrev pub case_of : Client → ToClient → Case
-case_of k m =
+abbrev pub client_case_of : Client → ToClient → ClientCase
+client_case_of k m =
     if nat_eq m.client k.number && nat_eq m.incarnation k.incarnation
-    then case_of_body k m.body
+    then client_case_of_body k m.body
     else Ignores
 
 -- What a push makes of the client
@@ -87,13 +86,13 @@ accepted k (push.Answer number outcome h) = record k {
 -- What an epoch makes of it
 
 -- a waiting request is dropped
-abbrev pub dropped : LockRequest → LockRequest
-dropped (Waiting point hi mode) = Dropped
-dropped other = other
+abbrev pub request_dropped : LockRequest → LockRequest
+request_dropped (Waiting point hi mode) = Dropped
+request_dropped other = other
 
 -- the outstanding write, the cache and the pins stay
 abbrev pub joined : Client → ℕ → Client
-joined k epoch = record k { epoch = epoch; seen = 0; req = 0; asked = dropped k.asked }
+joined k epoch = record k { epoch = epoch; seen = 0; req = 0; asked = request_dropped k.asked }
 
 -- Each case
 
@@ -106,14 +105,14 @@ abbrev pub says_ack : Client → ToServer
 says_ack k = requests k asked.Ack
 
 -- the client after a message of this case
-abbrev pub after : Client → Case → Client
+abbrev pub after : Client → ClientCase → Client
 after k (Adopts epoch) = joined k epoch
 after k (Accepts what) = accepted k what
-after k (Lowers s keep) = lowered k s keep
+after k (Lowers s keep) = belief_lowered k s keep
 after k other = k
 
 -- and what it sends, if ps are its pieces
-abbrev pub sends : Pieces → Client → Case → List ToServer
+abbrev pub sends : Pieces → Client → ClientCase → List ToServer
 sends ps k Ignores = []
 sends ps k AcksAgain = says_ack k ∷ []
 sends ps k (Adopts epoch) = says_report ps (joined k epoch) ∷ []

@@ -32,17 +32,17 @@ pub struct Client {
     /// The number of its last write.
     pub(crate) writes: u64,
     pub(crate) written: LastWrite,
-    /// Whether its last write takes the lock that it needs, if that is free.
-    pub(crate) takes: bool,
+    /// Whether its last write seizes the lock that it needs, if that is free.
+    pub(crate) seizes: bool,
     pub(crate) cache: Cache,
     pub(crate) pins: Pins,
 }
 
 impl Model for Client {
-    ghost use Rattle.krl_client.specs.Fields.{Fields, meaning};
+    ghost use Rattle.krl_client.specs.Fields.{KeptClient, meaning};
     ghost use Rattle.krl_client.specs.Keeps.{IsClient};
 
-    ghost Value = { Fields };
+    ghost Value = { KeptClient };
 
     ghost view = { λ c. record {
       number = c.number;
@@ -53,7 +53,7 @@ impl Model for Client {
       asked = c.asked;
       writes = c.writes;
       written = c.written;
-      takes = c.takes;
+      seizes = c.seizes;
       cache = c.cache;
       pins = c.pins;
     } };
@@ -67,7 +67,7 @@ impl Model for Client {
       asked = c.asked;
       writes = c.writes;
       written = c.written;
-      takes = c.takes;
+      seizes = c.seizes;
       cache = c.cache;
       pins = c.pins;
     })) };
@@ -107,7 +107,7 @@ impl Client {
             asked: LockRequest::NotAsked,
             writes: 0,
             written: LastWrite::Unwritten,
-            takes: false,
+            seizes: false,
             cache: Cache::new(alloc),
             pins: Pins::new(),
         };

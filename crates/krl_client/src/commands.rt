@@ -68,7 +68,7 @@ impl Client {
     // The answer to a scan of a span that contains the outstanding write's key.
     fn pending_key_in(&self, span: Span) -> Option<u64>
         ensures { MatchOption result (clients.is_writing_in (meaning self.now) span ≡ false)
-            (λ key. commands.Answers (meaning self.now) span (Pending key)) }
+            (λ key. commands.ScanGives (meaning self.now) span (Pending key)) }
     {
         let key = self.written.outstanding()?.key();
         if span.lo() <= key && key < span.hi() {
@@ -96,7 +96,7 @@ impl Client {
         ensures none_due { OnOk result
             (commands.scan_refusal (record { lo = lo; hi = hi }) ≡ None) }
         ensures answer { IfOk result
-            (commands.Answers (meaning self.now) (record { lo = lo; hi = hi })) }
+            (commands.ScanGives (meaning self.now) (record { lo = lo; hi = hi })) }
     {
         let Ok(span) = Span::new(lo, hi) else {
             return Err(CommandRefused::BadSpan);
@@ -122,7 +122,8 @@ impl Client {
         ensures none_due { OnOk result
             (commands.scan_refusal (record { lo = lo; hi = hi }) ≡ None) }
         ensures answer { IfOk result
-            (λ x. commands.Answers (meaning self.now) (record { lo = lo; hi = hi }) (answer_of x)) }
+            (λ x. commands.ScanGives (meaning self.now) (record { lo = lo; hi = hi })
+            (answer_of x)) }
     {
         let Ok(span) = Span::new(lo, hi) else {
             return Err(CommandRefused::BadSpan);

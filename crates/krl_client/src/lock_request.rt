@@ -59,7 +59,7 @@ impl LockRequest {
 
     /// What becomes of it in a new epoch.
     pub fn dropped(self) -> LockRequest
-        ensures { asked_of result ≡ messages.dropped (asked_of self) }
+        ensures { asked_of result ≡ messages.request_dropped (asked_of self) }
     {
         match self {
             LockRequest::Waiting { .. } => LockRequest::Dropped,

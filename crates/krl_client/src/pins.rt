@@ -1,7 +1,8 @@
 //! Pins.
 ghost use Rattle.std.specs.Prelude.{◌≡◌, [], None, Some, MatchOption, MatchBool, is_some, ◌<◌};
-ghost use Rattle.krl_modes.specs.Limits.{max_pins};
+ghost use Rattle.krl_modes.specs.declared.limits.TheConstants.{MAX_PINS};
 ghost use Rattle.krl_client.specs.Clients as clients;
+ghost use Rattle.krl_client.specs.Splits.{pin_meets};
 ghost use Rattle.krl_client.specs.Fields.{pins_of};
 
 use arrayvec::ArrayVec;
@@ -25,7 +26,7 @@ impl Model for Pins {
 
 // Whether the span meets the other one, if there is one.
 fn meets(span: Span, pin: Option<Span>) -> bool
-    ensures { result ≡ clients.pin_meets span pin }
+    ensures { result ≡ pin_meets span pin }
 {
     match pin {
         Some(pin) => span.meets(pin),
@@ -57,7 +58,7 @@ impl Pins {
 
     /// The least id that is free.
     pub fn free(&self) -> Option<u64>
-        ensures { result ≡ clients.free_from (pins_of self.now) 0 max_pins }
+        ensures { result ≡ clients.free_from (pins_of self.now) 0 MAX_PINS }
     {
         for id in 0..MAX_PINS as u64 {
             if self.get(id).is_none() {
@@ -69,7 +70,7 @@ impl Pins {
 
     /// Whether the span meets a pin.
     pub fn meet(&self, span: Span) -> bool
-        ensures { result ≡ clients.meets_one (pins_of self.now) max_pins span }
+        ensures { result ≡ clients.meets_one (pins_of self.now) MAX_PINS span }
     {
         for id in 0..MAX_PINS as u64 {
             if meets(span, self.get(id)) {
@@ -81,7 +82,7 @@ impl Pins {
 
     /// Pins a span under the least id that is free.
     pub fn pin(&mut self, id: u64, span: Span)
-        requires { clients.free_from (pins_of self.old) 0 max_pins ≡ Some id }
+        requires { clients.free_from (pins_of self.old) 0 MAX_PINS ≡ Some id }
         ensures { pins_of self.new ≡ clients.with_pin (pins_of self.old) id (Some span) }
     {
         let id = id as usize;
@@ -94,7 +95,7 @@ impl Pins {
 
     /// Frees an id.
     pub fn unpin(&mut self, id: u64)
-        requires { id < max_pins }
+        requires { id < MAX_PINS }
         ensures { pins_of self.new ≡ clients.with_pin (pins_of self.old) id None }
     {
         let id = id as usize;

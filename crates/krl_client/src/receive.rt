@@ -4,8 +4,7 @@ ghost use Rattle.std.specs.Prelude.{nat_eq, nat_le};
 ghost use Rattle.krl_modes.specs.declared.point.TheConstants.{END};
 ghost use Rattle.krl_messages.specs.declared.to_client.ToClientBody.TheVariants as told;
 ghost use Rattle.krl_messages.specs.declared.to_client.PushBody.TheVariants as push;
-ghost use Rattle.krl_messages.specs.Holdings.{has_its_value};
-ghost use Rattle.krl_messages.specs.Several.{have_values};
+ghost use Rattle.krl_messages.specs.Holdings.{has_its_value, have_values};
 ghost use Rattle.krl_client.specs.Messages as messages;
 ghost use Rattle.krl_client.specs.Messages.{Adopts, Accepts, Lowers, AcksAgain, Ignores};
 ghost use Rattle.krl_client.specs.Fields.{meaning};
@@ -169,7 +168,7 @@ impl Client {
         ensures unchanged { OnErr result (self.new ≡ self.old) }
         ensures follows { IfOk result
             (λ list. Follows (meaning self.old)
-            (messages.case_of_body (meaning self.old) (told.Epoch epoch))
+            (messages.client_case_of_body (meaning self.old) (told.Epoch epoch))
             (meaning self.new) list.items) }
     {
         if epoch <= self.epoch {
@@ -188,7 +187,7 @@ impl Client {
         ensures unchanged { OnErr result (self.new ≡ self.old) }
         ensures follows { IfOk result
             (λ list. Follows (meaning self.old)
-            (messages.case_of_body (meaning self.old) (told.Push epoch number body.now))
+            (messages.client_case_of_body (meaning self.old) (told.Push epoch number body.now))
             (meaning self.new) list.items) }
     {
         if epoch != self.epoch {
@@ -216,7 +215,7 @@ impl Client {
         ensures unchanged { OnErr result (self.new ≡ self.old) }
         ensures follows { IfOk result
             (λ list. Follows (meaning self.old)
-            (messages.case_of_body (meaning self.old) (told.Callback epoch span keep))
+            (messages.client_case_of_body (meaning self.old) (told.Callback epoch span keep))
             (meaning self.new) list.items) }
     {
         if epoch != self.epoch {
@@ -241,7 +240,8 @@ impl Client {
     pub fn step(&mut self, message: &ToClient) -> Result<Vec<ToServer>, AllocError>
         ensures unchanged { OnErr result (self.new ≡ self.old) }
         ensures follows { IfOk result
-            (λ list. Follows (meaning self.old) (messages.case_of (meaning self.old) message.now)
+            (λ list. Follows (meaning self.old)
+            (messages.client_case_of (meaning self.old) message.now)
             (meaning self.new) list.items) }
     {
         if message.client != self.number {

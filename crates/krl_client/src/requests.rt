@@ -147,23 +147,23 @@ impl Client {
         }
         let number = self.writes + 1;
         let op = change;
-        let takes = false;
+        let seizes = false;
         let list = one(
             self.alloc,
-            self.requests(RequestBody::Write { number, op, takes }),
+            self.requests(RequestBody::Write { number, op, seizes }),
         )?;
         self.writes = number;
         self.written = LastWrite::Outstanding(change);
-        self.takes = takes;
+        self.seizes = seizes;
         Ok(list)
     }
 
-    /// Why it refuses to write with the lock that it takes, memory aside: the first of `BadPoint`,
-    /// `NotJoined`, `Writing`, `NotHeld`, `Spent`. `take` judges by it.
-    pub fn take_refusal(&self, change: WriteOp) -> Option<CommandRefused>
-        ensures { result ≡ commands.take_refusal (meaning self.now) change }
+    /// Why it refuses to write with the lock that it seizes, memory aside: the first of `BadPoint`,
+    /// `NotJoined`, `Writing`, `NotHeld`, `Spent`. `seize` judges by it.
+    pub fn seize_refusal(&self, change: WriteOp) -> Option<CommandRefused>
+        ensures { result ≡ commands.seize_refusal (meaning self.now) change }
     {
-        let (asked, taken) = (change, change);
+        let (asked, seized) = (change, change);
         if asked.key() >= END {
             return Some(CommandRefused::BadPoint);
         }
@@ -173,7 +173,7 @@ impl Client {
         if self.written.outstanding().is_some() {
             return Some(CommandRefused::Writing);
         }
-        if !taken.takes_lock() && !self.holds_for(change) {
+        if !seized.can_seize() && !self.holds_for(change) {
             return Some(CommandRefused::NotHeld);
         }
         if self.writes >= END {
@@ -187,37 +187,38 @@ impl Client {
     /// lock and makes the change in one step. Otherwise the change is judged by what the client
     /// holds, and may be `NotHeld`. The answer states what the client then holds on the key's slot.
     ///
-    /// A delete needs the locks of two slots, and takes neither: it is asked for as by `write`.
+    /// A delete needs the locks of two slots, and seizes neither: it is asked for as by `write`.
     ///
     /// # Errors
     ///
     /// In this order: `BadPoint` if the key is END or more; `NotJoined` before the client has
     /// learned an epoch; `Writing` while a write is outstanding; `NotHeld` if a delete lacks what
     /// it needs; `Spent` if no number is left for it; `OutOfMemory`. The client is as it was.
-    pub fn take(&mut self, change: WriteOp) -> Result<Vec<ToServer>, CommandRefused>
+    pub fn seize(&mut self, change: WriteOp) -> Result<Vec<ToServer>, CommandRefused>
         ensures due { IfErr result
-            (λ r. IsDue (commands.take_refusal (meaning self.old) change) r) }
+            (λ r. IsDue (commands.seize_refusal (meaning self.old) change) r) }
         ensures unchanged { OnErr result (self.new ≡ self.old) }
-        ensures none_due { OnOk result (commands.take_refusal (meaning self.old) change ≡ None) }
-        ensures client { OnOk result (meaning self.new ≡ commands.took (meaning self.old) change) }
+        ensures none_due { OnOk result (commands.seize_refusal (meaning self.old) change ≡ None) }
+        ensures client { OnOk result
+            (meaning self.new ≡ commands.seized (meaning self.old) change) }
         ensures says { IfOk result
             (λ list. list.items ≡ commands.says_write
-            (commands.took (meaning self.old) change) change ∷ []) }
+            (commands.seized (meaning self.old) change) change ∷ []) }
     {
         let (asked, kept) = (change, change);
-        if let Some(refusal) = self.take_refusal(asked) {
+        if let Some(refusal) = self.seize_refusal(asked) {
             return Err(refusal);
         }
         let number = self.writes + 1;
         let op = change;
-        let takes = true;
+        let seizes = true;
         let list = one(
             self.alloc,
-            self.requests(RequestBody::Write { number, op, takes }),
+            self.requests(RequestBody::Write { number, op, seizes }),
         )?;
         self.writes = number;
         self.written = LastWrite::Outstanding(kept);
-        self.takes = takes;
+        self.seizes = seizes;
         Ok(list)
     }
 
@@ -271,7 +272,7 @@ impl Client {
             (commands.lower_refusal (meaning self.old) (record { lo = lo; hi = hi }) ≡ None) }
         ensures client { OnOk result
             (meaning self.new
-            ≡ commands.lowered (meaning self.old) (record { lo = lo; hi = hi }) keep) }
+            ≡ commands.belief_lowered (meaning self.old) (record { lo = lo; hi = hi }) keep) }
         ensures says { IfOk result
             (λ list. list.items ≡ commands.says_release (meaning self.old)
             (record { lo = lo; hi = hi }) keep ∷ []) }
@@ -300,7 +301,7 @@ impl Client {
             (commands.lower_refusal (meaning self.old) (record { lo = lo; hi = hi }) ≡ None) }
         ensures client { OnOk result
             (meaning self.new
-            ≡ commands.lowered (meaning self.old) (record { lo = lo; hi = hi }) N) }
+            ≡ commands.belief_lowered (meaning self.old) (record { lo = lo; hi = hi }) N) }
         ensures says { IfOk result
             (λ list. list.items ≡ commands.says_release (meaning self.old)
             (record { lo = lo; hi = hi }) N ∷ []) }

@@ -62,8 +62,8 @@ impl Client {
     {
         let op = self.written.outstanding()?;
         let number = self.writes;
-        let takes = self.takes;
-        Some(self.requests(RequestBody::Write { number, op, takes }))
+        let seizes = self.seizes;
+        Some(self.requests(RequestBody::Write { number, op, seizes }))
     }
 
     // What it sends first in an epoch that it has joined: its Report if it has accepted no push

@@ -110,9 +110,9 @@ fn is_release(body: &RequestBody, lo: u64, hi: u64, keep: Mode) -> bool {
 }
 
 // Whether it asks for the change by this number, and takes the lock that it needs or not.
-fn is_write(body: &RequestBody, number: u64, change: Change, takes: bool) -> bool {
+fn is_write(body: &RequestBody, number: u64, change: Change, seizes: bool) -> bool {
     let op = op_of(change);
-    *body == RequestBody::Write { number, op, takes }
+    *body == RequestBody::Write { number, op, seizes }
 }
 
 // Whether the request is the expected one, in this epoch and after this push.
@@ -262,7 +262,7 @@ fn command(client: &mut Client, act: Act) -> Result<Vec<ToServer>, CommandRefuse
         Act::Lock(point, mode) => client.lock(point, point.saturating_add(1), mode),
         Act::LockTo(point, hi, mode) => client.lock(point, hi, mode),
         Act::Write(change) => client.write(op_of(change)),
-        Act::Take(change) => client.take(op_of(change)),
+        Act::Take(change) => client.seize(op_of(change)),
         Act::Lower(lo, hi, keep) => client.lower(lo, hi, keep),
         Act::Forget(lo, hi) => client.forget(lo, hi),
         _ => match client.tick() {

@@ -27,14 +27,14 @@ fn outcome_name(outcome: Outcome) -> &'static str {
     }
 }
 
-// A write in a few words. `Take` is one that takes the lock that it needs.
+// A write in a few words. `Take` is one that seizes the lock that it needs.
 fn write_label(
     alloc: Global,
     number: u64,
     op: &WriteOp,
-    takes: bool,
+    seizes: bool,
 ) -> Result<String, AllocError> {
-    let how = if takes { "Take" } else { "Write" };
+    let how = if seizes { "Take" } else { "Write" };
     match op {
         WriteOp::Insert { key, .. } => format!(in alloc; "{how} {number}: insert {key}"),
         WriteOp::Put { key, .. } => format!(in alloc; "{how} {number}: put {key}"),
@@ -50,7 +50,7 @@ fn request_label(alloc: Global, request: &Request) -> Result<String, AllocError>
             mode,
             ..
         } => format!(in alloc; "Lock {req}: {point} {}", mode.name()),
-        RequestBody::Write { number, op, takes } => write_label(alloc, *number, op, *takes),
+        RequestBody::Write { number, op, seizes } => write_label(alloc, *number, op, *seizes),
         RequestBody::Release { span, mode } => {
             format!(in alloc; "Release {}: {}", span.lo(), mode.name())
         }

@@ -72,7 +72,7 @@ lock = of_client (point >>= λ p. a_mode >>= λ m. below 8 >>= λ more. always (
 -- a client asks for the change; where writes may take, every other time for the lock that it needs too
 abbrev pub written : Writes → WriteOp → Draw Command
 written writes.Plain op = always (command.Write op)
-written writes.Taking op = below 2 >>= λ n. always (if nat_eq n 0 then command.Take op else command.Write op)
+written writes.Taking op = below 2 >>= λ n. always (if nat_eq n 0 then command.Seize op else command.Write op)
 
 abbrev pub insert : Writes → Draw Step
 insert what = of_client (point >>= λ k. value >>= λ v. written what (write.Insert k v))

@@ -143,7 +143,7 @@ impl Generator {
         ensures { (result, self.new) ≡ draw.written writes op self.old }
     {
         match writes {
-            Writes::Taking if self.below(2) == 0 => Command::Take(op),
+            Writes::Taking if self.below(2) == 0 => Command::Seize(op),
             _ => Command::Write(op),
         }
     }

@@ -24,4 +24,4 @@ pub use Rattle.krl_durable.specs.Writes.{judge}
 pub use Rattle.krl_durable.specs.declared.record.Record.{Record}
 pub use Rattle.krl_messages.specs.Values.{Value}
 pub use Rattle.krl_modes.specs.declared.point.TheConstants.{END}
-unfoldable pub use Rattle.krl_modes.specs.Limits.{standard_room, max_room}
+pub use Rattle.krl_modes.specs.declared.limits.TheConstants.{STANDARD_ROOM, MAX_ROOM}

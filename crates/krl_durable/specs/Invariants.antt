@@ -3,8 +3,7 @@ use Rattle.std.specs.Prelude.{◌≡◌, ℕ, ◌≤◌, true, not, nat_eq, nat_
 use Rattle.std.specs.Ordering.{nat_cmp}
 use Rattle.std.specs.FinMap.Entries.{is_sorted}
 use Rattle.krl_modes.specs.declared.point.TheConstants.{END}
-use Rattle.krl_modes.specs.declared.limits.TheConstants.{MAX_CLIENTS}
-use Rattle.krl_modes.specs.Limits.{standard_room}
+use Rattle.krl_modes.specs.declared.limits.TheConstants.{MAX_CLIENTS, STANDARD_ROOM}
 use Rattle.krl_messages.specs.Values.{Value}
 use Rattle.krl_durable.specs.declared.record.Record.{Record}
 use Rattle.krl_durable.specs.Registers.{IsIncarnation}
@@ -47,5 +46,5 @@ missing_of e = if e.1.left then None else Some e.0
 
 -- what survived when values were numbers: such entries, and an epoch of at most END
 pub record IsKeptV1 (es : List (ℕ × ℕ)) (epoch : ℕ) : Type 0 where
-  pub ordered : AreOrdered standard_room es
+  pub ordered : AreOrdered STANDARD_ROOM es
   pub most : epoch ≤ END

@@ -13,8 +13,8 @@ abbrev pub AreBelowEnd : {V : Type 0} → List (ℕ × V) → Type 0
 AreBelowEnd es = AllByRecursion (λ e. nat_lt e.0 END ≡ true) es
 
 -- What holds of all that survives: the keys are below END, and no more than there is room for; the reach of a grant is
--- from 1 to 128; the epoch is at most END; the clients are below 64, each once, with outcomes if a write was judged,
--- with last numbers of at most END, and with incarnations from 1 to END.
+-- from 1 to MAX_HOLDINGS; the epoch is at most END; the clients are below MAX_CLIENTS, each once, with outcomes if a
+-- write was judged, with last numbers of at most END, and with incarnations from 1 to END.
 pub record IsKept (d : Durable) : Type 0 where
   pub keys : AreBelowEnd (map.entries d.index)
   pub few : length (map.entries d.index) ≤ d.room

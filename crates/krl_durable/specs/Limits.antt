@@ -1,4 +1,4 @@
--- The limits of what survives: for how many entries there is room, and how many slots one grant takes at most.
+-- The limits of what survives: for how many entries there is room, and how many slots one grant reaches at most.
 use Rattle.std.specs.Prelude.{◌≤◌, length}
 use Rattle.std.specs.FinMap as map
 use Rattle.krl_durable.specs.declared.limits.Limits.{Limits}

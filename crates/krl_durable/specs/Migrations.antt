@@ -3,8 +3,7 @@ use Rattle.std.specs.Prelude.{◌≡◌, ℕ, List, slice_get, Some, map as each
 use Rattle.std.specs.Int.{w64, to_be_bytes}
 use Rattle.std.specs.Ordering.{nat_cmp}
 use Rattle.std.specs.FinMap as map
-use Rattle.krl_modes.specs.declared.limits.TheConstants.{STANDARD_REACH}
-use Rattle.krl_modes.specs.Limits.{standard_room}
+use Rattle.krl_modes.specs.declared.limits.TheConstants.{STANDARD_REACH, STANDARD_ROOM}
 use Rattle.krl_messages.specs.Values.{Value}
 use Rattle.krl_durable.specs.declared.not_migrated.NotMigrated.{NotMigrated}
 use Rattle.krl_durable.specs.declared.not_migrated.NotMigrated.TheVariants as not_migrated
@@ -23,7 +22,7 @@ migrated_entries es = each_of (λ e. (e.0, to_be_bytes w64 e.1)) es
 -- the same keys, epoch, register and records, each value its eight bytes, and the limits if none are named
 abbrev pub migrated : DurableV1 → Durable
 migrated d = record {
-  room = standard_room;
+  room = STANDARD_ROOM;
   reach = STANDARD_REACH;
   index = map.from_entries (migrated_entries (map.entries d.index));
   epoch = d.epoch;

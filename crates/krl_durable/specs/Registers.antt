@@ -1,6 +1,7 @@
 -- The register: a record of each client that ever registered, in order of first registration.
 use Rattle.std.specs.Prelude.{◌≡◌, ℕ, ◌≤◌, true, false, not, nat_eq, is_some, List, [], ◌∷◌, Option, Some, None, if◌then◌else◌}
 use Rattle.krl_modes.specs.declared.point.TheConstants.{END}
+use Rattle.krl_messages.specs.Members.{map_or}
 use Rattle.krl_durable.specs.declared.record.Record.{Record}
 use Rattle.krl_durable.specs.Index.{Index}
 
@@ -12,7 +13,7 @@ Register = List (ℕ × Record)
 pub record Durable : Type 0 where
   -- how many entries the index has room for
   pub room : ℕ
-  -- how many slots one grant takes at most
+  -- how many slots one grant reaches at most
   pub reach : ℕ
   pub index : Index
   pub epoch : ℕ
@@ -41,13 +42,11 @@ new_record incarnation = record { incarnation = incarnation; left = false; last 
 abbrev pub registered : Durable → ℕ → ℕ → Durable
 registered d c incarnation = record d { register = with_record d.register c (new_record incarnation) }
 
-abbrev pub left_by : Durable → ℕ → Option Record → Durable
-left_by d c None = d
-left_by d c (Some r) = record d { register = with_record d.register c (record r { left = true }) }
-
 -- the registered client is marked left
 abbrev pub departed : Durable → ℕ → Durable
-departed d c = left_by d c (record_of d.register c)
+departed d c =
+    map_or (record_of d.register c) d
+    (λ (r : Record). record d { register = with_record d.register c (record r { left = true }) })
 
 -- no write has a number above END
 abbrev pub HasLasts : Register → Type 0

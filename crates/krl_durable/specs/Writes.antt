@@ -4,23 +4,24 @@ use Rattle.std.specs.FinMap as map
 use Rattle.krl_modes.specs.declared.mode.Mode.{Mode}
 use Rattle.krl_modes.specs.Modes.{range_of, key_of}
 use Rattle.krl_modes.specs.Parts.{lets_insert, is_range_X, is_key_X}
-use Rattle.krl_modes.specs.Limits.{max_room, max_holdings}
+use Rattle.krl_modes.specs.declared.limits.TheConstants.{MAX_ROOM, MAX_HOLDINGS}
 use Rattle.krl_messages.specs.declared.write_op.WriteOp.{WriteOp}
 use Rattle.krl_messages.specs.declared.write_op.WriteOp.TheVariants as write
 use Rattle.krl_messages.specs.declared.outcome.Outcome.{Outcome}
 use Rattle.krl_messages.specs.declared.outcome.Outcome.TheVariants as outcome
-use Rattle.krl_messages.specs.Outcomes.{is_applied}
+use Rattle.krl_messages.specs.Writes.{is_applied}
+use Rattle.krl_messages.specs.Members.{map_or}
 use Rattle.krl_durable.specs.declared.record.Record.{Record}
 use Rattle.krl_durable.specs.Index.{Index, slot_of}
 use Rattle.krl_durable.specs.Registers.{Durable, record_of, with_record}
 
 -- an index can have room for so many entries
 abbrev pub IsRoom : ℕ → Type 0
-IsRoom n = (1 ≤ n) × (n ≤ max_room)
+IsRoom n = (1 ≤ n) × (n ≤ MAX_ROOM)
 
--- a grant can take at most so many slots
+-- a grant can reach at most so many slots
 abbrev pub IsReach : ℕ → Type 0
-IsReach n = (1 ≤ n) × (n ≤ max_holdings)
+IsReach n = (1 ≤ n) × (n ≤ MAX_HOLDINGS)
 
 -- the writer's modes, by slot, are what the write needs
 abbrev pub held : Index → (ℕ → Mode) → WriteOp → Bool
@@ -62,11 +63,8 @@ index_after m op o = if is_applied o then written m op else m
 abbrev pub noted : Record → Outcome → Record
 noted r o = record r { last = suc r.last; outcome = Some o }
 
-abbrev pub applied_by : Durable → ℕ → WriteOp → Outcome → Option Record → Durable
-applied_by d c op o None = d
-applied_by d c op o (Some r) =
-    record d { index = index_after d.index op o; register = with_record d.register c (noted r o) }
-
 -- the next write of a registered client with this outcome: done and noted, all at once
 abbrev pub applied : Durable → ℕ → WriteOp → Outcome → Durable
-applied d c op o = applied_by d c op o (record_of d.register c)
+applied d c op o =
+    map_or (record_of d.register c) d
+    (λ r. record d { index = index_after d.index op o; register = with_record d.register c (noted r o) })

@@ -19,8 +19,7 @@ ghost use Rattle.krl_durable.specs.Remade.{MakesAgain, of_parts, fresh};
 ghost use Rattle.krl_durable.specs.Migrations.{migrated_entries, migrated, CannotMigrate};
 ghost use Rattle.krl_messages.specs.Writes.{op_key};
 ghost use Rattle.krl_durable.specs.Writes.{IsRoom, IsReach, judge, applied};
-ghost use Rattle.krl_modes.specs.declared.limits.TheConstants.{MAX_CLIENTS};
-ghost use Rattle.krl_modes.specs.Limits.{standard_room};
+ghost use Rattle.krl_modes.specs.declared.limits.TheConstants.{MAX_CLIENTS, STANDARD_ROOM};
 
 use crate::durable_v1::DurableV1;
 use crate::index::Index;
@@ -95,9 +94,9 @@ impl Durable {
     /// is END or more, or by `Twice` if its key stands before; and `OutOfMemory` at any point.
     pub fn new(alloc: Global, entries: &[(u64, Value)]) -> Result<Durable, EntriesRefused>
         ensures { MatchResult result
-            (λ d. (length entries.now ≤ standard_room) × AreGood entries.now (length entries.now)
+            (λ d. (length entries.now ≤ STANDARD_ROOM) × AreGood entries.now (length entries.now)
             × (d ≡ fresh entries.now))
-            (Refuses standard_room entries.now) }
+            (Refuses STANDARD_ROOM entries.now) }
     {
         let index = Index::new(alloc, Room::standard(), entries)?;
         Ok(Durable {
@@ -199,7 +198,7 @@ impl Durable {
         self.index.room()
     }
 
-    /// How many slots one grant takes at most. It stays as it was given.
+    /// How many slots one grant reaches at most. It stays as it was given.
     pub fn reach(&self) -> usize
         ensures reach { result ≡ self.now.reach }
         ensures in_range { IsReach result }

@@ -4,7 +4,7 @@ ghost use Rattle.std.specs.List.{AllByRecursion, IsDistinct};
 ghost use Rattle.std.specs.Map.{keys_of};
 ghost use Rattle.std.specs.FinMap as map;
 ghost use Rattle.krl_modes.specs.declared.point.TheConstants.{END};
-ghost use Rattle.krl_modes.specs.Limits.{standard_room};
+ghost use Rattle.krl_modes.specs.declared.limits.TheConstants.{STANDARD_ROOM};
 ghost use Rattle.krl_durable.specs.Registers.{record_of, not_left};
 ghost use Rattle.krl_durable.specs.Invariants.{IsRow, AreOrdered};
 ghost use Rattle.krl_durable.specs.InitialEntries.{AreGood, Refuses};
@@ -58,9 +58,9 @@ impl DurableV1 {
     /// is END or more, or by `Twice` if its key stands before; and `OutOfMemory` at any point.
     pub fn new(alloc: Global, entries: &[(u64, u64)]) -> Result<DurableV1, EntriesRefused>
         ensures { MatchResult result
-            (λ d. (length entries.now ≤ standard_room) × AreGood entries.now (length entries.now)
+            (λ d. (length entries.now ≤ STANDARD_ROOM) × AreGood entries.now (length entries.now)
             × (d ≡ of_numbers entries.now 0 []))
-            (Refuses standard_room entries.now) }
+            (Refuses STANDARD_ROOM entries.now) }
     {
         let entries = ordered(alloc, Room::standard(), entries)?;
         Ok(DurableV1 {
@@ -89,9 +89,9 @@ impl DurableV1 {
         requires each { AllByRecursion IsRow records.now }
         requires once { IsDistinct nat_eq (keys_of records.now) }
         ensures { MatchResult result
-            (λ d. (length entries.now ≤ standard_room) × AreGood entries.now (length entries.now)
+            (λ d. (length entries.now ≤ STANDARD_ROOM) × AreGood entries.now (length entries.now)
             × (d ≡ of_numbers entries.now epoch records.now))
-            (Refuses standard_room entries.now) }
+            (Refuses STANDARD_ROOM entries.now) }
     {
         let entries = ordered(alloc, Room::standard(), entries)?;
         let register = Register::from_records(alloc, records)?;
@@ -113,7 +113,7 @@ impl DurableV1 {
     /// The entries of the index, in key order.
     pub fn entries(&self) -> &[(u64, u64)]
         ensures entries { result.now ≡ map.entries self.now.index }
-        ensures ordered { AreOrdered standard_room result.now }
+        ensures ordered { AreOrdered STANDARD_ROOM result.now }
     {
         self.entries.as_slice()
     }

@@ -10,7 +10,7 @@ use crate::room::Room;
 pub struct Limits {
     /// How many entries the index has room for.
     pub room: Room,
-    /// How many slots one grant takes at most.
+    /// How many slots one grant reaches at most.
     pub reach: Reach,
 }
 

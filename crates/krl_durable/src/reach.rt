@@ -1,4 +1,4 @@
-//! How many slots one grant takes at most.
+//! How many slots one grant reaches at most.
 ghost use Rattle.std.specs.Prelude.{◌≡◌, ◌↔◌, IsSome, IfSome};
 ghost use Rattle.krl_durable.specs.Writes.{IsReach};
 ghost use Rattle.krl_modes.specs.declared.limits.TheConstants.{STANDARD_REACH};
@@ -6,7 +6,7 @@ ghost use Rattle.krl_modes.specs.declared.limits.TheConstants.{STANDARD_REACH};
 use krl_modes::{MAX_HOLDINGS, STANDARD_REACH};
 use std::marker::Model;
 
-/// How many slots one grant takes at most: from 1 to 128.
+/// How many slots one grant reaches at most: from 1 to 128.
 #[derive(Clone, Copy, Debug, PartialEq, Eq)]
 pub struct Reach {
     slots: usize,

@@ -1,6 +1,6 @@
 //! How many entries an index has room for.
 ghost use Rattle.std.specs.Prelude.{◌≡◌, ◌↔◌, IsSome, IfSome};
-ghost use Rattle.krl_modes.specs.Limits.{standard_room};
+ghost use Rattle.krl_modes.specs.declared.limits.TheConstants.{STANDARD_ROOM};
 ghost use Rattle.krl_durable.specs.Writes.{IsRoom};
 
 use krl_modes::{MAX_ROOM, STANDARD_ROOM};
@@ -40,7 +40,7 @@ impl Room {
 
     /// Room for 65,536 entries, if nobody asks for another.
     pub fn standard() -> Room
-        ensures { result ≡ standard_room }
+        ensures { result ≡ STANDARD_ROOM }
     {
         Room {
             entries: STANDARD_ROOM,

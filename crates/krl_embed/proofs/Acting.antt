@@ -10,7 +10,7 @@ use Rattle.krl_server.specs.StateMeaning.{meaning}
 use Rattle.krl_server.specs.Servers.{Server}
 use Rattle.krl_server.specs.Effects.{Done, effect}
 use Rattle.krl_server.specs.Cases.{Case, Alarms, case_of, is_alarm}
-use Rattle.krl_server.specs.Steps.{Kind, Idle, Ends, at_once, recovers, serves, kind_of}
+use Rattle.krl_server.specs.Steps.{Following, Nothing, Ends, at_once, recovers, serves, following}
 use Rattle.krl_server.specs.CodeSteps.{HasStepped}
 use Rattle.krl_embed.specs.declared.code.Code.TheVariants as code
 use Rattle.krl_embed.specs.declared.server_calls.Stepped.{Stepped}
@@ -19,15 +19,15 @@ use Rattle.krl_embed.specs.Changes.{unchanged}
 use Rattle.krl_embed.specs.Servers.{Acts, HearsRead}
 
 -- a step that has not acted ends at once
-idle_ends : (done : Done) (kind : Kind) (t : Server) (outs : List ToClient) → kind ≡ Idle → Ends done kind t outs
+idle_ends : (done : Done) (kind : Following) (t : Server) (outs : List ToClient) → kind ≡ Nothing → Ends done kind t outs
     → (t ≡ done.server) × (outs ≡ done.outs)
 idle_ends done kind t outs idle (at_once e) = (refl, refl)
 idle_ends done kind t outs idle (recovers g) = (refl, refl)
 idle_ends done kind t outs idle (serves u answers acts g a) = absurd (acts idle)
 
 alarm_ends : (s : Server) (m : ToServer) (x : Case) (t : Server) (outs : List ToClient) → is_alarm x ≡ true
-    → Ends (effect s m x) (kind_of x) t outs → (t ≡ s) × (outs ≡ [])
-alarm_ends s m Alarms t outs is ends = idle_ends (effect s m Alarms) Idle t outs refl ends
+    → Ends (effect s m x) (following x) t outs → (t ≡ s) × (outs ≡ [])
+alarm_ends s m Alarms t outs is ends = idle_ends (effect s m Alarms) Nothing t outs refl ends
 alarm_ends s m _ t outs is ends = absurd cc
 
 alarm_is : (b : Bool) (n : ℕ) (o : Option ℕ) (c : ℕ) → o ≡ Some c → o ≡ (if b then Some n else None) → b ≡ true

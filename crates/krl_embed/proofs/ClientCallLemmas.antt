@@ -14,8 +14,8 @@ use Rattle.krl_client.specs.Clients.{Client, begun}
 use Rattle.krl_client.specs.Commands as commands
 use Rattle.krl_client.specs.declared.refused.CommandRefused.{CommandRefused}
 use Rattle.krl_client.specs.FieldSteps.{Follows, IsTick}
-use Rattle.krl_client.specs.Fields.{Fields, meaning}
-use Rattle.krl_client.specs.Messages.{case_of}
+use Rattle.krl_client.specs.Fields.{KeptClient, meaning}
+use Rattle.krl_client.specs.Messages.{client_case_of}
 use Rattle.krl_client.specs.Ticks.{says_hello}
 use Rattle.krl_hosts.specs.Hosts.{AreAmong}
 use Rattle.krl_embed.specs.declared.code.Code.{Code}
@@ -40,7 +40,7 @@ frames_both (x ∷ xs) ys = ap (λ bs. said_frame x ++ bs) (frames_both xs ys) �
 
 -- Roles
 
-runs_is : (s : Standing) (k : Fields) → IsClient (role.Client k) s → s ≡ Runs (meaning k)
+runs_is : (s : Standing) (k : KeptClient) → IsClient (role.Client k) s → s ≡ Runs (meaning k)
 runs_is (Runs c) k is = ap (λ x. Runs x) (sym is)
 runs_is (HasLeft m) k is = absurd is
 
@@ -49,7 +49,7 @@ left_is (Runs c) bye is = absurd is
 left_is (HasLeft m) bye is = (m, refl, is)
 
 -- a call on a client finds one, or changes nothing
-on_client : (Does : Fields → List ℕ → Fields → List ℕ → Reply → Type 0) (a b : Role) (old new : List ℕ) (r : Reply) (s : Standing) → IsClient a s → OnClientRole Does a old b new r → ((k : Fields) × (l : Fields) × (a ≡ role.Client k) × (b ≡ role.Client l) × Does k old l new r) ⊎ ((b ≡ a) × (new ≡ old))
+on_client : (Does : KeptClient → List ℕ → KeptClient → List ℕ → Reply → Type 0) (a b : Role) (old new : List ℕ) (r : Reply) (s : Standing) → IsClient a s → OnClientRole Does a old b new r → ((k : KeptClient) × (l : KeptClient) × (a ≡ role.Client k) × (b ≡ role.Client l) × Does k old l new r) ⊎ ((b ≡ a) × (new ≡ old))
 on_client Does (role.Client k) (role.Client l) old new r s is d = inl (k, l, refl, refl, d)
 on_client Does (role.Client k) (role.Left bye) old new r s is d = absurd d
 on_client Does (role.Client k) (role.Server x) old new r s is d = absurd d
@@ -80,7 +80,7 @@ none_among xs x i = absurd i
 
 -- A call that finds a client
 
-module _ (e f : Endpoint) (h : ClientHost) (k l : Fields) (is : IsClientHost e h) (from : e.role ≡ role.Client k) (to : f.role ≡ role.Client l) (notes : f.notes ≡ e.notes) where
+module _ (e f : Endpoint) (h : ClientHost) (k l : KeptClient) (is : IsClientHost e h) (from : e.role ≡ role.Client k) (to : f.role ≡ role.Client l) (notes : f.notes ≡ e.notes) where
   was : h.standing ≡ Runs (meaning k)
   was = runs_is h.standing k (subst (λ x. IsClient x h.standing) from is.client)
 
@@ -105,7 +105,7 @@ module _ (e f : Endpoint) (h : ClientHost) (k l : Fields) (is : IsClientHost e h
   refused : (B : Client → Client → List ToServer → Type 0) → l ≡ k → f.outgoing ≡ e.outgoing → GoesOrStays B h f
   refused B m out = inl (stays e f h is (same (ap meaning m)) out notes)
 
-  did : (Becomes : Fields → List ToServer → Type 0) (B : Client → Client → List ToServer → Type 0) (c : Option Code) → ((list : List ToServer) → Becomes l list → B (meaning k) (meaning l) list) → Did Becomes k e.outgoing l f.outgoing c → GoesOrStays B h f
+  did : (Becomes : KeptClient → List ToServer → Type 0) (B : Client → Client → List ToServer → Type 0) (c : Option Code) → ((list : List ToServer) → Becomes l list → B (meaning k) (meaning l) list) → Did Becomes k e.outgoing l f.outgoing c → GoesOrStays B h f
   did Becomes B (Some code.Done) turn d = goes B d.0 d.0 (turn d.0 d.1) (all_among d.0) d.2
   did Becomes B (Some code.Unsaid) turn d = goes B d.0 [] (turn d.0 d.1) (none_among d.0) (d.2 ∙ sym (append-nil e.outgoing))
   did Becomes B (Some code.OutOfMemory) turn d = refused B d.0 d.1
@@ -123,7 +123,7 @@ module _ (e f : Endpoint) (h : ClientHost) (k l : Fields) (is : IsClientHost e h
   by_fault bytes x r None d = absurd d
 
   hears_one : (bytes : List ℕ) (r : Reply) (x : Result ToClient Fault) → reading.to_client_of bytes ≡ x → HearsRead bytes x k e.outgoing l f.outgoing r → GoesOrStays (Reads bytes) h f
-  hears_one bytes r (Ok m) reads d = did (λ x list. Follows (meaning k) (case_of (meaning k) m) (meaning x) list) (Reads bytes) (code_of r) (λ list b. (m, reads, b)) d.1
+  hears_one bytes r (Ok m) reads d = did (λ x list. Follows (meaning k) (client_case_of (meaning k) m) (meaning x) list) (Reads bytes) (code_of r) (λ list b. (m, reads, b)) d.1
   hears_one bytes r (Err x) reads d = by_fault bytes x r (code_of r) d
 
   ticks_one : (r : Reply) → Ticks k e.outgoing l f.outgoing r → GoesOrStays Repeats h f
@@ -146,14 +146,14 @@ module _ (e f : Endpoint) (h : ClientHost) (k l : Fields) (is : IsClientHost e h
   takes_one : (op : Option WriteOp) (r : Reply) → WritesTaking op k e.outgoing l f.outgoing r → GoesOrStays (Took op) h f
   takes_one None r d = refused (Took None) d.1.0 d.1.1
   takes_one (Some x) r d =
-      let next = commands.took (meaning k) x in
-      commanded (commands.take_refusal (meaning k) x) next (commands.says_write next x) (Took (Some x)) (code_of r)
+      let next = commands.seized (meaning k) x in
+      commanded (commands.seize_refusal (meaning k) x) next (commands.says_write next x) (Took (Some x)) (code_of r)
       (λ free is_next list is_list. (x, refl, free, is_next, is_list ∙ ap (λ y. commands.says_write y x ∷ []) (sym is_next))) d.1
 
   lowers_one : (s : Bounds) (keep : Option Mode) (r : Reply) → Lowers s keep k e.outgoing l f.outgoing r → GoesOrStays (GaveBack s keep) h f
   lowers_one s None r d = refused (GaveBack s None) d.1.0 d.1.1
   lowers_one s (Some m) r d =
-      commanded (commands.lower_refusal (meaning k) s) (commands.lowered (meaning k) s m) (commands.says_release (meaning k) s m) (GaveBack s (Some m)) (code_of r)
+      commanded (commands.lower_refusal (meaning k) s) (commands.belief_lowered (meaning k) s m) (commands.says_release (meaning k) s m) (GaveBack s (Some m)) (code_of r)
       (λ free is_next list is_list. (m, refl, free, is_next, is_list)) d.1
 
   pins_one : (s : Bounds) (r : Reply) (due : Option CommandRefused) → commands.pin_refusal (meaning k) s ≡ due → PinsAs due s k e.outgoing l f.outgoing r → GoesOrStays (Pinned s) h f
@@ -165,12 +165,12 @@ module _ (e f : Endpoint) (h : ClientHost) (k l : Fields) (is : IsClientHost e h
   unpins_one id r None free d = goes (Unpinned id) [] [] (free, d.2, refl) (all_among []) (d.1 ∙ sym (append-nil e.outgoing))
 
 -- by the role
-by_role : (Does : Fields → List ℕ → Fields → List ℕ → Reply → Type 0) (B : Client → Client → List ToServer → Type 0) →
-    ((e f : Endpoint) (h : ClientHost) (k l : Fields) (r : Reply) → IsClientHost e h → e.role ≡ role.Client k → f.role ≡ role.Client l → f.notes ≡ e.notes → Does k e.outgoing l f.outgoing r → GoesOrStays B h f) →
+by_role : (Does : KeptClient → List ℕ → KeptClient → List ℕ → Reply → Type 0) (B : Client → Client → List ToServer → Type 0) →
+    ((e f : Endpoint) (h : ClientHost) (k l : KeptClient) (r : Reply) → IsClientHost e h → e.role ≡ role.Client k → f.role ≡ role.Client l → f.notes ≡ e.notes → Does k e.outgoing l f.outgoing r → GoesOrStays B h f) →
     IsStep (OnClient Does) B
 by_role Does B turn e f h r is d notes = by_case (on_client Does e.role f.role e.outgoing f.outgoing r h.standing is.client d)
   where
-    by_case : ((k : Fields) × (l : Fields) × (e.role ≡ role.Client k) × (f.role ≡ role.Client l) × Does k e.outgoing l f.outgoing r) ⊎ ((f.role ≡ e.role) × (f.outgoing ≡ e.outgoing)) → GoesOrStays B h f
+    by_case : ((k : KeptClient) × (l : KeptClient) × (e.role ≡ role.Client k) × (f.role ≡ role.Client l) × Does k e.outgoing l f.outgoing r) ⊎ ((f.role ≡ e.role) × (f.outgoing ≡ e.outgoing)) → GoesOrStays B h f
     by_case (inl x) = turn e f h x.0 x.1 r is x.2 x.3 notes x.4
     by_case (inr x) = inl (stays e f h is (subst (λ y. IsClient y h.standing) (sym x.0) is.client) x.1 notes)
 

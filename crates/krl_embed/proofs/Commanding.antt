@@ -5,7 +5,7 @@ use Rattle.std.specs.Global.{Vec}
 use Rattle.krl_messages.specs.declared.to_server.ToServer.{ToServer}
 use Rattle.krl_client.specs.declared.refused.CommandRefused.{CommandRefused}
 use Rattle.krl_client.specs.Clients.{Client}
-use Rattle.krl_client.specs.Fields.{Fields, meaning}
+use Rattle.krl_client.specs.Fields.{KeptClient, meaning}
 use Rattle.krl_client.specs.FieldSteps.{IsDue}
 use Rattle.krl_embed.specs.declared.code.Code.{Code}
 use Rattle.krl_embed.specs.declared.code.Code.TheVariants as code
@@ -13,7 +13,7 @@ use Rattle.krl_embed.specs.Frames.{said_frames, WaitsBy}
 use Rattle.krl_embed.specs.Clients.{refusal_code, Did, Commanded, SaidOr}
 
 -- it sends these
-pub did : (Becomes : Fields → List ToServer → Type 0) (k l : Fields) (old new : List ℕ) (list : List ToServer)
+pub did : (Becomes : KeptClient → List ToServer → Type 0) (k l : KeptClient) (old new : List ℕ) (list : List ToServer)
     (c : Option Code) → Becomes l list → WaitsBy (said_frames list) old new c → Did Becomes k old l new c
 did Becomes k l old new list (Some code.Done) is waits = (list, is, waits)
 did Becomes k l old new list (Some code.Unsaid) is waits = (list, is, waits)
@@ -21,12 +21,12 @@ did Becomes k l old new list (Some _) is waits = absurd waits
 did Becomes k l old new list None is waits = absurd waits
 
 -- there was no memory
-pub did_not : (Becomes : Fields → List ToServer → Type 0) (k l : Fields) (old new : List ℕ) (c : Option Code)
+pub did_not : (Becomes : KeptClient → List ToServer → Type 0) (k l : KeptClient) (old new : List ℕ) (c : Option Code)
     → c ≡ Some code.OutOfMemory → l ≡ k → new ≡ old → Did Becomes k old l new c
 did_not Becomes k l old new c is same kept =
     subst (λ (x : Option Code). Did Becomes k old l new x) (sym is) (same, kept)
 
-pub commanded : (due : Option CommandRefused) (next : Client) (m : ToServer) (k l : Fields) (old new : List ℕ)
+pub commanded : (due : Option CommandRefused) (next : Client) (m : ToServer) (k l : KeptClient) (old new : List ℕ)
     (res : Result (Vec ToServer) CommandRefused) (c : Option Code)
     → IfErr res (IsDue due) → OnErr res (l ≡ k) → OnOk res (due ≡ None) → OnOk res (meaning l ≡ next)
     → IfOk res (λ list. list.items ≡ m ∷ []) → SaidOr res old new c → Commanded due next m k old l new c

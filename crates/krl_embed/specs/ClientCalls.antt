@@ -10,7 +10,7 @@ use Rattle.krl_client.specs.Clients.{Client, begun, free_pin}
 use Rattle.krl_client.specs.Commands as commands
 use Rattle.krl_client.specs.FieldSteps.{Follows, IsTick}
 use Rattle.krl_client.specs.Fields.{meaning}
-use Rattle.krl_client.specs.Messages.{case_of}
+use Rattle.krl_client.specs.Messages.{client_case_of}
 use Rattle.krl_client.specs.Ticks.{says_hello}
 use Rattle.krl_hosts.specs.Hosts.{AreAmong}
 use Rattle.krl_wire.specs.Reading as reading
@@ -77,7 +77,7 @@ IsStep Does Becomes =
 -- Steps
 
 abbrev pub Reads : List ℕ → Client → Client → List ToServer → Type 0
-Reads bytes k l list = (m : ToClient) × (reading.to_client_of bytes ≡ Ok m) × Follows k (case_of k m) l list
+Reads bytes k l list = (m : ToClient) × (reading.to_client_of bytes ≡ Ok m) × Follows k (client_case_of k m) l list
 
 abbrev pub Repeats : Client → Client → List ToServer → Type 0
 Repeats k l list = (l ≡ k) × IsTick k list
@@ -94,12 +94,12 @@ Wrote op k l list =
 
 abbrev pub Took : Option WriteOp → Client → Client → List ToServer → Type 0
 Took op k l list =
-    (x : WriteOp) × (op ≡ Some x) × (commands.take_refusal k x ≡ None) × (l ≡ commands.took k x)
+    (x : WriteOp) × (op ≡ Some x) × (commands.seize_refusal k x ≡ None) × (l ≡ commands.seized k x)
     × (list ≡ commands.says_write l x ∷ [])
 
 abbrev pub GaveBack : Bounds → Option Mode → Client → Client → List ToServer → Type 0
 GaveBack s keep k l list =
-    (m : Mode) × (keep ≡ Some m) × (commands.lower_refusal k s ≡ None) × (l ≡ commands.lowered k s m)
+    (m : Mode) × (keep ≡ Some m) × (commands.lower_refusal k s ≡ None) × (l ≡ commands.belief_lowered k s m)
     × (list ≡ commands.says_release k s m ∷ [])
 
 abbrev pub Pinned : Bounds → Client → Client → List ToServer → Type 0

@@ -1,6 +1,6 @@
 -- What a call does with what a handle keeps.
 use Rattle.std.specs.Prelude.{◌≡◌, ℕ, List, Option, Some, None}
-use Rattle.krl_client.specs.Fields.{Fields}
+use Rattle.krl_client.specs.Fields.{KeptClient}
 use Rattle.krl_server.specs.declared.state.State.{State}
 use Rattle.krl_embed.specs.declared.endpoint.Endpoint.{Endpoint}
 use Rattle.krl_embed.specs.declared.endpoint.Role.{Role}
@@ -36,7 +36,7 @@ abbrev pub Stays : Code → Role → List ℕ → Role → List ℕ → Reply �
 Stays c was old now new r = (now ≡ was) × (new ≡ old) × IsCode c r
 
 -- a call on a client, which is there before and after
-abbrev pub OnClientRole : (Fields → List ℕ → Fields → List ℕ → Reply → Type 0)
+abbrev pub OnClientRole : (KeptClient → List ℕ → KeptClient → List ℕ → Reply → Type 0)
     → Role → List ℕ → Role → List ℕ → Reply → Type 0
 OnClientRole Does (role.Client k) old (role.Client l) new r = Does k old l new r
 OnClientRole Does (role.Client k) old (role.Left bye) new r = ⊥
@@ -44,11 +44,12 @@ OnClientRole Does (role.Client k) old (role.Server s) new r = ⊥
 OnClientRole Does (role.Left bye) old now new r = Stays code.Gone (role.Left bye) old now new r
 OnClientRole Does (role.Server s) old now new r = Stays code.NoClient (role.Server s) old now new r
 
-abbrev pub OnClient : (Fields → List ℕ → Fields → List ℕ → Reply → Type 0) → Endpoint → Endpoint → Reply → Type 0
+abbrev pub OnClient : (KeptClient → List ℕ → KeptClient → List ℕ → Reply → Type 0) → Endpoint → Endpoint → Reply →
+    Type 0
 OnClient Does e f r = OnClientRole Does e.role e.outgoing f.role f.outgoing r
 
 -- what a call reports of a client
-abbrev pub OfClient : {R : Type 0} → (Code → R → Type 0) → (Fields → R → Type 0) → Role → R → Type 0
+abbrev pub OfClient : {R : Type 0} → (Code → R → Type 0) → (KeptClient → R → Type 0) → Role → R → Type 0
 OfClient Is Tells (role.Client k) r = Tells k r
 OfClient Is Tells (role.Left bye) r = Is code.Gone r
 OfClient Is Tells (role.Server s) r = Is code.NoClient r

@@ -184,7 +184,7 @@ fn change_taking(
     let Some(op) = change else {
         return Reply::of(Code::BadValue);
     };
-    let messages = client.take(op);
+    let messages = client.seize(op);
     said(alloc, outgoing, messages)
 }
 

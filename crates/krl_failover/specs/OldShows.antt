@@ -9,7 +9,7 @@ use Rattle.krl_messages.specs.declared.outcome.Outcome.{Outcome}
 use Rattle.krl_messages.specs.declared.to_client.ToClientBody.TheVariants as told
 use Rattle.krl_messages.specs.declared.to_client.PushBody.{PushBody}
 use Rattle.krl_messages.specs.Members.{In}
-use Rattle.krl_messages.specs.Outcomes.{is_applied}
+use Rattle.krl_messages.specs.Writes.{is_applied}
 use Rattle.krl_queue.specs.declared.waiter.Waiter.{Waiter}
 use Rattle.krl_machine.specs.Links.{Head, Link}
 use Rattle.krl_durable.specs.declared.record.Record.{Record}

@@ -2,8 +2,7 @@
 use Rattle.std.proofs.Common.{◌≡◌, ℕ, zero, suc, ◌+◌, ◌≤◌, Bool, true, false, Option, Some, None, [], ◌∷◌, ◌++◌, length, arith, refl, sym, ap, subst, nat_eq, if◌then◌else◌}
 use Rattle.std.specs.Prelude.{take, drop}
 use Rattle.std.proofs.lemmas.List.{append-nil}
-use Rattle.krl_modes.specs.Limits.{standard_room}
-use Rattle.krl_modes.specs.declared.limits.TheConstants.{STANDARD_REACH}
+use Rattle.krl_modes.specs.declared.limits.TheConstants.{STANDARD_REACH, STANDARD_ROOM}
 use Rattle.krl_steps.specs.declared.applied_write.AppliedWrite.{AppliedWrite}
 use Rattle.krl_durable.specs.declared.limits.Limits.{Limits}
 use Rattle.krl_durable.specs.Limits.{Fits, sized}
@@ -90,7 +89,7 @@ hosts_are_processes w (host.moved u x r m) =
 -- Another process overtakes it
 
 abbrev limits : Limits
-limits = record { room = standard_room; reach = STANDARD_REACH }
+limits = record { room = STANDARD_ROOM; reach = STANDARD_REACH }
 
 fits : Fits limits (disk_of w11.world)
 fits = record { room = opens.kept.room; reach = opens.kept.reach; entries = opens.kept.few }

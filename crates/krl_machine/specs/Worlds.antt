@@ -267,7 +267,7 @@ pub record WritesOnce (index : ℕ → Option Value) (w : World) : Type 0 where
 -- What is promised of restarts of the server
 
 -- the server would take the report now
-pub record MayTake (s : Shared) (l : Link) (r : Report) : Type 0 where
+pub record MaySeize (s : Shared) (l : Link) (r : Report) : Type 0 where
   pub sent : In r l.reports
   pub recovering : s.phase ≡ Recovering
   pub missing : l.missing ≡ true
@@ -277,7 +277,7 @@ pub record MayTake (s : Shared) (l : Link) (r : Report) : Type 0 where
 -- the row rebuilt from a report that the server would take agrees with the present rows of all others: no alarm
 abbrev pub NoAlarm : World → Type 0
 NoAlarm w = (c : ℕ) (r : Report) (ranges : ℕ → RangePart) (keys : ℕ → KeyPart) →
-    MayTake w.shared (w.links c) r → IsRebuilt w.shared r ranges keys →
+    MaySeize w.shared (w.links c) r → IsRebuilt w.shared r ranges keys →
     (d : ℕ) → d ≢ c → (q : ℕ) →
     RangesAgree (ranges q) ((w.links d).new_range q) × KeysAgree (keys q) ((w.links d).new_key q)
 
@@ -296,9 +296,9 @@ pub record Restarts (w : World) : Type 0 where
   pub release_epochs : (c : ℕ) (r : Release) → In r (w.links c).releases → r.head.epoch ≤ w.shared.epoch
   pub write_epochs : (c : ℕ) (m : Write) → In m (w.links c).writes → m.head.epoch ≤ w.shared.epoch
   -- a report that the server would take is at most the bound, and at least what that incarnation believes
-  pub reports : (c : ℕ) (r : Report) → MayTake w.shared (w.links c) r → (q : ℕ) →
+  pub reports : (c : ℕ) (r : Report) → MaySeize w.shared (w.links c) r → (q : ℕ) →
       RangeAtMost (r.range q) ((w.links c).top_range q) × KeyAtMost (r.key q) ((w.links c).top_key q)
-  pub covers : (c : ℕ) (r : Report) → MayTake w.shared (w.links c) r → r.inc ≡ (w.links c).inc → (q : ℕ) →
+  pub covers : (c : ℕ) (r : Report) → MaySeize w.shared (w.links c) r → r.inc ≡ (w.links c).inc → (q : ℕ) →
       RangeAtMost ((w.links c).range q) (r.range q) × KeyAtMost ((w.links c).key q) (r.key q)
   -- a row that was rebuilt is at most the bound, and at least what its client believes
   pub rebuilt : (c : ℕ) → w.shared.phase ≡ Recovering → (q : ℕ) →

@@ -3,7 +3,7 @@ use Rattle.std.proofs.Common.{◌≡◌, ◌≤◌, ℕ, Bool, true, ◌&&◌, L
 use Rattle.std.proofs.lemmas.Bool.{leb-true, le-leb, and_parts, and_from}
 use Rattle.krl_messages.specs.declared.holding.Holding.{Holding}
 use Rattle.krl_messages.specs.Ascending.{Ascend, ascend_from, are_holdings}
-use Rattle.krl_modes.specs.Limits.{max_holdings}
+use Rattle.krl_modes.specs.declared.limits.TheConstants.{MAX_HOLDINGS}
 use Rattle.krl_messages.specs.Places.{AreHoldings}
 
 up : (least : ℕ) (hs : List Holding) → ascend_from least hs ≡ true → Ascend hs
@@ -29,12 +29,12 @@ from_0 (h ∷ hs) = omega arith
 
 pub are_so : (hs : List Holding) → are_holdings hs ≡ true → AreHoldings hs
 are_so hs e =
-    let both = and_parts (nat_le 1 (length hs) && nat_le (length hs) max_holdings) (ascend_from 0 hs) e in
-    let lengths = and_parts (nat_le 1 (length hs)) (nat_le (length hs) max_holdings) both.0 in
-    record { some = leb-true 1 (length hs) lengths.0; few = leb-true (length hs) max_holdings lengths.1; ascend = up 0 hs both.1 }
+    let both = and_parts (nat_le 1 (length hs) && nat_le (length hs) MAX_HOLDINGS) (ascend_from 0 hs) e in
+    let lengths = and_parts (nat_le 1 (length hs)) (nat_le (length hs) MAX_HOLDINGS) both.0 in
+    record { some = leb-true 1 (length hs) lengths.0; few = leb-true (length hs) MAX_HOLDINGS lengths.1; ascend = up 0 hs both.1 }
 
 pub so_are : (hs : List Holding) → AreHoldings hs → are_holdings hs ≡ true
 so_are hs h =
-    and_from (nat_le 1 (length hs) && nat_le (length hs) max_holdings) (ascend_from 0 hs)
-    (and_from (nat_le 1 (length hs)) (nat_le (length hs) max_holdings) (le-leb 1 (length hs) h.some) (le-leb (length hs) max_holdings h.few))
+    and_from (nat_le 1 (length hs) && nat_le (length hs) MAX_HOLDINGS) (ascend_from 0 hs)
+    (and_from (nat_le 1 (length hs)) (nat_le (length hs) MAX_HOLDINGS) (le-leb 1 (length hs) h.some) (le-leb (length hs) MAX_HOLDINGS h.few))
     (down 0 hs (from_0 hs) h.ascend)

@@ -1,6 +1,6 @@
 -- Holdings in ascending order.
 use Rattle.std.specs.Prelude.{ℕ, ◌≤◌, nat_le, Bool, true, ◌&&◌, List, [], ◌∷◌, length}
-use Rattle.krl_modes.specs.Limits.{max_holdings}
+use Rattle.krl_modes.specs.declared.limits.TheConstants.{MAX_HOLDINGS}
 use Rattle.krl_messages.specs.declared.holding.Holding.{Holding}
 
 -- the span ends before the next holding's begins, or where it begins
@@ -20,4 +20,4 @@ ascend_from least (h ∷ hs) = nat_le least h.span.lo && ascend_from h.span.hi h
 
 -- whether these are some holdings in order, and not too many
 abbrev pub are_holdings : List Holding → Bool
-are_holdings hs = (nat_le 1 (length hs) && nat_le (length hs) max_holdings) && ascend_from 0 hs
+are_holdings hs = (nat_le 1 (length hs) && nat_le (length hs) MAX_HOLDINGS) && ascend_from 0 hs

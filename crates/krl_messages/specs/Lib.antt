@@ -1,10 +1,8 @@
-pub mod Outcomes
 pub mod Ascending
 pub mod Values
 pub mod Numbers
 pub mod Padded
 pub mod Holdings
-pub mod Several
 pub mod Places
 pub mod Gathered
 pub mod Writes

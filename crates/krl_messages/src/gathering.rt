@@ -1,7 +1,7 @@
 //! Holdings that are gathered one by one.
 ghost use Rattle.std.specs.Prelude.{◌≡◌, ◌<◌, ◌≤◌, [], ◌∷◌, ◌++◌, length, IfOk};
 ghost use Rattle.krl_messages.specs.Ascending.{Ascend};
-ghost use Rattle.krl_modes.specs.Limits.{max_holdings};
+ghost use Rattle.krl_modes.specs.declared.limits.TheConstants.{MAX_HOLDINGS};
 
 use crate::holding::Holding;
 use crate::holdings::Holdings;
@@ -66,7 +66,7 @@ impl Gathering {
     /// The list of what was gathered. It takes no memory.
     pub fn into_holdings(self) -> Holdings
         requires some { 1 ≤ length self.holdings }
-        requires few { length self.holdings ≤ max_holdings }
+        requires few { length self.holdings ≤ MAX_HOLDINGS }
         requires order { Ascend self.holdings }
         ensures { result ≡ self.holdings }
     {

@@ -1,9 +1,9 @@
 //! What a client holds of several slots.
 ghost use Rattle.std.specs.Prelude.{◌≡◌, ◌≤◌, ◌↔◌, length, IfOk, IsSome, IfSome};
 ghost use Rattle.krl_messages.specs.Ascending.{Ascend, ascend_from, are_holdings};
-ghost use Rattle.krl_modes.specs.Limits.{max_holdings};
+ghost use Rattle.krl_modes.specs.declared.limits.TheConstants.{MAX_HOLDINGS};
 ghost use Rattle.krl_messages.specs.Places.{AreHoldings};
-ghost use Rattle.krl_messages.specs.Several.{have_values};
+ghost use Rattle.krl_messages.specs.Holdings.{have_values};
 
 use crate::holding::Holding;
 use krl_modes::MAX_HOLDINGS;
@@ -98,7 +98,7 @@ impl Holdings {
     /// These holdings. It takes no memory.
     pub(crate) fn of(items: Vec<Holding>) -> Holdings
         requires some { 1 ≤ length items.items }
-        requires few { length items.items ≤ max_holdings }
+        requires few { length items.items ≤ MAX_HOLDINGS }
         requires order { Ascend items.items }
         ensures { result ≡ items.items }
     {
@@ -127,7 +127,7 @@ impl Holdings {
     /// The holdings, in order: 1 to 128.
     pub fn as_slice(&self) -> &[Holding]
         ensures holdings { result.now ≡ self.now }
-        ensures few { (1 ≤ length self.now) × (length self.now ≤ max_holdings) }
+        ensures few { (1 ≤ length self.now) × (length self.now ≤ MAX_HOLDINGS) }
         ensures ascend { Ascend self.now }
     {
         self.items.as_slice()

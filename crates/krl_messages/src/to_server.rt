@@ -71,9 +71,9 @@ pub enum RequestBody {
         number: u64,
         /// The change.
         op: WriteOp,
-        /// Whether it takes the lock that it needs, if that is free: then it is judged with that
-        /// lock, and otherwise with what the client holds. A delete takes none.
-        takes: bool,
+        /// Whether it seizes the lock that it needs, if that is free: then it is judged with that
+        /// lock, and otherwise with what the client holds. A delete seizes none.
+        seizes: bool,
     },
     /// Gives a lock back: on this span the client holds at most this mode.
     Release {

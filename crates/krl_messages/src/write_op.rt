@@ -1,6 +1,6 @@
 //! Writes.
 ghost use Rattle.std.specs.Prelude.{◌≡◌};
-ghost use Rattle.krl_messages.specs.Writes.{op_key, takes_lock};
+ghost use Rattle.krl_messages.specs.Writes.{op_key, can_seize};
 
 use crate::value::Value;
 
@@ -38,10 +38,10 @@ impl WriteOp {
         }
     }
 
-    /// Whether the write can take the lock that it needs, if that is free: an insert and a put need
-    /// one slot, a delete needs two and takes neither.
-    pub fn takes_lock(self) -> bool
-        ensures { result ≡ takes_lock self }
+    /// Whether the write can seize the lock that it needs, if that is free: an insert and a put
+    /// need one slot, a delete needs two and seizes neither.
+    pub fn can_seize(self) -> bool
+        ensures { result ≡ can_seize self }
     {
         match self {
             WriteOp::Insert { .. } | WriteOp::Put { .. } => true,

@@ -1,4 +1,4 @@
-pub mod Limits
+pub mod Constants
 pub mod Parts
 pub mod Modes
 pub mod Names

@@ -75,21 +75,25 @@ join a b = at_or_above (range_join (range_of a) (range_of b)) (key_join (key_of 
 abbrev pub meet : Mode → Mode → Mode
 meet a b = at_or_above (range_meet (range_of a) (range_of b)) (key_meet (key_of a) (key_of b))
 
--- the greatest mode that another client may hold next to this one
+-- the greatest part of a gap that another client may hold next to this one
+abbrev pub range_cap : RangePart → RangePart
+range_cap range.N = range.X
+range_cap range.S = range.S
+range_cap range.I = range.I
+range_cap range.X = range.N
+
+-- the greatest part of a key that another client may hold next to this one
+abbrev pub key_cap : KeyPart → KeyPart
+key_cap key.N = key.X
+key_cap key.S = key.U
+key_cap key.U = key.S
+key_cap key.X = key.N
+
+-- the greatest mode that another client may hold next to this one. Next to X that would be X of the gap and N of the
+-- key, which is no mode: RangeIN is the greatest one below
 abbrev pub cap : Mode → Mode
-cap mode.N = mode.RangeXX
-cap mode.S = mode.RangeXU
-cap mode.U = mode.RangeXS
 cap mode.X = mode.RangeIN
-cap mode.RangeSS = mode.RangeSU
-cap mode.RangeSU = mode.RangeSS
-cap mode.RangeIN = mode.RangeIX
-cap mode.RangeIS = mode.RangeIU
-cap mode.RangeIU = mode.RangeIS
-cap mode.RangeIX = mode.RangeIN
-cap mode.RangeXS = mode.U
-cap mode.RangeXU = mode.S
-cap mode.RangeXX = mode.N
+cap m = at_or_above (range_cap (range_of m)) (key_cap (key_of m))
 
 -- it asks only for an entry, so there has to be one: S, U or X
 abbrev pub needs_entry : Mode → Bool

@@ -6,7 +6,7 @@ pub const MAX_CLIENTS: usize = 64;
 /// One message carries at most this many holdings: the greatest reach of a grant.
 pub const MAX_HOLDINGS: usize = 128;
 
-/// The slots that one grant takes at most, by default.
+/// The slots that one grant reaches at most, by default.
 pub const STANDARD_REACH: usize = 8;
 
 /// A client has at most this many pins. Their ids lie below it.

@@ -3,11 +3,11 @@ use Rattle.krl_nodes.proofs.Names.{◌≡◌, [], None, refl, sym, ap, ◌∙◌
 use Rattle.krl_nodes.proofs.Names.{Mail, Pick, ServerActs, did_of}
 use Rattle.krl_steps.specs.declared.step.Step.TheVariants as step
 use Rattle.krl_world.specs.declared.node.ServerPlace.{ServerPlace as KeptNode}
-use Rattle.krl_world.specs.Fields.{Fields, meaning, node_of}
+use Rattle.krl_world.specs.Fields.{KeptWorld, meaning, node_of}
 use Rattle.krl_nodes.specs.declared.orders.ServerOrder.TheVariants as to_server
 
 -- a world with this server
-abbrev alone : KeptNode → Fields
+abbrev alone : KeptNode → KeptWorld
 alone n = record { opening = unused []; server = n; places = []; sent = []; writes = [] }
 
 module _ (p : Pick) (mail : Mail) where
@@ -29,8 +29,8 @@ module _ (p : Pick) (mail : Mail) where
   start_acts w v (Ok a) t = start_taken w v w.server a refl t
   start_acts w v (Err r) t = (t.1, record { post = refl; node = ap (λ (u : State). u.server) t.0 })
 
-  pub stops : (n next : KeptNode) (r : Result Answer Refused) → ((w : Fields) → w.server ≡ n → Steps (meaning w) step.CrashServer r (meaning (record w { server = next }))) → ServerActs p to_server.Crash mail (node_of n) mail (node_of next) (did_of r)
+  pub stops : (n next : KeptNode) (r : Result Answer Refused) → ((w : KeptWorld) → w.server ≡ n → Steps (meaning w) step.CrashServer r (meaning (record w { server = next }))) → ServerActs p to_server.Crash mail (node_of n) mail (node_of next) (did_of r)
   stops n next r h = crash_acts (meaning (alone n)) (meaning (record (alone n) { server = next })) r (h (alone n) refl)
 
-  pub begins : (n next : KeptNode) (r : Result Answer Refused) → ((w : Fields) → w.server ≡ n → Steps (meaning w) step.StartServer r (meaning (record w { server = next }))) → ServerActs p to_server.Start mail (node_of n) mail (node_of next) (did_of r)
+  pub begins : (n next : KeptNode) (r : Result Answer Refused) → ((w : KeptWorld) → w.server ≡ n → Steps (meaning w) step.StartServer r (meaning (record w { server = next }))) → ServerActs p to_server.Start mail (node_of n) mail (node_of next) (did_of r)
   begins n next r h = start_acts (meaning (alone n)) (meaning (record (alone n) { server = next })) r (h (alone n) refl)

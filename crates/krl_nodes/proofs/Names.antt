@@ -37,6 +37,6 @@ pub use Rattle.krl_world.specs.Fields.{node_of, client_there, place_of}
 pub use Rattle.krl_world.specs.PlaceSteps.{IsRefused, starting_refusal, Ticked, Does, CommandedAt, Started}
 pub use Rattle.krl_world.specs.States.{from_clients, unused, Down, ServerPlace, fresh, State, from_server, set_place, index_of, durable_of, Up, client_of, ClientPlace}
 unfoldable pub use Rattle.krl_world.specs.States.{opened}
-pub use Rattle.krl_world.specs.Steps.{applies, server_start, Takes, server_down, command_refusal, span, if_runs, crashed, of_client, started, CommandTakesMemory, CanOpen, named}
+pub use Rattle.krl_world.specs.Steps.{applies, server_start, Takes, server_down, command_refusal, span, if_runs, crashed, of_client, started, CommandNeedsMemory, CanOpen, named}
 unfoldable pub use Rattle.krl_world.specs.Steps.{Steps}
 pub use Rattle.krl_world.specs.declared.message.Message.{Message}

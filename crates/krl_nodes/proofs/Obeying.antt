@@ -1,6 +1,6 @@
 -- A command, a tick and a start, by what is sent.
 use Rattle.krl_nodes.proofs.Names.{◌≡◌, ℕ, suc, List, [], ◌∷◌, ◌++◌, Option, Some, None, inl, inr, ⊎_elim, refl, sym, ap, subst, ◌∙◌, Result, Ok, Err, OnOk, OnErr, IfErr, place_of, Value, ToServer}
-use Rattle.krl_nodes.proofs.Names.{ToClient, Answer, Message, Command, Refused, ClientPlace, from_clients, from_server, named, if_runs, command_refusal, CommandTakesMemory, IsRefused, CommandedAt, Started}
+use Rattle.krl_nodes.proofs.Names.{ToClient, Answer, Message, Command, Refused, ClientPlace, from_clients, from_server, named, if_runs, command_refusal, CommandNeedsMemory, IsRefused, CommandedAt, Started}
 use Rattle.krl_nodes.proofs.Names.{Ticked, starting_refusal, Mail, mail_of, with_said, with_sent, ClientActs, IsSame, HasTicked, did_of, done_if, Pick, Chair}
 use Rattle.core.specs.declared.alloc.AllocError.{AllocError}
 use Rattle.krl_world.specs.declared.node.ClientPlace.{ClientPlace as KeptClientPlace}
@@ -62,7 +62,7 @@ module _ (o : List (ℕ × Value)) (q : List ToServer) (b : List (List ToClient)
         go (Some k) (Err r) is h = (
           ⊎_elim
               (λ (e : named refused_by_client (command_refusal k what) ≡ Some r). inl (ap due is ∙ e))
-              (λ (t : (named refused_by_client (command_refusal k what) ≡ None) × (r ≡ refused.OutOfMemory) × CommandTakesMemory k what). inr (ap due is ∙ t.0, t.1, (k, is, t.2)))
+              (λ (t : (named refused_by_client (command_refusal k what) ≡ None) × (r ≡ refused.OutOfMemory) × CommandNeedsMemory k what). inr (ap due is ∙ t.0, t.1, (k, is, t.2)))
               h.2,
           is_same (h.0 ∙ sym is) h.1,
         )

@@ -13,14 +13,14 @@ use Rattle.krl_client.specs.Clients.{Client}
 use Rattle.krl_client.specs.Shown.{status_of}
 use Rattle.krl_client.specs.declared.scan_answer.ScanAnswer.{ScanAnswer}
 use Rattle.krl_client.specs.declared.scan_answer.ScanAnswer.TheVariants as scan_answer
-use Rattle.krl_client.specs.Commands.{Answers, scan_refusal}
+use Rattle.krl_client.specs.Commands.{ScanGives, scan_refusal}
 use Rattle.krl_world.specs.declared.node.ClientPlace.{ClientPlace as KeptClientPlace}
 use Rattle.krl_world.specs.declared.node.ServerPlace.{ServerPlace as KeptNode}
 use Rattle.krl_steps.specs.declared.refused.Refused.{Refused}
 use Rattle.krl_steps.specs.declared.refused.Refused.TheVariants as refused
 use Rattle.krl_steps.specs.declared.step.Command.TheVariants as command
 use Rattle.krl_world.specs.States.{ServerPlace, ClientPlace, State, durable_of, index_of, fresh}
-use Rattle.krl_world.specs.Steps.{span, named, CommandTakesMemory}
+use Rattle.krl_world.specs.Steps.{span, named, CommandNeedsMemory}
 use Rattle.krl_steps.specs.Refusals.{refused_by_client}
 use Rattle.krl_world.specs.PlaceSteps.{IsRefused}
 use Rattle.krl_world.specs.Fields.{node_of, place_of}
@@ -124,9 +124,9 @@ IsSameClient n n' = (n'.office ≡ n.office) × (n'.opening ≡ n.opening) × (n
 -- what a client that is there answers, from its own cache
 abbrev pub ScansAs : Option Client → ℕ → ℕ → Result ScanAnswer Refused → Type 0
 ScansAs None lo hi r = r ≡ Err refused.Down
-ScansAs (Some k) lo hi (Ok a) = (scan_refusal (span lo hi) ≡ None) × Answers k (span lo hi) a
+ScansAs (Some k) lo hi (Ok a) = (scan_refusal (span lo hi) ≡ None) × ScanGives k (span lo hi) a
 ScansAs (Some k) lo hi (Err e) =
-    IsRefused (named refused_by_client (scan_refusal (span lo hi))) (CommandTakesMemory k (command.Scan lo hi)) e
+    IsRefused (named refused_by_client (scan_refusal (span lo hi))) (CommandNeedsMemory k (command.Scan lo hi)) e
 
 -- the rows are those of the index
 abbrev pub RowsAre : List (ℕ × Value) → Result ScanAnswer Refused → Type 0

@@ -15,7 +15,7 @@ use Rattle.krl_steps.specs.declared.refused.Refused.{Refused}
 use Rattle.krl_steps.specs.declared.refused.Refused.TheVariants as refused
 use Rattle.krl_steps.specs.declared.step.Command.{Command}
 use Rattle.krl_world.specs.States.{ServerPlace, Up, Down, ClientPlace, from_clients}
-use Rattle.krl_world.specs.Steps.{of_client, if_runs, named, command_refusal, server_down, server_start, CommandTakesMemory}
+use Rattle.krl_world.specs.Steps.{of_client, if_runs, named, command_refusal, server_down, server_start, CommandNeedsMemory}
 use Rattle.krl_steps.specs.Refusals.{refused_by_client}
 use Rattle.krl_world.specs.PlaceSteps.{IsRefused, CommandedAt, starting_refusal}
 use Rattle.krl_nodes.specs.Mail.{Mail}
@@ -41,7 +41,7 @@ ServerReads (Down d) m next outs = (next ≡ Down d) × (outs ≡ [])
 -- so does a client
 abbrev pub ClientReads : Option Client → ToClient → Option Client → List ToServer → Type 0
 ClientReads None m next list = (next ≡ None) × (list ≡ [])
-ClientReads (Some k) m next list = (n : Client) × (next ≡ Some n) × Follows k (receiver.case_of k m) n list
+ClientReads (Some k) m next list = (n : Client) × (next ≡ Some n) × Follows k (receiver.client_case_of k m) n list
 
 -- the server reads the letter that is picked, and what it sends goes to the end of the letters to each client
 pub record ServerTakes (p : Pick) (mail : Mail) (d : ServerPlace) (mail' : Mail) (d' : ServerPlace) : Type 0 where
@@ -96,11 +96,11 @@ server_due (server_order.Nudge c) d = of_client c (server_down d)
 server_due server_order.Crash d = server_down d
 server_due server_order.Start d = server_start d
 
-abbrev pub ServerTakesMemory : ServerOrder → Mail → ServerPlace → Type 0
-ServerTakesMemory server_order.Letter mail d = 0 < length mail.to_server
-ServerTakesMemory (server_order.Nudge c) mail d = Unit {0}
-ServerTakesMemory server_order.Crash mail d = ⊥
-ServerTakesMemory server_order.Start mail d = Unit {0}
+abbrev pub ServerNeedsMemory : ServerOrder → Mail → ServerPlace → Type 0
+ServerNeedsMemory server_order.Letter mail d = 0 < length mail.to_server
+ServerNeedsMemory (server_order.Nudge c) mail d = Unit {0}
+ServerNeedsMemory server_order.Crash mail d = ⊥
+ServerNeedsMemory server_order.Start mail d = Unit {0}
 
 pub record Nudges (c : ℕ) (mail : Mail) (d : ServerPlace) (mail' : Mail) (d' : ServerPlace) : Type 0 where
   pub server : servers.Server
@@ -154,7 +154,7 @@ ServerActs p o mail d mail' d' (Ok (Did a)) =
 ServerActs p o mail d mail' d' (Ok Idle) = ServerIdles o mail × IsSame mail d mail' d'
 ServerActs p o mail d mail' d' (Ok Lost) = ServerLets p o mail d mail' d'
 ServerActs p o mail d mail' d' (Err r) =
-    IsRefused (server_due o d) (ServerTakesMemory o mail d) r × IsSame mail d mail' d'
+    IsRefused (server_due o d) (ServerNeedsMemory o mail d) r × IsSame mail d mail' d'
 
 -- A client
 
@@ -165,12 +165,12 @@ client_due client_order.Tick c x = if_runs x.client (λ k. None)
 client_due client_order.Start c x = starting_refusal c x
 client_due client_order.Crash c x = if_runs x.client (λ k. None)
 
-abbrev pub ClientTakesMemory : ClientOrder → ℕ → Mail → ClientPlace → Type 0
-ClientTakesMemory client_order.Letter c mail x = 0 < length (letters_to c mail)
-ClientTakesMemory (client_order.Command what) c mail x = (k : Client) × (x.client ≡ Some k) × CommandTakesMemory k what
-ClientTakesMemory client_order.Tick c mail x = Unit {0}
-ClientTakesMemory client_order.Start c mail x = Unit {0}
-ClientTakesMemory client_order.Crash c mail x = ⊥
+abbrev pub ClientNeedsMemory : ClientOrder → ℕ → Mail → ClientPlace → Type 0
+ClientNeedsMemory client_order.Letter c mail x = 0 < length (letters_to c mail)
+ClientNeedsMemory (client_order.Command what) c mail x = (k : Client) × (x.client ≡ Some k) × CommandNeedsMemory k what
+ClientNeedsMemory client_order.Tick c mail x = Unit {0}
+ClientNeedsMemory client_order.Start c mail x = Unit {0}
+ClientNeedsMemory client_order.Crash c mail x = ⊥
 
 -- a command that is obeyed, and what the client sends with it
 pub record Obeys (what : Command) (mail : Mail) (x : ClientPlace) (mail' : Mail)
@@ -232,7 +232,7 @@ ClientActs p o c mail x mail' x' (Ok (Did a)) = (client_due o c x ≡ None) × C
 ClientActs p o c mail x mail' x' (Ok Idle) = ClientIdles o c mail × IsSame mail x mail' x'
 ClientActs p o c mail x mail' x' (Ok Lost) = ClientLets p o c mail x mail' x'
 ClientActs p o c mail x mail' x' (Err r) =
-    IsRefused (client_due o c x) (ClientTakesMemory o c mail x) r × IsSame mail x mail' x'
+    IsRefused (client_due o c x) (ClientNeedsMemory o c mail x) r × IsSame mail x mail' x'
 
 -- By a policy
 

@@ -1,9 +1,9 @@
 -- A push that a server has made is accepted within three good rounds: its client's tick brings it out again.
 use Rattle.krl_progress.proofs.Names.{◌≡◌, ℕ, suc, ◌≤◌, ◌<◌, ◌∙◌, ◌⊎◌, inl, inr, ⊎_elim, Bool, true, false, ◌&&◌, ◌||◌, Option, Some, None, is_some, List, [], ◌∷◌, ◌++◌, length, slice_get, refl, sym, ap, subst, arith, nat_eq, nat_lt, nat_le, if◌then◌else◌, eqb-true, eqb-false, ltb-true, ltb-false, eq-eqb, ne_eqb, le-ltb, END}
-use Rattle.krl_progress.proofs.Names.{ToServer, ToClient, In, Client, Message, Pieces, Record, Server, is_recovering, Step, Answer, Up, Down, State, client_of, message_at, Delivers, ServerReads, ClientReads, Runs, Takes, IsReachable, Case, Ignored, Repeats, case_of, effect, from_clients, from_server, record_of, kind_of}
+use Rattle.krl_progress.proofs.Names.{ToServer, ToClient, In, Client, Message, Pieces, Record, Server, is_recovering, Step, Answer, Up, Down, State, client_of, message_at, Delivers, ServerReads, ClientReads, Runs, Takes, IsReachable, Case, Ignored, Repeats, case_of, effect, from_clients, from_server, record_of, following}
 use Rattle.std.proofs.Common.{le-leb}
 use Rattle.krl_modes.proofs.Basics.{not_both}
-use Rattle.krl_modes.specs.Limits.{max_clients}
+use Rattle.krl_modes.specs.Constants.{max_clients}
 use Rattle.krl_messages.proofs.Members.{in_right, in_left}
 use Rattle.krl_messages.specs.declared.write_op.WriteOp.{WriteOp}
 use Rattle.krl_messages.specs.declared.to_server.ToServerBody.TheVariants as said
@@ -234,7 +234,7 @@ module _ (c inc epoch seen0 : ℕ) (some : 1 ≤ epoch) (room : seen0 < END) (n 
 
   writes_again : (k : Client) (o : Option WriteOp) → is_some o ≡ true → (b : RequestBody) × In (requests k b) (write_again k o)
   writes_again k None w = absurd (cc)
-  writes_again k (Some op) w = (asked.Write k.writes op k.takes, inl refl)
+  writes_again k (Some op) w = (asked.Write k.writes op k.seizes, inl refl)
 
   asks_again : (k : Client) (p : PushBody) → IsAwaited k p → (b : RequestBody) × In (requests k b) (lock_again k k.asked ++ write_again k (outstanding k.written))
   asks_again k (push.Grant req hs) a = let x = locks_again k k.asked a.0 in (x.0, in_left (lock_again k k.asked) (write_again k (outstanding k.written)) (requests k x.0) x.1)
@@ -322,7 +322,7 @@ module _ (c inc epoch seen0 : ℕ) (some : 1 ≤ epoch) (room : seen0 < END) (n 
           case = ap (case_of s) (sym same) ∙ x
 
           outs : d.1 ≡ push_to s c (s.sessions c).last_push p ∷ []
-          outs = ends_idle (effect s m (case_of s m)) (kind_of (case_of s m)) d.0 d.1 (ap kind_of case) d.2 ∙ ap (λ y. (effect s m y).outs) case
+          outs = ends_idle (effect s m (case_of s m)) (following (case_of s m)) d.0 d.1 (ap following case) d.2 ∙ ap (λ y. (effect s m y).outs) case
 
           is_push : push_to s c (s.sessions c).last_push p ≡ record { client = c; incarnation = inc; body = told.Push epoch (suc seen0) p }
           is_push j = record { client = c; incarnation = mine u h.live j; body = told.Push (h.live.at.now j) ((l ∙ ap (λ y. suc y) (w k h.live.at.runs)) j) p }
@@ -335,7 +335,7 @@ module _ (c inc epoch seen0 : ℕ) (some : 1 ≤ epoch) (room : seen0 < END) (n 
 
   -- The client accepts it
 
-  accepts_next : (k : Client) (b : PushBody) → k.epoch ≡ epoch → k.seen ≡ seen0 → fits b ≡ true → receiver.case_of k (record { client = k.number; incarnation = k.incarnation; body = told.Push epoch (suc seen0) b }) ≡ receiver.Accepts b
+  accepts_next : (k : Client) (b : PushBody) → k.epoch ≡ epoch → k.seen ≡ seen0 → fits b ≡ true → receiver.client_case_of k (record { client = k.number; incarnation = k.incarnation; body = told.Push epoch (suc seen0) b }) ≡ receiver.Accepts b
   accepts_next k b e f g = if_case (λ x. x ≡ receiver.Accepts b) (nat_eq k.number k.number && nat_eq k.incarnation k.incarnation) _ receiver.Ignores
       (λ own. if_case (λ x. x ≡ receiver.Accepts b) (nat_eq epoch k.epoch && fits b) _ receiver.Ignores
       (λ now. if_case (λ x. x ≡ receiver.Accepts b) (nat_eq (suc seen0) (suc k.seen) && nat_le (suc seen0) END) (receiver.Accepts b) _ (λ next. refl)
@@ -353,8 +353,8 @@ module _ (c inc epoch seen0 : ℕ) (some : 1 ≤ epoch) (room : seen0 < END) (n 
       let d : ClientReads u (Some k) (record { client = c; incarnation = inc; body = told.Push epoch (suc seen0) b }) v = subst (λ o. ClientReads u o (record { client = c; incarnation = inc; body = told.Push epoch (suc seen0) b }) v) h.live.at.runs (subst (λ o. Delivers u o v) sent t.1.1) in
       let x = w k h.live.at.runs in
       let own : record { client = c; incarnation = inc; body = told.Push epoch (suc seen0) b } ≡ record { client = k.number; incarnation = k.incarnation; body = told.Push epoch (suc seen0) b } = λ z. (let y : ToClient = record { client = sym st.number z; incarnation = sym h.live.at.same z; body = told.Push epoch (suc seen0) b } in y) in
-      let case = ap (receiver.case_of k) own ∙ accepts_next k b (now_in u h.live k h.live.at.runs) x fit in
-      let new : client_of v c ≡ Some (accepted k b) = ap (λ y. client_of y c) d.2 ∙ ap (λ (y : Bool). (if y then (record { last_incarnation = (u.places c).last_incarnation; client = Some (receiver.after k (receiver.case_of k (record { client = c; incarnation = inc; body = told.Push epoch (suc seen0) b }))) }) else u.places c).client) (eq-eqb c c refl) ∙ ap (λ y. Some (receiver.after k y)) case in
+      let case = ap (receiver.client_case_of k) own ∙ accepts_next k b (now_in u h.live k h.live.at.runs) x fit in
+      let new : client_of v c ≡ Some (accepted k b) = ap (λ y. client_of y c) d.2 ∙ ap (λ (y : Bool). (if y then (record { last_incarnation = (u.places c).last_incarnation; client = Some (receiver.after k (receiver.client_case_of k (record { client = c; incarnation = inc; body = told.Push epoch (suc seen0) b }))) }) else u.places c).client) (eq-eqb c c refl) ∙ ap (λ y. Some (receiver.after k y)) case in
       let same = some_is (accepted k b) l (sym new ∙ j) in
       let a = (accepted_seen k b).0 in
       subst (λ (y : Client). seen0 < y.seen) same (omega (arith, a, x)))

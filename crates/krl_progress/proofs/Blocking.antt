@@ -1,6 +1,6 @@
 -- What becomes of a block: the waiter's tick calls the blocker back, which gives way.
 use Rattle.krl_progress.proofs.Names.{◌≡◌, ◌≢◌, ℕ, zero, suc, ◌≤◌, ◌<◌, ◌+◌, ◌∙◌, inl, inr, Bool, true, false, not, ◌&&◌, ◌||◌, None, List, [], ◌∷◌, ◌++◌, refl, sym, ap, subst, arith, nat_eq, if◌then◌else◌, eq_cases, eq-eqb, eqb-true}
-use Rattle.krl_progress.proofs.Names.{ToServer, ToClient, In, Server, is_recovering, State, ServerStep, Lowers, Waits, Acknowledges, case_of, effect, acknowledged, kind_of, Kind, Acts, Quiet, Idle, Ends, at_once, recovers, serves, Done, calls_of, Answered, stops, goes_on, answer_first, callbacks, callbacks_from, callbacks_at, callbacks_among, is_compatible, callback_to, slots, max_clients, span_of, cap}
+use Rattle.krl_progress.proofs.Names.{ToServer, ToClient, In, Server, is_recovering, State, ServerStep, Lowers, Waits, Acknowledges, case_of, effect, acknowledged, following, Following, Calls, Answers, Nothing, Ends, at_once, recovers, serves, Done, callbacks_after, AnswersWaiters, stops, goes_on, answer_first, callbacks, callbacks_from, callbacks_at, callbacks_among, is_compatible, callback_to, slots, max_clients, span_of, cap}
 use Rattle.krl_modes.proofs.Basics.{not_both}
 use Rattle.krl_modes.specs.declared.mode.Mode.{Mode}
 use Rattle.krl_modes.specs.Modes.{at_most, compatible, meet}
@@ -12,7 +12,7 @@ use Rattle.krl_table.specs.Calls.{wanted, with_mode}
 use Rattle.krl_table.specs.Replies.{asks_absent}
 use Rattle.krl_server.specs.declared.session.Session.{Session}
 use Rattle.krl_server.specs.Effects.{lowers}
-use Rattle.krl_server.specs.Cases.{case_of_lock, is_reach}
+use Rattle.krl_server.specs.Cases.{case_of_lock, has_points}
 use Rattle.krl_server.proofs.Tests.{if_both, if_case}
 use Rattle.krl_server.proofs.Turns.{turn_is}
 use Rattle.krl_server.proofs.Invariant.Kept.{server_keeps}
@@ -48,18 +48,18 @@ blocker_called s n u us c at q possible near blocks =
 
 -- A step that acts calls back
 
-pub acts_calls : (done : Done) (kind : Kind) (t : Server) (outs : List ToClient) (x : ToClient) → kind ≡ Acts → is_recovering t.missing ≡ false → Ends done kind t outs → In x (callbacks t) → In x outs
-acts_calls done kind t outs x e up (at_once i) at = absurd (let bad : Acts ≡ Idle = sym e ∙ i in cc)
+pub acts_calls : (done : Done) (kind : Following) (t : Server) (outs : List ToClient) (x : ToClient) → kind ≡ Calls → is_recovering t.missing ≡ false → Ends done kind t outs → In x (callbacks t) → In x outs
+acts_calls done kind t outs x e up (at_once i) at = absurd (let bad : Calls ≡ Nothing = sym e ∙ i in cc)
 acts_calls done kind t outs x e up (recovers g) at = absurd (not_both (is_recovering done.server.missing) g up)
-acts_calls done kind t outs x e up (serves y answers ne g a) at = in_right done.outs (answers ++ calls_of kind y) x (in_right answers (calls_of kind y) x (subst (λ k. In x (calls_of k y)) (sym e) at))
+acts_calls done kind t outs x e up (serves y answers ne g a) at = in_right done.outs (answers ++ callbacks_after kind y) x (in_right answers (callbacks_after kind y) x (subst (λ k. In x (callbacks_after k y)) (sym e) at))
 
-pub lock_acts : (s : Server) (c req point hi : ℕ) (g : Mode) → kind_of (case_of_lock s c req point hi g) ≡ Acts
-lock_acts s c req point hi g = if_both (λ x. kind_of x ≡ Acts) (nat_eq req (suc (s.sessions c).last_request) && (not (waits s.durable.index s.rows c) && is_reach point hi)) (Waits req point hi g) Acknowledges refl refl
+pub lock_acts : (s : Server) (c req point hi : ℕ) (g : Mode) → following (case_of_lock s c req point hi g) ≡ Calls
+lock_acts s c req point hi g = if_both (λ x. following x ≡ Calls) (nat_eq req (suc (s.sessions c).last_request) && (not (waits s.durable.index s.rows c) && has_points point hi)) (Waits req point hi g) Acknowledges refl refl
 
 -- When the blocker has given way
 
 -- while the waiter has had no answer, answers to others leave its row as it is
-pub row_stays : (s t : Server) (outs : List ToClient) (n : ℕ) (u : Waiter) (us : List Waiter) → Answered s t outs → (s.rows n).queue ≡ u ∷ us → (t.sessions u.client).last_push ≡ (s.sessions u.client).last_push → t.rows n ≡ s.rows n
+pub row_stays : (s t : Server) (outs : List ToClient) (n : ℕ) (u : Waiter) (us : List Waiter) → AnswersWaiters s t outs → (s.rows n).queue ≡ u ∷ us → (t.sessions u.client).last_push ≡ (s.sessions u.client).last_push → t.rows n ≡ s.rows n
 row_stays s t outs n u us (stops x e) q same = refl
 row_stays s t outs n u us (goes_on x y turn later e rest) q same = eq_cases n turn.slot here (there (row_stays (answer_first x turn).server y later n u us rest))
   where
@@ -103,7 +103,7 @@ module _ (b : Block) (want : Mode) (z v : State) (h : IsBlocked b z) (g : IsBloc
       ∙ ap (λ x. if x then lowered_row else h.server.rows b.slot) (within_self b.span)
 
   -- whatever else is answered then, the blocker is compatible
-  lowered_off : (y : Server) (answers : List ToClient) → y ≡ g.server → Answered mid y answers → ⊥
+  lowered_off : (y : Server) (answers : List ToClient) → y ≡ g.server → AnswersWaiters mid y answers → ⊥
   lowered_off y answers e a =
       let last : (y.sessions b.waiter.client).last_push ≡ (mid.sessions b.waiter.client).last_push = ap (λ (x : Server). (x.sessions b.waiter.client).last_push) e ∙ g.waiting.last ∙ sym h.waiting.last ∙ sym session_last in
       let same = row_stays mid y answers b.slot b.waiter h.behind a (ap (λ r. r.queue) row_is ∙ h.first) last ∙ row_is in
@@ -117,9 +117,9 @@ module _ (b : Block) (want : Mode) (z v : State) (h : IsBlocked b z) (g : IsBloc
       session_last = if_case (λ (x : Session). x.last_push ≡ (h.server.sessions b.waiter.client).last_push) (nat_eq b.waiter.client b.blocker) (record (h.server.sessions b.blocker) { unacked = None }) (h.server.sessions b.waiter.client) (λ e. ap (λ c. (h.server.sessions c).last_push) (sym (eqb-true b.waiter.client b.blocker e))) (λ e. refl)
 
   pub ends_off : (m : ToServer) (outs : List ToClient) → m.client ≡ b.blocker → case_of h.server m ≡ Lowers b.span keep → ServerStep h.server m g.server outs → ⊥
-  ends_off m outs own e step = by_end (effect h.server m (case_of h.server m)) (kind_of (case_of h.server m)) g.server outs (ap kind_of e) (ap (λ k. (effect h.server m k).server) e ∙ ap (λ c. lowers (acknowledged h.server c) c b.span keep) own) refl step
+  ends_off m outs own e step = by_end (effect h.server m (case_of h.server m)) (following (case_of h.server m)) g.server outs (ap following e) (ap (λ k. (effect h.server m k).server) e ∙ ap (λ c. lowers (acknowledged h.server c) c b.span keep) own) refl step
     where
-      by_end : (done : Done) (kind : Kind) (t : Server) (outs : List ToClient) → kind ≡ Quiet → done.server ≡ mid → t ≡ g.server → Ends done kind t outs → ⊥
-      by_end done kind t outs q is f (at_once i) = let bad : Quiet ≡ Idle = sym q ∙ i in cc
+      by_end : (done : Done) (kind : Following) (t : Server) (outs : List ToClient) → kind ≡ Answers → done.server ≡ mid → t ≡ g.server → Ends done kind t outs → ⊥
+      by_end done kind t outs q is f (at_once i) = let bad : Answers ≡ Nothing = sym q ∙ i in cc
       by_end done kind t outs q is f (recovers x) = not_both (is_recovering done.server.missing) x (ap (λ (y : Server). is_recovering y.missing) f ∙ g.serves)
-      by_end done kind t outs q is f (serves y answers ne up a) = lowered_off y answers f (subst (λ x. Answered x y answers) is a)
+      by_end done kind t outs q is f (serves y answers ne up a) = lowered_off y answers f (subst (λ x. AnswersWaiters x y answers) is a)

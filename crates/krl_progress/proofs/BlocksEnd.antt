@@ -1,6 +1,6 @@
 -- No block lasts four good rounds: a tick, the callback that it brings out, the Release, and its hearing.
 use Rattle.krl_progress.proofs.Names.{◌≡◌, ℕ, ◌≤◌, ◌<◌, ◌∙◌, inl, true, false, Some, is_some, List, length, refl, sym, ap, subst, arith, ltb-true}
-use Rattle.krl_progress.proofs.Names.{ToServer, ToClient, In, Client, Message, Acts, Server, is_recovering, Step, Answer, Up, State, message_at, Delivers, ServerReads, ClientReads, Runs, Takes, ServerStep, case_of, effect, from_clients, from_server, kind_of, callbacks, callback_to, max_clients, span_of, cap}
+use Rattle.krl_progress.proofs.Names.{ToServer, ToClient, In, Client, Message, Calls, Server, is_recovering, Step, Answer, Up, State, message_at, Delivers, ServerReads, ClientReads, Runs, Takes, ServerStep, case_of, effect, from_clients, from_server, following, callbacks, callback_to, max_clients, span_of, cap}
 use Rattle.krl_modes.specs.declared.mode.Mode.{Mode}
 use Rattle.krl_modes.specs.Modes.{at_most}
 use Rattle.krl_modes.proofs.ModeLaws.{mode_order}
@@ -89,8 +89,8 @@ module _ (b : Block) (waiter_inc blocker_inc epoch : ℕ) (some : 1 ≤ epoch) (
       same : d.0 ≡ x
       same = same_up d.0 x (sym (ap (λ (y : State). y.server) d.3) ∙ after.blocked.up)
 
-      acts : kind_of (case_of s m) ≡ Acts
-      acts = let r = heard_now epoch some n u s b.waiter.client waiter_inc b.waiter_seen h.waiter_at h.blocked.up h.blocked.waiting (asked.Lock req point hi g) h.blocked.serves in ap kind_of r.1 ∙ lock_acts s b.waiter.client req point hi g
+      acts : following (case_of s m) ≡ Calls
+      acts = let r = heard_now epoch some n u s b.waiter.client waiter_inc b.waiter_seen h.waiter_at h.blocked.up h.blocked.waiting (asked.Lock req point hi g) h.blocked.serves in ap following r.1 ∙ lock_acts s b.waiter.client req point hi g
 
       below : b.blocker < max_clients
       below = ltb-true b.blocker max_clients (near b.blocker blocker_inc epoch n v after.blocker_at)
@@ -102,10 +102,10 @@ module _ (b : Block) (waiter_inc blocker_inc epoch : ℕ) (some : 1 ≤ epoch) (
       is_called j = record { client = b.blocker; incarnation = own_inc epoch some n v x b.blocker blocker_inc b.blocker_seen after.blocker_at after.blocked.up after.blocked.blocking j; body = told.Callback ((ap (λ (y : Server). y.durable.epoch) (same_server epoch some n v x b.blocker blocker_inc b.blocker_seen after.blocker_at after.blocked.up after.blocked.blocking) ∙ after.blocker_at.now) j) (after.blocked.span j) (cap want) }
 
       at : In (called want) d.1
-      at = acts_calls (effect s m (case_of s m)) (kind_of (case_of s m)) d.0 d.1 (called want) acts (ap (λ (y : Server). is_recovering y.missing) same ∙ after.blocked.serves) d.2 (subst (λ y. In (called want) (callbacks y)) (sym same) (subst (λ y. In y (callbacks x)) is_called in_callbacks))
+      at = acts_calls (effect s m (case_of s m)) (following (case_of s m)) d.0 d.1 (called want) acts (ap (λ (y : Server). is_recovering y.missing) same ∙ after.blocked.serves) d.2 (subst (λ y. In (called want) (callbacks y)) (sym same) (subst (λ y. In y (callbacks x)) is_called in_callbacks))
 
   hit_callback : (want : Mode) (i : ℕ) (u v : State) (answer : Answer) → Along u → message_at u.sent i ≡ Some (message.ToClient (called want)) → Takes u (step.Deliver i) answer v → Sent n (message.ToServer (release want)) v
-  hit_callback want i u v answer h sent t = sent_now n u v (message.ToServer (release want)) (from_clients (receiver.sends d.0 k (receiver.case_of k (called want)))) h.blocker_at.long (ap (λ (y : State). y.sent) d.2) (to_clients (release want) _ at)
+  hit_callback want i u v answer h sent t = sent_now n u v (message.ToServer (release want)) (from_clients (receiver.sends d.0 k (receiver.client_case_of k (called want)))) h.blocker_at.long (ap (λ (y : State). y.sent) d.2) (to_clients (release want) _ at)
     where
       w : HasSeen u h.blocked.server b.blocker b.blocker_seen
       w = h.blocked.blocking
@@ -119,10 +119,10 @@ module _ (b : Block) (waiter_inc blocker_inc epoch : ℕ) (some : 1 ≤ epoch) (
       own : called want ≡ record { client = k.number; incarnation = k.incarnation; body = told.Callback epoch b.span (cap want) }
       own j = record { client = sym (st epoch some n u h.blocked.server b.blocker blocker_inc b.blocker_seen h.blocker_at h.blocked.up w).number j; incarnation = sym (same_inc epoch some n u h.blocked.server b.blocker blocker_inc b.blocker_seen h.blocker_at h.blocked.up w) j; body = told.Callback epoch b.span (cap want) }
 
-      case : receiver.case_of k (called want) ≡ receiver.Lowers b.span (cap want)
-      case = ap (receiver.case_of k) own ∙ lowers_there k epoch b.span (cap want) (same_epoch epoch some n u h.blocked.server b.blocker blocker_inc b.blocker_seen h.blocker_at h.blocked.up w) h.blocked.free h.blocked.unpinned
+      case : receiver.client_case_of k (called want) ≡ receiver.Lowers b.span (cap want)
+      case = ap (receiver.client_case_of k) own ∙ lowers_there k epoch b.span (cap want) (same_epoch epoch some n u h.blocked.server b.blocker blocker_inc b.blocker_seen h.blocker_at h.blocked.up w) h.blocked.free h.blocked.unpinned
 
-      at : In (release want) (receiver.sends d.0 k (receiver.case_of k (called want)))
+      at : In (release want) (receiver.sends d.0 k (receiver.client_case_of k (called want)))
       at = subst (In (release want)) (sym (sends_of d.0 k b.span (cap want) _ case)) (inl (sym (own_request epoch some n u h.blocked.server b.blocker blocker_inc b.blocker_seen h.blocker_at h.blocked.up w (asked.Release b.span (cap want)))))
 
   hit_release : (want : Mode) (i : ℕ) (u v : State) (answer : Answer) → Along u → Along v → message_at u.sent i ≡ Some (message.ToServer (release want)) → WantsAtMost want v → Takes u (step.Deliver i) answer v → ⊥

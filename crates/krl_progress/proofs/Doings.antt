@@ -3,11 +3,11 @@ use Rattle.krl_progress.proofs.Names.{◌≡◌, ℕ, Bool, suc, ◌≤◌, ◌<
 use Rattle.krl_progress.proofs.Names.{ToServer, ToClient, Client, Message, AppliedWrite, Step, Command, Answer, ServerPlace, Up, Down, State, Server, Durable, client_of, with_client, seated, served, message_at, ServerReads, ClientReads, ServerStep, Delivers, Obeys, nudged, started, crashed, Takes, refused_by_client, Pieces, start, nudge, span, applies, case_of, command_refusal}
 use Rattle.krl_client.specs.Clients.{begun, is_waiting, outstanding, LockRequest, NotAsked, Granted, Absent, Dropped, Waiting, has_joined, LastWrite, Unwritten, Outstanding, Judged}
 use Rattle.krl_messages.specs.declared.outcome.Outcome.{Outcome}
-use Rattle.krl_client.specs.Commands.{says_lock, locked, says_write, issued, wrote, took, says_release, says_bye, lowered, pinned, unpinned, lock_refusal}
+use Rattle.krl_client.specs.Commands.{says_lock, locked, says_write, issued, wrote, seized, says_release, says_bye, belief_lowered, pinned, unpinned, lock_refusal}
 use Rattle.krl_client.specs.declared.refused.CommandRefused.TheVariants as refused
 use Rattle.krl_client.specs.Ticks.{tick, says_hello, lock_again, write_again}
 use Rattle.krl_client.specs.Messages as receiver
-use Rattle.krl_client.specs.Messages.{Case, Ignores, AcksAgain, Adopts, Accepts, Lowers, accepted, joined, says_ack, says_report}
+use Rattle.krl_client.specs.Messages.{ClientCase, Ignores, AcksAgain, Adopts, Accepts, Lowers, accepted, joined, says_ack, says_report}
 use Rattle.krl_messages.specs.declared.write_op.WriteOp.{WriteOp}
 use Rattle.krl_messages.specs.declared.to_server.ToServerBody.{ToServerBody}
 use Rattle.krl_messages.specs.declared.to_server.ToServerBody.TheVariants as said
@@ -23,7 +23,7 @@ use Rattle.krl_steps.specs.declared.step.Command.TheVariants as command
 use Rattle.krl_world.specs.declared.message.Message.TheVariants as message
 use Rattle.krl_world.proofs.Refinement.Taken.{at_in, client_ok, not_named, runs_ok}
 use Rattle.krl_server.proofs.Tests.{if_case, if_both}
-use Rattle.krl_server.specs.Cases.{is_reach}
+use Rattle.krl_server.specs.Cases.{has_points}
 use Rattle.krl_modes.specs.declared.point.TheConstants.{TOP}
 use Rattle.std.proofs.lemmas.Bool.{not-false}
 use Rattle.krl_progress.proofs.Moves.{passed, was_down, Follows, reads_follow, write_free, take_free}
@@ -31,7 +31,7 @@ use Rattle.krl_progress.proofs.Moves.{passed, was_down, Follows, reads_follow, w
 -- the number of the lock request that is sent, or 0
 abbrev pub request_of : RequestBody → ℕ
 request_of (asked.Lock req point hi g) = req
-request_of (asked.Write number op takes) = 0
+request_of (asked.Write number op seizes) = 0
 request_of (asked.Release s keep) = 0
 request_of asked.Ack = 0
 
@@ -58,7 +58,7 @@ both_ask number n xs ys h g x at = ⊎_elim (λ (a : In x xs). h x a) (λ (a : I
 -- what becomes of a client that runs
 pub data Goes (u : State) (d : ℕ) (k : Client) : Client → List ToServer → Type 0 where
   same : (l : Client) (ms : List ToServer) → l.incarnation ≡ k.incarnation → l.epoch ≡ k.epoch → l.seen ≡ k.seen → l.req ≡ k.req → l.asked ≡ k.asked → AsksAtMost k.number k.req ms → Goes u d k l ms
-  locks : (point hi : ℕ) (g : Mode) → is_waiting k.asked ≡ false → is_reach point hi ≡ true → Goes u d k (locked k point hi g) (says_lock (locked k point hi g) point hi g ∷ [])
+  locks : (point hi : ℕ) (g : Mode) → is_waiting k.asked ≡ false → has_points point hi ≡ true → Goes u d k (locked k point hi g) (says_lock (locked k point hi g) point hi g ∷ [])
   adopts : (e : ℕ) (ms : List ToServer) (m : ToClient) → In (message.ToClient m) u.sent → m.client ≡ d → m.incarnation ≡ k.incarnation → m.body ≡ told.Epoch e → k.epoch < e → AsksAtMost k.number 0 ms → Goes u d k (joined k e) ms
   accepts : (b : PushBody) (ms : List ToServer) (m : ToClient) → In (message.ToClient m) u.sent → m.client ≡ d → m.incarnation ≡ k.incarnation → m.body ≡ told.Push k.epoch (suc k.seen) b → AsksAtMost k.number 0 ms → Goes u d k (accepted k b) ms
 
@@ -67,7 +67,7 @@ pub data Goes (u : State) (d : ℕ) (k : Client) : Client → List ToServer → 
 -- the number of the write that is sent
 abbrev pub write_of : RequestBody → Option ℕ
 write_of (asked.Lock req point hi g) = None
-write_of (asked.Write number op takes) = Some number
+write_of (asked.Write number op seizes) = Some number
 write_of (asked.Release s keep) = None
 write_of asked.Ack = None
 
@@ -128,10 +128,10 @@ accepted_same k (push.Grant req hs) = (refl, refl, refl, refl)
 accepted_same k (push.Absent req point) = (refl, refl, refl, refl)
 accepted_same k (push.Answer number o h) = (refl, refl, refl, refl)
 
-abbrev ReadsBy : State → ℕ → Pieces → Client → Case → Type 0
+abbrev ReadsBy : State → ℕ → Pieces → Client → ClientCase → Type 0
 ReadsBy u d ps k x = Goes u d k (receiver.after k x) (receiver.sends ps k x)
 
-pub client_goes : (u : State) (ps : Pieces) (k : Client) (m : ToClient) → In (message.ToClient m) u.sent → ReadsBy u m.client ps k (receiver.case_of k m)
+pub client_goes : (u : State) (ps : Pieces) (k : Client) (m : ToClient) → In (message.ToClient m) u.sent → ReadsBy u m.client ps k (receiver.client_case_of k m)
 client_goes u ps k m at = if_case (ReadsBy u m.client ps k) (nat_eq m.client k.number && nat_eq m.incarnation k.incarnation) _ Ignores (λ e. of_body (eqb-true m.incarnation k.incarnation (and_parts (nat_eq m.client k.number) (nat_eq m.incarnation k.incarnation) e).1) m.body refl) (λ e. quiet)
   where
     quiet : ReadsBy u m.client ps k Ignores
@@ -143,7 +143,7 @@ client_goes u ps k m at = if_case (ReadsBy u m.client ps k) (nat_eq m.client k.n
     push_number : (e n : ℕ) (b : PushBody) → m.body ≡ told.Push e n b → e ≡ k.epoch → n ≡ suc k.seen → m.body ≡ told.Push k.epoch (suc k.seen) b
     push_number e n b is f g = is ∙ (λ j. told.Push (f j) (g j) b)
 
-    of_body : m.incarnation ≡ k.incarnation → (b : ToClientBody) → m.body ≡ b → ReadsBy u m.client ps k (receiver.case_of_body k b)
+    of_body : m.incarnation ≡ k.incarnation → (b : ToClientBody) → m.body ≡ b → ReadsBy u m.client ps k (receiver.client_case_of_body k b)
     of_body inc (told.Epoch e) is = if_case (ReadsBy u m.client ps k) (nat_lt k.epoch e) (Adopts e) Ignores
         (λ lt. adopts e _ m at refl inc is (ltb-true k.epoch e lt) (one_asks k.number 0 (says_report ps (joined k e)) refl (omega arith))) (λ no. quiet)
     of_body inc (told.Push e number what) is = if_case (ReadsBy u m.client ps k) (nat_eq e k.epoch && receiver.fits what) _ Ignores
@@ -154,7 +154,7 @@ client_goes u ps k m at = if_case (ReadsBy u m.client ps k) (nat_eq m.client k.n
     of_body inc (told.Callback e s keep) is = if_case (ReadsBy u m.client ps k) _ (Lowers s keep) Ignores
         (λ e. same _ _ refl refl refl refl refl (one_asks k.number k.req (says_release k s keep) refl (omega arith))) (λ e. quiet)
 
-pub reads_number : (k : Client) (x : Case) → (receiver.after k x).writes ≡ k.writes
+pub reads_number : (k : Client) (x : ClientCase) → (receiver.after k x).writes ≡ k.writes
 reads_number k Ignores = refl
 reads_number k AcksAgain = refl
 reads_number k (Adopts epoch) = refl
@@ -168,7 +168,7 @@ judged_none k number o Unwritten e = refl
 judged_none k number o (Outstanding change) e = absurd (cc)
 judged_none k number o (Judged old) e = refl
 
-reads_none : (k : Client) (x : Case) → outstanding k.written ≡ None → outstanding (receiver.after k x).written ≡ None
+reads_none : (k : Client) (x : ClientCase) → outstanding k.written ≡ None → outstanding (receiver.after k x).written ≡ None
 reads_none k Ignores e = e
 reads_none k AcksAgain e = e
 reads_none k (Adopts epoch) e = e
@@ -177,19 +177,19 @@ reads_none k (Accepts (push.Absent req point)) e = e
 reads_none k (Accepts (push.Answer number o h)) e = judged_none k number o k.written e
 reads_none k (Lowers s keep) e = e
 
-reads_silent : (ps : Pieces) (k : Client) (x : Case) → SaysNoWrite (receiver.sends ps k x)
+reads_silent : (ps : Pieces) (k : Client) (x : ClientCase) → SaysNoWrite (receiver.sends ps k x)
 reads_silent ps k Ignores = none_silent
 reads_silent ps k AcksAgain = one_silent (says_ack k) refl
 reads_silent ps k (Adopts epoch) = one_silent (says_report ps (joined k epoch)) refl
 reads_silent ps k (Accepts what) = one_silent (says_ack (accepted k what)) refl
 reads_silent ps k (Lowers s keep) = one_silent (says_release k s keep) refl
 
-pub reads_write : (ps : Pieces) (k : Client) (m : ToClient) → WriteGoes k (receiver.after k (receiver.case_of k m)) (receiver.sends ps k (receiver.case_of k m))
+pub reads_write : (ps : Pieces) (k : Client) (m : ToClient) → WriteGoes k (receiver.after k (receiver.client_case_of k m)) (receiver.sends ps k (receiver.client_case_of k m))
 reads_write ps k m = record {
   follows = reads_follow k m;
-  number = inl (reads_number k (receiver.case_of k m));
-  ends = λ e. reads_none k (receiver.case_of k m);
-  says = silent_says (receiver.after k (receiver.case_of k m)) (receiver.sends ps k (receiver.case_of k m)) (reads_silent ps k (receiver.case_of k m));
+  number = inl (reads_number k (receiver.client_case_of k m));
+  ends = λ e. reads_none k (receiver.client_case_of k m);
+  says = silent_says (receiver.after k (receiver.client_case_of k m)) (receiver.sends ps k (receiver.client_case_of k m)) (reads_silent ps k (receiver.client_case_of k m));
 }
 
 -- and a tick
@@ -243,7 +243,7 @@ not_waiting k point hi e =
     (passed (is_waiting k.asked) refused.Busy _ d.1).0
 
 -- the points that it asks for are some points
-reaches : (k : Client) (point hi : ℕ) → lock_refusal k point hi ≡ None → is_reach point hi ≡ true
+reaches : (k : Client) (point hi : ℕ) → lock_refusal k point hi ≡ None → has_points point hi ≡ true
 reaches k point hi e =
     let a = passed (nat_lt END point) refused.BadPoint _ e in
     let b = passed (not (nat_lt point hi && nat_le hi TOP)) refused.BadSpan _ a.1 in
@@ -261,20 +261,20 @@ unwritten k l ms seen written writes silent = record {
   says = silent_says l ms silent;
 }
 
-writes_now : (k : Client) (op : WriteOp) (takes : Bool) → outstanding k.written ≡ None → WriteGoes k (issued k op takes) (says_write (issued k op takes) op ∷ [])
-writes_now k op takes none = record {
+writes_now : (k : Client) (op : WriteOp) (seizes : Bool) → outstanding k.written ≡ None → WriteGoes k (issued k op seizes) (says_write (issued k op seizes) op ∷ [])
+writes_now k op seizes none = record {
   follows = λ e. inr (refl, inl none);
   number = inr refl;
   ends = λ e. absurd (omega (arith, e));
-  says = its_write (issued k op takes) op refl;
+  says = its_write (issued k op seizes) op refl;
 }
 
 obeys_does : (u v : State) (c : ℕ) (k : Client) (what : Command) (answer : Answer) → command_refusal k what ≡ None → client_of u c ≡ Some k → Obeys u c k what answer v → Does u v
 obeys_does u v c k (command.Lock point hi g) answer r i d = place_does u v c k _ _ i (locks point hi g (not_waiting k point hi r) (reaches k point hi r)) (unwritten k (locked k point hi g) _ refl refl refl (one_silent (says_lock (locked k point hi g) point hi g) refl)) d.1
 obeys_does u v c k (command.Write op) answer r i d = place_does u v c k _ _ i (same (wrote k op) (says_write (wrote k op) op ∷ []) refl refl refl refl refl (one_asks k.number k.req (says_write (wrote k op) op) refl (omega arith))) (writes_now k op false (write_free k op r).0) d.1
-obeys_does u v c k (command.Take op) answer r i d = place_does u v c k _ _ i (same (took k op) (says_write (took k op) op ∷ []) refl refl refl refl refl (one_asks k.number k.req (says_write (took k op) op) refl (omega arith))) (writes_now k op true (take_free k op r).0) d.1
+obeys_does u v c k (command.Seize op) answer r i d = place_does u v c k _ _ i (same (seized k op) (says_write (seized k op) op ∷ []) refl refl refl refl refl (one_asks k.number k.req (says_write (seized k op) op) refl (omega arith))) (writes_now k op true (take_free k op r).0) d.1
 obeys_does u v c k (command.Scan lo hi) answer r i d = rests_at u v d.1
-obeys_does u v c k (command.Lower lo hi keep) answer r i d = place_does u v c k _ _ i (same (lowered k (span lo hi) keep) (says_release k (span lo hi) keep ∷ []) refl refl refl refl refl (one_asks k.number k.req (says_release k (span lo hi) keep) refl (omega arith))) (unwritten k (lowered k (span lo hi) keep) _ refl refl refl (one_silent (says_release k (span lo hi) keep) refl)) d.1
+obeys_does u v c k (command.Lower lo hi keep) answer r i d = place_does u v c k _ _ i (same (belief_lowered k (span lo hi) keep) (says_release k (span lo hi) keep ∷ []) refl refl refl refl refl (one_asks k.number k.req (says_release k (span lo hi) keep) refl (omega arith))) (unwritten k (belief_lowered k (span lo hi) keep) _ refl refl refl (one_silent (says_release k (span lo hi) keep) refl)) d.1
 obeys_does u v c k (command.Pin lo hi) answer r i d = place_does u v c k _ _ i (same (pinned k (span lo hi) d.0) [] refl refl refl refl refl (none_asks k.number k.req)) (unwritten k (pinned k (span lo hi) d.0) [] refl refl refl none_silent) d.3
 obeys_does u v c k (command.Unpin id) answer r i d = place_does u v c k _ _ i (same (unpinned k id) [] refl refl refl refl refl (none_asks k.number k.req)) (unwritten k (unpinned k id) [] refl refl refl none_silent) d.1
 obeys_does u v c k command.Leave answer r i d = subst (Does u) (sym d.1) (ends c k.number (says_bye k ∷ []) (one_asks k.number 0 (says_bye k) refl (omega arith)) (one_silent (says_bye k) refl))

@@ -2,7 +2,7 @@
 -- its pushes.
 use Rattle.krl_progress.proofs.Names.{◌≡◌, ℕ, zero, suc, ◌≤◌, ◌<◌, ◌∙◌, Bool, true, false, not, ◌&&◌, ◌||◌, Option, Some, None, is_some, List, ◌∷◌, length, refl, sym, ap, subst, arith, nat_eq, nat_lt, if◌then◌else◌, END}
 use Rattle.std.proofs.lemmas.Bool.{lt-ltb}
-use Rattle.krl_progress.proofs.Names.{ToServer, ToClient, Server, Step, Answer, Up, Down, State, message_at, Delivers, ServerReads, Takes, IsReachable, ServerStep, Case, Waits, Acknowledges, case_of, Done, effect, acknowledged, kind_of, Kind, Ends, at_once, recovers, serves, Turn, next_turn, turn_at, is_compatible, max_clients}
+use Rattle.krl_progress.proofs.Names.{ToServer, ToClient, Server, Step, Answer, Up, Down, State, message_at, Delivers, ServerReads, Takes, IsReachable, ServerStep, Case, Waits, Acknowledges, case_of, Done, effect, acknowledged, following, Following, Ends, at_once, recovers, serves, Turn, next_turn, turn_at, is_compatible, max_clients}
 use Rattle.krl_modes.specs.declared.mode.Mode.{Mode}
 use Rattle.krl_messages.specs.declared.to_client.PushBody.{PushBody}
 use Rattle.krl_messages.specs.declared.to_server.RequestBody.TheVariants as asked
@@ -13,7 +13,7 @@ use Rattle.krl_table.specs.FirstReplies.{lacks_entry}
 use Rattle.krl_table.specs.Sound.{IsTable}
 use Rattle.krl_server.specs.declared.session.Session.{Session}
 use Rattle.krl_server.specs.Servers.{incarnation_of}
-use Rattle.krl_server.specs.Cases.{case_of_lock, is_reach}
+use Rattle.krl_server.specs.Cases.{case_of_lock, has_points}
 use Rattle.krl_server.specs.Answering.{is_answerable}
 use Rattle.krl_server.proofs.Tests.{if_both}
 use Rattle.krl_server.proofs.Updates.{session_here}
@@ -58,7 +58,7 @@ record IsHeard (s t : Server) (c : ℕ) : Type 0 where
   durable : t.durable ≡ s.durable
 
 lock_heard : (s : Server) (m : ToServer) (req point hi : ℕ) (g : Mode) → IsHeard s (effect s m (case_of_lock s m.client req point hi g)).server m.client
-lock_heard s m req point hi g = if_both (λ (x : Case). IsHeard s (effect s m x).server m.client) (nat_eq req (suc (s.sessions m.client).last_request) && (not (waits s.durable.index s.rows m.client) && is_reach point hi)) (Waits req point hi g) Acknowledges
+lock_heard s m req point hi g = if_both (λ (x : Case). IsHeard s (effect s m x).server m.client) (nat_eq req (suc (s.sessions m.client).last_request) && (not (waits s.durable.index s.rows m.client) && has_points point hi)) (Waits req point hi g) Acknowledges
     (record { acked = ap (λ (z : Session). z.unacked) y ∙ ap (λ (z : Session). z.unacked) x; last = ap (λ (z : Session). z.last_push) y ∙ ap (λ (z : Session). z.last_push) x; durable = refl })
     (record { acked = ap (λ (z : Session). z.unacked) x; last = ap (λ (z : Session). z.last_push) x; durable = refl })
   where
@@ -71,7 +71,7 @@ lock_heard s m req point hi g = if_both (λ (x : Case). IsHeard s (effect s m x)
     y : (effect s m (Waits req point hi g)).server.sessions m.client ≡ record (t.sessions m.client) { last_request = req }
     y = session_here t.sessions m.client (record (t.sessions m.client) { last_request = req })
 
-ends_acked : (s : Server) (done : Done) (kind : Kind) (t : Server) (outs : List ToClient) (c : ℕ) → Ends done kind t outs → IsHeard s done.server c → (t.sessions c).last_push ≡ (s.sessions c).last_push → IsAcked t c
+ends_acked : (s : Server) (done : Done) (kind : Following) (t : Server) (outs : List ToClient) (c : ℕ) → Ends done kind t outs → IsHeard s done.server c → (t.sessions c).last_push ≡ (s.sessions c).last_push → IsAcked t c
 ends_acked s done kind t outs c (at_once i) h same = h.acked
 ends_acked s done kind t outs c (recovers g) h same = h.acked
 ends_acked s done kind t outs c (serves u answers ne up a) h same = stays_acked done.server u c (answered_later done.server u answers c a) (same_incarnation done.server u c (answered_durable done.server u answers a)) (same ∙ sym h.last) h.acked
@@ -131,7 +131,7 @@ module _ (f : FirstWait) (inc epoch : ℕ) (some : 1 ≤ epoch) (n : ℕ) where
   hit_lock : (req point hi : ℕ) (g : Mode) (i : ℕ) (u v : State) (answer : Answer) → Along u → Along v → message_at u.sent i ≡ Some (lock_said f.waiter.client inc epoch (f.seen f.waiter.client) some n req point hi g) → Takes u (step.Deliver i) answer v → Acked v
   hit_lock req point hi g i u v answer h after sent t x e =
       subst (λ (y : Server). IsAcked y f.waiter.client) (same_up after.stands.server x (sym after.stands.up ∙ e))
-      (ends_acked s (effect s m (case_of s m)) (kind_of (case_of s m)) after.stands.server d.1 f.waiter.client (subst (λ (y : Server). ServerStep s m y d.1) same d.2) heard (after.stands.waiting.last ∙ sym h.stands.waiting.last))
+      (ends_acked s (effect s m (case_of s m)) (following (case_of s m)) after.stands.server d.1 f.waiter.client (subst (λ (y : Server). ServerStep s m y d.1) same d.2) heard (after.stands.waiting.last ∙ sym h.stands.waiting.last))
     where
       s : Server
       s = h.stands.server

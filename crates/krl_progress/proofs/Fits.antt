@@ -2,15 +2,15 @@
 use Rattle.std.specs.Prelude.{◌-◌}
 use Rattle.krl_world.proofs.Reaching.{by_reaching}
 use Rattle.krl_progress.proofs.Names.{◌≡◌, ℕ, suc, ◌≤◌, ◌∙◌, Bool, true, false, not, ◌&&◌, ◌||◌, Option, Some, None, is_some, List, [], ◌∷◌, refl, sym, ap, subst, arith, nat_eq, nat_lt, END, TOP, eqb-true, eqb-false, same_Some}
-use Rattle.krl_progress.proofs.Names.{ToServer, ToClient, Server, Durable, Index, slot_of, is_slot, Case, Ignored, Registers, Leaves, Tells, Alarms, Rebuilds, Repeats, Acknowledges, Lowers, Waits, Judges, TakesLock, AnswersAgain, case_of, Done, effect, acknowledged, writes, Kind, kind_of, Ends, at_once, recovers, serves, ServerStep, Answered, stops, goes_on, Turn, next_turn, answer_first, Rows}
+use Rattle.krl_progress.proofs.Names.{ToServer, ToClient, Server, Durable, Index, slot_of, is_slot, Case, Ignored, Registers, Leaves, Tells, Alarms, Rebuilds, Repeats, Acknowledges, Lowers, Waits, Judges, SeizesLock, AnswersAgain, case_of, Done, effect, acknowledged, writes, Following, following, Ends, at_once, recovers, serves, ServerStep, AnswersWaiters, stops, goes_on, Turn, next_turn, answer_first, Rows}
 use Rattle.std.specs.FinMap as map
 use Rattle.krl_modes.specs.declared.part.KeyPart.{KeyPart}
 use Rattle.krl_modes.specs.declared.part.KeyPart.TheVariants as key
 use Rattle.krl_modes.specs.Modes.{key_of}
 use Rattle.krl_modes.specs.Parts.{reads_key}
 use Rattle.krl_messages.specs.Values.{Value}
-use Rattle.krl_messages.specs.Holdings.{same, has_its_value}
-use Rattle.krl_messages.specs.Several.{have_values}
+use Rattle.std.specs.Bool.{beq}
+use Rattle.krl_messages.specs.Holdings.{has_its_value, have_values}
 use Rattle.krl_messages.specs.Writes.{op_key}
 use Rattle.krl_messages.specs.declared.outcome.Outcome.TheVariants as outcome
 use Rattle.krl_messages.specs.declared.to_client.PushBody.{PushBody}
@@ -18,13 +18,13 @@ use Rattle.krl_messages.specs.declared.to_client.PushBody.TheVariants as push
 use Rattle.krl_client.specs.Messages.{fits}
 use Rattle.krl_queue.specs.declared.waiter.Waiter.{Waiter}
 use Rattle.krl_table.specs.Rows.{mode_at}
-use Rattle.krl_table.specs.Calls.{granted_first, dropped}
-use Rattle.krl_table.specs.Grants.{taken_by, taken_after, granted}
+use Rattle.krl_table.specs.Calls.{granted_first, front_dropped}
+use Rattle.krl_table.specs.Grants.{reached_after, granted, reached_by}
 use Rattle.krl_table.specs.Replies.{asks_absent}
 use Rattle.krl_server.specs.declared.session.Session.{Session}
 use Rattle.krl_server.specs.Servers.{blank_session, set_session}
 use Rattle.krl_server.specs.Effects as effects
-use Rattle.krl_server.specs.Effects.{holding, holdings, shown, pushes, with_rows, answers}
+use Rattle.krl_server.specs.Effects.{holding, holdings, shown, pushes, with_rows, tells_outcome}
 use Rattle.krl_server.specs.Answering.{tells_absent, grants as grants_first}
 use Rattle.krl_server.specs.Soundness.{IsSound}
 use Rattle.krl_server.specs.Invariant.{IsOrdered}
@@ -40,7 +40,7 @@ use Rattle.krl_server.specs.Steps.{start}
 use Rattle.krl_server.proofs.Outputs.Ends.{pushes_durable}
 use Rattle.krl_server.proofs.Invariant.Kept.{server_keeps}
 
-value_fits : (k : KeyPart) (o : Option Value) (b : Bool) → (b ≡ true → o ≡ None) → (b ≡ false → is_some o ≡ true) → same (is_some (shown k o)) (reads_key k && not b) ≡ true
+value_fits : (k : KeyPart) (o : Option Value) (b : Bool) → (b ≡ true → o ≡ None) → (b ≡ false → is_some o ≡ true) → beq (is_some (shown k o)) (reads_key k && not b) ≡ true
 value_fits key.N o b f g = refl
 value_fits key.S None true f g = refl
 value_fits key.S None false f g = absurd (let x = g refl in cc)
@@ -94,7 +94,7 @@ pushes_fit s c b h e = if_both (λ (x : Done). SessionsFit x.server) (nat_lt (s.
     h
 
 -- the answer to a write
-answers_fit : (s : Server) (c number : ℕ) (op : Rattle.krl_messages.specs.declared.write_op.WriteOp.WriteOp) (o : Rattle.krl_messages.specs.declared.outcome.Outcome.Outcome) → Near s → SessionsFit s → SessionsFit (answers s c number op o).server
+answers_fit : (s : Server) (c number : ℕ) (op : Rattle.krl_messages.specs.declared.write_op.WriteOp.WriteOp) (o : Rattle.krl_messages.specs.declared.outcome.Outcome.Outcome) → Near s → SessionsFit s → SessionsFit (tells_outcome s c number op o).server
 answers_fit s c number op o i h = pushes_fit s c _ h (holding_fits s (slot_of s.durable.index (op_key op)) c i (slot_always s.durable.index (op_key op)))
 
 effect_fits : (s : Server) (m : ToServer) (k : Case) → case_of s m ≡ k → IsSound s → SessionsFit s → SessionsFit (effect s m k).server
@@ -113,9 +113,9 @@ effect_fits s m (Judges number op o) e i h =
     answers_fit (writes (acknowledged s m.client) m.client op o) m.client number op o
     (subst (λ (d : Durable). (q : ℕ) → END ≤ q → map.get d.index q ≡ None) (pushes_durable (writes (acknowledged s m.client) m.client op o) m.client _) near)
     (acked_fits s m.client h)
-effect_fits s m (TakesLock number op) e i h =
-    let near : Near (effect s m (TakesLock number op)).server = subst (λ k. Near (effect s m k).server) e (server_keeps.sound_effect s m i).near in
-    let t = writes (acknowledged (effects.takes s m.client op) m.client) m.client op outcome.Applied in
+effect_fits s m (SeizesLock number op) e i h =
+    let near : Near (effect s m (SeizesLock number op)).server = subst (λ k. Near (effect s m k).server) e (server_keeps.sound_effect s m i).near in
+    let t = writes (acknowledged (effects.seizes s m.client op) m.client) m.client op outcome.Applied in
     answers_fit t m.client number op outcome.Applied
     (subst (λ (d : Durable). (q : ℕ) → END ≤ q → map.get d.index q ≡ None) (pushes_durable t m.client _) near)
     (acked_fits s m.client h)
@@ -129,29 +129,29 @@ by_queue_slot m rows n u us h q = by_test (is_slot m n) refl
     by_test true e = refl
     by_test false e = absurd (let x = ap (λ r. r.queue) (h.blank n e) in let bad : u ∷ us ≡ [] = sym q ∙ x in cc)
 
-taken_fit : (s g : Server) (c n : ℕ) (us : List Waiter) → Near g → g.durable ≡ s.durable → is_slot s.durable.index n ≡ true → have_values (holdings g c (taken_by s.durable.reach s.durable.index s.rows n us)) ≡ true
-taken_fit s g c n [] i d e = refl
-taken_fit s g c n (u ∷ us) i d e =
-    ap (λ b. b && have_values (holdings g c (taken_after s.durable.index (granted_first s.rows n) n u (s.durable.reach - 1)))) (holding_fits g n c i (ap (λ (x : Durable). is_slot x.index n) d ∙ e))
-    ∙ holdings_fit g c n (taken_after s.durable.index (granted_first s.rows n) n u (s.durable.reach - 1)) i (subst (λ (x : Durable). AreSlotsAfter x.index n (taken_after s.durable.index (granted_first s.rows n) n u (s.durable.reach - 1))) (sym d) (taken_slots s.durable.index u (s.durable.reach - 1) n (granted_first s.rows n)))
+reached_fit : (s g : Server) (c n : ℕ) (us : List Waiter) → Near g → g.durable ≡ s.durable → is_slot s.durable.index n ≡ true → have_values (holdings g c (reached_by s.durable.reach s.durable.index s.rows n us)) ≡ true
+reached_fit s g c n [] i d e = refl
+reached_fit s g c n (u ∷ us) i d e =
+    ap (λ b. b && have_values (holdings g c (reached_after s.durable.index (granted_first s.rows n) n u (s.durable.reach - 1)))) (holding_fits g n c i (ap (λ (x : Durable). is_slot x.index n) d ∙ e))
+    ∙ holdings_fit g c n (reached_after s.durable.index (granted_first s.rows n) n u (s.durable.reach - 1)) i (subst (λ (x : Durable). AreSlotsAfter x.index n (reached_after s.durable.index (granted_first s.rows n) n u (s.durable.reach - 1))) (sym d) (taken_slots s.durable.index u (s.durable.reach - 1) n (granted_first s.rows n)))
 
 turn_fits : (s : Server) (t : Turn) → next_turn s ≡ Some t → IsSound s → IsOrdered s → SessionsFit s → SessionsFit (answer_first s t).server
 turn_fits s t e i o h = if_both (λ (x : Done). SessionsFit x.server) (asks_absent s.durable.index t.waiter) (tells_absent s t) (grants_first s t)
-    (pushes_fit (with_rows s (dropped s.rows t.slot)) t.waiter.client (push.Absent t.waiter.req t.waiter.point) h refl)
+    (pushes_fit (with_rows s (front_dropped s.rows t.slot)) t.waiter.client (push.Absent t.waiter.req t.waiter.point) h refl)
     (pushes_fit (with_rows s (granted s.durable.reach s.durable.index s.rows t.slot)) t.waiter.client _ h
-    (taken_fit s (with_rows s (granted s.durable.reach s.durable.index s.rows t.slot)) t.waiter.client t.slot (s.rows t.slot).queue i.near refl (by_queue_slot s.durable.index s.rows t.slot t.waiter _ o.table (turn_is s t e).first)))
+    (reached_fit s (with_rows s (granted s.durable.reach s.durable.index s.rows t.slot)) t.waiter.client t.slot (s.rows t.slot).queue i.near refl (by_queue_slot s.durable.index s.rows t.slot t.waiter _ o.table (turn_is s t e).first)))
 
-answered_fit : (s t : Server) (outs : List ToClient) → Answered s t outs → IsSound s → IsOrdered s → SessionsFit s → SessionsFit t
+answered_fit : (s t : Server) (outs : List ToClient) → AnswersWaiters s t outs → IsSound s → IsOrdered s → SessionsFit s → SessionsFit t
 answered_fit s t outs (stops x e) i o h = h
 answered_fit s t outs (goes_on x y turn later e rest) i o h = answered_fit (answer_first x turn).server y later rest (server_keeps.sound_turn x turn e i) (server_keeps.ordered_turn x turn e o) (turn_fits x turn e i o h)
 
-ends_fit : (done : Done) (kind : Kind) (t : Server) (outs : List ToClient) → Ends done kind t outs → IsSound done.server → IsOrdered done.server → SessionsFit done.server → SessionsFit t
+ends_fit : (done : Done) (kind : Following) (t : Server) (outs : List ToClient) → Ends done kind t outs → IsSound done.server → IsOrdered done.server → SessionsFit done.server → SessionsFit t
 ends_fit done kind t outs (at_once k) i o h = h
 ends_fit done kind t outs (recovers g) i o h = h
 ends_fit done kind t outs (serves u answers n e a) i o h = answered_fit done.server u answers a i o h
 
 pub step_fits : (s t : Server) (m : ToServer) (outs : List ToClient) → IsSound s → IsOrdered s → SessionsFit s → ServerStep s m t outs → SessionsFit t
-step_fits s t m outs i o h step = ends_fit (effect s m (case_of s m)) (kind_of (case_of s m)) t outs step (server_keeps.sound_effect s m i) (server_keeps.ordered_effect s m i o) (effect_fits s m (case_of s m) refl i h)
+step_fits s t m outs i o h step = ends_fit (effect s m (case_of s m)) (following (case_of s m)) t outs step (server_keeps.sound_effect s m i) (server_keeps.ordered_effect s m i o) (effect_fits s m (case_of s m) refl i h)
 
 pub start_fits : (d : Durable) → SessionsFit (start d)
 start_fits d c b e = absurd (cc)

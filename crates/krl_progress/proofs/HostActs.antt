@@ -3,7 +3,7 @@ use Rattle.krl_progress.proofs.Names.{◌≡◌, ℕ, zero, suc, ◌+◌, ◌≤
 use Rattle.krl_progress.proofs.Names.{In, ToServer, ToClient, Client, Message, AppliedWrite, Step, Command, Answer, ServerPlace, Down, ClientPlace, State, client_of, with_client, seated}
 use Rattle.krl_progress.proofs.Names.{message_at, span, server_down, refusal_of, ClientReads, Delivers, Obeys, Takes, Durable}
 use Rattle.krl_client.specs.Clients.{begun}
-use Rattle.krl_client.specs.Commands.{says_lock, locked, wrote, took, says_write, says_release, says_bye}
+use Rattle.krl_client.specs.Commands.{says_lock, locked, wrote, seized, says_write, says_release, says_bye}
 use Rattle.krl_client.specs.Ticks.{tick, says_hello}
 use Rattle.krl_client.specs.Messages as receiver
 use Rattle.krl_world.specs.declared.message.Message.TheVariants as message
@@ -73,7 +73,7 @@ module _ (w : State) where
   pub commanded : (v : State) (c : ℕ) (k : Client) (what : Command) (answer : Answer) → refusal_of w (step.Command c what) ≡ None → client_of w c ≡ Some k → Obeys w c k what answer v → Alike w (step.Command c what) any v
   commanded v c k (command.Lock point hi m) answer r is d = subst (Alike w (step.Command c (command.Lock point hi m)) any) (sym d.1) (sits c (place c (Some (locked k point hi m))) (says_lock (locked k point hi m) point hi m ∷ []) (λ n sent writes g. (answer, (r, (k, is, (d.0, refl))))))
   commanded v c k (command.Write op) answer r is d = subst (Alike w (step.Command c (command.Write op)) any) (sym d.1) (sits c (place c (Some (wrote k op))) (says_write (wrote k op) op ∷ []) (λ n sent writes g. (answer, (r, (k, is, (d.0, refl))))))
-  commanded v c k (command.Take op) answer r is d = subst (Alike w (step.Command c (command.Take op)) any) (sym d.1) (sits c (place c (Some (took k op))) (says_write (took k op) op ∷ []) (λ n sent writes g. (answer, (r, (k, is, (d.0, refl))))))
+  commanded v c k (command.Seize op) answer r is d = subst (Alike w (step.Command c (command.Seize op)) any) (sym d.1) (sits c (place c (Some (seized k op))) (says_write (seized k op) op ∷ []) (λ n sent writes g. (answer, (r, (k, is, (d.0, refl))))))
   commanded v c k (command.Scan lo hi) answer r is d = subst (Alike w (step.Command c (command.Scan lo hi)) any) (sym d.1) (rests (λ n sent writes g. (answer, (r, (k, is, (d.0, refl))))))
   commanded v c k (command.Lower lo hi keep) answer r is d = subst (Alike w (step.Command c (command.Lower lo hi keep)) any) (sym d.1) (sits c (place c _) (says_release k (span lo hi) keep ∷ []) (λ n sent writes g. (answer, (r, (k, is, (d.0, refl))))))
   commanded v c k (command.Pin lo hi) answer r is d = subst (Alike w (step.Command c (command.Pin lo hi)) any) (sym d.3) (sits c (place c _) [] (λ n sent writes g. (answer, (r, (k, is, (d.0, d.1, d.2, refl))))))
@@ -101,8 +101,8 @@ pub heard : (w v : State) (k : ℕ) (m : ToClient) (o : Option Client) → clien
 heard w v k m None is d = subst (Alike w (step.Deliver k) (λ ms. message_at ms k ≡ Some (message.ToClient m))) (sym d)
     (rests (λ n sent writes g. let u = beside w n sent writes in (answered.Done, delivers_one u u k (message.ToClient m) g (subst (λ p. ClientReads u p m u) (sym is) refl))))
 heard w v k m (Some a) is d =
-    let next = Some (receiver.after a (receiver.case_of a m)) in
-    let ms = receiver.sends d.0 a (receiver.case_of a m) in
+    let next = Some (receiver.after a (receiver.client_case_of a m)) in
+    let ms = receiver.sends d.0 a (receiver.client_case_of a m) in
     subst (Alike w (step.Deliver k) (λ xs. message_at xs k ≡ Some (message.ToClient m))) (sym d.2)
     (sits m.client (place w m.client next) ms (λ n sent writes g. let u = beside w n sent writes in
     (answered.Done, delivers_one u (with_client u m.client next ms) k (message.ToClient m) g (subst (λ p. ClientReads u p m (with_client u m.client next ms)) (sym is) (d.0, d.1, refl)))))

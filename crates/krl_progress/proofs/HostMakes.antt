@@ -119,8 +119,8 @@ hears_one w made j m n e at = by_client (client_of w.world m.client) refl
     by_client None is = done w.world [] (subst (λ p. ClientReads w.world p m w.world) (sym is) refl) (sym (append-nil w.world.sent))
     by_client (Some k) is =
         let ps = described w m.client k n.reached is in
-        let ms = receiver.sends ps.0 k (receiver.case_of k m) in
-        let v = with_client w.world m.client (Some (receiver.after k (receiver.case_of k m))) ms in
+        let ms = receiver.sends ps.0 k (receiver.client_case_of k m) in
+        let v = with_client w.world m.client (Some (receiver.after k (receiver.client_case_of k m))) ms in
         done v (from_clients ms) (subst (λ p. ClientReads w.world p m v) (sym is) (ps.0, ps.1, refl)) refl
 
 -- or the server, which keeps all that it sends

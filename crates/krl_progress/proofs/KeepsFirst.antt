@@ -1,6 +1,6 @@
 -- What a message makes of the first waiter of a slot.
 use Rattle.krl_progress.proofs.Names.{◌≡◌, ◌≢◌, ℕ, suc, ◌<◌, ◌∙◌, inl, true, false, not, ◌&&◌, Option, Some, None, List, [], ◌∷◌, ◌++◌, refl, sym, ap, subst, arith, nat_lt, if◌then◌else◌, eq_cases, ne_eqb, is_some, and_parts, ltb-false, END}
-use Rattle.krl_progress.proofs.Names.{ToServer, In, Server, Durable, Record, is_recovering, lists, case_of, Done, effect, acknowledged, writes, pushes, Registers, Leaves, Judges, TakesLock, Waits, Index, Rows, slot_of, span_of, is_slot, op_key, holding, WriteOp}
+use Rattle.krl_progress.proofs.Names.{ToServer, In, Server, Durable, Record, is_recovering, lists, case_of, Done, effect, acknowledged, writes, pushes, Registers, Leaves, Judges, SeizesLock, Waits, Index, Rows, slot_of, span_of, is_slot, op_key, holding, WriteOp}
 use Rattle.krl_modes.specs.declared.mode.Mode.{Mode}
 use Rattle.krl_modes.specs.declared.mode.Mode.TheVariants as mode
 use Rattle.krl_modes.specs.Modes.{at_most, meet, range_of, key_of}
@@ -14,8 +14,9 @@ use Rattle.krl_messages.specs.declared.write_op.WriteOp.TheVariants as write
 use Rattle.krl_messages.specs.declared.to_client.PushBody.{PushBody}
 use Rattle.krl_messages.specs.declared.to_client.PushBody.TheVariants as push
 use Rattle.krl_queue.specs.declared.waiter.Waiter.{Waiter}
-use Rattle.krl_durable.specs.Registers.{record_of, left_by}
-use Rattle.krl_durable.specs.Writes.{applied_by, index_after, written}
+use Rattle.krl_durable.specs.Registers.{record_of}
+use Rattle.krl_durable.specs.Splits.{left_by, applied_by}
+use Rattle.krl_durable.specs.Writes.{index_after, written}
 use Rattle.krl_table.specs.Rows.{Row, mode_at, set_row}
 use Rattle.krl_table.specs.Calls.{with_mode, with_queue, queue_with, unqueue, cleared}
 use Rattle.krl_table.specs.Grants.{nobody_waits}
@@ -24,14 +25,14 @@ use Rattle.krl_server.specs.declared.session.Session.{Session}
 use Rattle.krl_server.specs.Cases.{judged}
 use Rattle.krl_server.specs.Effects as effects
 use Rattle.krl_server.specs.Effects.{rows_written}
-use Rattle.krl_server.specs.Takes.{lock_for, may_take}
+use Rattle.krl_server.specs.Seizing.{lock_for, may_seize}
 use Rattle.krl_server.specs.Soundness.{IsSound}
 use Rattle.krl_server.proofs.Tests.{if_both, if_case}
 use Rattle.krl_server.proofs.Cased.{by_case}
 use Rattle.krl_server.proofs.Updates.{row_here, row_other, session_here}
 use Rattle.krl_server.proofs.Grants.{raised_queue}
 use Rattle.krl_server.proofs.Invariant.Placed.{two_rows}
-use Rattle.krl_server.proofs.Invariant.TakesSound.{MayTake, take_is}
+use Rattle.krl_server.proofs.Invariant.SeizesSound.{MaySeize, take_is}
 use Rattle.krl_server.proofs.Invariant.WritesSound.{insert_may, change_may}
 use Rattle.krl_progress.specs.Standstills.{HasPart, holds}
 use Rattle.krl_progress.proofs.WritesMove.{nobody_listed}
@@ -135,15 +136,15 @@ module _ (n : ℕ) (there : Bounds) (u : Waiter) where
     judged_first number op outcome.Full is still = pushed_first (writes (acknowledged s m.client) m.client op outcome.Full) m.client _ (same_index s.durable.index _ s.rows (applied_index s.durable m.client op outcome.Full (record_of s.durable.register m.client) refl) h)
 
     -- a lock is taken where nobody waits, so that u stands on another slot than that of the key
-    taken_on : (op : WriteOp) → op_key op < END → MayTake s m.client op → IsFirstOn (written s.durable.index op) (rows_written s.durable.index (effects.takes s m.client op).rows m.client op)
+    taken_on : (op : WriteOp) → op_key op < END → MaySeize s m.client op → IsFirstOn (written s.durable.index op) (rows_written s.durable.index (effects.seizes s m.client op).rows m.client op)
     taken_on op under can = by_op op under can (raised_queue s.rows (slot_of s.durable.index (op_key op)) (lock_for m.client op) n ∙ h.first) (λ e. let none = ap (λ j. nobody_waits (s.rows j).queue) e ∙ can.alone in not_both (nobody_waits (s.rows n).queue) none (ap nobody_waits h.first))
       where
-        by_op : (op : WriteOp) → op_key op < END → MayTake s m.client op → ((effects.takes s m.client op).rows n).queue ≡ u ∷ h.behind → n ≢ slot_of s.durable.index (op_key op) → IsFirstOn (written s.durable.index op) (rows_written s.durable.index (effects.takes s m.client op).rows m.client op)
+        by_op : (op : WriteOp) → op_key op < END → MaySeize s m.client op → ((effects.seizes s m.client op).rows n).queue ≡ u ∷ h.behind → n ≢ slot_of s.durable.index (op_key op) → IsFirstOn (written s.durable.index op) (rows_written s.durable.index (effects.seizes s m.client op).rows m.client op)
         by_op (write.Insert k v) lt can queue other = record {
           slot = slot_kept s.durable.index sound.near k v lt n h.slot other;
           span = span_kept s.durable.index sound.near k v lt n h.slot other ∙ h.span;
           behind = h.behind;
-          first = two_rows (effects.takes s m.client (write.Insert k v)).rows (slot_of s.durable.index k) k n _ _ (λ (r : Row). r.queue ≡ u ∷ h.behind)
+          first = two_rows (effects.seizes s m.client (write.Insert k v)).rows (slot_of s.durable.index k) k n _ _ (λ (r : Row). r.queue ≡ u ∷ h.behind)
               (λ e. absurd (not_both (is_slot s.durable.index n) h.slot (ap (is_slot s.durable.index) e ∙ free)))
               (λ ne e. absurd (other e))
               (λ ne no. queue);
@@ -159,8 +160,8 @@ module _ (n : ℕ) (there : Bounds) (u : Waiter) where
         }
         by_op (write.Delete k) lt can queue other = absurd (let e = can.lock in cc)
 
-    taken_first : (number : ℕ) (op : WriteOp) (r : Record) → record_of s.durable.register m.client ≡ Some r → op_key op < END → may_take s m.client op ≡ true → IsFirstIn (effect s m (TakesLock number op)).server
-    taken_first number op r known under may = let y = writes (acknowledged (effects.takes s m.client op) m.client) m.client op outcome.Applied in
+    taken_first : (number : ℕ) (op : WriteOp) (r : Record) → record_of s.durable.register m.client ≡ Some r → op_key op < END → may_seize s m.client op ≡ true → IsFirstIn (effect s m (SeizesLock number op)).server
+    taken_first number op r known under may = let y = writes (acknowledged (effects.seizes s m.client op) m.client) m.client op outcome.Applied in
         pushed_first y m.client _ (same_index (written s.durable.index op) y.durable.index y.rows (ap (λ o. (applied_by s.durable m.client op outcome.Applied o).index) known) (taken_on op under (take_is s m.client op may)))
 
     pub effect_first : IsStill s (effect s m (case_of s m)).server → IsFirstIn (effect s m (case_of s m)).server
@@ -182,7 +183,7 @@ module _ (n : ℕ) (there : Bounds) (u : Waiter) where
           };
           waits = λ r req point hi g served new free near y. queued_first req point hi g new y;
           judges = λ r number op o served under near new is y. judged_first number op o is y;
-          takes = λ r number op served under near new may y. taken_first number op r served.from.known under may;
+          seizes = λ r number op served under near new may y. taken_first number op r served.from.known under may;
           answers_again = λ r number op o served under some last is y. pushed_first (acknowledged s m.client) m.client _ (record { slot = h.slot; span = h.span; behind = h.behind; first = h.first });
         })
       where

@@ -1,6 +1,6 @@
 -- What a server and a client know of a lock request, and that what a server does keeps it.
 use Rattle.krl_progress.proofs.Names.{◌≡◌, ◌≢◌, ℕ, suc, ◌≤◌, ◌<◌, ⊎_elim, ◌∙◌, true, false, not, ◌||◌, Option, Some, None, is_some, refl, sym, ap, subst, arith, nat_lt, eq_cases, eq-eqb, and_parts, same_Some, END, In}
-use Rattle.krl_progress.proofs.Names.{ToServer, Client, Record, Server, Durable, record_of, Rows, Case, clears, Ignored, Registers, Leaves, Tells, Alarms, Rebuilds, Repeats, Acknowledges, Lowers, Waits, Judges, TakesLock, AnswersAgain, case_of, Done, effect, acknowledged, writes, pushes, holding, holdings, slot_of, op_key, Turn, next_turn, answer_first, with_rows, WriteOp, Outcome, left_by}
+use Rattle.krl_progress.proofs.Names.{ToServer, Client, Record, Server, Durable, record_of, Rows, Case, clears, Ignored, Registers, Leaves, Tells, Alarms, Rebuilds, Repeats, Acknowledges, Lowers, Waits, Judges, SeizesLock, AnswersAgain, case_of, Done, effect, acknowledged, writes, pushes, holding, holdings, slot_of, op_key, Turn, next_turn, answer_first, with_rows, WriteOp, Outcome, left_by}
 use Rattle.krl_messages.specs.declared.to_server.ToServerBody.TheVariants as said
 use Rattle.krl_messages.specs.declared.to_server.Request.{Request}
 use Rattle.krl_messages.specs.declared.to_server.RequestBody.{RequestBody}
@@ -8,9 +8,9 @@ use Rattle.krl_messages.specs.declared.outcome.Outcome.TheVariants as outcome
 use Rattle.krl_messages.specs.declared.to_client.PushBody.{PushBody}
 use Rattle.krl_messages.specs.declared.to_client.PushBody.TheVariants as push
 use Rattle.krl_queue.specs.declared.waiter.Waiter.{Waiter}
-use Rattle.krl_durable.specs.Writes.{applied_by}
-use Rattle.krl_table.specs.Calls.{dropped}
-use Rattle.krl_table.specs.Grants.{granted, taken}
+use Rattle.krl_durable.specs.Splits.{applied_by}
+use Rattle.krl_table.specs.Calls.{front_dropped}
+use Rattle.krl_table.specs.Grants.{granted, reached_slots}
 use Rattle.krl_table.specs.Replies.{asks_absent, is_wanted_compatible}
 use Rattle.krl_table.specs.Sound.{IsTable}
 use Rattle.krl_client.specs.Clients.{is_waiting}
@@ -140,7 +140,7 @@ effect_epoch s m Acknowledges = refl
 effect_epoch s m (Lowers span keep) = refl
 effect_epoch s m (Waits req point hi g) = refl
 effect_epoch s m (Judges number op o) = ap (λ (d : Durable). d.epoch) (pushes_durable (writes (acknowledged s m.client) m.client op o) m.client _) ∙ applied_epoch s.durable m.client op o (record_of s.durable.register m.client)
-effect_epoch s m (TakesLock number op) = ap (λ (d : Durable). d.epoch) (pushes_durable (writes (acknowledged (effects.takes s m.client op) m.client) m.client op outcome.Applied) m.client _) ∙ applied_epoch s.durable m.client op outcome.Applied (record_of s.durable.register m.client)
+effect_epoch s m (SeizesLock number op) = ap (λ (d : Durable). d.epoch) (pushes_durable (writes (acknowledged (effects.seizes s m.client op) m.client) m.client op outcome.Applied) m.client _) ∙ applied_epoch s.durable m.client op outcome.Applied (record_of s.durable.register m.client)
 effect_epoch s m (AnswersAgain number op o) = ap (λ (d : Durable). d.epoch) (pushes_durable (acknowledged s m.client) m.client _)
 
 abbrev pub inc_in : Durable → ℕ → ℕ
@@ -162,8 +162,8 @@ applied_inc d c e op o (Some r) f = eq_cases e c
 pub judged_inc : (s : Server) (m : ToServer) (number : ℕ) (op : WriteOp) (o : Outcome) (e : ℕ) → incarnation_of (effect s m (Judges number op o)).server e ≡ incarnation_of s e
 judged_inc s m number op o e = ap (λ (d : Durable). inc_in d e) (pushes_durable (writes (acknowledged s m.client) m.client op o) m.client _) ∙ applied_inc s.durable m.client e op o (record_of s.durable.register m.client) refl
 
-pub taken_inc : (s : Server) (m : ToServer) (number : ℕ) (op : WriteOp) (e : ℕ) → incarnation_of (effect s m (TakesLock number op)).server e ≡ incarnation_of s e
-taken_inc s m number op e = ap (λ (d : Durable). inc_in d e) (pushes_durable (writes (acknowledged (effects.takes s m.client op) m.client) m.client op outcome.Applied) m.client _) ∙ applied_inc s.durable m.client e op outcome.Applied (record_of s.durable.register m.client) refl
+pub taken_inc : (s : Server) (m : ToServer) (number : ℕ) (op : WriteOp) (e : ℕ) → incarnation_of (effect s m (SeizesLock number op)).server e ≡ incarnation_of s e
+taken_inc s m number op e = ap (λ (d : Durable). inc_in d e) (pushes_durable (writes (acknowledged (effects.seizes s m.client op) m.client) m.client op outcome.Applied) m.client _) ∙ applied_inc s.durable m.client e op outcome.Applied (record_of s.durable.register m.client) refl
 
 pub other_inc : (s : Server) (m : ToServer) (x : Case) (e : ℕ) → e ≢ m.client → incarnation_of (effect s m x).server e ≡ incarnation_of s e
 other_inc s m Ignored e ne = refl
@@ -177,7 +177,7 @@ other_inc s m Acknowledges e ne = refl
 other_inc s m (Lowers span keep) e ne = refl
 other_inc s m (Waits req point hi g) e ne = refl
 other_inc s m (Judges number op o) e ne = judged_inc s m number op o e
-other_inc s m (TakesLock number op) e ne = taken_inc s m number op e
+other_inc s m (SeizesLock number op) e ne = taken_inc s m number op e
 other_inc s m (AnswersAgain number op o) e ne = ap (λ (d : Durable). inc_in d e) (pushes_durable (acknowledged s m.client) m.client _)
 
 pushes_other : (s : Server) (c : ℕ) (b : PushBody) (d : ℕ) → d ≢ c → (pushes s c b).server.sessions d ≡ s.sessions d
@@ -195,7 +195,7 @@ other_session s m Acknowledges d ne = session_other s.sessions m.client d _ ne
 other_session s m (Lowers span keep) d ne = session_other s.sessions m.client d _ ne
 other_session s m (Waits req point hi g) d ne = session_other (acknowledged s m.client).sessions m.client d _ ne ∙ session_other s.sessions m.client d _ ne
 other_session s m (Judges number op o) d ne = pushes_other (writes (acknowledged s m.client) m.client op o) m.client _ d ne ∙ session_other s.sessions m.client d _ ne
-other_session s m (TakesLock number op) d ne = pushes_other (writes (acknowledged (effects.takes s m.client op) m.client) m.client op outcome.Applied) m.client _ d ne ∙ session_other s.sessions m.client d _ ne
+other_session s m (SeizesLock number op) d ne = pushes_other (writes (acknowledged (effects.seizes s m.client op) m.client) m.client op outcome.Applied) m.client _ d ne ∙ session_other s.sessions m.client d _ ne
 other_session s m (AnswersAgain number op o) d ne = pushes_other (acknowledged s m.client) m.client _ d ne ∙ session_other s.sessions m.client d _ ne
 
 -- A message of another client
@@ -272,7 +272,7 @@ module _ (s : Server) (m : ToServer) (k : Client) (f : Heard s m k) (h : Knows s
           (subst (λ b. request_of b ≤ k.req) a.asked (f.locks (own_inc r a.served.from (f.own e)) request a.said (a.now ∙ sym e) e)) new
           (taken_stands s m req point hi g) (taken_only s m req point hi g));
     };
-    judges = λ r request number op takes o a under near new is on came. let t = writes (acknowledged s m.client) m.client op o in record {
+    judges = λ r request number op seizes o a under near new is on came. let t = writes (acknowledged s m.client) m.client op o in record {
       early = λ i lt. absurd (not_early r request _ a (sym (judged_inc s m number op o m.client) ∙ i) (let q = effect_epoch s m (Judges number op o) in omega (arith, q, lt)));
       now = λ e. let here = e ∙ effect_epoch s m (Judges number op o) in
           let b : PushBody = push.Answer number o (holding t (slot_of t.durable.index (op_key op)) m.client) in
@@ -281,16 +281,16 @@ module _ (s : Server) (m : ToServer) (k : Client) (f : Heard s m k) (h : Knows s
           (rows_change ((acknowledged s m.client).sessions m.client) s.rows m.client k (acked_now r request _ a here) t.rows
           (subst (λ rows. Stays s.rows rows m.client) same (on (λ e. refl))) (subst (λ rows. Stays rows s.rows m.client) same (no_new (Judges number op o) refl came)));
     };
-    takes = λ r request number op takes a under near new may on came. let t = writes (acknowledged (effects.takes s m.client op) m.client) m.client op outcome.Applied in record {
-      early = λ i lt. absurd (not_early r request _ a (sym (taken_inc s m number op m.client) ∙ i) (let q = effect_epoch s m (TakesLock number op) in omega (arith, q, lt)));
-      now = λ e. let here = e ∙ effect_epoch s m (TakesLock number op) in
+    seizes = λ r request number op seizes a under near new may on came. let t = writes (acknowledged (effects.seizes s m.client op) m.client) m.client op outcome.Applied in record {
+      early = λ i lt. absurd (not_early r request _ a (sym (taken_inc s m number op m.client) ∙ i) (let q = effect_epoch s m (SeizesLock number op) in omega (arith, q, lt)));
+      now = λ e. let here = e ∙ effect_epoch s m (SeizesLock number op) in
           let b : PushBody = push.Answer number outcome.Applied (holding t (slot_of t.durable.index (op_key op)) m.client) in
           let same = pushes_rows t m.client b in
           pushes_current t m.client k b (λ n. refl) none_now
           (rows_change ((acknowledged s m.client).sessions m.client) s.rows m.client k (acked_now r request _ a here) t.rows
-          (subst (λ rows. Stays s.rows rows m.client) same (on (λ e. refl))) (subst (λ rows. Stays rows s.rows m.client) same (no_new (TakesLock number op) refl came)));
+          (subst (λ rows. Stays s.rows rows m.client) same (on (λ e. refl))) (subst (λ rows. Stays rows s.rows m.client) same (no_new (SeizesLock number op) refl came)));
     };
-    answers_again = λ r request number op takes o a under some last is on came. let t = acknowledged s m.client in
+    answers_again = λ r request number op seizes o a under some last is on came. let t = acknowledged s m.client in
         let b : PushBody = push.Answer number o (holding t (slot_of t.durable.index (op_key op)) m.client) in
         let same = pushes_durable t m.client b in record {
           early = λ i lt. absurd (not_early r request _ a (sym (ap (λ (d : Durable). inc_in d m.client) same) ∙ i) (let q = effect_epoch s m (AnswersAgain number op o) in omega (arith, q, lt)));
@@ -322,8 +322,8 @@ pushes_now s rows u b can is = let x = and_parts (not (is_some (s.sessions u.cli
 
 pub turn_pushes : (s : Server) (t : Turn) → next_turn s ≡ Some t → IsPushed s (answer_first s t).server t.waiter
 turn_pushes s t e = if_both (λ (x : Done). IsPushed s x.server t.waiter) (asks_absent s.durable.index t.waiter) (tells_absent s t) (grants s t)
-    (pushes_now s (dropped s.rows t.slot) t.waiter (push.Absent t.waiter.req t.waiter.point) can (eq-eqb t.waiter.req t.waiter.req refl))
-    (pushes_now s (granted s.durable.reach s.durable.index s.rows t.slot) t.waiter (push.Grant t.waiter.req (holdings (with_rows s (granted s.durable.reach s.durable.index s.rows t.slot)) t.waiter.client (taken s.durable.reach s.durable.index s.rows t.slot))) can (eq-eqb t.waiter.req t.waiter.req refl))
+    (pushes_now s (front_dropped s.rows t.slot) t.waiter (push.Absent t.waiter.req t.waiter.point) can (eq-eqb t.waiter.req t.waiter.req refl))
+    (pushes_now s (granted s.durable.reach s.durable.index s.rows t.slot) t.waiter (push.Grant t.waiter.req (holdings (with_rows s (granted s.durable.reach s.durable.index s.rows t.slot)) t.waiter.client (reached_slots s.durable.reach s.durable.index s.rows t.slot))) can (eq-eqb t.waiter.req t.waiter.req refl))
   where
     can : can_push (s.sessions t.waiter.client) ≡ true
     can = (and_parts (can_push (s.sessions t.waiter.client)) (asks_absent s.durable.index t.waiter || is_wanted_compatible s.rows t.slot t.waiter) (turn_is s t e).answerable).0

@@ -1,6 +1,6 @@
 -- In each reachable world server and client know the same of a lock request.
 use Rattle.krl_progress.proofs.Names.{◌≡◌, ℕ, zero, suc, ◌≤◌, ◌⊎◌, inl, inr, ⊎_elim, ◌∙◌, Option, Some, None, List, [], ◌∷◌, ◌++◌, refl, sym, ap, subst, arith, nat_eq, if◌then◌else◌, same_Some, In, in_both}
-use Rattle.krl_progress.proofs.Names.{ToServer, ToClient, Client, Record, Server, is_recovering, lists, Durable, record_of, case_of, Done, effect, answer_first, Answered, stops, goes_on, Kind, kind_of, Ends, at_once, recovers, serves, ServerStep, nudge, nudge_known, nudge_served, slots, callbacks_of, callbacks_from, callbacks_for, callbacks_of_among, max_clients}
+use Rattle.krl_progress.proofs.Names.{ToServer, ToClient, Client, Record, Server, is_recovering, lists, Durable, record_of, case_of, Done, effect, answer_first, AnswersWaiters, stops, goes_on, Following, following, Ends, at_once, recovers, serves, ServerStep, nudge, nudge_known, nudge_served, slots, callbacks_of, callbacks_from, callbacks_for, callbacks_of_among, max_clients}
 use Rattle.krl_progress.proofs.Names.{Up, State, client_of, IsReachable, from_clients, from_server}
 use Rattle.krl_messages.specs.declared.to_server.ToServerBody.TheVariants as said
 use Rattle.krl_messages.specs.declared.to_server.Request.{Request}
@@ -32,17 +32,17 @@ use Rattle.krl_progress.proofs.Seated.{alike, asks_now, accepts_now, joins_now}
 
 -- A message
 
-answered_knows : (s t : Server) (outs : List ToClient) (c : ℕ) (k : Client) → Answered s t outs → IsOrdered s → Knows s c k → Knows t c k
+answered_knows : (s t : Server) (outs : List ToClient) (c : ℕ) (k : Client) → AnswersWaiters s t outs → IsOrdered s → Knows s c k → Knows t c k
 answered_knows s t outs c k (stops x e) o h = h
 answered_knows s t outs c k (goes_on x y turn later e rest) o h = answered_knows (answer_first x turn).server y later c k rest (server_keeps.ordered_turn x turn e o) (turn_knows x turn c k e o.table h)
 
-ends_knows : (done : Done) (kind : Kind) (t : Server) (outs : List ToClient) (c : ℕ) (k : Client) → Ends done kind t outs → IsOrdered done.server → Knows done.server c k → Knows t c k
+ends_knows : (done : Done) (kind : Following) (t : Server) (outs : List ToClient) (c : ℕ) (k : Client) → Ends done kind t outs → IsOrdered done.server → Knows done.server c k → Knows t c k
 ends_knows done kind t outs c k (at_once i) o h = h
 ends_knows done kind t outs c k (recovers g) o h = h
 ends_knows done kind t outs c k (serves u answers n e a) o h = answered_knows done.server u answers c k a o h
 
 pub step_knows : (s t : Server) (m : ToServer) (outs : List ToClient) (c : ℕ) (k : Client) → IsSound s → IsOrdered s → ServerStep s m t outs → (m.client ≡ c → Heard s m k) → Knows s c k → Knows t c k
-step_knows s t m outs c k i o step f h = ends_knows (effect s m (case_of s m)) (kind_of (case_of s m)) t outs c k step (server_keeps.ordered_effect s m i o) (effect_knows s m c k i f h)
+step_knows s t m outs c k i o step f h = ends_knows (effect s m (case_of s m)) (following (case_of s m)) t outs c k step (server_keeps.ordered_effect s m i o) (effect_knows s m c k i f h)
 
 -- A world
 

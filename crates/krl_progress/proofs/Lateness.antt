@@ -1,6 +1,6 @@
 -- Calm rounds leave no lock request untaken: a request that is untaken after two of them was so all the time.
 use Rattle.krl_progress.proofs.Names.{◌≡◌, ◌≢◌, ℕ, zero, suc, ◌≤◌, ◌<◌, inl, inr, ◌∙◌, true, false, Some, None, List, [], ◌∷◌, length, refl, sym, ap, subst, arith, eq_cases, eq-eqb, ne_eqb, cond, nat_lt, END}
-use Rattle.krl_progress.proofs.Names.{ToServer, ToClient, Client, Server, Step, Answer, Up, Down, State, ClientPlace, client_of, with_client, served, Runs, Takes, IsReachable, ServerStep, Done, effect, case_of, kind_of, acknowledged, writes, pushes, Lowers, Judges, TakesLock, AnswersAgain}
+use Rattle.krl_progress.proofs.Names.{ToServer, ToClient, Client, Server, Step, Answer, Up, Down, State, ClientPlace, client_of, with_client, served, Runs, Takes, IsReachable, ServerStep, Done, effect, case_of, following, acknowledged, writes, pushes, Lowers, Judges, SeizesLock, AnswersAgain}
 use Rattle.krl_modes.proofs.Basics.{not_both}
 use Rattle.krl_client.specs.Clients.{is_waiting, begun}
 use Rattle.krl_client.specs.Messages.{accepted}
@@ -60,9 +60,9 @@ own_request s m = let c = m.client in let t = acknowledged s m.client in by_said
   lowers = λ r request span keep a. same_request s (effect s m (Lowers span keep)).server m.client (acked_request s m.client);
   waits = λ r request req point hi g a new free near inc.
       let y = ap (λ (z : Session). z.last_request) (session_here t.sessions m.client (record (t.sessions m.client) { last_request = req })) in omega (arith, y, new);
-  judges = λ r request number op takes o a under near new is. same_request s (effect s m (Judges number op o)).server m.client (pushes_request (writes t m.client op o) m.client _ ∙ acked_request s m.client);
-  takes = λ r request number op takes a under near new may. same_request s (effect s m (TakesLock number op)).server m.client (pushes_request (writes (acknowledged (effects.takes s m.client op) m.client) m.client op outcome.Applied) m.client _ ∙ acked_request s m.client);
-  answers_again = λ r request number op takes o a under some last is. same_request s (effect s m (AnswersAgain number op o)).server m.client (pushes_request t m.client _ ∙ acked_request s m.client);
+  judges = λ r request number op seizes o a under near new is. same_request s (effect s m (Judges number op o)).server m.client (pushes_request (writes t m.client op o) m.client _ ∙ acked_request s m.client);
+  seizes = λ r request number op seizes a under near new may. same_request s (effect s m (SeizesLock number op)).server m.client (pushes_request (writes (acknowledged (effects.seizes s m.client op) m.client) m.client op outcome.Applied) m.client _ ∙ acked_request s m.client);
+  answers_again = λ r request number op seizes o a under some last is. same_request s (effect s m (AnswersAgain number op o)).server m.client (pushes_request t m.client _ ∙ acked_request s m.client);
 })
 
 effect_rises : (s : Server) (m : ToServer) (c : ℕ) → Rises s (effect s m (case_of s m)).server c
@@ -71,7 +71,7 @@ effect_rises s m c = eq_cases c m.client (λ e. subst (Rises s (effect s m (case
 
 step_rises : (s t : Server) (m : ToServer) (outs : List ToClient) (c : ℕ) → ServerStep s m t outs → Rises s t c
 step_rises s t m outs c step inc =
-    let a = ends_after (effect s m (case_of s m)) (kind_of (case_of s m)) t outs step in
+    let a = ends_after (effect s m (case_of s m)) (following (case_of s m)) t outs step in
     let before = effect_rises s m c (sym (same_incarnation (effect s m (case_of s m)).server t c a.durable) ∙ inc) in
     let after = a.requests c in omega (arith, before, after)
 

@@ -1,6 +1,6 @@
 -- What a message makes of a client's session: its pushes have rising numbers.
 use Rattle.krl_progress.proofs.Names.{◌≡◌, ℕ, suc, ◌<◌, ◌∙◌, Some, None, List, refl, sym, ap, subst, arith, nat_lt, eq_cases, END}
-use Rattle.krl_progress.proofs.Names.{ToServer, ToClient, Server, Durable, record_of, case_of, Done, effect, acknowledged, writes, pushes, Judges, TakesLock, AnswersAgain, Turn, next_turn, answer_first, Answered, stops, goes_on, Kind, kind_of, Ends, at_once, recovers, serves, ServerStep}
+use Rattle.krl_progress.proofs.Names.{ToServer, ToClient, Server, Durable, record_of, case_of, Done, effect, acknowledged, writes, pushes, Judges, SeizesLock, AnswersAgain, Turn, next_turn, answer_first, AnswersWaiters, stops, goes_on, Following, following, Ends, at_once, recovers, serves, ServerStep}
 use Rattle.krl_messages.specs.declared.outcome.Outcome.TheVariants as outcome
 use Rattle.krl_messages.specs.declared.to_client.PushBody.{PushBody}
 use Rattle.krl_server.specs.declared.session.Session.{Session}
@@ -60,17 +60,17 @@ own_later s m = let c = m.client in let t = acknowledged s m.client in by_said s
       let x = session_here s.sessions m.client (record (s.sessions m.client) { unacked = None }) in
       let y = session_here t.sessions m.client (record (t.sessions m.client) { last_request = req }) in
       kept refl (ap (λ (z : Session). z.last_push) y ∙ ap (λ (z : Session). z.last_push) x) (λ b e. absurd (let bad : None ≡ Some b = sym (ap (λ (z : Session). z.unacked) y ∙ ap (λ (z : Session). z.unacked) x) ∙ e in cc));
-  judges = λ r request number op takes o a under near new is. let w = writes t m.client op o in
+  judges = λ r request number op seizes o a under near new is. let w = writes t m.client op o in
       let x = session_here s.sessions m.client (record (s.sessions m.client) { unacked = None }) in
       then s w (effect s m (Judges number op o)).server m.client
       (acked s w m.client (sym (ap (λ (d : Durable). incarnation_or_0 (record_of d.register m.client)) (pushes_durable w m.client _)) ∙ judged_inc s m number op o m.client) (ap (λ (y : Session). y.last_push) x) (ap (λ (y : Session). y.unacked) x))
       (pushes_later w m.client _);
-  takes = λ r request number op takes a under near new may. let w = writes (acknowledged (effects.takes s m.client op) m.client) m.client op outcome.Applied in
+  seizes = λ r request number op seizes a under near new may. let w = writes (acknowledged (effects.seizes s m.client op) m.client) m.client op outcome.Applied in
       let x = session_here s.sessions m.client (record (s.sessions m.client) { unacked = None }) in
-      then s w (effect s m (TakesLock number op)).server m.client
+      then s w (effect s m (SeizesLock number op)).server m.client
       (acked s w m.client (sym (ap (λ (d : Durable). incarnation_or_0 (record_of d.register m.client)) (pushes_durable w m.client _)) ∙ taken_inc s m number op m.client) (ap (λ (y : Session). y.last_push) x) (ap (λ (y : Session). y.unacked) x))
       (pushes_later w m.client _);
-  answers_again = λ r request number op takes o a under some last is. then s t (effect s m (AnswersAgain number op o)).server m.client (acked_here s m.client) (pushes_later t m.client _);
+  answers_again = λ r request number op seizes o a under some last is. then s t (effect s m (AnswersAgain number op o)).server m.client (acked_here s m.client) (pushes_later t m.client _);
 })
 
 pub effect_later : (s : Server) (m : ToServer) (c : ℕ) → Later s (effect s m (case_of s m)).server c
@@ -84,14 +84,14 @@ turn_later s t c e = let inc = ap (λ (d : Durable). incarnation_or_0 (record_of
     subst (λ d. (s.sessions d).last_push < ((answer_first s t).server.sessions d).last_push) (sym f) (omega (arith, x))))
     (λ ne. alike s (answer_first s t).server c inc (turn_sessions s t c ne))
 
-pub answered_later : (s t : Server) (outs : List ToClient) (c : ℕ) → Answered s t outs → Later s t c
+pub answered_later : (s t : Server) (outs : List ToClient) (c : ℕ) → AnswersWaiters s t outs → Later s t c
 answered_later s t outs c (stops x e) = alike x x c refl refl
 answered_later s t outs c (goes_on x y turn later e rest) = then x (answer_first x turn).server y c (turn_later x turn c e) (answered_later (answer_first x turn).server y later c rest)
 
-ends_later : (s : Server) (done : Done) (kind : Kind) (t : Server) (outs : List ToClient) (c : ℕ) → Ends done kind t outs → Later s done.server c → Later s t c
+ends_later : (s : Server) (done : Done) (kind : Following) (t : Server) (outs : List ToClient) (c : ℕ) → Ends done kind t outs → Later s done.server c → Later s t c
 ends_later s done kind t outs c (at_once i) h = h
 ends_later s done kind t outs c (recovers g) h = h
 ends_later s done kind t outs c (serves u answers n e a) h = then s done.server u c h (answered_later done.server u answers c a)
 
 pub step_later : (s t : Server) (m : ToServer) (outs : List ToClient) (c : ℕ) → ServerStep s m t outs → Later s t c
-step_later s t m outs c step = ends_later s (effect s m (case_of s m)) (kind_of (case_of s m)) t outs c step (effect_later s m c)
+step_later s t m outs c step = ends_later s (effect s m (case_of s m)) (following (case_of s m)) t outs c step (effect_later s m c)

@@ -1,6 +1,6 @@
 -- A client that holds or waits for something did so before, or the server reads its request.
 use Rattle.krl_progress.proofs.Names.{◌≡◌, ◌≢◌, ℕ, suc, ◌<◌, ◌⊎◌, inl, inr, ⊎_elim, ◌∙◌, true, false, ◌&&◌, Option, Some, None, List, refl, sym, ap, subst, nat_eq, eqb-true, ne_eqb, same_Some, eq_cases, if◌then◌else◌, In}
-use Rattle.krl_progress.proofs.Names.{ToServer, ToClient, WriteOp, Outcome, Record, Server, Durable, record_of, left_by, is_recovering, lists, case_of, Registers, Done, effect, acknowledged, writes, holding, slot_of, span_of, is_slot, op_key, Turn, next_turn, answer_first, Answered, stops, goes_on, Kind, kind_of, Ends, at_once, recovers, serves, ServerStep}
+use Rattle.krl_progress.proofs.Names.{ToServer, ToClient, WriteOp, Outcome, Record, Server, Durable, record_of, left_by, is_recovering, lists, case_of, Registers, Done, effect, acknowledged, writes, holding, slot_of, span_of, is_slot, op_key, Turn, next_turn, answer_first, AnswersWaiters, stops, goes_on, Following, following, Ends, at_once, recovers, serves, ServerStep}
 use Rattle.krl_modes.specs.declared.mode.Mode.{Mode}
 use Rattle.krl_modes.specs.declared.mode.Mode.TheVariants as mode
 use Rattle.krl_modes.specs.declared.part.KeyPart.TheVariants as key
@@ -14,13 +14,14 @@ use Rattle.krl_messages.specs.declared.to_server.ToServerBody.TheVariants as sai
 use Rattle.krl_messages.specs.declared.to_server.Request.{Request}
 use Rattle.krl_queue.specs.declared.waiter.Waiter.{Waiter}
 use Rattle.krl_durable.specs.Registers.{new_record}
-use Rattle.krl_durable.specs.Writes.{applied_by, noted}
+use Rattle.krl_durable.specs.Writes.{noted}
+use Rattle.krl_durable.specs.Splits.{applied_by}
 use Rattle.krl_table.specs.Rows.{Row, Rows, mode_at}
 use Rattle.krl_table.specs.Calls.{with_mode, with_queue, queue_with, mode_beside}
 use Rattle.krl_server.specs.Cases.{judged}
 use Rattle.krl_server.specs.Effects as effects
 use Rattle.krl_server.specs.Effects.{rows_after}
-use Rattle.krl_server.specs.Takes.{lock_for}
+use Rattle.krl_server.specs.Seizing.{lock_for}
 use Rattle.krl_server.specs.Soundness.{IsSound}
 use Rattle.krl_server.proofs.Tests.{if_both, if_case}
 use Rattle.krl_server.proofs.Cased.{by_said, IsFrom}
@@ -29,7 +30,7 @@ use Rattle.krl_server.proofs.Outputs.Ends.{pushes_rows, pushes_durable}
 use Rattle.krl_server.proofs.Grants.{raised_queue, raised_others}
 use Rattle.krl_server.proofs.Invariant.Kept.{server_keeps}
 use Rattle.krl_server.proofs.Invariant.Placed.{two_rows}
-use Rattle.krl_server.proofs.Invariant.TakesSound.{take_is, take_judged}
+use Rattle.krl_server.proofs.Invariant.SeizesSound.{take_is, take_judged}
 use Rattle.krl_server.proofs.Invariant.WaitersAfter as after
 use Rattle.krl_progress.specs.Standstills.{HasPart, holds, waits}
 use Rattle.krl_progress.proofs.WritesMove.{nobody_listed}
@@ -60,9 +61,9 @@ asker s m = by_said s m (λ k. after.asks k ≡ true → IsAsker s m) (record {
   acknowledges = λ r request b a e. absurd (cc);
   lowers = λ r request span keep a e. absurd (cc);
   waits = λ r request req point hi g a new free near e. record { known = r; from = a.served.from; request = request; said = a.said; now = a.now };
-  judges = λ r request number op takes o a under near new is e. absurd (cc);
-  takes = λ r request number op takes a under near new may e. absurd (cc);
-  answers_again = λ r request number op takes o a under some last is e. absurd (cc);
+  judges = λ r request number op seizes o a under near new is e. absurd (cc);
+  seizes = λ r request number op seizes a under near new may e. absurd (cc);
+  answers_again = λ r request number op seizes o a under some last is e. absurd (cc);
 })
 
 -- What a message makes of what a client holds
@@ -111,7 +112,7 @@ written_part s d c op outcome.NotHeld e n = λ held. holds n held
 written_part s d c op outcome.Full e n = λ held. holds n held
 
 -- a client that takes a lock makes no other client hold anything
-taken_part : (s : Server) (d c : ℕ) (op : WriteOp) → c ≢ d → HasPart (effects.takes s d op) c → HasPart s c
+taken_part : (s : Server) (d c : ℕ) (op : WriteOp) → c ≢ d → HasPart (effects.seizes s d op) c → HasPart s c
 taken_part s d c op ne (holds n held) = holds n (λ none. held (sym (raised_others s.rows (slot_of s.durable.index (op_key op)) (lock_for d op) c ne n) ∙ none))
 taken_part s d c op ne (waits n u at own) = waits n u (subst (In u) (raised_queue s.rows (slot_of s.durable.index (op_key op)) (lock_for d op) n) at) own
 
@@ -138,16 +139,16 @@ effect_gets s m c i up = let t = acknowledged s m.client in by_said s m (λ k. (
       waits = λ r request req point hi g a new free near n held. let w : Waiter = record { client = m.client; req = req; point = point; hi = hi; mode = g } in
           let k = slot_of s.durable.index point in
           inl (holds n (λ none. held (sym (row_modes s.rows k (with_queue (s.rows k) (queue_with (s.rows k) w)) c refl n) ∙ none)));
-      judges = λ r request number op takes o a under near new is n held. let y = writes t m.client op o in
+      judges = λ r request number op seizes o a under near new is n held. let y = writes t m.client op o in
           inl (subst (λ (rows : Rows). Held s c (mode_at rows n c)) (sym (pushes_rows y m.client (push.Answer number o (holding y (slot_of y.durable.index (op_key op)) m.client)))) (written_part s m.client c op o is n) held);
-      takes = λ r request number op takes a under near new may n held. let x = effects.takes s m.client op in
+      seizes = λ r request number op seizes a under near new may n held. let x = effects.seizes s m.client op in
           let y = writes (acknowledged x m.client) m.client op outcome.Applied in
           eq_cases c m.client
           (λ own. inr (own, record { known = r; from = a.served.from; request = request; said = a.said; now = a.now }))
           (λ ne. inl (taken_part s m.client c op ne
           (subst (λ (rows : Rows). Held x c (mode_at rows n c)) (sym (pushes_rows y m.client (push.Answer number outcome.Applied (holding y (slot_of y.durable.index (op_key op)) m.client))))
           (written_part x m.client c op outcome.Applied (take_judged s m.client op i under (take_is s m.client op may)) n) held)));
-      answers_again = λ r request number op takes o a under some last is n held.
+      answers_again = λ r request number op seizes o a under some last is n held.
           inl (subst (λ (rows : Rows). Held s c (mode_at rows n c)) (sym (pushes_rows t m.client (push.Answer number o (holding t (slot_of t.durable.index (op_key op)) m.client)))) (λ held. holds n held) held);
     })
   where
@@ -175,17 +176,17 @@ turn_part s t c e p = eq_cases c t.waiter.client
     by_part ne (holds n held) = holds n (λ none. held (turn_others s t c e ne n ∙ none))
     by_part ne (waits n u at own) = let x = turn_came s t e c u (record { slot = n; at = at; own = own }) in waits x.slot u x.at x.own
 
-answered_part : (s t : Server) (outs : List ToClient) (c : ℕ) → Answered s t outs → HasPart t c → HasPart s c
+answered_part : (s t : Server) (outs : List ToClient) (c : ℕ) → AnswersWaiters s t outs → HasPart t c → HasPart s c
 answered_part s t outs c (stops x e) p = p
 answered_part s t outs c (goes_on x y turn later e rest) p = turn_part x turn c e (answered_part (answer_first x turn).server y later c rest p)
 
-ends_part : (done : Done) (kind : Kind) (t : Server) (outs : List ToClient) (c : ℕ) → Ends done kind t outs → HasPart t c → HasPart done.server c
+ends_part : (done : Done) (kind : Following) (t : Server) (outs : List ToClient) (c : ℕ) → Ends done kind t outs → HasPart t c → HasPart done.server c
 ends_part done kind t outs c (at_once i) p = p
 ends_part done kind t outs c (recovers g) p = p
 ends_part done kind t outs c (serves u answers ne up a) p = answered_part done.server u answers c a p
 
 pub step_part : (s t : Server) (m : ToServer) (outs : List ToClient) (c : ℕ) → IsSound s → is_recovering s.missing ≡ false → ServerStep s m t outs → HasPart t c → HasPart s c ⊎ ((c ≡ m.client) × IsAsker s m)
-step_part s t m outs c i up step p = effect_part s m c i up (ends_part (effect s m (case_of s m)) (kind_of (case_of s m)) t outs c step p)
+step_part s t m outs c i up step p = effect_part s m c i up (ends_part (effect s m (case_of s m)) (following (case_of s m)) t outs c step p)
 
 -- Records
 
@@ -226,11 +227,11 @@ effect_was s m e = let t = acknowledged s m.client in by_said s m (λ k. WasIn s
   acknowledges = λ r request b a. same;
   lowers = λ r request span keep a. same;
   waits = λ r request req point hi g a new free near. same;
-  judges = λ r request number op takes o a under near new is. let y = writes t m.client op o in
+  judges = λ r request number op seizes o a under near new is. let y = writes t m.client op o in
       subst (λ d. WasIn s.durable d e) (sym (pushes_durable y m.client (push.Answer number o (holding y (slot_of y.durable.index (op_key op)) m.client)))) (applied_was s.durable m.client e op o (record_of s.durable.register m.client) refl);
-  takes = λ r request number op takes a under near new may. let y = writes (acknowledged (effects.takes s m.client op) m.client) m.client op outcome.Applied in
+  seizes = λ r request number op seizes a under near new may. let y = writes (acknowledged (effects.seizes s m.client op) m.client) m.client op outcome.Applied in
       subst (λ d. WasIn s.durable d e) (sym (pushes_durable y m.client (push.Answer number outcome.Applied (holding y (slot_of y.durable.index (op_key op)) m.client)))) (applied_was s.durable m.client e op outcome.Applied (record_of s.durable.register m.client) refl);
-  answers_again = λ r request number op takes o a under some last is.
+  answers_again = λ r request number op seizes o a under some last is.
       subst (λ d. WasIn s.durable d e) (sym (pushes_durable t m.client (push.Answer number o (holding t (slot_of t.durable.index (op_key op)) m.client)))) same;
 })
   where

@@ -1,6 +1,6 @@
 -- A push that is on its way is one that its client waits for, and what a server does keeps that.
 use Rattle.krl_progress.proofs.Names.{◌≡◌, ℕ, suc, ◌≤◌, ◌∙◌, true, Some, None, is_some, Bool, List, sym, ap, subst, arith, nat_lt, eq_cases, eqb-true, same_Some, END}
-use Rattle.krl_progress.proofs.Names.{ToServer, ToClient, Client, Record, Server, Durable, Case, Registers, Leaves, Acknowledges, Lowers, Waits, Judges, TakesLock, AnswersAgain, case_of, Done, effect, acknowledged, writes, pushes, Turn, next_turn, answer_first, Answered, stops, goes_on, Kind, kind_of, Ends, at_once, recovers, serves, ServerStep}
+use Rattle.krl_progress.proofs.Names.{ToServer, ToClient, Client, Record, Server, Durable, Case, Registers, Leaves, Acknowledges, Lowers, Waits, Judges, SeizesLock, AnswersAgain, case_of, Done, effect, acknowledged, writes, pushes, Turn, next_turn, answer_first, AnswersWaiters, stops, goes_on, Following, following, Ends, at_once, recovers, serves, ServerStep}
 use Rattle.krl_messages.specs.declared.to_server.ToServerBody.TheVariants as said
 use Rattle.krl_messages.specs.declared.to_server.Request.{Request}
 use Rattle.krl_messages.specs.declared.outcome.Outcome.TheVariants as outcome
@@ -53,8 +53,8 @@ module _ (s : Server) (m : ToServer) (k : Client) (i : IsSound s) (f : Heard s m
   acked : ((acknowledged s m.client).sessions m.client).unacked ≡ None
   acked = ap (λ (x : Session). x.unacked) (session_here s.sessions m.client (record (s.sessions m.client) { unacked = None }))
 
-  awaits : (r : Record) (request : Request) (number : ℕ) (op : WriteOp) (takes : Bool) → IsAsked s m r request (asked.Write number op takes) → k.epoch ≡ s.durable.epoch → (is_some (outstanding k.written) ≡ true) × (number ≡ k.writes)
-  awaits r request number op takes a e =
+  awaits : (r : Record) (request : Request) (number : ℕ) (op : WriteOp) (seizes : Bool) → IsAsked s m r request (asked.Write number op seizes) → k.epoch ≡ s.durable.epoch → (is_some (outstanding k.written) ≡ true) × (number ≡ k.writes)
+  awaits r request number op seizes a e =
       let from = a.served.from in
       let inc = from.same ∙ sym (ap incarnation_or_0 from.known) ∙ f.own e in
       let at_most = (f.requests inc request a.said).1 (a.now ∙ sym e) in
@@ -75,9 +75,9 @@ module _ (s : Server) (m : ToServer) (k : Client) (i : IsSound s) (f : Heard s m
     acknowledges = λ r request b a e. none_comes ((effect s m Acknowledges).server.sessions m.client) k acked;
     lowers = λ r request span keep a e. none_comes ((effect s m (Lowers span keep)).server.sessions m.client) k acked;
     waits = λ r request req point hi g a new free near e. none_comes ((effect s m (Waits req point hi g)).server.sessions m.client) k (ap (λ (x : Session). x.unacked) (session_here (acknowledged s m.client).sessions m.client (record ((acknowledged s m.client).sessions m.client) { last_request = req })) ∙ acked);
-    judges = λ r request number op takes o a under near new is e. pushes_comes (writes (acknowledged s m.client) m.client op o) m.client k _ acked (awaits r request number op takes a (e ∙ effect_epoch s m (Judges number op o)));
-    takes = λ r request number op takes a under near new may e. pushes_comes (writes (acknowledged (effects.takes s m.client op) m.client) m.client op outcome.Applied) m.client k _ acked (awaits r request number op takes a (e ∙ effect_epoch s m (TakesLock number op)));
-    answers_again = λ r request number op takes o a under some last is e. pushes_comes (acknowledged s m.client) m.client k _ acked (awaits r request number op takes a (e ∙ effect_epoch s m (AnswersAgain number op o)));
+    judges = λ r request number op seizes o a under near new is e. pushes_comes (writes (acknowledged s m.client) m.client op o) m.client k _ acked (awaits r request number op seizes a (e ∙ effect_epoch s m (Judges number op o)));
+    seizes = λ r request number op seizes a under near new may e. pushes_comes (writes (acknowledged (effects.seizes s m.client op) m.client) m.client op outcome.Applied) m.client k _ acked (awaits r request number op seizes a (e ∙ effect_epoch s m (SeizesLock number op)));
+    answers_again = λ r request number op seizes o a under some last is e. pushes_comes (acknowledged s m.client) m.client k _ acked (awaits r request number op seizes a (e ∙ effect_epoch s m (AnswersAgain number op o)));
   })
 
 effect_pending : (s : Server) (m : ToServer) (c : ℕ) (k : Client) → IsSound s → (m.client ≡ c → Heard s m k) → (m.client ≡ c → Writes m k) → Knows s c k → Pending s c k → Pending (effect s m (case_of s m)).server c k
@@ -109,14 +109,14 @@ turn_pending s t c k e knows h = eq_cases c t.waiter.client
         by_request b is (stands w r u y all q) = awaited k t.waiter.req b w (all t.waiter (turn_stands s t e)) is
         by_request b is (comes w r a b1 n l y) = absurd (a t.waiter (turn_stands s t e))
 
-answered_pending : (s t : Server) (outs : List ToClient) (c : ℕ) (k : Client) → Answered s t outs → IsOrdered s → Knows s c k → Pending s c k → Pending t c k
+answered_pending : (s t : Server) (outs : List ToClient) (c : ℕ) (k : Client) → AnswersWaiters s t outs → IsOrdered s → Knows s c k → Pending s c k → Pending t c k
 answered_pending s t outs c k (stops x e) o knows h = h
 answered_pending s t outs c k (goes_on x y turn later e rest) o knows h = answered_pending (answer_first x turn).server y later c k rest (server_keeps.ordered_turn x turn e o) (turn_knows x turn c k e o.table knows) (turn_pending x turn c k e knows h)
 
-ends_pending : (done : Done) (kind : Kind) (t : Server) (outs : List ToClient) (c : ℕ) (k : Client) → Ends done kind t outs → IsOrdered done.server → Knows done.server c k → Pending done.server c k → Pending t c k
+ends_pending : (done : Done) (kind : Following) (t : Server) (outs : List ToClient) (c : ℕ) (k : Client) → Ends done kind t outs → IsOrdered done.server → Knows done.server c k → Pending done.server c k → Pending t c k
 ends_pending done kind t outs c k (at_once i) o knows h = h
 ends_pending done kind t outs c k (recovers g) o knows h = h
 ends_pending done kind t outs c k (serves u answers n e a) o knows h = answered_pending done.server u answers c k a o knows h
 
 pub step_pending : (s t : Server) (m : ToServer) (outs : List ToClient) (c : ℕ) (k : Client) → IsSound s → IsOrdered s → ServerStep s m t outs → (m.client ≡ c → Heard s m k) → (m.client ≡ c → Writes m k) → Knows s c k → Pending s c k → Pending t c k
-step_pending s t m outs c k i o step f w knows h = ends_pending (effect s m (case_of s m)) (kind_of (case_of s m)) t outs c k step (server_keeps.ordered_effect s m i o) (effect_knows s m c k i f knows) (effect_pending s m c k i f w knows h)
+step_pending s t m outs c k i o step f w knows h = ends_pending (effect s m (case_of s m)) (following (case_of s m)) t outs c k step (server_keeps.ordered_effect s m i o) (effect_knows s m c k i f knows) (effect_pending s m c k i f w knows h)

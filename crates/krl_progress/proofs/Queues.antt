@@ -12,7 +12,7 @@ use Rattle.krl_messages.specs.declared.to_client.PushBody.TheVariants as push
 use Rattle.krl_queue.specs.declared.waiter.Waiter.{Waiter}
 use Rattle.krl_queue.specs.Waiting.{first_of}
 use Rattle.krl_table.specs.Rows.{Row, set_row}
-use Rattle.krl_table.specs.Calls.{split, merged, dropped, granted_first, grant_first, with_queue, with_mode, queue_with, behind_first}
+use Rattle.krl_table.specs.Calls.{split, merged, front_dropped, granted_first, with_queue, with_mode, queue_with, behind_first, grant_first}
 use Rattle.krl_table.specs.Grants.{granted}
 use Rattle.krl_table.specs.Replies.{asks_absent}
 use Rattle.krl_table.specs.Sound.{IsTable}
@@ -23,7 +23,7 @@ use Rattle.krl_table.proofs.Rows.Waiters.{some_first}
 use Rattle.krl_server.specs.Cases.{judged}
 use Rattle.krl_server.specs.Effects as effects
 use Rattle.krl_server.specs.Effects.{rows_after, with_rows}
-use Rattle.krl_server.specs.Takes.{lock_for}
+use Rattle.krl_server.specs.Seizing.{lock_for}
 use Rattle.krl_server.specs.Answering.{tells_absent, grants}
 use Rattle.krl_server.specs.Soundness.{IsSound}
 use Rattle.krl_server.proofs.Tests.{if_both}
@@ -34,7 +34,7 @@ use Rattle.krl_server.proofs.Updates.{row_here, row_other}
 use Rattle.krl_server.proofs.Outputs.Ends.{pushes_rows}
 use Rattle.krl_server.proofs.Invariant.Placed.{two_rows}
 use Rattle.krl_server.proofs.Invariant.WritesSound.{insert_may}
-use Rattle.krl_server.proofs.Invariant.TakesSound.{take_is, take_judged, takes_sound}
+use Rattle.krl_server.proofs.Invariant.SeizesSound.{take_is, take_judged, takes_sound}
 
 -- a waiter of the client stands in a queue
 pub record Stands (rows : Rows) (c : ℕ) (u : Waiter) : Type 0 where
@@ -129,7 +129,7 @@ effect_stays s m c i = let t = acknowledged s m.client in by_case s m (λ k. (m.
       waits = λ r req point hi g served new free near f. queued s.rows (slot_of s.durable.index point) (record { client = m.client; req = req; point = point; hi = hi; mode = g });
       judges = λ r number op o served under near new is f u x. let y = writes t m.client op o in
           subst (λ rows. Stands rows c u) (sym (pushes_rows y m.client (push.Answer number o (holding y (slot_of y.durable.index (op_key op)) m.client)))) (written_stays s m.client c op o i under is u x);
-      takes = λ r number op served under near new may f u x. let t = effects.takes s m.client op in
+      seizes = λ r number op served under near new may f u x. let t = effects.seizes s m.client op in
           let y = writes (acknowledged t m.client) m.client op outcome.Applied in
           let there = same_queues s.rows t.rows c (raised_queue s.rows (slot_of s.durable.index (op_key op)) (lock_for m.client op)) u x in
           subst (λ rows. Stands rows c u) (sym (pushes_rows y m.client (push.Answer number outcome.Applied (holding y (slot_of y.durable.index (op_key op)) m.client))))
@@ -176,9 +176,9 @@ cleared_away rows c u x = (in_unqueue (rows x.slot).queue c u x.at).1 x.own
 -- An answer to a first waiter
 
 -- the queues after an answer: the first waiter of the slot is gone
-turn_queue : (s : Server) (t : Turn) (n : ℕ) → ((answer_first s t).server.rows n).queue ≡ (dropped s.rows t.slot n).queue
-turn_queue s t n = if_both (λ (x : Done). (x.server.rows n).queue ≡ (dropped s.rows t.slot n).queue) (asks_absent s.durable.index t.waiter) (tells_absent s t) (grants s t)
-    (ap (λ (r : Rows). (r n).queue) (pushes_rows (with_rows s (dropped s.rows t.slot)) t.waiter.client (push.Absent t.waiter.req t.waiter.point)))
+turn_queue : (s : Server) (t : Turn) (n : ℕ) → ((answer_first s t).server.rows n).queue ≡ (front_dropped s.rows t.slot n).queue
+turn_queue s t n = if_both (λ (x : Done). (x.server.rows n).queue ≡ (front_dropped s.rows t.slot n).queue) (asks_absent s.durable.index t.waiter) (tells_absent s t) (grants s t)
+    (ap (λ (r : Rows). (r n).queue) (pushes_rows (with_rows s (front_dropped s.rows t.slot)) t.waiter.client (push.Absent t.waiter.req t.waiter.point)))
     (ap (λ (r : Rows). (r n).queue) (pushes_rows (with_rows s (granted s.durable.reach s.durable.index s.rows t.slot)) t.waiter.client _) ∙ granted_queue s.durable.reach s.durable.index s.rows t.slot n ∙ first_gone (nat_eq n t.slot))
   where
     first_gone : (b : Bool) → (if b then grant_first (s.rows t.slot) (s.rows t.slot).queue else s.rows n).queue ≡ (if b then with_queue (s.rows t.slot) (behind_first (s.rows t.slot).queue) else s.rows n).queue
@@ -202,9 +202,9 @@ module _ (s : Server) (t : Turn) (e : next_turn s ≡ Some t) where
       behind : In u (s.rows t.slot).queue → In u (behind_first (s.rows t.slot).queue)
       behind at = ⊎_elim (λ (f : u ≡ t.waiter). absurd (ne (sym x.own ∙ ap (λ (w : Waiter). w.client) f))) (λ (y : In u (behind_first (s.rows t.slot).queue)). y) (subst (In u) first at)
 
-      there : In u (dropped s.rows t.slot x.slot).queue
+      there : In u (front_dropped s.rows t.slot x.slot).queue
       there = eq_cases x.slot t.slot
-          (λ f. subst (λ y. In u (dropped s.rows t.slot y).queue) (sym f) (subst (λ (r : Row). In u r.queue) (sym (row_here s.rows t.slot _)) (behind (subst (λ y. In u (s.rows y).queue) f x.at))))
+          (λ f. subst (λ y. In u (front_dropped s.rows t.slot y).queue) (sym f) (subst (λ (r : Row). In u r.queue) (sym (row_here s.rows t.slot _)) (behind (subst (λ y. In u (s.rows y).queue) f x.at))))
           (λ no. subst (λ (r : Row). In u r.queue) (sym (row_other s.rows t.slot _ x.slot no)) x.at)
 
   -- a client that waits after an answer waited before
@@ -227,7 +227,7 @@ module _ (s : Server) (t : Turn) (e : next_turn s ≡ Some t) where
       (λ (y : In u (s.rows x.slot).queue). eq_cases x.slot t.slot (λ f. elsewhere_or f) (λ ne. none_in t.waiter.client (s.rows x.slot).queue (table.nowhere_else t.slot x.slot t.waiter.client (λ f. ne (sym f)) here) u y x.own))
       (in_row s.rows t.slot (with_queue (s.rows t.slot) (behind_first (s.rows t.slot).queue)) x.slot u gone)
     where
-      gone : In u (dropped s.rows t.slot x.slot).queue
+      gone : In u (front_dropped s.rows t.slot x.slot).queue
       gone = subst (In u) (turn_queue s t x.slot) x.at
 
       here : is_some (first_of t.waiter.client (s.rows t.slot).queue) ≡ true
@@ -243,4 +243,4 @@ module _ (s : Server) (t : Turn) (e : next_turn s ≡ Some t) where
 
       elsewhere_or : x.slot ≡ t.slot → ⊥
       elsewhere_or f = none_in t.waiter.client (behind_first (s.rows t.slot).queue) alone u
-          (subst (λ (r : Row). In u r.queue) (row_here s.rows t.slot _) (subst (λ y. In u (dropped s.rows t.slot y).queue) f gone)) x.own
+          (subst (λ (r : Row). In u r.queue) (row_here s.rows t.slot _) (subst (λ y. In u (front_dropped s.rows t.slot y).queue) f gone)) x.own

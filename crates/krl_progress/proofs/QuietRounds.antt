@@ -7,7 +7,7 @@ use Rattle.krl_messages.specs.declared.to_client.PushBody.TheVariants as push
 use Rattle.krl_messages.specs.declared.to_client.ToClientBody.TheVariants as told
 use Rattle.krl_client.specs.Clients.{is_waiting, outstanding, meets_pin}
 use Rattle.krl_client.specs.Messages as receiver
-use Rattle.krl_client.specs.Messages.{Case, Ignores, AcksAgain, Adopts, Accepts, Lowers, accepted, joined}
+use Rattle.krl_client.specs.Messages.{ClientCase, Ignores, AcksAgain, Adopts, Accepts, Lowers, accepted, joined}
 use Rattle.krl_world.specs.declared.message.Message.TheVariants as message
 use Rattle.krl_world.proofs.Progress.CanGoOn.{can_go_on}
 use Rattle.krl_world.proofs.Refinement.Taken.{at_in}
@@ -26,7 +26,7 @@ use Rattle.krl_progress.proofs.Manned.{Lasts, first, lasts_on, undisturbed, roun
 
 -- A message that a client reads leaves its pins, and asks for no lock
 
-read_pins : (k : Client) (x : Case) (span : Bounds) → meets_pin (receiver.after k x) span ≡ meets_pin k span
+read_pins : (k : Client) (x : ClientCase) (span : Bounds) → meets_pin (receiver.after k x) span ≡ meets_pin k span
 read_pins k Ignores span = refl
 read_pins k AcksAgain span = refl
 read_pins k (Adopts epoch) span = refl
@@ -35,7 +35,7 @@ read_pins k (Accepts (push.Absent req point)) span = refl
 read_pins k (Accepts (push.Answer number o h)) span = refl
 read_pins k (Lowers s keep) span = refl
 
-read_request : (k : Client) (x : Case) → (receiver.after k x).req ≤ k.req
+read_request : (k : Client) (x : ClientCase) → (receiver.after k x).req ≤ k.req
 read_request k Ignores = omega arith
 read_request k AcksAgain = omega arith
 read_request k (Adopts epoch) = omega arith
@@ -103,13 +103,13 @@ module _ (e : ℕ) (reqs writes : ℕ → ℕ) where
     client_stays : (m : ToClient) (o : Option Client) → client_of u m.client ≡ o → In (message.ToClient m) u.sent → ClientReads u o m v → AllStay v
     client_stays m None i at d = same_stay d
     client_stays m (Some k) i at d =
-        let l = receiver.after k (receiver.case_of k m) in
-        let ms = receiver.sends d.0 k (receiver.case_of k m) in
+        let l = receiver.after k (receiver.client_case_of k m) in
+        let ms = receiver.sends d.0 k (receiver.client_case_of k m) in
         let there : client_of v m.client ≡ Some l = ap (λ (y : State). client_of y m.client) d.2 ∙ ap (λ b. (if b then (let z : ClientPlace = record { last_incarnation = (u.places m.client).last_incarnation; client = Some l } in z) else u.places m.client).client) (eq-eqb m.client m.client refl) in
         place_stay m.client l ms d.2
         (goes_on u m.client k (all m.client k i)
         (λ here b n sent own inc is. came u h.server m.client k b n h.reached h.up i (here ∙ sym now) sent own inc is)
-        l ms (client_goes u d.0 k m at) (reads_write d.0 k m) (read_request k (receiver.case_of k m)) (reads_number k (receiver.case_of k m)) (read_pins k (receiver.case_of k m))
+        l ms (client_goes u d.0 k m at) (reads_write d.0 k m) (read_request k (receiver.client_case_of k m)) (reads_number k (receiver.client_case_of k m)) (read_pins k (receiver.client_case_of k m))
         (let most = (standing v g.server m.client l g.reached g.up there).epoch in omega (arith, most, later)))
 
     read_stays : (m : ToServer) (n : ServerPlace) → ServerReads u n m v → AllStay v

@@ -5,8 +5,8 @@ use Rattle.krl_world.proofs.Reaching.{by_reaching}
 use Rattle.krl_messages.specs.declared.to_client.PushBody.{PushBody}
 use Rattle.krl_messages.specs.declared.to_client.PushBody.TheVariants as push
 use Rattle.krl_client.specs.Clients.{is_waiting, LockRequest, NotAsked, Granted, Absent, Dropped, Waiting}
-use Rattle.krl_client.specs.Messages.{accepted, dropped}
-use Rattle.krl_server.specs.Cases.{is_reach}
+use Rattle.krl_client.specs.Messages.{accepted, request_dropped}
+use Rattle.krl_server.specs.Cases.{has_points}
 use Rattle.krl_server.proofs.Tests.{if_both}
 use Rattle.krl_progress.proofs.Moves.{some_is}
 use Rattle.krl_progress.proofs.Doings.{Goes, same, locks, adopts, accepts, Does, rests, goes, starts, ends, reads, nudges, stops, begins, does}
@@ -17,12 +17,12 @@ Reaches NotAsked = Unit {0}
 Reaches Granted = Unit {0}
 Reaches Absent = Unit {0}
 Reaches Dropped = Unit {0}
-Reaches (Waiting point hi g) = is_reach point hi ≡ true
+Reaches (Waiting point hi g) = has_points point hi ≡ true
 
 abbrev AllReach : State → Type 0
 AllReach u = (c : ℕ) (k : Client) → client_of u c ≡ Some k → Reaches k.asked
 
-dropped_reaches : (a : LockRequest) → Reaches (dropped a)
+dropped_reaches : (a : LockRequest) → Reaches (request_dropped a)
 dropped_reaches NotAsked = tt
 dropped_reaches Granted = tt
 dropped_reaches Absent = tt

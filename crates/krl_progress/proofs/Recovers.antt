@@ -1,5 +1,5 @@
 -- How a client that the server misses comes to be heard, in good rounds.
-use Rattle.krl_modes.specs.Limits.{max_clients}
+use Rattle.krl_modes.specs.Constants.{max_clients}
 use Rattle.krl_progress.proofs.Names.{◌≡◌, ◌≢◌, ℕ, zero, suc, ◌≤◌, ◌<◌, ◌∙◌, ◌⊎◌, inl, inr, Bool, true, false, Some, None, List, [], ◌∷◌, ◌++◌, length, is_some, slice_get, refl, sym, ap, subst, arith, nat_eq, nat_lt, if◌then◌else◌, ltb-true, ltb-false, eqb-false, eq-eqb, ⊎_elim, all_follow, Ok}
 use Rattle.krl_progress.proofs.Names.{ToServer, ToClient, In, Client, Message, Pieces, Server, is_recovering, lists, Step, Answer, Up, Down, State, ServerPlace, client_of, message_at, Delivers, ServerReads, ClientReads, Runs, IsReachable, Takes, case_of, effect, from_clients, from_server, set_place, set_place}
 use Rattle.krl_progress.proofs.Names.{says_ack, says_report, ClientPlace}
@@ -261,8 +261,8 @@ module _ (c inc epoch n : ℕ) where
       let d : ClientReads u (Some h.client) (epoch_message c inc epoch) v = subst (λ o. ClientReads u o (epoch_message c inc epoch) v) h.runs (subst (λ o. Delivers u o v) sent t.1.1) in
       let st = standing u h.server c h.client h.reachable h.up h.runs in
       let own : epoch_message h.client.number h.client.incarnation epoch ≡ epoch_message c inc epoch = λ j. record { client = st.number j; incarnation = h.same j; body = told.Epoch epoch } in
-      let new : client_of v c ≡ Some (receiver.after h.client (receiver.case_of h.client (epoch_message c inc epoch))) = ap (λ x. client_of x c) d.2 ∙ place_here u _ in
-      let up : epoch ≤ (receiver.after h.client (receiver.case_of h.client (epoch_message c inc epoch))).epoch = subst (λ m. epoch ≤ (receiver.after h.client (receiver.case_of h.client m)).epoch) own (joins h.client epoch) in
+      let new : client_of v c ≡ Some (receiver.after h.client (receiver.client_case_of h.client (epoch_message c inc epoch))) = ap (λ x. client_of x c) d.2 ∙ place_here u _ in
+      let up : epoch ≤ (receiver.after h.client (receiver.client_case_of h.client (epoch_message c inc epoch))).epoch = subst (λ m. epoch ≤ (receiver.after h.client (receiver.client_case_of h.client m)).epoch) own (joins h.client epoch) in
       subst (λ (x : Client). epoch ≤ x.epoch) (some_is _ k (sym new ∙ e)) up
 
   -- The Report

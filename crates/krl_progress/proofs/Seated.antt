@@ -6,7 +6,7 @@ use Rattle.krl_modes.specs.declared.mode.Mode.{Mode}
 use Rattle.krl_modes.proofs.Basics.{not_both}
 use Rattle.krl_client.specs.Clients.{is_waiting, LockRequest, NotAsked, Granted, Absent, Dropped, Waiting}
 use Rattle.krl_client.specs.Commands.{locked}
-use Rattle.krl_client.specs.Messages.{accepted, joined, dropped, asked_after}
+use Rattle.krl_client.specs.Messages.{accepted, joined, request_dropped, asked_after}
 use Rattle.krl_server.specs.declared.session.Session.{Session}
 use Rattle.krl_progress.specs.Answers.{answers_request}
 use Rattle.krl_progress.proofs.Knowing.{IsClear, Asks, idle, untaken, stands, comes, Current, Fresh}
@@ -75,7 +75,7 @@ module _ (x : Session) (rows : Rows) (c : ℕ) (k : Client) (h : Current x rows 
         by_request (comes w r a b1 f n z) = absurd (let bad = ap (answers_request k.req) (sym (same b1 f)) ∙ ap (answers_request k.req) e in not_both (answers_request k.req b1) z bad)
 
 -- it joins the epoch of a server that has heard nothing of it there
-pub not_waiting_on : (a : LockRequest) → is_waiting (dropped a) ≡ false
+pub not_waiting_on : (a : LockRequest) → is_waiting (request_dropped a) ≡ false
 not_waiting_on NotAsked = refl
 not_waiting_on Granted = refl
 not_waiting_on Absent = refl

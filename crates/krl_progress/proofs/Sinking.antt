@@ -1,7 +1,7 @@
 -- What a client holds on a slot where somebody waits rises only by a push.
 use Rattle.std.specs.Prelude.{◌-◌}
 use Rattle.krl_progress.proofs.Names.{◌≡◌, ◌≢◌, ℕ, suc, ◌≤◌, ◌<◌, ◌∙◌, Bool, true, false, ◌&&◌, ◌||◌, Some, List, [], ◌∷◌, is_some, refl, sym, ap, subst, arith, nat_eq, eqb-true, END}
-use Rattle.krl_progress.proofs.Names.{ToServer, ToClient, Server, is_recovering, lists, case_of, Done, effect, acknowledged, writes, Turn, next_turn, answer_first, Answered, stops, goes_on, Kind, kind_of, Ends, at_once, recovers, serves, ServerStep, Index, Rows, slot_of, span_of, is_slot, is_compatible, op_key, holding, WriteOp, Durable, record_of}
+use Rattle.krl_progress.proofs.Names.{ToServer, ToClient, Server, is_recovering, lists, case_of, Done, effect, acknowledged, writes, Turn, next_turn, answer_first, AnswersWaiters, stops, goes_on, Following, following, Ends, at_once, recovers, serves, ServerStep, Index, Rows, slot_of, span_of, is_slot, is_compatible, op_key, holding, WriteOp, Durable, record_of}
 use Rattle.krl_progress.proofs.Names.{Step, Answer, Up, Down, State, Takes, IsReachable}
 use Rattle.std.specs.FinMap as map
 use Rattle.krl_modes.specs.declared.mode.Mode.{Mode}
@@ -17,8 +17,8 @@ use Rattle.krl_messages.specs.declared.write_op.WriteOp.TheVariants as write
 use Rattle.krl_messages.specs.declared.to_client.PushBody.TheVariants as push
 use Rattle.krl_queue.specs.declared.waiter.Waiter.{Waiter}
 use Rattle.krl_table.specs.Rows.{Row, mode_at, set_row, set_mode}
-use Rattle.krl_table.specs.Calls.{wanted, with_mode, with_queue, queue_with, raised, raised_on, granted_first, grant_first, dropped, behind_first}
-use Rattle.krl_table.specs.Grants.{nobody_waits, granted, granted_by, taken_after}
+use Rattle.krl_table.specs.Calls.{wanted, with_mode, with_queue, queue_with, raised, raised_on, granted_first, front_dropped, behind_first, grant_first}
+use Rattle.krl_table.specs.Grants.{nobody_waits, granted, reached_after, granted_by}
 use Rattle.krl_table.specs.Replies.{asks_absent}
 use Rattle.krl_table.proofs.Rows.Slots.{no_slot}
 use Rattle.krl_table.proofs.Invariant.Compatible.{mode_other}
@@ -27,7 +27,7 @@ use Rattle.krl_server.specs.Servers.{incarnation_of, incarnation_or_0}
 use Rattle.krl_server.specs.Cases.{judged}
 use Rattle.krl_server.specs.Effects as effects
 use Rattle.krl_server.specs.Effects.{rows_after, with_rows}
-use Rattle.krl_server.specs.Takes.{lock_for}
+use Rattle.krl_server.specs.Seizing.{lock_for}
 use Rattle.krl_server.specs.Answering.{tells_absent, grants}
 use Rattle.krl_server.specs.Soundness.{IsSound}
 use Rattle.krl_server.proofs.Tests.{if_both, if_case}
@@ -38,7 +38,7 @@ use Rattle.krl_server.proofs.Updates.{row_modes, row_other}
 use Rattle.krl_server.proofs.Outputs.Ends.{pushes_rows}
 use Rattle.krl_server.proofs.Invariant.Kept.{server_keeps}
 use Rattle.krl_server.proofs.Invariant.Placed.{two_rows}
-use Rattle.krl_server.proofs.Invariant.TakesSound.{take_is, take_judged, takes_sound}
+use Rattle.krl_server.proofs.Invariant.SeizesSound.{take_is, take_judged, takes_sound}
 use Rattle.krl_server.proofs.Invariant.WritesSound.{insert_may}
 use Rattle.krl_world.proofs.Refinement.ServerMoves.{Way, stays, reads, stops as ends, begins, way}
 use Rattle.krl_progress.proofs.Recovers.{same_up}
@@ -126,7 +126,7 @@ effect_sinks s m c i up = let t = acknowledged s m.client in by_case s m (λ k. 
           low_same (mode_at (set_row s.rows k (with_queue (s.rows k) (queue_with (s.rows k) w))) n c) (mode_at s.rows n c) (sym (row_modes s.rows k (with_queue (s.rows k) (queue_with (s.rows k) w)) c refl n));
       judges = λ r number op o served under near new is n slot waited. let y = writes t m.client op o in
           subst (λ (rows : Rows). at_most (mode_at rows n c) (mode_at s.rows n c) ≡ true) (sym (pushes_rows y m.client (push.Answer number o (holding y (slot_of y.durable.index (op_key op)) m.client)))) (written_sinks s m.client c op o i under is n slot);
-      takes = λ r number op served under near new may n slot waited. let x = effects.takes s m.client op in
+      seizes = λ r number op served under near new may n slot waited. let x = effects.seizes s m.client op in
           let y = writes (acknowledged x m.client) m.client op outcome.Applied in
           let can = take_is s m.client op may in
           let k = slot_of s.durable.index (op_key op) in
@@ -150,13 +150,13 @@ raised_on_others rows (n ∷ ns) u d ne k = raised_others rows n u d ne k ∙ ra
 granted_others : (r : ℕ) (m : Index) (rows : Rows) (n d : ℕ) (u : Waiter) (us : List Waiter) → (rows n).queue ≡ u ∷ us → d ≢ u.client → (k : ℕ) → mode_at (granted r m rows n) k d ≡ mode_at rows k d
 granted_others r m rows n d u us q ne k =
     ap (λ vs. mode_at (granted_by r m rows n vs) k d) q
-    ∙ sym (raised_on_others (granted_first rows n) (taken_after m (granted_first rows n) n u (r - 1)) u d ne k)
+    ∙ sym (raised_on_others (granted_first rows n) (reached_after m (granted_first rows n) n u (r - 1)) u d ne k)
     ∙ sym (row_modes rows n (grant_first (rows n) (rows n).queue) d (sym (ap (λ vs. (grant_first (rows n) vs).modes d) q ∙ mode_other (rows n).modes u.client d (wanted (rows n) u) ne)) k)
 
 -- an answer changes what its waiter's client holds, and what nobody else holds
 pub turn_others : (s : Server) (t : Turn) (d : ℕ) → next_turn s ≡ Some t → d ≢ t.waiter.client → (k : ℕ) → mode_at (answer_first s t).server.rows k d ≡ mode_at s.rows k d
 turn_others s t d e ne k = if_both (λ (x : Done). mode_at x.server.rows k d ≡ mode_at s.rows k d) (asks_absent s.durable.index t.waiter) (tells_absent s t) (grants s t)
-    (ap (λ (r : Rows). mode_at r k d) (pushes_rows (with_rows s (dropped s.rows t.slot)) t.waiter.client (push.Absent t.waiter.req t.waiter.point))
+    (ap (λ (r : Rows). mode_at r k d) (pushes_rows (with_rows s (front_dropped s.rows t.slot)) t.waiter.client (push.Absent t.waiter.req t.waiter.point))
     ∙ sym (row_modes s.rows t.slot (with_queue (s.rows t.slot) (behind_first (s.rows t.slot).queue)) d refl k))
     (ap (λ (r : Rows). mode_at r k d) (pushes_rows (with_rows s (granted s.durable.reach s.durable.index s.rows t.slot)) t.waiter.client _)
     ∙ granted_others s.durable.reach s.durable.index s.rows t.slot d t.waiter _ (turn_is s t e).first ne k)
@@ -170,11 +170,11 @@ unpushed s t c (more i l) e = omega (arith, l)
 pub same_incarnation : (s t : Server) (c : ℕ) → t.durable ≡ s.durable → incarnation_of t c ≡ incarnation_of s c
 same_incarnation s t c e = ap (λ (d : Durable). incarnation_or_0 (record_of d.register c)) e
 
-pub answered_durable : (s t : Server) (outs : List ToClient) → Answered s t outs → t.durable ≡ s.durable
+pub answered_durable : (s t : Server) (outs : List ToClient) → AnswersWaiters s t outs → t.durable ≡ s.durable
 answered_durable s t outs (stops x e) = refl
 answered_durable s t outs (goes_on x y turn later e rest) = answered_durable (answer_first x turn).server y later rest ∙ server_keeps.turn_durable x turn
 
-answered_others : (s t : Server) (outs : List ToClient) (c : ℕ) → Answered s t outs → (t.sessions c).last_push ≡ (s.sessions c).last_push → (n : ℕ) → mode_at t.rows n c ≡ mode_at s.rows n c
+answered_others : (s t : Server) (outs : List ToClient) (c : ℕ) → AnswersWaiters s t outs → (t.sessions c).last_push ≡ (s.sessions c).last_push → (n : ℕ) → mode_at t.rows n c ≡ mode_at s.rows n c
 answered_others s t outs c (stops x e) same n = refl
 answered_others s t outs c (goes_on x y turn later e rest) same n =
     answered_others mid y later c rest (omega (arith, first, second, same)) n ∙ turn_others x turn c e other n
@@ -193,7 +193,7 @@ answered_others s t outs c (goes_on x y turn later e rest) same n =
 
 -- A message
 
-ends_sink : (s : Server) (m : Index) (done : Done) (kind : Kind) (t : Server) (outs : List ToClient) (c : ℕ) → Ends done kind t outs → Later s done.server c → incarnation_of t c ≡ incarnation_of s c → (t.sessions c).last_push ≡ (s.sessions c).last_push → Sinks m s.rows done.server.rows c → Sinks m s.rows t.rows c
+ends_sink : (s : Server) (m : Index) (done : Done) (kind : Following) (t : Server) (outs : List ToClient) (c : ℕ) → Ends done kind t outs → Later s done.server c → incarnation_of t c ≡ incarnation_of s c → (t.sessions c).last_push ≡ (s.sessions c).last_push → Sinks m s.rows done.server.rows c → Sinks m s.rows t.rows c
 ends_sink s m done kind t outs c (at_once i) later inc same h = h
 ends_sink s m done kind t outs c (recovers g) later inc same h = h
 ends_sink s m done kind t outs c (serves u answers ne up a) later inc same h = λ n slot waited.
@@ -203,7 +203,7 @@ ends_sink s m done kind t outs c (serves u answers ne up a) later inc same h = �
 
 -- a client to which a message brings no push holds no more than before
 pub step_sinks : (s t : Server) (m : ToServer) (outs : List ToClient) (c : ℕ) → IsSound s → is_recovering s.missing ≡ false → ServerStep s m t outs → incarnation_of t c ≡ incarnation_of s c → (t.sessions c).last_push ≡ (s.sessions c).last_push → Sinks s.durable.index s.rows t.rows c
-step_sinks s t m outs c i up step inc same = ends_sink s s.durable.index (effect s m (case_of s m)) (kind_of (case_of s m)) t outs c step (effect_later s m c) inc same (effect_sinks s m c i up)
+step_sinks s t m outs c i up step inc same = ends_sink s s.durable.index (effect s m (case_of s m)) (following (case_of s m)) t outs c step (effect_later s m c) inc same (effect_sinks s m c i up)
 
 -- what a waiter wants there sinks with what its client holds, and what is compatible with it stays so
 pub wanted_sinks : (s t : Server) (n : ℕ) (u : Waiter) → Sinks s.durable.index s.rows t.rows u.client → is_slot s.durable.index n ≡ true → nobody_waits (s.rows n).queue ≡ false → at_most (wanted (t.rows n) u) (wanted (s.rows n) u) ≡ true

@@ -5,9 +5,9 @@ use Rattle.krl_messages.specs.declared.to_server.ToServerBody.TheVariants as sai
 use Rattle.krl_messages.specs.declared.to_server.Request.{Request}
 use Rattle.krl_messages.specs.declared.write_op.WriteOp.{WriteOp}
 use Rattle.krl_client.specs.Clients.{LockRequest, NotAsked, Granted, Absent, Dropped, Waiting, outstanding, has_joined}
-use Rattle.krl_client.specs.Commands.{says_lock, locked, says_write, wrote, took, says_release, says_bye}
+use Rattle.krl_client.specs.Commands.{says_lock, locked, says_write, wrote, seized, says_release, says_bye}
 use Rattle.krl_client.specs.Messages as receiver
-use Rattle.krl_client.specs.Messages.{Case, Ignores, AcksAgain, Adopts, Accepts, Lowers, accepted, joined, says_ack, says_report}
+use Rattle.krl_client.specs.Messages.{ClientCase, Ignores, AcksAgain, Adopts, Accepts, Lowers, accepted, joined, says_ack, says_report}
 use Rattle.krl_client.specs.Ticks.{tick, says_hello, lock_again, write_again}
 use Rattle.krl_steps.specs.declared.step.Step.TheVariants as step
 use Rattle.krl_steps.specs.declared.step.Command.TheVariants as command
@@ -36,7 +36,7 @@ both_of k xs ys h g m at = ⊎_elim (λ (a : In m xs). h m a) (λ (a : In m ys).
 
 -- What a client sends
 
-read_of : (ps : Pieces) (k : Client) (x : Case) → AreOf k (receiver.sends ps k x)
+read_of : (ps : Pieces) (k : Client) (x : ClientCase) → AreOf k (receiver.sends ps k x)
 read_of ps k Ignores = none_of k
 read_of ps k AcksAgain = one_of k (says_ack k) refl refl
 read_of ps k (Adopts epoch) = one_of k (says_report ps (joined k epoch)) refl refl
@@ -104,7 +104,7 @@ server_speaks u v n outs writes e m r is at = ⊎_elim
 obeys_speaks : (u v : State) (c : ℕ) (k : Client) (what : Command) (answer : Answer) → client_of u c ≡ Some k → Obeys u c k what answer v → Speaks u v
 obeys_speaks u v c k (command.Lock point hi g) answer i d = says_own u v c k _ (says_lock (locked k point hi g) point hi g ∷ []) i (one_of k (says_lock (locked k point hi g) point hi g) refl refl) d.1
 obeys_speaks u v c k (command.Write op) answer i d = says_own u v c k _ (says_write (wrote k op) op ∷ []) i (one_of k (says_write (wrote k op) op) refl refl) d.1
-obeys_speaks u v c k (command.Take op) answer i d = says_own u v c k _ (says_write (took k op) op ∷ []) i (one_of k (says_write (took k op) op) refl refl) d.1
+obeys_speaks u v c k (command.Seize op) answer i d = says_own u v c k _ (says_write (seized k op) op ∷ []) i (one_of k (says_write (seized k op) op) refl refl) d.1
 obeys_speaks u v c k (command.Scan lo hi) answer i d = same_speaks u v d.1
 obeys_speaks u v c k (command.Lower lo hi keep) answer i d = says_own u v c k _ (says_release k (span lo hi) keep ∷ []) i (one_of k (says_release k (span lo hi) keep) refl refl) d.1
 obeys_speaks u v c k (command.Pin lo hi) answer i d = says_own u v c k _ [] i (none_of k) d.3
@@ -113,7 +113,7 @@ obeys_speaks u v c k command.Leave answer i d = says_own u v c k _ (says_bye k �
 
 client_speaks : (u v : State) (m : ToClient) (o : Option Client) → client_of u m.client ≡ o → ClientReads u o m v → Speaks u v
 client_speaks u v m None i d = same_speaks u v d
-client_speaks u v m (Some k) i d = says_own u v m.client k _ (receiver.sends d.0 k (receiver.case_of k m)) i (read_of d.0 k (receiver.case_of k m)) d.2
+client_speaks u v m (Some k) i d = says_own u v m.client k _ (receiver.sends d.0 k (receiver.client_case_of k m)) i (read_of d.0 k (receiver.client_case_of k m)) d.2
 
 read_speaks : (u v : State) (m : ToServer) (n : ServerPlace) → ServerReads u n m v → Speaks u v
 read_speaks u v m (Up s) d = server_speaks u v _ d.1 (applies m (case_of s m)) d.3

@@ -1,6 +1,6 @@
 -- Nobody waits through four quiet good rounds: the first waiter of the slot would stand there all the time.
 use Rattle.krl_progress.proofs.Names.{◌≡◌, ◌≢◌, ℕ, zero, suc, ◌≤◌, ◌<◌, ◌∙◌, inl, inr, Bool, true, false, Some, None, List, [], ◌∷◌, length, refl, sym, ap, subst, arith, END}
-use Rattle.krl_progress.proofs.Names.{ToServer, ToClient, In, Client, Server, is_recovering, Durable, Step, Up, Down, State, client_of, served, Runs, IsReachable, ServerStep, case_of, Done, effect, kind_of, Kind, Ends, at_once, recovers, serves, Answered, answer_first, Turn, next_turn, is_compatible, is_slot, span_of, eq_cases}
+use Rattle.krl_progress.proofs.Names.{ToServer, ToClient, In, Client, Server, is_recovering, Durable, Step, Up, Down, State, client_of, served, Runs, IsReachable, ServerStep, case_of, Done, effect, following, Following, Ends, at_once, recovers, serves, AnswersWaiters, answer_first, Turn, next_turn, is_compatible, is_slot, span_of, eq_cases}
 use Rattle.krl_progress.proofs.Names as answering
 use Rattle.krl_modes.specs.Modes.{compatible}
 use Rattle.krl_modes.specs.Spans.{Bounds}
@@ -12,7 +12,8 @@ use Rattle.krl_table.specs.Sound.{IsTable}
 use Rattle.krl_table.proofs.Invariant.Compatible.{none_compatible}
 use Rattle.krl_server.specs.declared.session.Session.{Session}
 use Rattle.krl_server.specs.Servers.{incarnation_of}
-use Rattle.krl_client.specs.Clients.{is_waiting, is_in}
+use Rattle.krl_client.specs.Clients.{is_waiting}
+use Rattle.krl_client.specs.Splits.{is_in}
 use Rattle.krl_steps.specs.declared.applied_write.AppliedWrite.{AppliedWrite}
 use Rattle.krl_progress.specs.Blocks.{HasSeen, Throughout, RoundsWhile}
 use Rattle.krl_progress.specs.FirstWaits.{FirstWait, MayGiveWay, StandsFirst}
@@ -49,18 +50,18 @@ turn_request s t c e = eq_cases c t.waiter.client
     (λ f. subst (λ d. ((answer_first s t).server.sessions d).last_request ≡ (s.sessions d).last_request) (sym f) (ap (λ (z : Session). z.last_request) (turn_pushes s t e).session))
     (λ ne. ap (λ (z : Session). z.last_request) (turn_sessions s t c ne))
 
-answered_requests : (s t : Server) (outs : List ToClient) (c : ℕ) → Answered s t outs → (t.sessions c).last_request ≡ (s.sessions c).last_request
+answered_requests : (s t : Server) (outs : List ToClient) (c : ℕ) → AnswersWaiters s t outs → (t.sessions c).last_request ≡ (s.sessions c).last_request
 answered_requests s t outs c (answering.stops x e) = refl
 answered_requests s t outs c (answering.goes_on x y turn later e rest) = answered_requests (answer_first x turn).server y later c rest ∙ turn_request x turn c e
 
-answered_came : (s t : Server) (outs : List ToClient) (c : ℕ) → Answered s t outs → Stays t.rows s.rows c
+answered_came : (s t : Server) (outs : List ToClient) (c : ℕ) → AnswersWaiters s t outs → Stays t.rows s.rows c
 answered_came s t outs c (answering.stops x e) = λ u z. z
 answered_came s t outs c (answering.goes_on x y turn later e rest) = λ u z. turn_came x turn e c u (answered_came (answer_first x turn).server y later c rest u z)
 
 after_itself : (s : Server) → IsAfter s s
 after_itself s = record { durable = refl; later = λ c. kept refl refl (λ b e. e); requests = λ c. refl; came = λ c u z. z; row = λ n u us q same. refl }
 
-pub ends_after : (done : Done) (kind : Kind) (t : Server) (outs : List ToClient) → Ends done kind t outs → IsAfter done.server t
+pub ends_after : (done : Done) (kind : Following) (t : Server) (outs : List ToClient) → Ends done kind t outs → IsAfter done.server t
 ends_after done kind t outs (at_once i) = after_itself done.server
 ends_after done kind t outs (recovers g) = after_itself done.server
 ends_after done kind t outs (serves u answers ne up a) = record {
@@ -88,7 +89,7 @@ module _ (seen : ℕ → ℕ) (room : (c : ℕ) → seen c < END) (x : State) (o
   mid = (effect old m (case_of old m)).server
 
   after : IsAfter mid new
-  after = ends_after (effect old m (case_of old m)) (kind_of (case_of old m)) new outs taken
+  after = ends_after (effect old m (case_of old m)) (following (case_of old m)) new outs taken
 
   -- a client that holds or waits for something, before and after the message
   record Part (c : ℕ) : Type 0 where

@@ -1,13 +1,13 @@
 -- A lock request is taken within two rounds in which its client has accepted every push: a tick repeats it, and the
 -- server hears it.
 use Rattle.krl_progress.proofs.Names.{◌≡◌, ℕ, suc, ◌≤◌, ◌∙◌, true, false, not, ◌&&◌, Some, is_some, length, refl, sym, ap, subst, arith, nat_eq, if◌then◌else◌, eq-eqb}
-use Rattle.krl_progress.proofs.Names.{ToServer, Client, Server, is_recovering, Step, Answer, Up, State, message_at, Delivers, ServerReads, Takes, IsReachable, Waits, Acknowledges, case_of, effect, acknowledged, kind_of}
+use Rattle.krl_progress.proofs.Names.{ToServer, Client, Server, is_recovering, Step, Answer, Up, State, message_at, Delivers, ServerReads, Takes, IsReachable, Waits, Acknowledges, case_of, effect, acknowledged, following}
 use Rattle.krl_modes.specs.declared.mode.Mode.{Mode}
 use Rattle.krl_modes.proofs.Basics.{not_both}
 use Rattle.krl_messages.specs.declared.to_server.RequestBody.TheVariants as asked
 use Rattle.krl_table.specs.Rows.{waits}
 use Rattle.krl_server.specs.declared.session.Session.{Session}
-use Rattle.krl_server.specs.Cases.{case_of_lock, is_reach}
+use Rattle.krl_server.specs.Cases.{case_of_lock, has_points}
 use Rattle.krl_server.proofs.Updates.{session_here}
 use Rattle.krl_client.specs.Clients.{is_waiting}
 use Rattle.krl_steps.specs.declared.step.Step.TheVariants as step
@@ -49,7 +49,7 @@ module _ (c seen req inc epoch : ℕ) (some : 1 ≤ epoch) (n : ℕ) where
     point : ℕ
     hi : ℕ
     mode : Mode
-    reach : is_reach point hi ≡ true
+    reach : has_points point hi ≡ true
     sent : Sent n (lock_said c inc epoch seen some n req point hi mode) u
 
   repeated_still : (u v : State) (s : Step) (answer : Answer) → Repeated u → Takes u s answer v → Repeated v
@@ -67,7 +67,7 @@ module _ (c seen req inc epoch : ℕ) (some : 1 ≤ epoch) (n : ℕ) where
         sent = subst (λ z. Sent n (lock_said c inc epoch seen some n z y.point y.hi y.mode) v) (x.number ∙ a.number) y.sent;
       }
 
-  hit_lock : (point hi : ℕ) (g : Mode) → is_reach point hi ≡ true → (i : ℕ) (u v : State) (answer : Answer) → Along u → Along v → message_at u.sent i ≡ Some (lock_said c inc epoch seen some n req point hi g) → Takes u (step.Deliver i) answer v → ⊥
+  hit_lock : (point hi : ℕ) (g : Mode) → has_points point hi ≡ true → (i : ℕ) (u v : State) (answer : Answer) → Along u → Along v → message_at u.sent i ≡ Some (lock_said c inc epoch seen some n req point hi g) → Takes u (step.Deliver i) answer v → ⊥
   hit_lock point hi g reach i u v answer h after sent t = let late = after.untaken.late in omega (arith, late, new)
     where
       s : Server
@@ -107,7 +107,7 @@ module _ (c seen req inc epoch : ℕ) (some : 1 ≤ epoch) (n : ℕ) where
       taken = ap (λ x. ((effect s m x).server.sessions c).last_request) case ∙ ap (λ (z : Session). z.last_request) (session_here (acknowledged s c).sessions c (record ((acknowledged s c).sessions c) { last_request = req }))
 
       new : (after.untaken.server.sessions c).last_request ≡ req
-      new = ap (λ (y : Server). (y.sessions c).last_request) (sym same) ∙ (ends_after (effect s m (case_of s m)) (kind_of (case_of s m)) d.0 d.1 d.2).requests c ∙ taken
+      new = ap (λ (y : Server). (y.sessions c).last_request) (sym same) ∙ (ends_after (effect s m (case_of s m)) (following (case_of s m)) d.0 d.1 d.2).requests c ∙ taken
 
 pub taken_in_two : (c seen req : ℕ) (w v : State) → IsReachable w → IsUntaken c seen req w → RoundsWhile (IsUntaken c seen req) 2 (length w.sent) w v → ⊥
 taken_in_two c seen req w v rw h r1 =

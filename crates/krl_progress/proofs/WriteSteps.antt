@@ -1,6 +1,6 @@
 -- What each step makes of a client whose write is outstanding.
 use Rattle.krl_progress.proofs.Names.{◌≡◌, ℕ, zero, suc, ◌≤◌, ◌<◌, ◌∙◌, ◌⊎◌, inl, inr, ⊎_elim, Bool, true, false, not, ◌&&◌, ◌||◌, Option, Some, None, is_some, List, [], ◌∷◌, ◌++◌, length, slice_get, refl, sym, ap, subst, arith, nat_eq, nat_lt, nat_le, if◌then◌else◌, eqb-true, eqb-false, ltb-true, ltb-false, eq-eqb, ne_eqb, lt-ltb, le-ltb, END}
-use Rattle.krl_progress.proofs.Names.{ToServer, ToClient, In, Client, Message, Pieces, Record, Server, is_recovering, Step, Answer, Up, Down, State, client_of, message_at, Delivers, ServerReads, ClientReads, Runs, Takes, ServerStep, Case, Ignored, Repeats, case_of, effect, from_clients, from_server, record_of, Kind, Idle, kind_of, Ends, at_once, recovers, serves, Done}
+use Rattle.krl_progress.proofs.Names.{ToServer, ToClient, In, Client, Message, Pieces, Record, Server, is_recovering, Step, Answer, Up, Down, State, client_of, message_at, Delivers, ServerReads, ClientReads, Runs, Takes, ServerStep, Case, Ignored, Repeats, case_of, effect, from_clients, from_server, record_of, Following, Nothing, following, Ends, at_once, recovers, serves, Done}
 use Rattle.std.proofs.Common.{le-leb}
 use Rattle.krl_modes.proofs.Basics.{not_both}
 use Rattle.krl_messages.proofs.Members.{in_right}
@@ -15,12 +15,12 @@ use Rattle.krl_messages.specs.declared.to_client.PushBody.{PushBody}
 use Rattle.krl_messages.specs.declared.to_client.PushBody.TheVariants as push
 use Rattle.krl_messages.specs.Writes.{op_key}
 use Rattle.krl_server.specs.Servers.{incarnation_of, incarnation_or_0}
-use Rattle.krl_server.specs.Cases.{is_malformed, case_of_record, case_of_body, case_of_write, case_of_new_write, case_of_repeated_write, Judges, TakesLock, case_of_late, is_bad_write, judged}
+use Rattle.krl_server.specs.Cases.{is_malformed, case_of_record, case_of_body, case_of_write, case_of_new_write, case_of_repeated_write, Judges, SeizesLock, case_of_late, is_bad_write, judged}
 use Rattle.krl_server.specs.Effects.{push_to}
 use Rattle.krl_server.specs.Outputs.{answered_write, IsAnswered}
-use Rattle.krl_server.specs.Takes.{may_take}
+use Rattle.krl_server.specs.Seizing.{may_seize}
 use Rattle.std.specs.Prelude.{IfSome}
-use Rattle.krl_modes.specs.Limits.{max_clients}
+use Rattle.krl_modes.specs.Constants.{max_clients}
 use Rattle.krl_server.proofs.Tests.{if_case, if_both}
 use Rattle.krl_server.proofs.Functions.StepClauses.{answers_said}
 use Rattle.krl_server.proofs.Functions.Standing.{pushes_stand}
@@ -76,7 +76,7 @@ to_clients m (x ∷ ms) (inl e) = inl (ap (λ y. message.ToServer y) e)
 to_clients m (x ∷ ms) (inr h) = inr (to_clients m ms h)
 
 -- what a step of a case that does not act sends, and what any step sends first
-pub ends_idle : (done : Done) (kind : Kind) (t : Server) (outs : List ToClient) → kind ≡ Idle → Ends done kind t outs → outs ≡ done.outs
+pub ends_idle : (done : Done) (kind : Following) (t : Server) (outs : List ToClient) → kind ≡ Nothing → Ends done kind t outs → outs ≡ done.outs
 ends_idle done kind t outs e (at_once i) = refl
 ends_idle done kind t outs e (recovers g) = refl
 ends_idle done kind t outs e (serves u answers n g a) = absurd (n e)
@@ -160,13 +160,13 @@ module _ (c inc epoch seen0 number : ℕ) (op : WriteOp) (some : 1 ≤ epoch) (r
   -- The Write that a tick sends, which takes its lock or not
 
   abbrev pub write_body : Bool → ToServerBody
-  write_body takes = said.Request (record { epoch = epoch; seen = seen0; body = asked.Write number op takes })
+  write_body seizes = said.Request (record { epoch = epoch; seen = seen0; body = asked.Write number op seizes })
 
   abbrev pub the_write : Bool → ToServer
-  the_write takes = record { client = c; incarnation = inc; body = write_body takes }
+  the_write seizes = record { client = c; incarnation = inc; body = write_body seizes }
 
   abbrev pub write_said : Bool → Message
-  write_said takes = message.ToServer (the_write takes)
+  write_said seizes = message.ToServer (the_write seizes)
 
   -- the message comes after number n
   pub record Sent (m : Message) (u : State) : Type 0 where
@@ -178,17 +178,17 @@ module _ (c inc epoch seen0 number : ℕ) (op : WriteOp) (some : 1 ≤ epoch) (r
   sent_lasts m u v s answer calm h t = record { index = h.index; above = h.above; sent = still_sent (loses_a_node s) u v h.index m (moves u v s answer t) h.sent }
 
   pub record WriteSent (u : State) : Type 0 where
-    pub takes : Bool
-    pub sent : Sent (write_said takes) u
+    pub seizes : Bool
+    pub sent : Sent (write_said seizes) u
 
   pub write_lasts : Lasts WriteSent
-  write_lasts u v s answer calm h t = record { takes = h.takes; sent = sent_lasts (write_said h.takes) u v s answer calm h.sent t }
+  write_lasts u v s answer calm h t = record { seizes = h.seizes; sent = sent_lasts (write_said h.seizes) u v s answer calm h.sent t }
 
-  pub tick_says : (k : Client) (ps : Pieces) → k.number ≡ c → k.incarnation ≡ inc → k.epoch ≡ epoch → k.seen ≡ seen0 → outstanding k.written ≡ Some op → k.writes ≡ number → In (the_write k.takes) (tick ps k)
-  tick_says k ps a b e f o w = if_case (λ xs. In (the_write k.takes) xs) (nat_lt 0 k.epoch) _ (says_hello k ∷ [])
+  pub tick_says : (k : Client) (ps : Pieces) → k.number ≡ c → k.incarnation ≡ inc → k.epoch ≡ epoch → k.seen ≡ seen0 → outstanding k.written ≡ Some op → k.writes ≡ number → In (the_write k.seizes) (tick ps k)
+  tick_says k ps a b e f o w = if_case (λ xs. In (the_write k.seizes) xs) (nat_lt 0 k.epoch) _ (says_hello k ∷ [])
       (λ j. inr (in_right (lock_again k k.asked) (write_again k (outstanding k.written)) _
-      (subst (λ x. In (the_write k.takes) (write_again k x)) (sym o)
-      (inl (λ i. record { client = sym a i; incarnation = sym b i; body = said.Request (record { epoch = sym e i; seen = sym f i; body = asked.Write (sym w i) op k.takes }) })))))
+      (subst (λ x. In (the_write k.seizes) (write_again k x)) (sym o)
+      (inl (λ i. record { client = sym a i; incarnation = sym b i; body = said.Request (record { epoch = sym e i; seen = sym f i; body = asked.Write (sym w i) op k.seizes }) })))))
       (λ j. absurd (let x = ltb-false 0 k.epoch j in omega (arith, x, e, some)))
 
   pub hit_tick : (u v : State) (answer : Answer) → Live u → Waits u → Takes u (step.Tick c) answer v → Risen v ⊎ WriteSent v
@@ -198,8 +198,8 @@ module _ (c inc epoch seen0 number : ℕ) (op : WriteOp) (some : 1 ≤ epoch) (r
       let x = w d.0 d.1 in
       let same : d.0.incarnation ≡ inc = ap (λ (y : Client). y.incarnation) (some_is d.0 h.at.client (sym d.1 ∙ h.at.runs)) ∙ h.at.same in
       let says = tick_says d.0 d.2.0 st.number same (now u h d.0 d.1) x.0 x.1 x.2 in
-      let p = position_in u.sent (from_clients (tick d.2.0 d.0)) (write_said d.0.takes) (to_clients _ (tick d.2.0 d.0) says) in
-      inr (record { takes = d.0.takes; sent = record { index = suc p.0; above = (let a = p.1 in let b = h.at.long in omega (arith, a, b)); sent = subst (λ xs. slice_get xs p.0 ≡ Some (write_said d.0.takes)) (sym (ap (λ (y : State). y.sent) d.2.2)) p.2 } })
+      let p = position_in u.sent (from_clients (tick d.2.0 d.0)) (write_said d.0.seizes) (to_clients _ (tick d.2.0 d.0) says) in
+      inr (record { seizes = d.0.seizes; sent = record { index = suc p.0; above = (let a = p.1 in let b = h.at.long in omega (arith, a, b)); sent = subst (λ xs. slice_get xs p.0 ≡ Some (write_said d.0.seizes)) (sym (ap (λ (y : State). y.sent) d.2.2)) p.2 } })
 
   -- What the server makes of it
 
@@ -208,7 +208,7 @@ module _ (c inc epoch seen0 number : ℕ) (op : WriteOp) (some : 1 ≤ epoch) (r
     answers : (o : Outcome) → answered_write x ≡ Some (number, o) → (s.sessions c).last_push ≡ seen0 → Does s x
     again : (b : PushBody) → x ≡ Repeats b → (s.sessions c).unacked ≡ Some b → (s.sessions c).last_push ≡ suc seen0 → Does s x
 
-  module _ (takes : Bool) (u : State) (h : Live u) (w : Waits u) where
+  module _ (seizes : Bool) (u : State) (h : Live u) (w : Waits u) where
     s : Server
     s = h.at.server
 
@@ -228,7 +228,7 @@ module _ (c inc epoch seen0 number : ℕ) (op : WriteOp) (some : 1 ≤ epoch) (r
     own = st.joined joined_now
 
     -- the number is the next write's, or the last one's
-    write_case : (r : Record) → record_of h.at.server.durable.register c ≡ Some r → (h.at.server.sessions c).last_push ≡ seen0 → Does h.at.server (case_of_write h.at.server c r number op takes)
+    write_case : (r : Record) → record_of h.at.server.durable.register c ≡ Some r → (h.at.server.sessions c).last_push ≡ seen0 → Does h.at.server (case_of_write h.at.server c r number op seizes)
     write_case r e l =
         let x = w h.at.client h.at.runs in
         let good = write_within u h.at.reachable c h.at.client h.at.runs op x.1 in
@@ -243,8 +243,8 @@ module _ (c inc epoch seen0 number : ℕ) (op : WriteOp) (some : 1 ≤ epoch) (r
         (λ last. last_case r e r.outcome refl l (eqb-true number r.last last) one_up)
         (λ not_last. absurd (let a = counted.0 in let b = counted.1 in let y = x.2 in let p = eqb-false number (suc r.last) not_next in let q = eqb-false number r.last not_last in omega (arith, a, b, y, p, q)))))
       where
-        new_case : (h.at.server.sessions c).last_push ≡ seen0 → Does h.at.server (case_of_new_write h.at.server c number op takes)
-        new_case l = if_both (Does h.at.server) (takes && may_take h.at.server c op) (TakesLock number op) (Judges number op (judged h.at.server c op)) (answers outcome.Applied refl l) (answers (judged h.at.server c op) refl l)
+        new_case : (h.at.server.sessions c).last_push ≡ seen0 → Does h.at.server (case_of_new_write h.at.server c number op seizes)
+        new_case l = if_both (Does h.at.server) (seizes && may_seize h.at.server c op) (SeizesLock number op) (Judges number op (judged h.at.server c op)) (answers outcome.Applied refl l) (answers (judged h.at.server c op) refl l)
 
         last_case : (r : Record) → record_of h.at.server.durable.register c ≡ Some r → (o : Option Outcome) → r.outcome ≡ o → (h.at.server.sessions c).last_push ≡ seen0 → number ≡ r.last → 1 ≤ number → Does h.at.server (case_of_repeated_write number op o)
         last_case r e (Some o) f l is some = answers o refl l
@@ -263,7 +263,7 @@ module _ (c inc epoch seen0 number : ℕ) (op : WriteOp) (some : 1 ≤ epoch) (r
         let is : (h.at.server.sessions c).last_push ≡ suc seen0 = omega (arith, up, low, x, ne) in
         if_case (Does h.at.server) (nat_eq (suc seen0) (h.at.server.sessions c).last_push) (Repeats b) Ignored (λ yes. again b refl e is) (λ other. absurd (eqb-false (suc seen0) (h.at.server.sessions c).last_push other (sym is)))
 
-    body_case : (r : Record) → record_of h.at.server.durable.register c ≡ Some r → Does h.at.server (case_of_body h.at.server c r (write_body takes))
+    body_case : (r : Record) → record_of h.at.server.durable.register c ≡ Some r → Does h.at.server (case_of_body h.at.server c r (write_body seizes))
     body_case r e = if_case (Does h.at.server) (nat_eq epoch h.at.server.durable.epoch) _ _
         (λ yes. if_case (Does h.at.server) (is_recovering h.at.server.missing) Ignored _ (λ bad. absurd (not_both _ bad (h.serves h.at.server h.at.up)))
         (λ fine. if_case (Does h.at.server) (nat_eq seen0 (h.at.server.sessions c).last_push) _ _
@@ -272,7 +272,7 @@ module _ (c inc epoch seen0 number : ℕ) (op : WriteOp) (some : 1 ≤ epoch) (r
         (λ other. absurd (eqb-false epoch h.at.server.durable.epoch other (sym h.at.now)))
 
     abbrev write : ToServer
-    write = the_write takes
+    write = the_write seizes
 
     record_case : (o : Option Record) → record_of h.at.server.durable.register c ≡ o → Does h.at.server (case_of_record h.at.server write o)
     record_case None e = absurd (let x = st.some in let y = ap incarnation_or_0 e in let z = own in omega (arith, x, y, z))
@@ -303,12 +303,12 @@ module _ (c inc epoch seen0 number : ℕ) (op : WriteOp) (some : 1 ≤ epoch) (r
   pushed_lasts u v s answer calm h t = record { body = h.body; fits = h.fits; sent = sent_lasts (pushed h.body) u v s answer calm h.sent t }
 
   -- the push is among what the step sends
-  pub hit_write : (takes : Bool) (i : ℕ) (u v : State) (answer : Answer) → Live u → Waits u → message_at u.sent i ≡ Some (write_said takes) → Takes u (step.Deliver i) answer v → Risen v ⊎ Pushed v
-  hit_write takes i u v answer h w sent t =
-      inr (by_does (write_does takes u h w) d.2)
+  pub hit_write : (seizes : Bool) (i : ℕ) (u v : State) (answer : Answer) → Live u → Waits u → message_at u.sent i ≡ Some (write_said seizes) → Takes u (step.Deliver i) answer v → Risen v ⊎ Pushed v
+  hit_write seizes i u v answer h w sent t =
+      inr (by_does (write_does seizes u h w) d.2)
     where
-      d : ServerReads u (Up h.at.server) (the_write takes) v
-      d = subst (λ x. ServerReads u x (the_write takes) v) h.at.up (subst (λ o. Delivers u o v) sent t.1.1)
+      d : ServerReads u (Up h.at.server) (the_write seizes) v
+      d = subst (λ x. ServerReads u x (the_write seizes) v) h.at.up (subst (λ o. Delivers u o v) sent t.1.1)
 
       g : Live v
       g = live_kept u v (step.Deliver i) answer refl h t
@@ -318,7 +318,7 @@ module _ (c inc epoch seen0 number : ℕ) (op : WriteOp) (some : 1 ≤ epoch) (r
       same = same_up d.0 g.at.server (sym (ap (λ (y : State). y.server) d.3) ∙ g.at.up)
 
       fit : SessionsFit d.0
-      fit = let order = in_order u h.at.server h.at.reachable h.at.up in step_fits h.at.server d.0 (the_write takes) d.1 order.0 order.1 (all_pushes_fit u h.at.server h.at.reachable h.at.up) d.2
+      fit = let order = in_order u h.at.server h.at.reachable h.at.up in step_fits h.at.server d.0 (the_write seizes) d.1 order.0 order.1 (all_pushes_fit u h.at.server h.at.reachable h.at.up) d.2
 
       inc_after : incarnation_of g.at.server c ≡ inc
       inc_after = let st = standing v g.at.server c g.at.client g.at.reachable g.at.up g.at.runs in st.joined (let x = now v g g.at.client g.at.runs in omega (arith, x, some)) ∙ g.at.same
@@ -332,22 +332,22 @@ module _ (c inc epoch seen0 number : ℕ) (op : WriteOp) (some : 1 ≤ epoch) (r
           let e = is_push g.at.server b inc_after g.at.now in
           let here = subst (λ y. In (message.ToClient y) (from_server d.1)) e (to_server (push_to g.at.server c (suc seen0) b) d.1 at) in
           let p = position_in u.sent (from_server d.1) (pushed b) here in
-          let stands = pushes_stand h.at.server d.0 (the_write takes) d.1 d.2 (push_to g.at.server c (suc seen0) b) g.at.server.durable.epoch (suc seen0) b at refl in record {
+          let stands = pushes_stand h.at.server d.0 (the_write seizes) d.1 d.2 (push_to g.at.server c (suc seen0) b) g.at.server.durable.epoch (suc seen0) b at refl in record {
             body = b;
             fits = fit c b stands.1;
             sent = record { index = suc p.0; above = (let x = p.1 in let y = h.at.long in omega (arith, x, y)); sent = subst (λ xs. slice_get xs p.0 ≡ Some (pushed b)) (sym (ap (λ (y : State). y.sent) d.3)) p.2 };
           }
 
-      by_does : Does h.at.server (case_of h.at.server (the_write takes)) → ServerStep h.at.server (the_write takes) d.0 d.1 → Pushed v
+      by_does : Does h.at.server (case_of h.at.server (the_write seizes)) → ServerStep h.at.server (the_write seizes) d.0 d.1 → Pushed v
       by_does (answers o e l) step =
-          let said = answers_said h.at.server d.0 (the_write takes) d.1 step in
+          let said = answers_said h.at.server d.0 (the_write seizes) d.1 step in
           let is : IsAnswered h.at.server c d.0 d.1 (number, o) = subst (λ x. IfSome x (IsAnswered h.at.server c d.0 d.1)) e said in
           let one_answer = is.once (subst (λ x. x < END) (sym l) room) in
           let b : PushBody = push.Answer number o one_answer.holding in
           let first : d.1 ≡ push_to g.at.server c (suc seen0) b ∷ one_answer.others = one_answer.first ∙ ap (λ x. push_to x c (suc (h.at.server.sessions c).last_push) b ∷ one_answer.others) same ∙ ap (λ x. push_to g.at.server c (suc x) b ∷ one_answer.others) l in
           found b (subst (λ xs. In (push_to g.at.server c (suc seen0) b) xs) (sym first) (inl refl))
       by_does (again b e f l) step =
-          let outs : d.1 ≡ push_to h.at.server c (h.at.server.sessions c).last_push b ∷ [] = ends_idle (effect h.at.server (the_write takes) (case_of h.at.server (the_write takes))) (kind_of (case_of h.at.server (the_write takes))) d.0 d.1 (ap kind_of e) step ∙ ap (λ x. (effect h.at.server (the_write takes) x).outs) e in
+          let outs : d.1 ≡ push_to h.at.server c (h.at.server.sessions c).last_push b ∷ [] = ends_idle (effect h.at.server (the_write seizes) (case_of h.at.server (the_write seizes))) (following (case_of h.at.server (the_write seizes))) d.0 d.1 (ap following e) step ∙ ap (λ x. (effect h.at.server (the_write seizes) x).outs) e in
           let st = standing u h.at.server c h.at.client h.at.reachable h.at.up h.at.runs in
           let own_inc : incarnation_of h.at.server c ≡ inc = st.joined (let x = now u h h.at.client h.at.runs in omega (arith, x, some)) ∙ h.at.same in
           let old : push_to h.at.server c (h.at.server.sessions c).last_push b ≡ record { client = c; incarnation = inc; body = told.Push epoch (suc seen0) b } = λ j. record { client = c; incarnation = own_inc j; body = told.Push (h.at.now j) (l j) b } in
@@ -356,7 +356,7 @@ module _ (c inc epoch seen0 number : ℕ) (op : WriteOp) (some : 1 ≤ epoch) (r
 
   -- The client accepts the push
 
-  pub accepts : (k : Client) (b : PushBody) → k.epoch ≡ epoch → k.seen ≡ seen0 → fits b ≡ true → receiver.case_of k (record { client = k.number; incarnation = k.incarnation; body = told.Push epoch (suc seen0) b }) ≡ receiver.Accepts b
+  pub accepts : (k : Client) (b : PushBody) → k.epoch ≡ epoch → k.seen ≡ seen0 → fits b ≡ true → receiver.client_case_of k (record { client = k.number; incarnation = k.incarnation; body = told.Push epoch (suc seen0) b }) ≡ receiver.Accepts b
   accepts k b e f g = if_case (λ x. x ≡ receiver.Accepts b) (nat_eq k.number k.number && nat_eq k.incarnation k.incarnation) _ receiver.Ignores
       (λ own. if_case (λ x. x ≡ receiver.Accepts b) (nat_eq epoch k.epoch && fits b) _ receiver.Ignores
       (λ now. if_case (λ x. x ≡ receiver.Accepts b) (nat_eq (suc seen0) (suc k.seen) && nat_le (suc seen0) END) (receiver.Accepts b) _ (λ next. refl)
@@ -380,8 +380,8 @@ module _ (c inc epoch seen0 number : ℕ) (op : WriteOp) (some : 1 ≤ epoch) (r
       let d : ClientReads u (Some k) (record { client = c; incarnation = inc; body = told.Push epoch (suc seen0) b }) v = subst (λ o. ClientReads u o (record { client = c; incarnation = inc; body = told.Push epoch (suc seen0) b }) v) h.at.runs (subst (λ o. Delivers u o v) sent t.1.1) in
       let x = w k h.at.runs in
       let mine : record { client = c; incarnation = inc; body = told.Push epoch (suc seen0) b } ≡ record { client = k.number; incarnation = k.incarnation; body = told.Push epoch (suc seen0) b } = λ z. (let y : ToClient = record { client = sym st.number z; incarnation = sym h.at.same z; body = told.Push epoch (suc seen0) b } in y) in
-      let case = ap (receiver.case_of k) mine ∙ accepts k b (now u h k h.at.runs) x.0 fit in
-      let new : client_of v c ≡ Some (accepted k b) = ap (λ y. client_of y c) d.2 ∙ ap (λ (y : Bool). (if y then (record { last_incarnation = (u.places c).last_incarnation; client = Some (receiver.after k (receiver.case_of k (record { client = c; incarnation = inc; body = told.Push epoch (suc seen0) b }))) }) else u.places c).client) (eq-eqb c c refl) ∙ ap (λ y. Some (receiver.after k y)) case in
+      let case = ap (receiver.client_case_of k) mine ∙ accepts k b (now u h k h.at.runs) x.0 fit in
+      let new : client_of v c ≡ Some (accepted k b) = ap (λ y. client_of y c) d.2 ∙ ap (λ (y : Bool). (if y then (record { last_incarnation = (u.places c).last_incarnation; client = Some (receiver.after k (receiver.client_case_of k (record { client = c; incarnation = inc; body = told.Push epoch (suc seen0) b }))) }) else u.places c).client) (eq-eqb c c refl) ∙ ap (λ y. Some (receiver.after k y)) case in
       let same = some_is (accepted k b) l (sym new ∙ j) in
       let a = seen_next k b in let e = x.0 in
       subst (λ (y : Client). seen0 < y.seen) same (omega (arith, a, e))

@@ -55,9 +55,9 @@ module _ (c inc epoch seen0 number : ℕ) (op : WriteOp) (some : 1 ≤ epoch) (r
   second_round w v m n steps round runs h (inl r) = risen_round n (Pushed c inc epoch seen0 number op some room n) (pushed_lasts c inc epoch seen0 number op some room n) w v m steps round runs h r
   second_round w v m n steps round runs h (inr x) =
       let hand = round.handed x.1.sent.index x.1.sent.above (within w.sent x.1.sent.index _ x.1.sent.sent) in
-      one c inc epoch seen0 number op some room n (λ u. message_at u.sent hand.copy ≡ Some (write_said c inc epoch seen0 number op some room n x.1.takes)) (Pushed c inc epoch seen0 number op some room n) (step.Deliver hand.copy)
+      one c inc epoch seen0 number op some room n (λ u. message_at u.sent hand.copy ≡ Some (write_said c inc epoch seen0 number op some room n x.1.seizes)) (Pushed c inc epoch seen0 number op some room n) (step.Deliver hand.copy)
       (λ u y s a calm e t. still_sent (loses_a_node s) u y hand.copy _ (moves u y s a t) e) (pushed_lasts c inc epoch seen0 number op some room n) refl
-      (λ u y a l z e t. hit_write c inc epoch seen0 number op some room n x.1.takes hand.copy u y a l z e t)
+      (λ u y a l z e t. hit_write c inc epoch seen0 number op some room n x.1.seizes hand.copy u y a l z e t)
       w v steps round.stays hand.delivers (h, inr (x.0, hand.same ∙ x.1.sent.sent)) runs
 
   third_round : (w v : State) (m n : ℕ) (steps : List Step) → IsRound w m steps → Runs w steps v → LiveAt n w → RisenAt w ⊎ (WaitsAt w × PushedAt m w) → OrAt n (λ u. ⊥) v

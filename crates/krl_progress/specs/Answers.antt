@@ -7,7 +7,7 @@ use Rattle.krl_world.specs.declared.message.Message.TheVariants as message
 use Rattle.krl_world.specs.States.{State, Up, client_of}
 use Rattle.krl_world.specs.Steps.{message_at, Runs, IsReachable}
 use Rattle.krl_modes.specs.Modes.{cap}
-use Rattle.krl_modes.specs.Limits.{max_clients}
+use Rattle.krl_modes.specs.Constants.{max_clients}
 use Rattle.krl_messages.specs.declared.to_server.ToServer.{ToServer}
 use Rattle.krl_messages.specs.declared.to_client.ToClient.{ToClient}
 use Rattle.krl_messages.specs.declared.to_client.PushBody.{PushBody}
@@ -21,7 +21,7 @@ use Rattle.krl_server.specs.Cases.{Lowers, case_of}
 use Rattle.krl_server.specs.Effects.{push_to, callback_to, effect}
 use Rattle.krl_server.specs.Answering.{can_push, is_answerable}
 use Rattle.krl_server.specs.Callbacks.{is_compatible}
-use Rattle.krl_server.specs.Steps.{Idle, kind_of, ServerStep}
+use Rattle.krl_server.specs.Steps.{Nothing, following, ServerStep}
 use Rattle.krl_server.specs.Soundness.{IsSound}
 use Rattle.krl_server.specs.Invariant.{IsOrdered}
 
@@ -43,7 +43,8 @@ pub record IsAnswered (t : Server) (u : Waiter) (outs : List ToClient) : Type 0 
 abbrev pub AnswersAtOnce : Type 0
 AnswersAtOnce =
     (s t : Server) (m : ToServer) (outs : List ToClient) (n : ℕ) (u : Waiter) (us : List Waiter) →
-    IsSound s → IsOrdered s → ServerStep s m t outs → kind_of (case_of s m) ≢ Idle → is_recovering t.missing ≡ false →
+    IsSound s → IsOrdered s → ServerStep s m t outs → following (case_of s m) ≢ Nothing →
+    is_recovering t.missing ≡ false →
     ((effect s m (case_of s m)).server.rows n).queue ≡ u ∷ us →
     is_answerable (effect s m (case_of s m)).server n u ≡ true → IsAnswered t u outs
 

@@ -1,8 +1,8 @@
 -- What a client reports stands in its link; what the server sends is what a client takes; and whatever stands in a link
 -- stays there while no message goes.
 use Rattle.std.proofs.Common.{◌≡◌, ℕ, suc, ◌<◌, ◌∙◌, Bool, true, false, None, List, [], ◌∷◌, inl, refl, sym, ap, arith, nat_eq, if◌then◌else◌, eqb-true}
-use Rattle.krl_refinement.proofs.Names.{eqb-false, AllByRecursion, range_join, key_join, IsWhole, contains, inside_span, Pieces, ToClientBody, PushBody, Head, Link, range_said}
-use Rattle.krl_refinement.proofs.Names.{reported_key, Belief, AreInOrder, AreAscending, Describes, report_of, push_of, RequestStands, Stands, IsTold, WasSent, Grows, IsFrom, Tells, IsTo}
+use Rattle.krl_refinement.proofs.Names.{eqb-false, AllByRecursion, range_join, key_join, IsWhole, contains, inside_span, Pieces, ToClientBody, PushBody, Head, Link, joined_range_at}
+use Rattle.krl_refinement.proofs.Names.{greatest_key_at, Belief, AreInOrder, AreAscending, Describes, report_of, push_of, RequestStands, Stands, IsTold, WasSent, Grows, IsFrom, Tells, IsTo}
 use mathlib.Core.Path.{fun_ext}
 use Rattle.krl_modes.specs.declared.part.KeyPart.TheVariants as key
 use Rattle.krl_messages.specs.declared.range_pieces.RangePiece.{RangePiece}
@@ -20,27 +20,27 @@ use Rattle.krl_table.proofs.ReportRows.PieceByPiece.{range_right, key_right}
 
 -- Reports. If pieces stand apart, the first that speaks of a point is the join of all that do
 
-ranges_agree : (xs : List RangePiece) (lo q : ℕ) → AreInOrder lo xs → range_said xs q ≡ cache.range_reported_at xs q
+ranges_agree : (xs : List RangePiece) (lo q : ℕ) → AreInOrder lo xs → joined_range_at xs q ≡ cache.first_range_at xs q
 ranges_agree [] lo q h = refl
 ranges_agree (x ∷ xs) lo q h = by_test (contains x.span q) refl (ranges_agree xs x.span.hi q h.3)
   where
-    by_test : (t : Bool) → contains x.span q ≡ t → range_said xs q ≡ cache.range_reported_at xs q → (if t then range_join x.part (range_said xs q) else range_said xs q) ≡ (if t then x.part else cache.range_reported_at xs q)
+    by_test : (t : Bool) → contains x.span q ≡ t → joined_range_at xs q ≡ cache.first_range_at xs q → (if t then range_join x.part (joined_range_at xs q) else joined_range_at xs q) ≡ (if t then x.part else cache.first_range_at xs q)
     by_test true e ih = let i = inside_span x.span q e in ap (range_join x.part) (ih ∙ in_order_before x.span.hi q xs h.3 i.1) ∙ range_right x.part
     by_test false e ih = ih
 
-keys_later : (xs : List KeyPiece) (lo q : ℕ) → AreAscending lo xs → q < lo → reported_key xs q ≡ key.N
+keys_later : (xs : List KeyPiece) (lo q : ℕ) → AreAscending lo xs → q < lo → greatest_key_at xs q ≡ key.N
 keys_later [] lo q h l = refl
 keys_later (x ∷ xs) lo q h l = by_test (nat_eq x.point q) refl (keys_later xs (suc x.point) q h.3 (let a = h.0 in omega arith))
   where
-    by_test : (t : Bool) → nat_eq x.point q ≡ t → reported_key xs q ≡ key.N → (if t then key_join x.part (reported_key xs q) else reported_key xs q) ≡ key.N
+    by_test : (t : Bool) → nat_eq x.point q ≡ t → greatest_key_at xs q ≡ key.N → (if t then key_join x.part (greatest_key_at xs q) else greatest_key_at xs q) ≡ key.N
     by_test true e ih = let i = eqb-true x.point q e in let a = h.0 in absurd (omega arith)
     by_test false e ih = ih
 
-keys_agree : (xs : List KeyPiece) (lo q : ℕ) → AreAscending lo xs → reported_key xs q ≡ cache.key_said xs q
+keys_agree : (xs : List KeyPiece) (lo q : ℕ) → AreAscending lo xs → greatest_key_at xs q ≡ cache.first_key_at xs q
 keys_agree [] lo q h = refl
 keys_agree (x ∷ xs) lo q h = by_tests (nat_eq x.point q) (nat_eq q x.point) refl refl (keys_agree xs (suc x.point) q h.3)
   where
-    by_tests : (t u : Bool) → nat_eq x.point q ≡ t → nat_eq q x.point ≡ u → reported_key xs q ≡ cache.key_said xs q → (if t then key_join x.part (reported_key xs q) else reported_key xs q) ≡ (if u then x.part else cache.key_said xs q)
+    by_tests : (t u : Bool) → nat_eq x.point q ≡ t → nat_eq q x.point ≡ u → greatest_key_at xs q ≡ cache.first_key_at xs q → (if t then key_join x.part (greatest_key_at xs q) else greatest_key_at xs q) ≡ (if u then x.part else cache.first_key_at xs q)
     by_tests true true e f ih = let i = eqb-true x.point q e in ap (key_join x.part) (keys_later xs (suc x.point) q h.3 (omega arith)) ∙ key_right x.part
     by_tests true false e f ih = let i = eqb-true x.point q e in absurd (eqb-false q x.point f (sym i))
     by_tests false true e f ih = let i = eqb-true q x.point f in absurd (eqb-false x.point q e (sym i))
@@ -52,12 +52,12 @@ all_whole (x ∷ xs) lo h = (h.1, all_whole xs x.span.hi h.3)
 
 report_is : (r : links.Report) (inc epoch : ℕ) (ps : Pieces) → r.inc ≡ inc → r.epoch ≡ epoch → Describes ps (record { range_at = r.range; key_at = r.key; value_at = λ p. None }) → r ≡ report_of inc epoch ps
 report_is r inc epoch ps i e d =
-    let ranges : r.range ≡ range_said ps.ranges = fun_ext (λ q. sym (ranges_agree ps.ranges 0 q d.ranges_in_order ∙ d.ranges q)) in
-    let keys : r.key ≡ reported_key ps.keys = fun_ext (λ q. sym (keys_agree ps.keys 0 q d.keys_in_order ∙ d.keys q)) in
+    let ranges : r.range ≡ joined_range_at ps.ranges = fun_ext (λ q. sym (ranges_agree ps.ranges 0 q d.ranges_in_order ∙ d.ranges q)) in
+    let keys : r.key ≡ greatest_key_at ps.keys = fun_ext (λ q. sym (keys_agree ps.keys 0 q d.keys_in_order ∙ d.keys q)) in
     λ t. record { inc = i t; epoch = e t; range = ranges t; key = keys t }
 
 -- pieces that describe something describe what they state
-described : (ps : Pieces) (b : Belief) → Describes ps b → Describes ps (record { range_at = range_said ps.ranges; key_at = reported_key ps.keys; value_at = λ p. None })
+described : (ps : Pieces) (b : Belief) → Describes ps b → Describes ps (record { range_at = joined_range_at ps.ranges; key_at = greatest_key_at ps.keys; value_at = λ p. None })
 described ps b d = record { ranges_in_order = d.ranges_in_order; merged = d.merged; keys_in_order = d.keys_in_order; ranges = λ q. sym (ranges_agree ps.ranges 0 q d.ranges_in_order); keys = λ q. sym (keys_agree ps.keys 0 q d.keys_in_order) }
 
 -- the last report, of pieces that describe what it states
@@ -103,7 +103,7 @@ sent_tells l inc (told.Callback epoch s keep) h = h
 
 request_stays : (l m : Link) → Grows l m → (a : Head) (b : RequestBody) → RequestStands l a b → RequestStands m a b
 request_stays l m g a (asked.Lock req point hi mode) h = h
-request_stays l m g a (asked.Write number x takes) h = g.writes _ h
+request_stays l m g a (asked.Write number x seizes) h = g.writes _ h
 request_stays l m g a (asked.Release s keep) h = (h.0, g.releases _ h.1)
 request_stays l m g a asked.Ack h = h
 

@@ -16,7 +16,7 @@ pub mod Splits
 pub mod Merges
 pub mod Writes
 pub mod Turns
-pub mod Takes
+pub mod Seizes
 pub mod Served
 pub mod Callbacks
 pub mod Nudges

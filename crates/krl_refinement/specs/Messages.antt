@@ -19,11 +19,11 @@ use Rattle.krl_messages.specs.declared.to_client.ToClientBody.TheVariants as tol
 use Rattle.krl_messages.specs.declared.to_client.PushBody.{PushBody}
 use Rattle.krl_messages.specs.declared.to_client.PushBody.TheVariants as push
 use Rattle.krl_messages.specs.Members.{In}
-use Rattle.krl_messages.specs.Outcomes.{is_applied}
+use Rattle.krl_messages.specs.Writes.{is_applied}
 use Rattle.krl_machine.specs.Links as links
 use Rattle.krl_machine.specs.Links.{Op, Insert, Put, Delete, Head, Link}
 use Rattle.krl_machine.specs.Holdings.{said_by}
-use Rattle.krl_table.specs.Reports.{range_said, reported_key}
+use Rattle.krl_table.specs.Reports.{joined_range_at, greatest_key_at}
 
 -- the last point of a span
 abbrev pub last_of : Bounds → ℕ
@@ -49,14 +49,14 @@ push_of inc epoch number (push.Answer w o h) = push_with inc epoch number w (is_
 -- the machine's report states of each point what the pieces state
 abbrev pub report_of : ℕ → ℕ → Pieces → links.Report
 report_of inc epoch pieces =
-    record { inc = inc; epoch = epoch; range = range_said pieces.ranges; key = reported_key pieces.keys }
+    record { inc = inc; epoch = epoch; range = joined_range_at pieces.ranges; key = greatest_key_at pieces.keys }
 
 -- Messages in a link
 
 -- next to its head, which stands in the link, the request of this head stands there
 abbrev pub RequestStands : Link → Head → RequestBody → Type 0
 RequestStands l a (asked.Lock req point hi g) = Unit {0}
-RequestStands l a (asked.Write number op takes) = In (record { head = a; number = number; op = op_of op }) l.writes
+RequestStands l a (asked.Write number op seizes) = In (record { head = a; number = number; op = op_of op }) l.writes
 RequestStands l a (asked.Release span keep) =
     IsWhole span
     × In (record { head = a; lo = span.lo; last = last_of span; range = range_of keep; key = key_of keep }) l.releases

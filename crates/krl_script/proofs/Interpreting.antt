@@ -2,7 +2,7 @@
 use Rattle.std.proofs.Common.{◌≡◌, ℕ, zero, suc, ◌+◌, ◌≤◌, ◌<◌, true, false, length, List, [], ◌∷◌, Option, Result, Ok, Err, refl, sym, ap, subst, ◌∙◌, arith, inl, inr, add-one, length-append}
 use Rattle.std.specs.Prelude.{IfOk, OnOk, is_ok, is_some, slice_get, ◌≢◌}
 use Rattle.std.specs.Int.{w64, to_be_bytes}
-use Rattle.krl_modes.specs.Limits.{standard_room}
+use Rattle.krl_modes.specs.declared.limits.TheConstants.{STANDARD_ROOM}
 use Rattle.krl_durable.specs.declared.refused.EntriesRefused.TheVariants as index
 use Rattle.krl_steps.specs.declared.refused.Refused.{Refused}
 use Rattle.krl_steps.specs.declared.refused.Refused.TheVariants as refused
@@ -18,15 +18,15 @@ use Rattle.krl_text.specs.Printing.{refused_line}
 use Rattle.krl_script.specs.Transcripts.{Stage, counted, waits_after, Tries, DeliversMany, Ends, Settles, filled, Seeds}
 
 -- all that a world sent is counted
-pub sent_is : (w : world.Fields) → length w.sent ≡ sent_count (world.meaning w)
+pub sent_is : (w : world.KeptWorld) → length w.sent ≡ sent_count (world.meaning w)
 unfolding sent_count
 sent_is w = refl
 
 -- the stage of a world once something was asked of it
-abbrev stage_of : world.Fields → Waits → Stage
+abbrev stage_of : world.KeptWorld → Waits → Stage
 stage_of w waits = record { begun = true; world = world.meaning w; waits = waits }
 
-pub counted_on : {A E : Type 0} (w : world.Fields) (waits after : Waits) (sent : ℕ) (r : Result A E) → sent ≡ length w.sent → OnOk r (after ≡ sent_to waits sent) → IfOk r (λ done. stage_of w after ≡ counted (world.meaning w) waits)
+pub counted_on : {A E : Type 0} (w : world.KeptWorld) (waits after : Waits) (sent : ℕ) (r : Result A E) → sent ≡ length w.sent → OnOk r (after ≡ sent_to waits sent) → IfOk r (λ done. stage_of w after ≡ counted (world.meaning w) waits)
 counted_on w waits after sent (Ok done) e h =
     let all : after ≡ sent_to waits (sent_count (world.meaning w)) = h ∙ ap (λ (n : ℕ). sent_to waits n) (e ∙ sent_is w) in
     ap (λ (x : Waits). stage_of w x) all
@@ -48,9 +48,8 @@ length_filled (suc n) = omega (arith, length-append (filled n) ((n, to_be_bytes 
 
 -- more than there may be are refused
 pub fill_refused : (s s' : Stage) (n : ℕ) (out : List ℕ) → 65536 < n → out ≡ refused_line refused.Full → s' ≡ record s { begun = true; world = fresh [] } → Seeds s (filled n) out s'
-unfolding standard_room
 fill_refused s s' n out l line leaves =
-    let many : standard_room < length (filled n) = omega (arith, length_filled n, l) in
+    let many : STANDARD_ROOM < length (filled n) = omega (arith, length_filled n, l) in
     inr (refused.Full, record { due = (index.Full, many, refl); has_memory = λ e. absurd (let other : refused.Full ≡ refused.OutOfMemory = e in cc); prints = line; leaves = leaves })
 
 -- the beginning of a settling, and how it ends

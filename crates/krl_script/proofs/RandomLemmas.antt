@@ -77,7 +77,7 @@ scan_stays w v c lo hi (Err e) t = t.0
 command_same : (w v : State) (c : ℕ) (what : Command) (r : Result Answer Refused) → Steps w (step.Command c what) r v → RowsAreRange (index_of w) (step.Command c what) r → RowsAreRange (index_of v) (step.Command c what) r
 command_same w v c (command.Lock p hi m) (Ok answer) t h = tt
 command_same w v c (command.Write op) (Ok answer) t h = tt
-command_same w v c (command.Take op) (Ok answer) t h = tt
+command_same w v c (command.Seize op) (Ok answer) t h = tt
 command_same w v c (command.Scan lo hi) (Ok answer) t h =
     subst (λ (u : State). CommandIsRange (index_of u) (command.Scan lo hi) answer) (sym (scan_stays w v c lo hi (Ok answer) t)) h
 command_same w v c (command.Lower lo hi keep) (Ok answer) t h = tt
@@ -117,11 +117,11 @@ down_is (kept.Up s) = refl
 down_is (kept.Down d) = refl
 
 -- what is read of a world
-pub sight_is : (w : world.Fields) (waits : Waits) (g : Lcg) (waiting : Option ℕ) (sent : ℕ) (is_down : Bool) → waiting ≡ slice_get waits.waiting 0 → sent ≡ length w.sent → is_down ≡ is_none (field_parts.server_up w.server) → record { waiting = waiting; sent = sent; is_down = is_down } ≡ observed_of (record { world = world.meaning w; waits = waits; generator = g })
+pub sight_is : (w : world.KeptWorld) (waits : Waits) (g : Lcg) (waiting : Option ℕ) (sent : ℕ) (is_down : Bool) → waiting ≡ slice_get waits.waiting 0 → sent ≡ length w.sent → is_down ≡ is_none (field_parts.server_up w.server) → record { waiting = waiting; sent = sent; is_down = is_down } ≡ observed_of (record { world = world.meaning w; waits = waits; generator = g })
 sight_is w waits g waiting sent down oldest all none = rw (oldest, all, sent_is w, none, down_is w.server) refl
 
 -- a step was taken, and what it sent is counted
-pub taken : (w v : world.Fields) (waits passed counted : Waits) (g : Lcg) (what : Step) (r : Result Answer Refused) (sent : ℕ) → Steps (world.meaning w) what r (world.meaning v) → passed ≡ waits_since what r waits → sent ≡ length v.sent → counted ≡ sent_to passed sent → RowsAreRange (index_of (world.meaning w)) what r → (taken : TakesDrawn (world.meaning w) waits what g (record { world = world.meaning v; waits = counted; generator = g })) × (taken.outcome ≡ r)
+pub taken : (w v : world.KeptWorld) (waits passed counted : Waits) (g : Lcg) (what : Step) (r : Result Answer Refused) (sent : ℕ) → Steps (world.meaning w) what r (world.meaning v) → passed ≡ waits_since what r waits → sent ≡ length v.sent → counted ≡ sent_to passed sent → RowsAreRange (index_of (world.meaning w)) what r → (taken : TakesDrawn (world.meaning w) waits what g (record { world = world.meaning v; waits = counted; generator = g })) × (taken.outcome ≡ r)
 taken w v waits passed counted g what r sent t p e h s = (
   record {
     outcome = r;

@@ -8,7 +8,7 @@ use Rattle.std.specs.FinMap as map
 use Rattle.std.specs.FinMap.Entries.{put}
 use Rattle.std.specs.Int.{w64, to_be_bytes}
 use Rattle.std.specs.List.{IsDistinct}
-use Rattle.krl_modes.specs.Limits.{standard_room, max_room}
+use Rattle.krl_modes.specs.declared.limits.TheConstants.{STANDARD_ROOM, MAX_ROOM}
 use Rattle.rand_pcg.specs.Lcg.{Lcg}
 use Rattle.krl_draws.specs.Generator.{drawn}
 use Rattle.krl_draws.specs.declared.generator.Writes.{Writes}
@@ -37,10 +37,10 @@ first_index =
     map.entries-insert nat_cmp_total (map.insert map.empty 20 two) 10 one ∙ ap (put nat_cmp 10 one) (map.entries-insert nat_cmp_total map.empty 20 two ∙ ap (put nat_cmp 20 two) no_entries)
 
 first_kept : IsKept (unused first_entries)
-unfolding standard_room max_room IsDistinct
+unfolding IsDistinct
 first_kept = record {
   keys = subst AreBelowEnd (sym first_index) (refl, (refl, tt));
-  few = subst (λ (es : List (ℕ × Value)). length es ≤ standard_room) (sym first_index) (omega arith);
+  few = subst (λ (es : List (ℕ × Value)). length es ≤ STANDARD_ROOM) (sym first_index) (omega arith);
   room = (omega arith, omega arith);
   reach = (omega arith, omega arith);
   epoch = omega arith;

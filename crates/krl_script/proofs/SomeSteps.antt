@@ -5,15 +5,16 @@ use Rattle.std.proofs.lemmas.Bool.Decides.{nat_tests, eqb_tells}
 use Rattle.std.specs.Prelude.{is_some, cond, not}
 use Rattle.krl_modes.specs.declared.point.TheConstants.{END}
 use Rattle.krl_modes.specs.Spans.{Bounds}
-use Rattle.krl_modes.specs.Limits.{standard_room}
+use Rattle.krl_modes.specs.declared.limits.TheConstants.{STANDARD_ROOM}
 use Rattle.krl_messages.specs.Values.{Value}
 use Rattle.krl_messages.specs.declared.to_server.ToServer.{ToServer}
 use Rattle.krl_messages.specs.declared.to_client.ToClient.{ToClient}
 use Rattle.krl_messages.specs.declared.write_op.WriteOp.{WriteOp}
 use Rattle.krl_messages.specs.Writes.{op_key}
 use Rattle.krl_cache.specs.Beliefs.{Belief, is_span, is_covered, CoversAll, IsLeastUncovered}
-use Rattle.krl_client.specs.Clients.{Client, outstanding, is_in, is_writing_in, free_pin}
-use Rattle.krl_client.specs.Commands.{Answers, is_pending, misses, due, first_reason}
+use Rattle.krl_client.specs.Clients.{Client, outstanding, is_writing_in, free_pin}
+use Rattle.krl_client.specs.Splits.{is_in}
+use Rattle.krl_client.specs.Commands.{ScanGives, is_pending, misses, due, first_reason}
 use Rattle.krl_client.specs.declared.refused.CommandRefused.{CommandRefused}
 use Rattle.krl_client.specs.declared.refused.CommandRefused.TheVariants as client
 use Rattle.krl_client.specs.declared.scan_answer.ScanAnswer.TheVariants as scanned
@@ -30,7 +31,7 @@ use Rattle.krl_steps.specs.declared.refused.Refused.TheVariants as refused
 use Rattle.krl_world.specs.States.{State, ServerPlace, Up, Down, client_of}
 use Rattle.krl_durable.specs.InitialEntries.{key_of_entry, stands_before, IsGood, AreGood}
 use Rattle.krl_durable.specs.declared.refused.EntriesRefused.TheVariants as index
-use Rattle.krl_world.specs.Steps.{CanBegin, CannotBegin, span, named, if_runs, command_refusal, server_down, message_at, refusal_of, Arrives, ServerReads, ClientReads, Delivers, TakesMemory, Does, Steps}
+use Rattle.krl_world.specs.Steps.{CanBegin, CannotBegin, span, named, if_runs, command_refusal, server_down, message_at, refusal_of, Arrives, ServerReads, ClientReads, Delivers, NeedsMemory, Does, Steps}
 use Rattle.krl_steps.specs.Refusals.{refused_by_client}
 use Rattle.krl_world.proofs.Refinement.Taken.{client_ok}
 
@@ -39,7 +40,7 @@ abbrev Outcome : State → Step → Type 0
 Outcome w s = (o : Result Answer Refused) × (w' : State) × Steps w s o w'
 
 -- memory may be refused to a step that takes some
-starved : (w : State) (s : Step) → refusal_of w s ≡ None → TakesMemory w s → Outcome w s
+starved : (w : State) (s : Step) → refusal_of w s ≡ None → NeedsMemory w s → Outcome w s
 unfolding Steps
 starved w s e m = (Err refused.OutOfMemory, w, (refl, inr (e, refl, m)))
 
@@ -100,7 +101,7 @@ known_or_not b lo (suc n) =
       | inr miss ↦ inr (miss.0, record { point = (miss.1.point.0, omega (arith, miss.1.point.1)); uncovered = miss.1.uncovered; least = miss.1.least })
     ]
 
-writes_there : (k : Client) (s : Bounds) (o : Option WriteOp) → outstanding k.written ≡ o → is_in s o ≡ true → (key : ℕ) × Answers k s (scanned.Pending key)
+writes_there : (k : Client) (s : Bounds) (o : Option WriteOp) → outstanding k.written ≡ o → is_in s o ≡ true → (key : ℕ) × ScanGives k s (scanned.Pending key)
 writes_there k s None e h = absurd (let bad : false ≡ true = h in cc)
 writes_there k s (Some change) e h = (op_key change, is_pending change e h)
 
@@ -135,7 +136,7 @@ free false None e = absurd (let bad : ◌≡◌ {A = Option CommandRefused} (Som
 some_command : (w : State) (c : ℕ) (what : Command) (k : Client) → client_of w c ≡ Some k → command_refusal k what ≡ None → refusal_of w (step.Command c what) ≡ None → Outcome w (step.Command c what)
 some_command w c (command.Lock p hi m) k is may e = starved w (step.Command c (command.Lock p hi m)) e (k, is, tt)
 some_command w c (command.Write op) k is may e = starved w (step.Command c (command.Write op)) e (k, is, tt)
-some_command w c (command.Take op) k is may e = starved w (step.Command c (command.Take op)) e (k, is, tt)
+some_command w c (command.Seize op) k is may e = starved w (step.Command c (command.Seize op)) e (k, is, tt)
 some_command w c (command.Scan lo hi) k is may e = some_scan w c lo hi k is e
 some_command w c (command.Lower lo hi keep) k is may e = starved w (step.Command c (command.Lower lo hi keep)) e (k, is, tt)
 some_command w c (command.Pin lo hi) k is may e =
@@ -195,7 +196,7 @@ good_or_not es (suc n) =
 
 pub can_begin_or_not : (entries : List (ℕ × Value)) → CanBegin entries ⊎ ((r : Refused) × CannotBegin entries r × (r ≢ refused.OutOfMemory))
 can_begin_or_not entries =
-    elim (cases_lt standard_room (length entries)) [
+    elim (cases_lt STANDARD_ROOM (length entries)) [
       | inl l ↦ inr (refused.Full, (index.Full, l, refl), λ e. absurd (let bad : refused.Full ≡ refused.OutOfMemory = e in cc))
       | inr l ↦
           elim (good_or_not entries (length entries)) [

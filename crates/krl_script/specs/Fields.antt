@@ -6,7 +6,7 @@ use Rattle.krl_script.specs.Transcripts.{Stage}
 
 pub record Fields : Type 0 where
   pub begun : Bool
-  pub world : world.Fields
+  pub world : world.KeptWorld
   pub waits : Waits
 
 -- the stage that the fields stand for

@@ -2,7 +2,7 @@
 use Rattle.krl_server.proofs.Names.{◌≡◌, ℕ, suc, ◌≤◌, ◌<◌, Bool, true, false, not, ◌&&◌, ◌||◌, Option, Some, None, refl, sym, subst, arith, nat_eq, eqb-true, ltb-true, ltb-false, eqb-false, and_parts}
 use Rattle.krl_server.proofs.Names.{or_parts, not-true, not-false, nat_lt, nat_le, END, TOP, Mode, Bounds, Pieces, WriteOp, Outcome, ToServer, PushBody, Record, record_of, op_key, max_clients}
 use Rattle.krl_server.proofs.Names.{waits, conflicts, Server, is_recovering, lists, incarnation_or_0, Case, Ignored, Registers, Leaves, Tells, Alarms, Rebuilds, Repeats, Acknowledges, Lowers, Waits}
-use Rattle.krl_server.proofs.Names.{Judges, TakesLock, AnswersAgain, may_take, case_of_new_write, judged, case_of_repeated_write, is_bad_write, case_of_write, is_reach, case_of_request, case_of_late, case_of_seen, case_of_report, case_of_body}
+use Rattle.krl_server.proofs.Names.{Judges, SeizesLock, AnswersAgain, may_seize, case_of_new_write, judged, case_of_repeated_write, is_bad_write, case_of_write, has_points, case_of_request, case_of_late, case_of_seen, case_of_report, case_of_body}
 use Rattle.krl_server.proofs.Names.{case_of_newer, case_of_record, is_malformed, case_of}
 use Rattle.krl_messages.specs.declared.to_server.ToServerBody.{ToServerBody}
 use Rattle.krl_messages.specs.declared.to_server.ToServerBody.TheVariants as said
@@ -43,9 +43,9 @@ pub record EachSaid (s : Server) (m : ToServer) (P : Case → Type 0) : Type 0 w
   pub acknowledges : (r : Record) (request : Request) (b : RequestBody) → IsAsked s m r request b → P Acknowledges
   pub lowers : (r : Record) (request : Request) (span : Bounds) (keep : Mode) → IsAsked s m r request (asked.Release span keep) → P (Lowers span keep)
   pub waits : (r : Record) (request : Request) (req point hi : ℕ) (g : Mode) → IsAsked s m r request (asked.Lock req point hi g) → req ≡ suc (s.sessions m.client).last_request → waits s.durable.index s.rows m.client ≡ false → point ≤ END → P (Waits req point hi g)
-  pub judges : (r : Record) (request : Request) (number : ℕ) (op : WriteOp) (takes : Bool) (o : Outcome) → IsAsked s m r request (asked.Write number op takes) → op_key op < END → number ≤ END → number ≡ suc r.last → judged s m.client op ≡ o → P (Judges number op o)
-  pub takes : (r : Record) (request : Request) (number : ℕ) (op : WriteOp) (takes : Bool) → IsAsked s m r request (asked.Write number op takes) → op_key op < END → number ≤ END → number ≡ suc r.last → may_take s m.client op ≡ true → P (TakesLock number op)
-  pub answers_again : (r : Record) (request : Request) (number : ℕ) (op : WriteOp) (takes : Bool) (o : Outcome) → IsAsked s m r request (asked.Write number op takes) → op_key op < END → 1 ≤ number → number ≡ r.last → r.outcome ≡ Some o → P (AnswersAgain number op o)
+  pub judges : (r : Record) (request : Request) (number : ℕ) (op : WriteOp) (seizes : Bool) (o : Outcome) → IsAsked s m r request (asked.Write number op seizes) → op_key op < END → number ≤ END → number ≡ suc r.last → judged s m.client op ≡ o → P (Judges number op o)
+  pub seizes : (r : Record) (request : Request) (number : ℕ) (op : WriteOp) (seizes : Bool) → IsAsked s m r request (asked.Write number op seizes) → op_key op < END → number ≤ END → number ≡ suc r.last → may_seize s m.client op ≡ true → P (SeizesLock number op)
+  pub answers_again : (r : Record) (request : Request) (number : ℕ) (op : WriteOp) (seizes : Bool) (o : Outcome) → IsAsked s m r request (asked.Write number op seizes) → op_key op < END → 1 ≤ number → number ≡ r.last → r.outcome ≡ Some o → P (AnswersAgain number op o)
 
 module _ (s : Server) (m : ToServer) (P : Case → Type 0) (each : EachSaid s m P) where
   of_newer : m.client < max_clients → incarnation_or_0 (record_of s.durable.register m.client) < m.incarnation → (b : ToServerBody) → m.body ≡ b → P (case_of_newer b)
@@ -64,35 +64,35 @@ module _ (s : Server) (m : ToServer) (P : Case → Type 0) (each : EachSaid s m 
       served : IsServed s m r
       served = record { from = from; serves = serves }
 
-      of_last : (number : ℕ) (op : WriteOp) (takes : Bool) (o : Option Outcome) → IsAsked s m r request (asked.Write number op takes) → op_key op < END → 1 ≤ number → number ≡ r.last → r.outcome ≡ o → P (case_of_repeated_write number op o)
-      of_last number op takes None a under some last e = each.acknowledges r request (asked.Write number op takes) a
-      of_last number op takes (Some o) a under some last e = each.answers_again r request number op takes o a under some last e
+      of_last : (number : ℕ) (op : WriteOp) (seizes : Bool) (o : Option Outcome) → IsAsked s m r request (asked.Write number op seizes) → op_key op < END → 1 ≤ number → number ≡ r.last → r.outcome ≡ o → P (case_of_repeated_write number op o)
+      of_last number op seizes None a under some last e = each.acknowledges r request (asked.Write number op seizes) a
+      of_last number op seizes (Some o) a under some last e = each.answers_again r request number op seizes o a under some last e
 
-      of_new_write : (number : ℕ) (op : WriteOp) (takes : Bool) → IsAsked s m r request (asked.Write number op takes) → op_key op < END → number ≤ END → number ≡ suc r.last → P (case_of_new_write s m.client number op takes)
-      of_new_write number op takes a under near new = if_case P (takes && may_take s m.client op) (TakesLock number op) (Judges number op (judged s m.client op))
-          (λ yes. each.takes r request number op takes a under near new (and_parts takes (may_take s m.client op) yes).1)
-          (λ no. each.judges r request number op takes (judged s m.client op) a under near new refl)
+      of_new_write : (number : ℕ) (op : WriteOp) (seizes : Bool) → IsAsked s m r request (asked.Write number op seizes) → op_key op < END → number ≤ END → number ≡ suc r.last → P (case_of_new_write s m.client number op seizes)
+      of_new_write number op seizes a under near new = if_case P (seizes && may_seize s m.client op) (SeizesLock number op) (Judges number op (judged s m.client op))
+          (λ yes. each.seizes r request number op seizes a under near new (and_parts seizes (may_seize s m.client op) yes).1)
+          (λ no. each.judges r request number op seizes (judged s m.client op) a under near new refl)
 
-      of_write : (number : ℕ) (op : WriteOp) (takes : Bool) → IsAsked s m r request (asked.Write number op takes) → P (case_of_write s m.client r number op takes)
-      of_write number op takes a = if_case P (is_bad_write number op) Acknowledges _ (λ bad. each.acknowledges r request (asked.Write number op takes) a)
+      of_write : (number : ℕ) (op : WriteOp) (seizes : Bool) → IsAsked s m r request (asked.Write number op seizes) → P (case_of_write s m.client r number op seizes)
+      of_write number op seizes a = if_case P (is_bad_write number op) Acknowledges _ (λ bad. each.acknowledges r request (asked.Write number op seizes) a)
           (λ fine.
           let x = or_parts (not (nat_lt (op_key op) END)) (nat_eq number 0 || nat_lt END number) fine in
           let y = or_parts (nat_eq number 0) (nat_lt END number) x.1 in
           let under = ltb-true (op_key op) END (not-false (nat_lt (op_key op) END) x.0) in
           let ne = eqb-false number 0 y.0 in
           if_case P (nat_eq number (suc r.last)) _ _
-          (λ new. of_new_write number op takes a under (ltb-false END number y.1) (eqb-true number (suc r.last) new))
-          (λ old. if_case P (nat_eq number r.last) _ Acknowledges (λ last. of_last number op takes r.outcome a under (omega (arith, ne)) (eqb-true number r.last last) refl) (λ other. each.acknowledges r request (asked.Write number op takes) a)))
+          (λ new. of_new_write number op seizes a under (ltb-false END number y.1) (eqb-true number (suc r.last) new))
+          (λ old. if_case P (nat_eq number r.last) _ Acknowledges (λ last. of_last number op seizes r.outcome a under (omega (arith, ne)) (eqb-true number r.last last) refl) (λ other. each.acknowledges r request (asked.Write number op seizes) a)))
 
       of_request : (b : RequestBody) → IsAsked s m r request b → P (case_of_request s m.client r b)
-      of_request (asked.Lock req point hi g) a = if_case P (nat_eq req (suc (s.sessions m.client).last_request) && (not (waits s.durable.index s.rows m.client) && is_reach point hi)) (Waits req point hi g) Acknowledges
+      of_request (asked.Lock req point hi g) a = if_case P (nat_eq req (suc (s.sessions m.client).last_request) && (not (waits s.durable.index s.rows m.client) && has_points point hi)) (Waits req point hi g) Acknowledges
           (λ yes.
-          let x = and_parts (nat_eq req (suc (s.sessions m.client).last_request)) (not (waits s.durable.index s.rows m.client) && is_reach point hi) yes in
-          let y = and_parts (not (waits s.durable.index s.rows m.client)) (is_reach point hi) x.1 in
+          let x = and_parts (nat_eq req (suc (s.sessions m.client).last_request)) (not (waits s.durable.index s.rows m.client) && has_points point hi) yes in
+          let y = and_parts (not (waits s.durable.index s.rows m.client)) (has_points point hi) x.1 in
           let z = and_parts (not (nat_lt END point)) (nat_lt point hi && nat_le hi TOP) y.1 in
           each.waits r request req point hi g a (eqb-true req (suc (s.sessions m.client).last_request) x.0) (not-true (waits s.durable.index s.rows m.client) y.0) (ltb-false END point (not-true (nat_lt END point) z.0)))
           (λ no. each.acknowledges r request (asked.Lock req point hi g) a)
-      of_request (asked.Write number op takes) a = of_write number op takes a
+      of_request (asked.Write number op seizes) a = of_write number op seizes a
       of_request (asked.Release span keep) a = each.lowers r request span keep a
       of_request asked.Ack a = each.acknowledges r request asked.Ack a
 
@@ -143,7 +143,7 @@ pub record EachCase (s : Server) (m : ToServer) (P : Case → Type 0) : Type 0 w
   pub lowers : (r : Record) (span : Bounds) (keep : Mode) → IsServed s m r → P (Lowers span keep)
   pub waits : (r : Record) (req point hi : ℕ) (g : Mode) → IsServed s m r → req ≡ suc (s.sessions m.client).last_request → waits s.durable.index s.rows m.client ≡ false → point ≤ END → P (Waits req point hi g)
   pub judges : (r : Record) (number : ℕ) (op : WriteOp) (o : Outcome) → IsServed s m r → op_key op < END → number ≤ END → number ≡ suc r.last → judged s m.client op ≡ o → P (Judges number op o)
-  pub takes : (r : Record) (number : ℕ) (op : WriteOp) → IsServed s m r → op_key op < END → number ≤ END → number ≡ suc r.last → may_take s m.client op ≡ true → P (TakesLock number op)
+  pub seizes : (r : Record) (number : ℕ) (op : WriteOp) → IsServed s m r → op_key op < END → number ≤ END → number ≡ suc r.last → may_seize s m.client op ≡ true → P (SeizesLock number op)
   pub answers_again : (r : Record) (number : ℕ) (op : WriteOp) (o : Outcome) → IsServed s m r → op_key op < END → 1 ≤ number → number ≡ r.last → r.outcome ≡ Some o → P (AnswersAgain number op o)
 
 pub by_case : (s : Server) (m : ToServer) (P : Case → Type 0) → EachCase s m P → P (case_of s m)
@@ -159,7 +159,7 @@ by_case s m P each = by_said s m P
       acknowledges = λ r request b a. each.acknowledges r a.served;
       lowers = λ r request span keep a. each.lowers r span keep a.served;
       waits = λ r request req point hi g a new free near. each.waits r req point hi g a.served new free near;
-      judges = λ r request number op takes o a under near new is. each.judges r number op o a.served under near new is;
-      takes = λ r request number op takes a under near new may. each.takes r number op a.served under near new may;
-      answers_again = λ r request number op takes o a under some last is. each.answers_again r number op o a.served under some last is;
+      judges = λ r request number op seizes o a under near new is. each.judges r number op o a.served under near new is;
+      seizes = λ r request number op seizes a under near new may. each.seizes r number op a.served under near new may;
+      answers_again = λ r request number op seizes o a under some last is. each.answers_again r number op o a.served under some last is;
     })

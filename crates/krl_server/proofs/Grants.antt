@@ -5,11 +5,12 @@ use Rattle.krl_server.proofs.Names.{eq_cases, Index, first_or_end, slot_of, low_
 use Rattle.krl_server.proofs.Names.{is_wanted_compatible, Durable, Server, holding, holdings, find_here, find_past, IsWhole}
 use Rattle.krl_table.proofs.Invariant.Compatible.{mode_other}
 use Rattle.std.specs.FinMap as fin
-use Rattle.krl_table.specs.Grants.{nobody_waits, can_take, goes_on, taken_after, taken_by, taken, granted_by, granted}
+use Rattle.krl_table.specs.Grants.{nobody_waits, is_open_to, goes_on, reached_after, reached_slots, granted, reached_by, granted_by}
 use Rattle.krl_durable.specs.Writes.{IsReach}
 use Rattle.krl_table.proofs.Rows.Slots.{low_under}
+use Rattle.krl_table.proofs.Calls.Reaches.{slot_after, reached_raised}
 use Rattle.krl_messages.specs.Ascending.{IsBefore, Ascend}
-use Rattle.krl_modes.specs.Limits.{max_holdings}
+use Rattle.krl_modes.specs.declared.limits.TheConstants.{MAX_HOLDINGS}
 use Rattle.krl_server.proofs.Slots.{is_slot_true, span_here}
 use Rattle.krl_server.proofs.Updates.{row_here, row_other, row_modes}
 use Rattle.krl_server.proofs.Tests.{if_case}
@@ -29,14 +30,6 @@ found (e ∷ es) p = by_test (nat_le p e.0) (found es p)
     by_test false ih = eq_cases s e.0
         (λ f. subst (λ k. (nat_eq k END || is_some (find nat_cmp k (e ∷ es))) ≡ true) (sym f) (ap (λ o. nat_eq e.0 END || is_some o) (find_here e es) ∙ or-true (nat_eq e.0 END)))
         (λ ne. ap (λ o. nat_eq s END || is_some o) (find_past s e es ne) ∙ ih)
-
-from_point : (es : List (ℕ × Value)) (p : ℕ) → p ≤ END → p ≤ first_or_end (filter (λ e. nat_le p e.0) es)
-from_point [] p le = le
-from_point (e ∷ es) p le = by_test (nat_le p e.0) refl (from_point es p le)
-  where
-    by_test : (b : Bool) → nat_le p e.0 ≡ b → p ≤ first_or_end (filter (λ e. nat_le p e.0) es) → p ≤ first_or_end (if b then e ∷ filter (λ e. nat_le p e.0) es else filter (λ e. nat_le p e.0) es)
-    by_test true t ih = grind (arith, nat_tests)
-    by_test false t ih = ih
 
 -- the slot of a point is one by the test
 pub slot_always : (m : Index) (p : ℕ) → is_slot m (slot_of m p) ≡ true
@@ -71,7 +64,7 @@ granted_queue r m rows n k = by_queue (rows n).queue refl
     by_queue [] e = eq_cases k n
         (λ f. subst (λ x. (rows x).queue ≡ (granted_first rows n x).queue) (sym f) (sym (ap (λ r. r.queue) (row_here rows n (grant_first (rows n) (rows n).queue)) ∙ ap (λ q. (grant_first (rows n) q).queue) e)))
         (λ ne. ap (λ r. r.queue) (sym (row_other rows n (grant_first (rows n) (rows n).queue) k ne)))
-    by_queue (u ∷ us) e = raised_on_queue (granted_first rows n) (taken_after m (granted_first rows n) n u (r - 1)) u k
+    by_queue (u ∷ us) e = raised_on_queue (granted_first rows n) (reached_after m (granted_first rows n) n u (r - 1)) u k
 
 -- The slots that are taken, one after another
 
@@ -84,33 +77,32 @@ module _ (m : Index) (u : Waiter) where
   -- the grant continues to the next slot
   pub on_to : (rows : Rows) (n : ℕ) → goes_on m rows n u ≡ true → (n < slot_of m (suc n)) × (is_slot m (slot_of m (suc n)) ≡ true) × (is_wanted_compatible rows (slot_of m (suc n)) u ≡ true)
   on_to rows n e =
-      let x = and_parts (nat_lt n END) (nat_lt (suc n) u.hi && can_take rows (slot_of m (suc n)) u) e in
-      let y = and_parts (nat_lt (suc n) u.hi) (can_take rows (slot_of m (suc n)) u) x.1 in
+      let x = and_parts (nat_lt n END) (nat_lt (suc n) u.hi && is_open_to rows (slot_of m (suc n)) u) e in
+      let y = and_parts (nat_lt (suc n) u.hi) (is_open_to rows (slot_of m (suc n)) u) x.1 in
       let z = and_parts (nobody_waits (rows (slot_of m (suc n))).queue) (is_wanted_compatible rows (slot_of m (suc n)) u && not (needs_entry u.mode && nat_eq (slot_of m (suc n)) END)) y.1 in
-      let lt = ltb-true n END x.0 in
-      let from = from_point (fin.entries m) (suc n) (omega (arith, lt)) in
-      (omega (arith, from), slot_always m (suc n), (and_parts (is_wanted_compatible rows (slot_of m (suc n)) u) (not (needs_entry u.mode && nat_eq (slot_of m (suc n)) END)) z.1).0)
+      (slot_after m n x.0, slot_always m (suc n), (and_parts (is_wanted_compatible rows (slot_of m (suc n)) u) (not (needs_entry u.mode && nat_eq (slot_of m (suc n)) END)) z.1).0)
 
   -- what each raise keeps, the grant keeps as it continues
-  pub along : (P : Rows → Type 0) (low : ℕ) → ((rows : Rows) (n : ℕ) → low < n → is_slot m n ≡ true → is_wanted_compatible rows n u ≡ true → P rows → P (raised rows n u)) → (k n : ℕ) (rows : Rows) → low ≤ n → P rows → P (raised_on rows (taken_after m rows n u k) u)
+  pub along : (P : Rows → Type 0) (low : ℕ) → ((rows : Rows) (n : ℕ) → low < n → is_slot m n ≡ true → is_wanted_compatible rows n u ≡ true → P rows → P (raised rows n u)) → (k n : ℕ) (rows : Rows) → low ≤ n → P rows → P (raised_on rows (reached_after m rows n u k) u)
   along P low step zero n rows le p = p
-  along P low step (suc k) n rows le p = if_case (λ ns. P (raised_on rows ns u)) (goes_on m rows n u) (slot_of m (suc n) ∷ taken_after m (raised rows (slot_of m (suc n)) u) (slot_of m (suc n)) u k) []
+  along P low step (suc k) n rows le p = if_case (λ ns. P (raised_on rows ns u)) (goes_on m rows n u) (slot_of m (suc n) ∷ reached_after m rows (slot_of m (suc n)) u k) []
       (λ e. let x = on_to rows n e in let far : low < slot_of m (suc n) = (let lt = x.0 in omega (arith, lt, le)) in
-      along P low step k (slot_of m (suc n)) (raised rows (slot_of m (suc n)) u) (omega (arith, far)) (step rows (slot_of m (suc n)) far x.1 x.2 p))
+      subst (λ ns. P (raised_on (raised rows (slot_of m (suc n)) u) ns u)) (sym (reached_raised m u rows (slot_of m (suc n)) k))
+      (along P low step k (slot_of m (suc n)) (raised rows (slot_of m (suc n)) u) (omega (arith, far)) (step rows (slot_of m (suc n)) far x.1 x.2 p)))
       (λ e. p)
 
   -- they are slots, in ascending order
-  pub taken_slots : (k n : ℕ) (rows : Rows) → AreSlotsAfter m n (taken_after m rows n u k)
+  pub taken_slots : (k n : ℕ) (rows : Rows) → AreSlotsAfter m n (reached_after m rows n u k)
   taken_slots zero n rows = tt
-  taken_slots (suc k) n rows = if_case (AreSlotsAfter m n) (goes_on m rows n u) (slot_of m (suc n) ∷ taken_after m (raised rows (slot_of m (suc n)) u) (slot_of m (suc n)) u k) []
-      (λ e. let x = on_to rows n e in (x.0, x.1, taken_slots k (slot_of m (suc n)) (raised rows (slot_of m (suc n)) u)))
+  taken_slots (suc k) n rows = if_case (AreSlotsAfter m n) (goes_on m rows n u) (slot_of m (suc n) ∷ reached_after m rows (slot_of m (suc n)) u k) []
+      (λ e. let x = on_to rows n e in (x.0, x.1, taken_slots k (slot_of m (suc n)) rows))
       (λ e. tt)
 
   -- and not too many
-  pub taken_few : (k n : ℕ) (rows : Rows) → length (taken_after m rows n u k) ≤ k
+  pub taken_few : (k n : ℕ) (rows : Rows) → length (reached_after m rows n u k) ≤ k
   taken_few zero n rows = omega arith
-  taken_few (suc k) n rows = if_case (λ ns. length ns ≤ suc k) (goes_on m rows n u) (slot_of m (suc n) ∷ taken_after m (raised rows (slot_of m (suc n)) u) (slot_of m (suc n)) u k) []
-      (λ e. let ih = taken_few k (slot_of m (suc n)) (raised rows (slot_of m (suc n)) u) in omega (arith, ih))
+  taken_few (suc k) n rows = if_case (λ ns. length ns ≤ suc k) (goes_on m rows n u) (slot_of m (suc n) ∷ reached_after m rows (slot_of m (suc n)) u k) []
+      (λ e. let ih = taken_few k (slot_of m (suc n)) rows in omega (arith, ih))
       (λ e. omega arith)
 
 -- A grant to the first waiter u of the slot n
@@ -119,11 +111,11 @@ module _ (r : ℕ) (m : Index) (rows : Rows) (n : ℕ) (u : Waiter) (us : List W
   abbrev pub first_rows : Rows
   first_rows = set_row rows n (grant_first (rows n) (u ∷ us))
 
-  pub granted_is : granted r m rows n ≡ raised_on first_rows (taken_after m first_rows n u (r - 1)) u
-  granted_is = ap (granted_by r m rows n) queue ∙ ap (λ q. raised_on (set_row rows n (grant_first (rows n) q)) (taken_after m (set_row rows n (grant_first (rows n) q)) n u (r - 1)) u) queue
+  pub granted_is : granted r m rows n ≡ raised_on first_rows (reached_after m first_rows n u (r - 1)) u
+  granted_is = ap (granted_by r m rows n) queue ∙ ap (λ q. raised_on (set_row rows n (grant_first (rows n) q)) (reached_after m (set_row rows n (grant_first (rows n) q)) n u (r - 1)) u) queue
 
-  pub taken_is : taken r m rows n ≡ n ∷ taken_after m first_rows n u (r - 1)
-  taken_is = ap (taken_by r m rows n) queue ∙ ap (λ q. n ∷ taken_after m (set_row rows n (grant_first (rows n) q)) n u (r - 1)) queue
+  pub reached_is : reached_slots r m rows n ≡ n ∷ reached_after m first_rows n u (r - 1)
+  reached_is = ap (reached_by r m rows n) queue ∙ ap (λ q. n ∷ reached_after m (set_row rows n (grant_first (rows n) q)) n u (r - 1)) queue
 
 -- rows below the slot stay
 pub granted_below : (r : ℕ) (m : Index) (rows : Rows) (n k : ℕ) → k < n → granted r m rows n k ≡ rows k
@@ -139,20 +131,21 @@ granted_below r m rows n k lt = by_queue (rows n).queue refl
 module _ (m : Index) (u : Waiter) (k : ℕ) (v : Waiter) (vs : List Waiter) where
   free_next : (rows : Rows) (n : ℕ) → goes_on m rows n u ≡ true → nobody_waits (rows (slot_of m (suc n))).queue ≡ true
   free_next rows n e =
-      let x = and_parts (nat_lt n END) (nat_lt (suc n) u.hi && can_take rows (slot_of m (suc n)) u) e in
-      let y = and_parts (nat_lt (suc n) u.hi) (can_take rows (slot_of m (suc n)) u) x.1 in
+      let x = and_parts (nat_lt n END) (nat_lt (suc n) u.hi && is_open_to rows (slot_of m (suc n)) u) e in
+      let y = and_parts (nat_lt (suc n) u.hi) (is_open_to rows (slot_of m (suc n)) u) x.1 in
       (and_parts (nobody_waits (rows (slot_of m (suc n))).queue) (is_wanted_compatible rows (slot_of m (suc n)) u && not (needs_entry u.mode && nat_eq (slot_of m (suc n)) END)) y.1).0
 
   not_next : (rows : Rows) (n : ℕ) → goes_on m rows n u ≡ true → (rows k).queue ≡ v ∷ vs → k ≢ slot_of m (suc n)
   not_next rows n e queue f =
-      let taken : true ≡ false = sym (free_next rows n e) ∙ ap (λ j. nobody_waits (rows j).queue) (sym f) ∙ ap nobody_waits queue in
+      let reached_slots : true ≡ false = sym (free_next rows n e) ∙ ap (λ j. nobody_waits (rows j).queue) (sym f) ∙ ap nobody_waits queue in
       absurd (cc)
 
-  raised_compatible : (j n : ℕ) (rows : Rows) → (rows k).queue ≡ v ∷ vs → raised_on rows (taken_after m rows n u j) u k ≡ rows k
+  raised_compatible : (j n : ℕ) (rows : Rows) → (rows k).queue ≡ v ∷ vs → raised_on rows (reached_after m rows n u j) u k ≡ rows k
   raised_compatible zero n rows queue = refl
-  raised_compatible (suc j) n rows queue = if_case (λ ns. raised_on rows ns u k ≡ rows k) (goes_on m rows n u) (slot_of m (suc n) ∷ taken_after m (raised rows (slot_of m (suc n)) u) (slot_of m (suc n)) u j) []
+  raised_compatible (suc j) n rows queue = if_case (λ ns. raised_on rows ns u k ≡ rows k) (goes_on m rows n u) (slot_of m (suc n) ∷ reached_after m rows (slot_of m (suc n)) u j) []
       (λ e. let next = slot_of m (suc n) in
-      raised_compatible j next (raised rows next u) (raised_queue rows next u k ∙ queue)
+      ap (λ ns. raised_on (raised rows next u) ns u k) (reached_raised m u rows next j)
+      ∙ raised_compatible j next (raised rows next u) (raised_queue rows next u k ∙ queue)
       ∙ row_other rows next (with_mode (rows next) u.client (wanted (rows next) u)) k (not_next rows n e queue))
       (λ e. refl)
 
@@ -215,16 +208,16 @@ pub record IsTaken (t : Server) (c : ℕ) (slots : List ℕ) : Type 0 where
   pub there : AllByRecursion (λ k. is_slot t.durable.index k ≡ true) slots
   pub order : Ascend (holdings t c slots)
   pub some : 1 ≤ length slots
-  pub few : length slots ≤ max_holdings
+  pub few : length slots ≤ MAX_HOLDINGS
   pub reach : length slots ≤ t.durable.reach
 
-pub taken_told : (s t : Server) (n : ℕ) (u : Waiter) (slots : List ℕ) (rest : List Waiter) → ((q : ℕ) → END ≤ q → fin.get s.durable.index q ≡ None) → t.durable ≡ s.durable → is_slot s.durable.index n ≡ true → (s.rows n).queue ≡ u ∷ rest → IsReach s.durable.reach → slots ≡ taken s.durable.reach s.durable.index s.rows n → IsTaken t u.client slots
-taken_told s t n u slots rest near same here queue far is =
+pub reached_told : (s t : Server) (n : ℕ) (u : Waiter) (slots : List ℕ) (rest : List Waiter) → ((q : ℕ) → END ≤ q → fin.get s.durable.index q ≡ None) → t.durable ≡ s.durable → is_slot s.durable.index n ≡ true → (s.rows n).queue ≡ u ∷ rest → IsReach s.durable.reach → slots ≡ reached_slots s.durable.reach s.durable.index s.rows n → IsTaken t u.client slots
+reached_told s t n u slots rest near same here queue far is =
     let m = s.durable.index in
     let first = first_rows s.durable.reach m s.rows n u rest queue in
-    let ns = taken_after m first n u (s.durable.reach - 1) in
+    let ns = reached_after m first n u (s.durable.reach - 1) in
     let after = taken_slots m u (s.durable.reach - 1) n first in
-    let e : slots ≡ n ∷ ns = is ∙ taken_is s.durable.reach m s.rows n u rest queue in
+    let e : slots ≡ n ∷ ns = is ∙ reached_is s.durable.reach m s.rows n u rest queue in
     subst (IsTaken t u.client) (sym e)
     (record {
       there = subst (λ (d : Durable). AllByRecursion (λ k. is_slot d.index k ≡ true) (n ∷ ns)) (sym same) (slots_there m n ns here after);

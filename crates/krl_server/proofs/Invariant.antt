@@ -3,7 +3,7 @@ pub mod RowsSound
 pub mod AnswersSound
 pub mod Placed
 pub mod WritesSound
-pub mod TakesSound
+pub mod SeizesSound
 pub mod Sounds
 pub mod Kept
 pub mod Within

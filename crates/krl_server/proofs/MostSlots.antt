@@ -5,9 +5,9 @@ use Rattle.std.proofs.lemmas.Bool.{leb-true}
 use Rattle.std.specs.Prelude.{min}
 use Rattle.std.specs.FinMap as fin
 use Rattle.krl_durable.specs.Writes.{IsReach}
-use Rattle.krl_table.specs.Grants.{can_take, goes_on, taken_after, taken}
+use Rattle.krl_table.specs.Grants.{is_open_to, goes_on, reached_after, reached_slots}
 use Rattle.krl_server.specs.GrantRooms.{slots_asked, most_slots}
-use Rattle.krl_server.proofs.Grants.{on_to, taken_few, first_rows, taken_is}
+use Rattle.krl_server.proofs.Grants.{on_to, taken_few, first_rows, reached_is}
 use Rattle.krl_server.proofs.Tests.{if_case}
 
 -- Keys from a point on
@@ -66,39 +66,39 @@ next (e ∷ es) p = by_test (nat_le p e.0) refl (next es p)
 module _ (m : Index) (u : Waiter) where
   below : (rows : Rows) (n : ℕ) → goes_on m rows n u ≡ true → (n < END) × (suc n < u.hi)
   below rows n e =
-      let x = and_parts (nat_lt n END) (nat_lt (suc n) u.hi && can_take rows (slot_of m (suc n)) u) e in
-      let y = and_parts (nat_lt (suc n) u.hi) (can_take rows (slot_of m (suc n)) u) x.1 in
+      let x = and_parts (nat_lt n END) (nat_lt (suc n) u.hi && is_open_to rows (slot_of m (suc n)) u) e in
+      let y = and_parts (nat_lt (suc n) u.hi) (is_open_to rows (slot_of m (suc n)) u) x.1 in
       (ltb-true n END x.0, ltb-true (suc n) u.hi y.0)
 
-  none_at_end : (k n : ℕ) (rows : Rows) → n ≡ END → length (taken_after m rows n u k) ≤ 0
+  none_at_end : (k n : ℕ) (rows : Rows) → n ≡ END → length (reached_after m rows n u k) ≤ 0
   none_at_end zero n rows end = omega arith
-  none_at_end (suc k) n rows end = if_case (λ ns. length ns ≤ 0) (goes_on m rows n u) (slot_of m (suc n) ∷ taken_after m (raised rows (slot_of m (suc n)) u) (slot_of m (suc n)) u k) []
+  none_at_end (suc k) n rows end = if_case (λ ns. length ns ≤ 0) (goes_on m rows n u) (slot_of m (suc n) ∷ reached_after m rows (slot_of m (suc n)) u k) []
       (λ e. let lt = (below rows n e).0 in absurd (omega (arith, lt, end)))
       (λ e. omega arith)
 
   -- one at each point that is asked for
-  asked : (k n : ℕ) (rows : Rows) → length (taken_after m rows n u k) ≤ u.hi - suc n
+  asked : (k n : ℕ) (rows : Rows) → length (reached_after m rows n u k) ≤ u.hi - suc n
   asked zero n rows = omega arith
-  asked (suc k) n rows = if_case (λ ns. length ns ≤ u.hi - suc n) (goes_on m rows n u) (slot_of m (suc n) ∷ taken_after m (raised rows (slot_of m (suc n)) u) (slot_of m (suc n)) u k) []
+  asked (suc k) n rows = if_case (λ ns. length ns ≤ u.hi - suc n) (goes_on m rows n u) (slot_of m (suc n) ∷ reached_after m rows (slot_of m (suc n)) u k) []
       (λ e.
       let lt = (on_to m u rows n e).0 in
       let hi = (below rows n e).1 in
-      let ih = asked k (slot_of m (suc n)) (raised rows (slot_of m (suc n)) u) in
+      let ih = asked k (slot_of m (suc n)) rows in
       omega (arith, lt, hi, ih))
       (λ e. omega arith)
 
   -- one at each key, and END
-  there : (k n : ℕ) (rows : Rows) → length (taken_after m rows n u k) ≤ suc (from (suc n) (fin.entries m))
+  there : (k n : ℕ) (rows : Rows) → length (reached_after m rows n u k) ≤ suc (from (suc n) (fin.entries m))
   there zero n rows = omega arith
-  there (suc k) n rows = if_case (λ ns. length ns ≤ suc (from (suc n) (fin.entries m))) (goes_on m rows n u) (slot_of m (suc n) ∷ taken_after m (raised rows (slot_of m (suc n)) u) (slot_of m (suc n)) u k) []
-      (λ e. by_next (next (fin.entries m) (suc n)) (there k (slot_of m (suc n)) (raised rows (slot_of m (suc n)) u)))
+  there (suc k) n rows = if_case (λ ns. length ns ≤ suc (from (suc n) (fin.entries m))) (goes_on m rows n u) (slot_of m (suc n) ∷ reached_after m rows (slot_of m (suc n)) u k) []
+      (λ e. by_next (next (fin.entries m) (suc n)) (there k (slot_of m (suc n)) rows))
       (λ e. omega arith)
     where
-      by_next : (slot_of m (suc n) ≡ END) ⊎ ((suc n ≤ slot_of m (suc n)) × (suc (from (suc (slot_of m (suc n))) (fin.entries m)) ≤ from (suc n) (fin.entries m))) → length (taken_after m (raised rows (slot_of m (suc n)) u) (slot_of m (suc n)) u k) ≤ suc (from (suc (slot_of m (suc n))) (fin.entries m)) → suc (length (taken_after m (raised rows (slot_of m (suc n)) u) (slot_of m (suc n)) u k)) ≤ suc (from (suc n) (fin.entries m))
-      by_next (inl end) ih = let none = none_at_end k (slot_of m (suc n)) (raised rows (slot_of m (suc n)) u) end in omega (arith, none)
+      by_next : (slot_of m (suc n) ≡ END) ⊎ ((suc n ≤ slot_of m (suc n)) × (suc (from (suc (slot_of m (suc n))) (fin.entries m)) ≤ from (suc n) (fin.entries m))) → length (reached_after m rows (slot_of m (suc n)) u k) ≤ suc (from (suc (slot_of m (suc n))) (fin.entries m)) → suc (length (reached_after m rows (slot_of m (suc n)) u k)) ≤ suc (from (suc n) (fin.entries m))
+      by_next (inl end) ih = let none = none_at_end k (slot_of m (suc n)) rows end in omega (arith, none)
       by_next (inr h) ih = let less = h.1 in omega (arith, less, ih)
 
-  within : (r p : ℕ) (rows : Rows) → 1 ≤ r → suc (length (taken_after m rows (slot_of m p) u (r - 1))) ≤ min (min r (suc (u.hi - suc p))) (suc (length (fin.entries m)))
+  within : (r p : ℕ) (rows : Rows) → 1 ≤ r → suc (length (reached_after m rows (slot_of m p) u (r - 1))) ≤ min (min r (suc (u.hi - suc p))) (suc (length (fin.entries m)))
   within r p rows some = by_next (next (fin.entries m) p)
     where
       n : ℕ
@@ -107,10 +107,10 @@ module _ (m : Index) (u : Waiter) where
       least : (k a b c : ℕ) → k ≤ a → k ≤ b → k ≤ c → k ≤ min (min a b) c
       least k a b c x y z = omega (arith, x, y, z)
 
-      by_next : (slot_of m p ≡ END) ⊎ ((p ≤ slot_of m p) × (suc (from (suc (slot_of m p)) (fin.entries m)) ≤ from p (fin.entries m))) → suc (length (taken_after m rows (slot_of m p) u (r - 1))) ≤ min (min r (suc (u.hi - suc p))) (suc (length (fin.entries m)))
+      by_next : (slot_of m p ≡ END) ⊎ ((p ≤ slot_of m p) × (suc (from (suc (slot_of m p)) (fin.entries m)) ≤ from p (fin.entries m))) → suc (length (reached_after m rows (slot_of m p) u (r - 1))) ≤ min (min r (suc (u.hi - suc p))) (suc (length (fin.entries m)))
       by_next (inl end) =
           let none = none_at_end (r - 1) n rows end in
-          least (suc (length (taken_after m rows n u (r - 1)))) r (suc (u.hi - suc p)) (suc (length (fin.entries m))) (omega (arith, none, some)) (omega (arith, none)) (omega (arith, none))
+          least (suc (length (reached_after m rows n u (r - 1)))) r (suc (u.hi - suc p)) (suc (length (fin.entries m))) (omega (arith, none, some)) (omega (arith, none)) (omega (arith, none))
       by_next (inr h) =
           let le = h.0 in
           let less = h.1 in
@@ -118,18 +118,18 @@ module _ (m : Index) (u : Waiter) where
           let keys = there (r - 1) n rows in
           let all = few (fin.entries m) p in
           let points = asked (r - 1) n rows in
-          least (suc (length (taken_after m rows n u (r - 1)))) r (suc (u.hi - suc p)) (suc (length (fin.entries m))) (omega (arith, reach, some)) (omega (arith, points, le)) (omega (arith, keys, less, all))
+          least (suc (length (reached_after m rows n u (r - 1)))) r (suc (u.hi - suc p)) (suc (length (fin.entries m))) (omega (arith, reach, some)) (omega (arith, points, le)) (omega (arith, keys, less, all))
 
 -- a grant to the first waiter of the slot of its point
-pub taken_most : (s : Server) (u : Waiter) (slots : List ℕ) (rest : List Waiter) → (s.rows (slot_of s.durable.index u.point)).queue ≡ u ∷ rest → IsReach s.durable.reach → slots ≡ taken s.durable.reach s.durable.index s.rows (slot_of s.durable.index u.point) → length slots ≤ most_slots s.durable u.point u.hi
-taken_most s u slots rest queue far is =
+pub reached_most : (s : Server) (u : Waiter) (slots : List ℕ) (rest : List Waiter) → (s.rows (slot_of s.durable.index u.point)).queue ≡ u ∷ rest → IsReach s.durable.reach → slots ≡ reached_slots s.durable.reach s.durable.index s.rows (slot_of s.durable.index u.point) → length slots ≤ most_slots s.durable u.point u.hi
+reached_most s u slots rest queue far is =
     let m = s.durable.index in
     let n = slot_of m u.point in
-    subst (λ ns. length ns ≤ most_slots s.durable u.point u.hi) (sym (is ∙ taken_is s.durable.reach m s.rows n u rest queue))
+    subst (λ ns. length ns ≤ most_slots s.durable u.point u.hi) (sym (is ∙ reached_is s.durable.reach m s.rows n u rest queue))
     (within m u s.durable.reach u.point (first_rows s.durable.reach m s.rows n u rest queue) far.0)
 
 -- a grant to the first waiter of the slot n, which is that of its point
-pub taken_asked : (s : Server) (n : ℕ) (u : Waiter) (slots : List ℕ) (rest : List Waiter) → slot_of s.durable.index u.point ≡ n → (s.rows n).queue ≡ u ∷ rest → IsReach s.durable.reach → slots ≡ taken s.durable.reach s.durable.index s.rows n → length slots ≤ slots_asked s.durable.reach u.point u.hi
-taken_asked s n u slots rest placed queue far is =
-    let most = taken_most s u slots rest (ap (λ k. (s.rows k).queue) placed ∙ queue) far (is ∙ ap (taken s.durable.reach s.durable.index s.rows) (sym placed)) in
+pub reached_asked : (s : Server) (n : ℕ) (u : Waiter) (slots : List ℕ) (rest : List Waiter) → slot_of s.durable.index u.point ≡ n → (s.rows n).queue ≡ u ∷ rest → IsReach s.durable.reach → slots ≡ reached_slots s.durable.reach s.durable.index s.rows n → length slots ≤ slots_asked s.durable.reach u.point u.hi
+reached_asked s n u slots rest placed queue far is =
+    let most = reached_most s u slots rest (ap (λ k. (s.rows k).queue) placed ∙ queue) far (is ∙ ap (reached_slots s.durable.reach s.durable.index s.rows) (sym placed)) in
     omega (arith, most)

@@ -17,14 +17,14 @@ pub use Rattle.krl_durable.specs.Index.{slots, is_slot, Index, low_of, span_of, 
 pub use Rattle.krl_durable.specs.Slots.{IsSlotOf}
 pub use Rattle.krl_durable.specs.Invariants.{HasOutcome}
 pub use Rattle.krl_durable.specs.Kept.{IsKept}
-pub use Rattle.krl_durable.specs.Registers.{not_left, new_record, with_record, departed, record_of, registered, IsIncarnation, HasOutcomes, left_by, Durable, Register}
-pub use Rattle.krl_durable.specs.Writes.{applied, held, applied_by, judge, noted, judged_change, judged_insert, index_after, written}
+pub use Rattle.krl_durable.specs.Registers.{not_left, new_record, with_record, departed, record_of, registered, IsIncarnation, HasOutcomes, Durable, Register}
+pub use Rattle.krl_durable.specs.Splits.{left_by, applied_by}
+pub use Rattle.krl_durable.specs.Writes.{applied, held, judge, noted, judged_change, judged_insert, index_after, written}
 pub use Rattle.krl_durable.specs.declared.record.Record.{Record}
 pub use Rattle.krl_messages.proofs.Members.{in_right, in_to_all, in_both, in_left}
 pub use Rattle.krl_messages.specs.Members.{In}
 pub use Rattle.krl_messages.specs.Values.{Value}
-pub use Rattle.krl_messages.specs.Outcomes.{is_applied}
-pub use Rattle.krl_messages.specs.Writes.{op_key}
+pub use Rattle.krl_messages.specs.Writes.{op_key, is_applied}
 pub use Rattle.krl_messages.specs.declared.holding.Holding.{Holding}
 pub use Rattle.krl_messages.specs.declared.outcome.Outcome.{Outcome}
 pub use Rattle.krl_messages.specs.declared.pieces.Pieces.{Pieces}
@@ -39,17 +39,18 @@ pub use Rattle.krl_modes.specs.declared.mode.Mode.{Mode}
 pub use Rattle.krl_modes.specs.declared.point.TheConstants.{TOP, END}
 pub use Rattle.krl_queue.specs.Waiting.{first_of, up_to, beyond}
 pub use Rattle.krl_queue.specs.declared.waiter.Waiter.{Waiter}
-pub use Rattle.krl_server.specs.Answering.{next_turn, grants, is_answerable, can_push, turn_among, stops, tells_absent, Answered, turn_at, goes_on, Turn, answer_first}
-pub use Rattle.krl_server.specs.Callbacks.{is_compatible, callbacks_at, callbacks, callbacks_of_among, callbacks_from, callbacks_of, callbacks_for, callbacks_among}
+pub use Rattle.krl_server.specs.Answering.{next_turn, grants, is_answerable, can_push, turn_among, stops, tells_absent, AnswersWaiters, goes_on, Turn, answer_first, turn_at}
+pub use Rattle.krl_server.specs.Splits.{nudge_known}
+pub use Rattle.krl_server.specs.Callbacks.{is_compatible, callbacks, callbacks_of_among, callbacks_from, callbacks_for, callbacks_among, callbacks_at, callbacks_of}
 pub use Rattle.krl_server.specs.Cases.{Acknowledges, Lowers, AnswersAgain, judged, case_of_seen, case_of_write, Case, case_of_newer, Alarms, is_malformed, Leaves, Rebuilds, case_of, is_bad_write}
-pub use Rattle.krl_messages.specs.Writes.{takes_lock}
-pub use Rattle.krl_server.specs.Effects.{takes}
-pub use Rattle.krl_server.specs.Takes.{least_mode, lock_for, may_take}
-pub use Rattle.krl_server.specs.Cases.{TakesLock, case_of_new_write, is_reach, case_of_record, Registers, case_of_repeated_write, case_of_request, Ignored, case_of_late, Waits, Repeats, case_of_body, Tells, case_of_report, Judges}
+pub use Rattle.krl_messages.specs.Writes.{can_seize}
+pub use Rattle.krl_server.specs.Effects.{seizes}
+pub use Rattle.krl_server.specs.Seizing.{least_mode, lock_for, may_seize}
+pub use Rattle.krl_server.specs.Cases.{SeizesLock, case_of_new_write, has_points, case_of_record, Registers, case_of_repeated_write, case_of_request, Ignored, case_of_late, Waits, Repeats, case_of_body, Tells, case_of_report, Judges}
 pub use Rattle.krl_server.specs.Cases.{is_alarm}
 pub use Rattle.krl_server.specs.CodeSteps.{IsPerformed, IsServer, calls_after, still_recovering, Finished, HasRoom, HasTurned, HasAnsweredFirst, IsStarted, calls_at_first, own_of, alarm_of, call_if, callback_if, rests}
 pub use Rattle.krl_server.specs.CodeSteps.{HasFinished, HaveWaiters, count_below, is_registered, turn_here, waiting_clients, HasStepped, HasAnswered, served, room_for}
-pub use Rattle.krl_server.specs.Effects.{silent, epoch_to, with_session, lowers, writes, answers, effect, Done, acknowledged, push_to, callback_to, holdings, queues, with_rows, departs, holding, rows_after, pushes, adopts, rows_written}
+pub use Rattle.krl_server.specs.Effects.{silent, epoch_to, with_session, lowers, writes, tells_outcome, effect, Done, acknowledged, push_to, callback_to, holdings, queues, with_rows, departs, holding, rows_after, pushes, adopts, rows_written}
 pub use Rattle.krl_server.specs.Outboxes.{pushed_again, Sent, as_list, Sends}
 pub use Rattle.krl_server.specs.Outputs.{PushesStand, may_change, is_answer, answered_write, may_change_durable, IsCallback, IsNextPush, IsAnswered, is_new_write, ServerSays, AnswersWrite}
 pub use Rattle.krl_server.specs.Outputs.{HasCallbacks, last_of, changes_durable, is_callback}
@@ -58,7 +59,7 @@ pub use Rattle.krl_server.specs.Servers.{is_recovering, Server, unlist, incarnat
 pub use Rattle.krl_server.specs.Soundness.{IsSound}
 pub use Rattle.krl_server.specs.FoundCases.{after_of, IsFormed, case_of_pieces, case_of_unacked, meant}
 pub use Rattle.krl_server.specs.StateMeaning.{sessions_of, meaning}
-pub use Rattle.krl_server.specs.Steps.{ServerStep, nudge_served, Ends, nudge, serves, calls_of, Quiet, Kind, crash, kind_of, nudge_known, at_once, start, can_start, Idle, nudge_missing, recovers, Acts}
+pub use Rattle.krl_server.specs.Steps.{ServerStep, nudge_served, Ends, nudge, serves, callbacks_after, Answers, Following, crash, following, at_once, start, can_start, Nothing, nudge_missing, recovers, Calls}
 pub use Rattle.krl_server.specs.Settled.{IsSettled}
 pub use Rattle.krl_server.specs.Termination.{waiting_on, waiting, StepsEnd}
 unfoldable pub use Rattle.krl_server.specs.Termination.{max_messages}
@@ -69,10 +70,10 @@ pub use Rattle.krl_table.proofs.Invariant.Alone.{times_fewer, times_parted, time
 pub use Rattle.krl_table.proofs.Invariant.Compatible.{turned, none_compatible, all_below_at, other_compatible, or_true, meet_compatible, split_compatible}
 pub use Rattle.krl_table.proofs.Invariant.Stands.{in_queue_with, in_filter, in_unqueue}
 pub use Rattle.krl_table.proofs.Rows.RowChanges.{eq_cases}
-pub use Rattle.krl_table.specs.Calls.{with_queue, split_modes, with_mode, cleared, raised_on, wanted, grant_first, dropped, lowered, merged, enqueued, granted_first, behind_first, mode_beside}
+pub use Rattle.krl_table.specs.Calls.{with_queue, split_modes, with_mode, cleared, raised_on, wanted, front_dropped, lowered, merged, enqueued, granted_first, behind_first, mode_beside, grant_first}
 pub use Rattle.krl_table.specs.Calls.{raised, unqueue, queue_with, split}
 pub use Rattle.krl_table.specs.FirstReplies.{is_granted_at_once, first_reply, reply_to, answerable}
-pub use Rattle.krl_table.specs.Grants.{taken_after, granted, nobody_waits, taken}
+pub use Rattle.krl_table.specs.Grants.{reached_after, granted, nobody_waits, reached_slots}
 pub use Rattle.krl_table.specs.KeptRows.{times, KeptTable, IsOver, AreCompatible}
 pub use Rattle.krl_table.specs.Kept.{rows_of, Kept}
 pub use Rattle.krl_table.specs.Writers.{MayDelete, MayInsert}
@@ -82,4 +83,5 @@ pub use Rattle.krl_table.specs.Reports.{adopted, conflicts, rebuilt}
 pub use Rattle.krl_table.specs.Waiters.{waiter_at, waiter_of, front_of, WaitsNowhere, AreWaiting}
 pub use Rattle.krl_table.specs.Rows.{set_mode, column, is_compatible_there, Rows, mode_at, waits, all_below, blank_rows, blank_row, Row, set_row}
 pub use Rattle.krl_table.specs.Sound.{IsPlaced, IsTable}
-unfoldable pub use Rattle.krl_modes.specs.Limits.{max_clients, standard_room}
+unfoldable pub use Rattle.krl_modes.specs.Constants.{max_clients}
+pub use Rattle.krl_modes.specs.declared.limits.TheConstants.{STANDARD_ROOM}

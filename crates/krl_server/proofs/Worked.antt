@@ -1,6 +1,6 @@
 -- Worked rows: small servers, computed.
 use Rattle.krl_modes.specs.declared.limits.TheConstants.{STANDARD_REACH}
-use Rattle.krl_server.proofs.Names.{◌≡◌, ℕ, suc, List, [], ◌∷◌, ◌++◌, map, Option, Some, None, refl, Mode, Holding, ToServer, ToClient, PushBody, Waiter, Index, is_slot, new_record, standard_room}
+use Rattle.krl_server.proofs.Names.{◌≡◌, ℕ, suc, List, [], ◌∷◌, ◌++◌, map, Option, Some, None, refl, Mode, Holding, ToServer, ToClient, PushBody, Waiter, Index, is_slot, new_record, STANDARD_ROOM}
 use Rattle.krl_server.proofs.Names.{END, Bounds, Value, Pieces, range_at, key_at, lowered, adopted, Row, Rows, blank_row, max_clients, mode_at, Session, Server, case_of, Judges, Ignored, Registers}
 use Rattle.krl_server.proofs.Names.{Waits, Lowers, Rebuilds, AnswersAgain, callbacks_from, Done, effect, Turn, next_turn, answer_first, crash, start}
 use Rattle.std.specs.Prelude.{false, nat_eq, if◌then◌else◌}
@@ -37,7 +37,7 @@ two = (10, byte 1) ∷ (20, byte 2) ∷ []
 
 -- two clients of incarnation 1, which have acknowledged their last pushes
 abbrev server : Index → Rows → (ℕ → Session) → Server
-server m rows sessions = record { durable = record { room = standard_room; reach = STANDARD_REACH; index = m; epoch = 1; register = (0, new_record 1) ∷ (1, new_record 1) ∷ [] }; rows = rows; sessions = sessions; missing = [] }
+server m rows sessions = record { durable = record { room = STANDARD_ROOM; reach = STANDARD_REACH; index = m; epoch = 1; register = (0, new_record 1) ∷ (1, new_record 1) ∷ [] }; rows = rows; sessions = sessions; missing = [] }
 
 abbrev session : ℕ → ℕ → ℕ → Session
 session last_push asked c = record { last_push = last_push; unacked = None; last_request = asked }
@@ -54,7 +54,7 @@ row a b queue = record { modes = λ c. if nat_eq c 0 then a else (if nat_eq c 1 
 -- A server that has just started hears Hello, and grants the gap below 10
 
 abbrev begun : Index → Server
-begun m = start (record { room = standard_room; reach = STANDARD_REACH; index = m; epoch = 0; register = [] })
+begun m = start (record { room = STANDARD_ROOM; reach = STANDARD_REACH; index = m; epoch = 0; register = [] })
 
 abbrev joined : Index → Server
 joined m = (effect (begun m) (hello 0) Registers).server
@@ -103,7 +103,7 @@ abbrev inserted : Index → Done
 inserted m = effect (shared_gap m) insert_15 (Judges 1 (write.Insert 15 (byte 5)) outcome.Applied)
 
 row_5_case : (m : Index) → map.entries m ≡ two → case_of (shared_gap m) insert_15 ≡ Judges 1 (write.Insert 15 (byte 5)) outcome.Applied
-unfolding max_clients standard_room
+unfolding max_clients
 row_5_case m e = simp (e, map.get-entries)
 
 row_5_answer : (m : Index) → map.entries m ≡ two → map.entries (map.insert m 15 (byte 5)) ≡ (10, byte 1) ∷ (15, byte 5) ∷ (20, byte 2) ∷ [] → (inserted m).outs ≡ the_push 0 2 (push.Answer 1 outcome.Applied (held 11 16 mode.RangeIX (Some (byte 5)))) ∷ []

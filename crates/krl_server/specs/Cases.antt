@@ -3,7 +3,7 @@ use Rattle.std.specs.Prelude.{ℕ, suc, Bool, true, false, not, ◌&&◌, ◌||�
 use Rattle.krl_modes.specs.declared.point.TheConstants.{END, TOP}
 use Rattle.krl_modes.specs.declared.mode.Mode.{Mode}
 use Rattle.krl_modes.specs.Spans.{Bounds}
-use Rattle.krl_modes.specs.Limits.{max_clients}
+use Rattle.krl_modes.specs.Constants.{max_clients}
 use Rattle.krl_messages.specs.declared.pieces.Pieces.{Pieces}
 use Rattle.krl_messages.specs.declared.write_op.WriteOp.{WriteOp}
 use Rattle.krl_messages.specs.declared.outcome.Outcome.{Outcome}
@@ -21,7 +21,7 @@ use Rattle.krl_durable.specs.Writes.{held, judge}
 use Rattle.krl_table.specs.Rows.{column, waits}
 use Rattle.krl_table.specs.Reports.{conflicts}
 use Rattle.krl_server.specs.Servers.{Server, is_recovering, lists}
-use Rattle.krl_server.specs.Takes.{may_take}
+use Rattle.krl_server.specs.Seizing.{may_seize}
 
 -- what a message comes to
 pub data Case : Type 0 where
@@ -36,7 +36,7 @@ pub data Case : Type 0 where
   Lowers : Bounds → Mode → Case
   Waits : ℕ → ℕ → ℕ → Mode → Case  -- request number, point, end, mode
   Judges : ℕ → WriteOp → Outcome → Case  -- a new write, and its number
-  TakesLock : ℕ → WriteOp → Case  -- a new write that is applied with the lock that it takes, and its number
+  SeizesLock : ℕ → WriteOp → Case  -- a new write that is applied with the lock that it seizes, and its number
   AnswersAgain : ℕ → WriteOp → Outcome → Case  -- the last write, and its number
 
 -- a test, and the case that is met if it holds, or unless it holds
@@ -63,36 +63,36 @@ case_of_repeated_write number op (Some o) = AnswersAgain number op o
 abbrev pub is_bad_write : ℕ → WriteOp → Bool
 is_bad_write number op = not (nat_lt (op_key op) END) || (nat_eq number 0 || nat_lt END number)
 
--- a new write: it takes the lock that it needs, if it asks for that and the lock is free; or it is judged by what its
+-- a new write: it seizes the lock that it needs, if it asks for that and the lock is free; or it is judged by what its
 -- client holds
 abbrev pub case_of_new_write : Server → ℕ → ℕ → WriteOp → Bool → Case
-case_of_new_write s c number op takes =
-    if takes && may_take s c op then TakesLock number op else Judges number op (judged s c op)
+case_of_new_write s c number op seizes =
+    if seizes && may_seize s c op then SeizesLock number op else Judges number op (judged s c op)
 
 -- 9: a write of the next number, or of the last one's, or one that is passed over
 abbrev pub case_of_write : Server → ℕ → Record → ℕ → WriteOp → Bool → Case
-case_of_write s c r number op takes =
+case_of_write s c r number op seizes =
     first_rule (
     If (is_bad_write number op) Acknowledges
-    ∷ If (nat_eq number (suc r.last)) (case_of_new_write s c number op takes)
+    ∷ If (nat_eq number (suc r.last)) (case_of_new_write s c number op seizes)
     ∷ If (nat_eq number r.last) (case_of_repeated_write number op r.outcome)
     ∷ []
     ) Acknowledges
 
 -- the points from this one on below hi are some points
-abbrev pub is_reach : ℕ → ℕ → Bool
-is_reach point hi = not (nat_lt END point) && (nat_lt point hi && nat_le hi TOP)
+abbrev pub has_points : ℕ → ℕ → Bool
+has_points point hi = not (nat_lt END point) && (nat_lt point hi && nat_le hi TOP)
 
 -- 9: a lock request of the next number, from a client that does not wait, or one that is passed over
 abbrev pub case_of_lock : Server → ℕ → ℕ → ℕ → ℕ → Mode → Case
 case_of_lock s c req point hi g =
-    if nat_eq req (suc (s.sessions c).last_request) && (not (waits s.durable.index s.rows c) && is_reach point hi)
+    if nat_eq req (suc (s.sessions c).last_request) && (not (waits s.durable.index s.rows c) && has_points point hi)
     then Waits req point hi g else Acknowledges
 
 -- 9: what is asked by a client that has seen the last push
 abbrev pub case_of_request : Server → ℕ → Record → RequestBody → Case
 case_of_request s c r (asked.Lock req point hi g) = case_of_lock s c req point hi g
-case_of_request s c r (asked.Write number op takes) = case_of_write s c r number op takes
+case_of_request s c r (asked.Write number op seizes) = case_of_write s c r number op seizes
 case_of_request s c r (asked.Release span keep) = Lowers span keep
 case_of_request s c r asked.Ack = Acknowledges
 

@@ -27,14 +27,14 @@ use Rattle.krl_modes.specs.declared.mode.Mode.{Mode}
 use Rattle.krl_modes.specs.Modes.{compatible, cap}
 use Rattle.krl_modes.specs.Spans.{Bounds}
 use Rattle.krl_modes.specs.declared.limits.TheConstants.{MAX_CLIENTS}
-use Rattle.krl_modes.specs.Limits.{max_clients}
+use Rattle.krl_modes.specs.Constants.{max_clients}
 use Rattle.krl_durable.specs.Index.{span_of, is_slot}
 use Rattle.krl_table.specs.Calls.{wanted}
 use Rattle.krl_server.specs.Effects.{callback_to, effect}
 use Rattle.krl_server.specs.Changes.{change_of}
-use Rattle.krl_server.specs.Answering.{Turn, turn_at, answer_first, Answered}
+use Rattle.krl_server.specs.Answering.{Turn, answer_first, AnswersWaiters, turn_at}
 use Rattle.krl_queue.specs.declared.waiter.Waiter.{Waiter}
-use Rattle.krl_server.specs.Callbacks.{is_compatible, callbacks_for, callbacks_of, callbacks}
+use Rattle.krl_server.specs.Callbacks.{is_compatible, callbacks_for, callbacks, callbacks_of}
 use Rattle.krl_server.specs.Steps.{ServerStep, alarms, start, can_start}
 use Rattle.krl_server.specs.Settled.{IsSettled}
 use Rattle.krl_server.specs.Soundness.{IsSound}
@@ -70,7 +70,7 @@ calls_at_first s n c = callbacks_of c s n (s.rows n).queue
 -- first waiters are answered until none can be, and the answers are sent
 pub record HasAnswered (s t : Server) (old new : Sent) : Type 0 where
   pub outs : List ToClient
-  pub answered : Answered s t outs
+  pub answered : AnswersWaiters s t outs
   pub sends : Sends old new outs
 
 -- the callback to the client d for this span, if what d holds there blocks the waiter u, which wants the mode g
@@ -122,7 +122,7 @@ pub data Finished (s : Server) (left : After) : Server → List ToClient → Typ
   rests : does_answer left ≡ false → Finished s left s []
   still_recovering : is_recovering s.missing ≡ true → Finished s left s []
   served : (t : Server) (answers : List ToClient) → does_answer left ≡ true → is_recovering s.missing ≡ false →
-      Answered s t answers → Finished s left t (answers ++ calls_after left t)
+      AnswersWaiters s t answers → Finished s left t (answers ++ calls_after left t)
 
 pub record HasFinished (s : Server) (left : After) (t : Server) (old new : Sent) : Type 0 where
   pub outs : List ToClient
@@ -165,7 +165,7 @@ own_of found.Acknowledges = 0
 own_of (found.Lowers span keep) = 0
 own_of (found.Waits req point hi g) = 0
 own_of (found.Judges number op) = 1
-own_of (found.TakesLock number op) = 1
+own_of (found.SeizesLock number op) = 1
 own_of (found.AnswersAgain number op o) = 1
 
 -- how many messages a step can send, if so many clients wait
@@ -180,7 +180,7 @@ room_for n found.Acknowledges = MAX_CLIENTS * n
 room_for n (found.Lowers span keep) = n
 room_for n (found.Waits req point hi g) = MAX_CLIENTS * (n + 1)
 room_for n (found.Judges number op) = 1 + MAX_CLIENTS * n
-room_for n (found.TakesLock number op) = 1 + MAX_CLIENTS * n
+room_for n (found.SeizesLock number op) = 1 + MAX_CLIENTS * n
 room_for n (found.AnswersAgain number op o) = 1 + MAX_CLIENTS * n
 
 -- What holds of the state of every server between two steps

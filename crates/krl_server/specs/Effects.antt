@@ -14,7 +14,6 @@ use Rattle.krl_messages.specs.declared.write_op.WriteOp.{WriteOp}
 use Rattle.krl_messages.specs.declared.write_op.WriteOp.TheVariants as write
 use Rattle.krl_messages.specs.declared.outcome.Outcome.{Outcome}
 use Rattle.krl_messages.specs.declared.outcome.Outcome.TheVariants as outcome
-use Rattle.krl_messages.specs.Outcomes.{is_applied}
 use Rattle.krl_messages.specs.declared.to_server.ToServer.{ToServer}
 use Rattle.krl_messages.specs.declared.to_client.ToClient.{ToClient}
 use Rattle.krl_messages.specs.declared.to_client.ToClientBody.{ToClientBody}
@@ -24,15 +23,15 @@ use Rattle.krl_messages.specs.declared.to_client.PushBody.TheVariants as push
 use Rattle.krl_queue.specs.declared.waiter.Waiter.{Waiter}
 use Rattle.krl_durable.specs.Index.{Index, slot_of, span_of}
 use Rattle.krl_durable.specs.Registers.{registered, departed}
-use Rattle.krl_messages.specs.Writes.{op_key}
+use Rattle.krl_messages.specs.Writes.{op_key, is_applied}
 use Rattle.krl_durable.specs.Writes.{applied}
 use Rattle.krl_table.specs.Rows.{Rows, mode_at}
 use Rattle.krl_table.specs.Calls.{lowered, cleared, enqueued, split, merged, raised}
 use Rattle.krl_table.specs.Reports.{adopted}
 use Rattle.krl_server.specs.declared.session.Session.{Session}
 use Rattle.krl_server.specs.Servers.{Server, blank_session, unlist, set_session, incarnation_of}
-use Rattle.krl_server.specs.Takes.{lock_for}
-use Rattle.krl_server.specs.Cases.{Case, Ignored, Registers, Leaves, Tells, Alarms, Rebuilds, Repeats, Acknowledges, Lowers, Waits, Judges, TakesLock, AnswersAgain}
+use Rattle.krl_server.specs.Seizing.{lock_for}
+use Rattle.krl_server.specs.Cases.{Case, Ignored, Registers, Leaves, Tells, Alarms, Rebuilds, Repeats, Acknowledges, Lowers, Waits, Judges, SeizesLock, AnswersAgain}
 
 -- the server after a call, and what it sends
 pub record Done : Type 0 where
@@ -101,7 +100,7 @@ registers s c incarnation = record s {
 abbrev pub departs : Server → ℕ → Server
 departs s c = record s { durable = departed s.durable c; rows = cleared s.rows c; missing = unlist s.missing c }
 
--- a report is taken
+-- a report is adopted
 abbrev pub adopts : Server → ℕ → Pieces → Server
 adopts s c pieces = record s { rows = adopted s.durable.index s.rows c pieces; missing = unlist s.missing c }
 
@@ -113,7 +112,7 @@ acknowledged s c = with_session s c (record (s.sessions c) { unacked = None })
 abbrev pub lowers : Server → ℕ → Bounds → Mode → Server
 lowers s c span keep = with_rows s (lowered s.durable.index s.rows c span keep)
 
--- a lock request is taken
+-- a lock request gets its place in the queue
 abbrev pub queues : Server → Waiter → Server
 queues s u = record s {
   rows = enqueued s.durable.index s.rows u;
@@ -130,9 +129,9 @@ rows_written m rows c (write.Delete k) = merged m rows k
 abbrev pub rows_after : Index → Rows → ℕ → WriteOp → Outcome → Rows
 rows_after m rows c op o = if is_applied o then rows_written m rows c op else rows
 
--- the client takes the lock that a write needs: on the slot of the key its mode rises to what it wants there
-abbrev pub takes : Server → ℕ → WriteOp → Server
-takes s c op = with_rows s (raised s.rows (slot_of s.durable.index (op_key op)) (lock_for c op))
+-- the client gets the lock that its write seizes: on the slot of the key its mode rises to what it wants there
+abbrev pub seizes : Server → ℕ → WriteOp → Server
+seizes s c op = with_rows s (raised s.rows (slot_of s.durable.index (op_key op)) (lock_for c op))
 
 -- a new write is done and noted
 abbrev pub writes : Server → ℕ → WriteOp → Outcome → Server
@@ -152,8 +151,8 @@ pushes s c body =
     else silent s
 
 -- a write is answered, with the client's present holding on the slot of its key
-abbrev pub answers : Server → ℕ → ℕ → WriteOp → Outcome → Done
-answers s c number op o = pushes s c (push.Answer number o (holding s (slot_of s.durable.index (op_key op)) c))
+abbrev pub tells_outcome : Server → ℕ → ℕ → WriteOp → Outcome → Done
+tells_outcome s c number op o = pushes s c (push.Answer number o (holding s (slot_of s.durable.index (op_key op)) c))
 
 -- what each case makes of the server, and what it sends to the message's client
 abbrev pub effect : Server → ToServer → Case → Done
@@ -175,8 +174,8 @@ effect s m (Waits req point hi g) =
       hi = hi;
       mode = g;
     }))
-effect s m (Judges number op o) = answers (writes (acknowledged s m.client) m.client op o) m.client number op o
-effect s m (TakesLock number op) =
-    answers (writes (acknowledged (takes s m.client op) m.client) m.client op outcome.Applied) m.client number op
+effect s m (Judges number op o) = tells_outcome (writes (acknowledged s m.client) m.client op o) m.client number op o
+effect s m (SeizesLock number op) =
+    tells_outcome (writes (acknowledged (seizes s m.client op) m.client) m.client op outcome.Applied) m.client number op
     outcome.Applied
-effect s m (AnswersAgain number op o) = answers (acknowledged s m.client) m.client number op o
+effect s m (AnswersAgain number op o) = tells_outcome (acknowledged s m.client) m.client number op o

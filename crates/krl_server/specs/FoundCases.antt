@@ -12,7 +12,7 @@ use Rattle.krl_server.specs.declared.case.Case.TheVariants as found
 use Rattle.krl_server.specs.declared.case.After.{After}
 use Rattle.krl_server.specs.declared.case.After.TheVariants as after
 use Rattle.krl_server.specs.Servers.{Server}
-use Rattle.krl_server.specs.Cases.{Case, Ignored, Registers, Leaves, Tells, Alarms, Rebuilds, Repeats, Acknowledges, Lowers, Waits, Judges, TakesLock, AnswersAgain, judged, case_of_new_write}
+use Rattle.krl_server.specs.Cases.{Case, Ignored, Registers, Leaves, Tells, Alarms, Rebuilds, Repeats, Acknowledges, Lowers, Waits, Judges, SeizesLock, AnswersAgain, judged, case_of_new_write}
 
 -- there is a session for each client, and the table's rows stand at slots of the index, with a row
 -- for each of them
@@ -46,7 +46,7 @@ meant s c b found.Acknowledges = Acknowledges
 meant s c b (found.Lowers span keep) = Lowers span keep
 meant s c b (found.Waits req point hi g) = Waits req point hi g
 meant s c b (found.Judges number op) = Judges number op (judged s c op)
-meant s c b (found.TakesLock number op) = case_of_new_write s c number op true
+meant s c b (found.SeizesLock number op) = case_of_new_write s c number op true
 meant s c b (found.AnswersAgain number op o) = AnswersAgain number op o
 
 -- what is left to be done after a case
@@ -62,5 +62,5 @@ after_of Acknowledges = after.Calls
 after_of (Lowers span keep) = after.Answers
 after_of (Waits req point hi g) = after.Calls
 after_of (Judges number op o) = after.Calls
-after_of (TakesLock number op) = after.Calls
+after_of (SeizesLock number op) = after.Calls
 after_of (AnswersAgain number op o) = after.Calls

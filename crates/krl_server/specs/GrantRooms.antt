@@ -1,4 +1,4 @@
--- Memory for grants, which is taken before anything changes.
+-- Memory for grants, which is reserved before anything changes.
 use Rattle.std.specs.Prelude.{◌≡◌, ℕ, suc, ◌-◌, ◌≤◌, min, List, length, Option, Some, None, slice_index_or}
 use Rattle.std.specs.FinMap as map
 use Rattle.krl_modes.specs.declared.limits.TheConstants.{MAX_CLIENTS}
@@ -12,7 +12,7 @@ use Rattle.krl_server.specs.Servers.{Server}
 use Rattle.krl_server.specs.StateMeaning.{meaning}
 use Rattle.krl_server.specs.CodeSteps.{IsServer}
 
--- how many slots a grant takes at most, of a lock from this point on below hi: as far as the reach, one at each point
+-- how many slots a grant reaches at most, of a lock from this point on below hi: as far as the reach, one at each point
 abbrev pub slots_asked : ℕ → ℕ → ℕ → ℕ
 slots_asked reach point hi = min reach (suc (hi - suc point))
 

@@ -2,7 +2,7 @@ pub mod Servers
 pub mod StateMeaning
 pub mod Afters
 pub mod Outboxes
-pub mod Takes
+pub mod Seizing
 pub mod Cases
 pub mod FoundCases
 pub mod Effects
@@ -11,6 +11,7 @@ pub mod Answering
 pub mod Settled
 pub mod Callbacks
 pub mod Steps
+pub mod Splits
 pub mod Soundness
 pub mod CodeSteps
 pub mod Replays

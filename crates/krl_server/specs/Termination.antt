@@ -6,7 +6,7 @@ use Rattle.krl_durable.specs.Index.{slots}
 use Rattle.krl_table.specs.Rows.{Rows}
 use Rattle.krl_table.specs.Sound.{IsTable}
 use Rattle.krl_server.specs.Servers.{Server, is_recovering}
-use Rattle.krl_server.specs.Answering.{Answered}
+use Rattle.krl_server.specs.Answering.{AnswersWaiters}
 use Rattle.krl_server.specs.Steps.{ServerStep, nudge}
 use Rattle.krl_server.specs.Settled.{IsSettled}
 use Rattle.krl_server.specs.Soundness.{IsSound}
@@ -30,10 +30,10 @@ pub record StepsEnd : Type 0 where
   pub one : (s t u : Server) (m : ToServer) (outs others : List ToClient) → ServerStep s m t outs →
       ServerStep s m u others → (t ≡ u) × (outs ≡ others)
   -- each answer is to a client that no longer waits
-  pub answers : (s t : Server) (outs : List ToClient) → Answered s t outs → waiting t + length outs ≤ waiting s
+  pub answers : (s t : Server) (outs : List ToClient) → AnswersWaiters s t outs → waiting t + length outs ≤ waiting s
   pub few : (s t : Server) (m : ToServer) (outs : List ToClient) → IsSound s → IsTable s.durable.index s.rows →
       ServerStep s m t outs → length outs ≤ max_messages
   -- while a settled server serves, there is nobody to answer: so a nudge answers nobody
-  pub nobody_left : (s : Server) → IsSettled s → is_recovering s.missing ≡ false → Answered s s []
+  pub nobody_left : (s : Server) → IsSettled s → is_recovering s.missing ≡ false → AnswersWaiters s s []
   pub few_nudged : (s : Server) (c : ℕ) → IsSound s → IsTable s.durable.index s.rows →
       length (nudge s c) ≤ max_messages

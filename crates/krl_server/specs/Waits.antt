@@ -1,6 +1,6 @@
 -- Who waits for whom, and who holds what: what an operator sees of a server.
 use Rattle.std.specs.Prelude.{◌≡◌, ℕ, zero, suc, Bool, false, not, ◌||◌, List, [], ◌∷◌, Option, None, Some, if◌then◌else◌}
-use Rattle.krl_modes.specs.Limits.{max_clients}
+use Rattle.krl_modes.specs.Constants.{max_clients}
 use Rattle.krl_queue.specs.declared.waiter.Waiter.{Waiter}
 use Rattle.krl_queue.specs.Turns.{goes_before}
 use Rattle.krl_durable.specs.Index.{slot_of}

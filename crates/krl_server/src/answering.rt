@@ -24,7 +24,7 @@ use krl_table::Reply;
 
 impl State {
     /// Grants the slot's first waiter what it wants, on that slot and on the slots after it that it
-    /// may take too, and sends it the grant.
+    /// reaches too, and sends it the grant.
     fn grant(&mut self, slot: u64, waiter: &Waiter, room: GrantRoom, outbox: &mut Outbox)
         requires formed { IsFormed self.old }
         requires client { waiter.now.client < MAX_CLIENTS }

@@ -1,7 +1,7 @@
 //! Callbacks for first waiters that are blocked.
 ghost use Rattle.std.specs.Prelude.{◌≡◌, ◌≤◌, ◌<◌, ◌+◌, length};
 ghost use Rattle.krl_table.specs.Replies.{asks_absent};
-ghost use Rattle.krl_server.specs.Callbacks.{callbacks_for, callbacks_at, callbacks};
+ghost use Rattle.krl_server.specs.Callbacks.{callbacks_for, callbacks, callbacks_at};
 ghost use Rattle.krl_server.specs.Soundness.{IsSound};
 ghost use Rattle.krl_table.specs.Kept.{mode_of};
 ghost use Rattle.krl_server.specs.Outboxes.{Sends};

@@ -28,7 +28,7 @@ pub(crate) enum Case {
         span: Span,
         keep: Mode,
     },
-    /// A lock request is taken.
+    /// A lock request gets its place in a queue.
     Waits {
         req: u64,
         point: Point,
@@ -40,8 +40,8 @@ pub(crate) enum Case {
         number: u64,
         op: WriteOp,
     },
-    /// A new write that takes the lock that it needs, if that is free.
-    TakesLock {
+    /// A new write that seizes the lock that it needs, if that is free.
+    SeizesLock {
         number: u64,
         op: WriteOp,
     },

@@ -78,28 +78,28 @@ fn is_bad_write(number: u64, op: WriteOp) -> bool
     op.key() >= END || number == 0 || number > END
 }
 
-/// The case of a new write, which may take the lock that it needs.
-fn case_of_new_write(number: u64, op: WriteOp, takes: bool) -> Case
+/// The case of a new write, which may seize the lock that it needs.
+fn case_of_new_write(number: u64, op: WriteOp, seizes: bool) -> Case
     ensures { (s : Server) (c : ℕ) (b : ToServerBody)
-        → meant s c b result ≡ case_of_new_write s c number op takes }
+        → meant s c b result ≡ case_of_new_write s c number op seizes }
 {
-    if takes {
-        Case::TakesLock { number, op }
+    if seizes {
+        Case::SeizesLock { number, op }
     } else {
         Case::Judges { number, op }
     }
 }
 
 /// The case of a write, by its number.
-fn case_of_write(known: &Record, number: u64, op: WriteOp, takes: bool) -> Case
+fn case_of_write(known: &Record, number: u64, op: WriteOp, seizes: bool) -> Case
     ensures { (s : Server) (c : ℕ) (b : ToServerBody)
-        → meant s c b result ≡ case_of_write s c known.now number op takes }
+        → meant s c b result ≡ case_of_write s c known.now number op seizes }
 {
     let asked = op;
     if is_bad_write(number, asked) {
         Case::Acknowledges
     } else if number - 1 == known.last {
-        case_of_new_write(number, op, takes)
+        case_of_new_write(number, op, seizes)
     } else if number == known.last {
         case_of_repeated_write(number, op, known.outcome)
     } else {
@@ -208,7 +208,7 @@ impl State {
                 hi,
                 mode,
             } => self.case_of_lock(client, session, req, point, hi, mode),
-            RequestBody::Write { number, op, takes } => case_of_write(known, number, op, takes),
+            RequestBody::Write { number, op, seizes } => case_of_write(known, number, op, seizes),
             RequestBody::Release { span, mode } => Case::Lowers { span, keep: mode },
             RequestBody::Ack => Case::Acknowledges,
         }

@@ -15,7 +15,7 @@ ghost use Rattle.krl_table.specs.KeptRows.{IsOver};
 ghost use Rattle.krl_server.specs.Cases.{judged};
 ghost use Rattle.krl_server.specs.Effects.{rows_after, registers, departs, adopts, acknowledged};
 ghost use Rattle.krl_server.specs.Effects.{lowers};
-ghost use Rattle.krl_server.specs.Effects.{queues, writes, answers};
+ghost use Rattle.krl_server.specs.Effects.{queues, writes, tells_outcome};
 ghost use Rattle.krl_modes.specs.declared.limits.TheConstants.{MAX_CLIENTS};
 
 use crate::out::Outbox;
@@ -195,9 +195,9 @@ impl State {
         requires key { op_key op < END }
         requires room { length outbox.old.sent < outbox.old.room }
         ensures server { meaning self.new
-            ≡ (answers (meaning self.old) client number op outcome).server }
+            ≡ (tells_outcome (meaning self.old) client number op outcome).server }
         ensures sent { Sends outbox.old outbox.new
-            (answers (meaning self.old) client number op outcome).outs }
+            (tells_outcome (meaning self.old) client number op outcome).outs }
         ensures formed { IsFormed self.new }
     {
         let slot = self.durable.slot_of(op.key());

@@ -1,4 +1,4 @@
-//! Memory for a grant, which is taken before anything changes.
+//! Memory for a grant, which is reserved before anything changes.
 ghost use Rattle.std.specs.Prelude.{◌≡◌, ◌≤◌, [], IfOk};
 ghost use Rattle.krl_server.specs.GrantRooms.{slots_asked, most_slots};
 
@@ -63,7 +63,7 @@ impl GrantRoom {
     }
 }
 
-/// How many slots a grant takes at most of a lock from this point on below `hi`: as far as the
+/// How many slots a grant reaches at most of a lock from this point on below `hi`: as far as the
 /// reach, and one at each point.
 pub(crate) fn slots_asked(durable: &Durable, point: Point, hi: u64) -> usize
     ensures asked { result ≡ slots_asked durable.now.reach point hi }
@@ -73,8 +73,8 @@ pub(crate) fn slots_asked(durable: &Durable, point: Point, hi: u64) -> usize
     points.min(durable.reach() as u64) as usize
 }
 
-/// How many slots a grant at once takes at most: no more of those that the lock asks for than there
-/// are.
+/// How many slots a grant at once reaches at most: no more of those that the lock asks for than
+/// there are.
 pub(crate) fn most_slots(durable: &Durable, point: Point, hi: u64) -> usize
     ensures { result ≡ most_slots durable.now point hi }
 {

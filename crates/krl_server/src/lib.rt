@@ -14,6 +14,7 @@ mod missing;
 mod nudging;
 mod out;
 mod phase;
+mod seizing;
 mod server;
 mod session;
 mod sessions;
@@ -21,7 +22,6 @@ mod shown;
 mod start_refused;
 mod state;
 mod step;
-mod takes;
 
 pub use missing::Missing;
 pub use out::ServerOut;

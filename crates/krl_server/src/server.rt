@@ -8,7 +8,7 @@ ghost use Rattle.krl_table.specs.Kept.{rows_of};
 ghost use Rattle.krl_table.specs.KeptRows.{IsOver};
 ghost use Rattle.krl_server.specs.Servers.{blank_session, is_recovering};
 ghost use Rattle.krl_server.specs.Settled.{phase_of};
-ghost use Rattle.krl_server.specs.Answering.{Answered};
+ghost use Rattle.krl_server.specs.Answering.{AnswersWaiters};
 ghost use Rattle.krl_server.specs.Steps.{nudge, crash};
 ghost use Rattle.krl_server.specs.Termination.{max_messages};
 ghost use Rattle.krl_server.specs.StateMeaning.{meaning, sessions_of};
@@ -179,7 +179,7 @@ impl Server {
     pub fn nudge(&self, alloc: Global, client: u64) -> Result<Items<ToClient>, AllocError>
         ensures sent { IfOk result (λ outs. outs ≡ nudge (meaning self.now) client) }
         ensures nobody { is_recovering (meaning self.now).missing ≡ false
-            → Answered (meaning self.now) (meaning self.now) [] }
+            → AnswersWaiters (meaning self.now) (meaning self.now) [] }
         ensures few { IfOk result (λ outs. length outs ≤ max_messages) }
     {
         self.state.nudge(alloc, client)

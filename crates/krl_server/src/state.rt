@@ -5,14 +5,13 @@ ghost use Rattle.std.specs.List.{AllByRecursion};
 ghost use Rattle.krl_durable.specs.Index.{is_slot};
 ghost use Rattle.krl_modes.specs.Modes.{key_of};
 ghost use Rattle.krl_messages.specs.Ascending.{Ascend};
-ghost use Rattle.krl_modes.specs.Limits.{max_holdings};
 ghost use Rattle.krl_server.specs.Servers.{incarnation_of};
 ghost use Rattle.krl_server.specs.StateMeaning.{meaning, sessions_of};
 ghost use Rattle.krl_server.specs.FoundCases.{IsFormed};
 ghost use Rattle.krl_server.specs.Outboxes.{as_list, Sends, pushed_again};
 ghost use Rattle.krl_server.specs.Effects.{epoch_to, push_to, callback_to, shown, acknowledged};
 ghost use Rattle.krl_server.specs.Effects.{holding, holdings, pushes};
-ghost use Rattle.krl_modes.specs.declared.limits.TheConstants.{MAX_CLIENTS};
+ghost use Rattle.krl_modes.specs.declared.limits.TheConstants.{MAX_CLIENTS, MAX_HOLDINGS};
 
 use crate::grant_room::GrantRoom;
 use crate::missing::Missing;
@@ -177,7 +176,7 @@ impl State {
         requires slots { AllByRecursion (λ n. is_slot self.now.durable.index n ≡ true) slots.now }
         requires order { Ascend (holdings (meaning self.now) client slots.now) }
         requires some { 1 ≤ length slots.now }
-        requires few { length slots.now ≤ max_holdings }
+        requires few { length slots.now ≤ MAX_HOLDINGS }
         requires client { client < MAX_CLIENTS }
         requires empty { room.holdings ≡ [] }
         requires room { length slots.now ≤ room.room }
@@ -211,7 +210,7 @@ impl State {
         requires slots { AllByRecursion (λ n. is_slot self.now.durable.index n ≡ true) slots.now }
         requires order { Ascend (holdings (meaning self.now) client slots.now) }
         requires some { 1 ≤ length slots.now }
-        requires few { length slots.now ≤ max_holdings }
+        requires few { length slots.now ≤ MAX_HOLDINGS }
         requires client { client < MAX_CLIENTS }
         requires room { length slots.now ≤ room }
         ensures kept { result.0

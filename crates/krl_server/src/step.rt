@@ -55,7 +55,7 @@ impl State {
             Case::Leaves | Case::Reports | Case::Acknowledges => MAX_CLIENTS * self.count_waiting(),
             Case::Registers
             | Case::Judges { .. }
-            | Case::TakesLock { .. }
+            | Case::SeizesLock { .. }
             | Case::AnswersAgain { .. } => 1 + MAX_CLIENTS * self.count_waiting(),
             Case::Waits { .. } => MAX_CLIENTS * (self.count_waiting() + 1),
         }
@@ -180,7 +180,7 @@ impl State {
                 };
                 Ok(After::Calls.changing(judged))
             }
-            Case::TakesLock { number, op } => {
+            Case::SeizesLock { number, op } => {
                 // Copies: the prover takes a value that is handed on as moved.
                 let (written, answered) = (*&op, *&op);
                 let outcome = self.write_with_lock(client, written);

@@ -22,13 +22,13 @@ mod requests;
 #[cfg(test)]
 mod runs;
 #[cfg(test)]
+mod seizing;
+#[cfg(test)]
 mod shows;
 #[cfg(test)]
 mod starts;
 #[cfg(test)]
 mod strangers;
-#[cfg(test)]
-mod takes;
 #[cfg(test)]
 mod tests;
 #[cfg(test)]

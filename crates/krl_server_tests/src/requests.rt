@@ -75,12 +75,12 @@ fn request(asked: Asked) -> Option<RequestBody> {
         Asked::Write(number, change) => Some(RequestBody::Write {
             number,
             op: write(change)?,
-            takes: false,
+            seizes: false,
         }),
         Asked::Take(number, change) => Some(RequestBody::Write {
             number,
             op: write(change)?,
-            takes: true,
+            seizes: true,
         }),
         Asked::Release(lo, hi, mode) => Some(RequestBody::Release {
             span: Span::new(lo, hi).ok()?,

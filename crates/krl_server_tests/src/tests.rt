@@ -17,9 +17,9 @@ use crate::ranges::{
 };
 use crate::recovering::{CONTRADICTS, RECOVERS, REGISTERS};
 use crate::runs::all_give;
+use crate::seizing::{TAKES, TAKES_WITHOUT_ROOM};
 use crate::starts::{is_spent, started};
 use crate::strangers::STRANGERS;
-use crate::takes::{TAKES, TAKES_WITHOUT_ROOM};
 use crate::writes::{ANSWERS_AGAIN, LAST_NUMBER, LOSES_AN_ANSWER, WRITES};
 use krl_durable::{Durable, EntriesRefused, Limits, Reach, Record, Room};
 use krl_messages::{Outcome, Value};

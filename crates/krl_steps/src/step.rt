@@ -18,7 +18,7 @@ pub enum Command {
     /// Ask the server for a change of the index.
     Write(WriteOp),
     /// Ask the server for a change of the index, and for the lock that it needs, if that is free.
-    Take(WriteOp),
+    Seize(WriteOp),
     /// Answer, from the client's own cache, which entries lie in the points from `lo` on below
     /// `hi`.
     Scan {

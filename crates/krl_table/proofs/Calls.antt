@@ -3,6 +3,7 @@ pub mod Fronts
 pub mod Clears
 pub mod Splits
 pub mod Merges
+pub mod Reaches
 pub mod Raises
 pub mod Answering
 pub mod AtOnce

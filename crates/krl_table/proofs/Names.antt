@@ -27,21 +27,22 @@ pub use Rattle.krl_modes.specs.declared.point.TheConstants.{END, TOP}
 pub use Rattle.krl_queue.specs.Waiting.{first_of, up_to, beyond}
 pub use Rattle.krl_queue.specs.Turns.{without_first}
 pub use Rattle.krl_queue.specs.declared.waiter.Waiter.{Waiter}
-pub use Rattle.krl_table.specs.Calls.{split, with_queue, wanted, behind_first, raised, granted_first, mode_beside, split_at, merged, queue_with, cleared, merge_into, split_modes, unqueue, lowered}
-pub use Rattle.krl_table.specs.Calls.{enqueued, with_mode, raised_on, grant_first}
+pub use Rattle.krl_table.specs.Calls.{split, with_queue, wanted, behind_first, raised, granted_first, mode_beside, split_at, merged, queue_with, cleared, merge_into, split_modes, unqueue, lowered, grant_first}
+pub use Rattle.krl_table.specs.Calls.{enqueued, with_mode, raised_on}
+pub use Rattle.krl_table.specs.Splits.{row_there}
 pub use Rattle.krl_table.specs.Extents.{IsFreeOf, AreWithin, cleared_within, Lies, nowhere, AreWider, extent_in}
-pub use Rattle.krl_table.specs.Grants.{taken_after, taken_by, can_take, granted, granted_by, nobody_waits, goes_on, taken}
+pub use Rattle.krl_table.specs.Grants.{reached_after, is_open_to, granted, nobody_waits, goes_on, reached_slots, reached_by, granted_by}
 pub use Rattle.krl_table.specs.FirstReplies.{is_granted_at_once, first_reply, lacks_entry, answerable, row_reply, first_reply_on}
 pub use Rattle.krl_table.specs.KeptWaiters.{IsLeastPoint, lesser_point, lesser, unlisted, waiter_in, AreListed, AllWaitBelow}
-pub use Rattle.krl_table.specs.KeptRows.{row_takes, IsSound, IsOver, AreCompatible, IsAll, IsTaken, times, AreSet, cleared_row, lowered_between, IsSet}
-pub use Rattle.krl_table.specs.Kept.{rows_of, Kept, row_there, mode_of, row_of}
+pub use Rattle.krl_table.specs.KeptRows.{is_row_open, IsSound, IsOver, AreCompatible, IsAll, IsNextReached, times, AreSet, cleared_row, lowered_between, IsSet}
+pub use Rattle.krl_table.specs.Kept.{rows_of, Kept, mode_of, row_of}
 pub use Rattle.krl_table.specs.Writers.{MayInsert, MayDelete}
 pub use Rattle.krl_table.specs.Points.{key_off_slot, range_at, key_at}
 pub use Rattle.krl_table.specs.Replies.{is_wanted_compatible, asks_absent}
 pub use Rattle.krl_table.specs.ReportSweep.{IsNextReported, ReportsSame, NothingFrom, BeginsSpan, SameKeys, RangesRise, SameRanges, RangesOff, KeysRise, KeysOff}
-pub use Rattle.krl_table.specs.Reports.{reported_key, rebuilt, adopted, conflicts, reported_range}
+pub use Rattle.krl_table.specs.Reports.{greatest_key_at, rebuilt, adopted, conflicts, joined_range_over}
 pub use Rattle.krl_table.specs.Rows.{Rows, mode_at, Row, is_compatible_in_row, all_below, blank_row, set_row, set_mode, is_compatible_there}
 pub use Rattle.krl_table.specs.Waiters.{front_of, waiter_at, waiter_of}
 pub use Rattle.krl_table.specs.declared.extent.Extent.{Extent}
 pub use Rattle.krl_table.specs.declared.row.SlotRow.{SlotRow}
-unfoldable pub use Rattle.krl_modes.specs.Limits.{max_clients}
+unfoldable pub use Rattle.krl_modes.specs.Constants.{max_clients}

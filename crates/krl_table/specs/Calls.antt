@@ -54,7 +54,7 @@ mode_beside other = mode.N
 abbrev pub split_modes : (ℕ → Mode) → ℕ → ℕ → Mode
 split_modes modes c d = if nat_eq d c then at_or_above (range_of (modes c)) key.X else mode_beside (range_of (modes d))
 
--- k becomes a slot, taken from the slot n
+-- k becomes a slot, cut from the slot n
 abbrev pub split_at : Rows → ℕ → ℕ → ℕ → Rows
 split_at rows n k c =
     set_row (set_row rows n (with_queue (rows n) (beyond k (rows n).queue))) k
@@ -64,7 +64,7 @@ split_at rows n k c =
 abbrev pub split : Index → Rows → ℕ → ℕ → Rows
 split m rows k c = split_at rows (slot_of m k) k c
 
--- the slot k goes, and the slot n takes it over
+-- the slot k goes, and its points are those of the slot n from now on
 abbrev pub merge_into : Rows → ℕ → ℕ → Rows
 merge_into rows n k = set_row (set_row rows n (with_queue (rows n) ((rows k).queue ++ (rows n).queue))) k blank_row
 
@@ -76,6 +76,7 @@ merged m rows k = merge_into rows (slot_of m (suc k)) k
 abbrev pub wanted : Row → Waiter → Mode
 wanted row u = join (row.modes u.client) u.mode
 
+-- the row with this queue, once its first waiter has what it wants there
 abbrev pub grant_first : Row → List Waiter → Row
 grant_first row [] = row
 grant_first row (u ∷ us) = record { modes = set_mode row.modes u.client (wanted row u); queue = us }
@@ -99,5 +100,5 @@ behind_first [] = []
 behind_first (u ∷ us) = us
 
 -- drop_front: the slot's first waiter no longer waits
-abbrev pub dropped : Rows → ℕ → Rows
-dropped rows n = set_row rows n (with_queue (rows n) (behind_first (rows n).queue))
+abbrev pub front_dropped : Rows → ℕ → Rows
+front_dropped rows n = set_row rows n (with_queue (rows n) (behind_first (rows n).queue))

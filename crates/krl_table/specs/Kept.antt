@@ -4,6 +4,7 @@ use Rattle.std.specs.Ordering.{nat_cmp}
 use Rattle.std.specs.FinMap as map
 use Rattle.krl_modes.specs.declared.mode.Mode.{Mode}
 use Rattle.krl_modes.specs.declared.mode.Mode.TheVariants as mode
+use Rattle.krl_messages.specs.Members.{map_or}
 use Rattle.krl_table.specs.declared.row.SlotRow.{SlotRow}
 use Rattle.krl_table.specs.Rows.{Row, Rows, blank_row}
 
@@ -19,10 +20,6 @@ mode_of modes c = slice_index_or modes c mode.N
 abbrev pub row_of : SlotRow → Row
 row_of r = record { modes = mode_of r.modes; queue = r.queue }
 
-abbrev pub row_there : Option SlotRow → Row
-row_there None = blank_row
-row_there (Some r) = row_of r
-
 -- what the kept rows mean
 abbrev pub rows_of : Kept → Rows
-rows_of t n = row_there (map.get t n)
+rows_of t n = map_or (map.get t n) blank_row row_of

@@ -62,14 +62,14 @@ cleared_row c row = record { modes = set_mode row.modes c mode.N; queue = withou
 abbrev pub HasRoom : MapWithRoom SlotRow → ℕ → Type 0
 HasRoom s n = map.get s.map n ≡ None → length (map.entries s.map) < s.room
 
--- next to its own slot the waiter may take slot n, by the row there
-abbrev pub row_takes : ℕ → Row → Waiter → Bool
-row_takes n row u =
+-- slot n is open to the waiter, by the row there
+abbrev pub is_row_open : ℕ → Row → Waiter → Bool
+is_row_open n row u =
     nobody_waits row.queue && (is_compatible_in_row row u.client (wanted row u) && not (needs_entry u.mode
     && nat_eq n END))
 
--- next is the slot after this one, and the waiter may take it
-pub record IsTaken (m : Index) (t : Kept) (at : ℕ) (u : Waiter) (next : ℕ) : Type 0 where
+-- next is the slot after this one, and it is open to the waiter
+pub record IsNextReached (m : Index) (t : Kept) (at : ℕ) (u : Waiter) (next : ℕ) : Type 0 where
   pub slot : slot_of m (suc at) ≡ next
   pub is_compatible_there : is_wanted_compatible (rows_of t) next u ≡ true
   pub on : goes_on m (rows_of t) at u ≡ true

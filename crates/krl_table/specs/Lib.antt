@@ -11,6 +11,7 @@ pub use Rattle.krl_durable.specs.Index
 pub mod Waiters
 pub mod Holds
 pub mod Kept
+pub mod Splits
 pub mod KeptWaiters
 pub mod KeptRows
 pub mod ReportSweep

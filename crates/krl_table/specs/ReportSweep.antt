@@ -6,7 +6,7 @@ use Rattle.krl_messages.specs.declared.key_pieces.KeyPiece.{KeyPiece}
 use Rattle.krl_messages.specs.declared.pieces.Pieces.{Pieces}
 use Rattle.krl_durable.specs.Index.{Index, is_slot}
 use Rattle.krl_modes.specs.Spans.{Bounds}
-use Rattle.krl_table.specs.Reports.{reported_range, reported_key, rebuilt}
+use Rattle.krl_table.specs.Reports.{joined_range_over, greatest_key_at, rebuilt}
 
 -- no span of these has a point from at on below p
 abbrev pub RangesOff : List RangePiece → ℕ → ℕ → Type 0
@@ -44,11 +44,11 @@ KeysRise low (x ∷ xs) = (low ≤ x.point) × KeysRise x.point xs
 
 -- both report the same of each span from the point on
 abbrev pub SameRanges : ℕ → List RangePiece → List RangePiece → Type 0
-SameRanges at xs ys = (span : Bounds) → at ≤ span.lo → reported_range xs span ≡ reported_range ys span
+SameRanges at xs ys = (span : Bounds) → at ≤ span.lo → joined_range_over xs span ≡ joined_range_over ys span
 
 -- both report the same of each point from this one on
 abbrev pub SameKeys : ℕ → List KeyPiece → List KeyPiece → Type 0
-SameKeys at xs ys = (p : ℕ) → at ≤ p → reported_key xs p ≡ reported_key ys p
+SameKeys at xs ys = (p : ℕ) → at ≤ p → greatest_key_at xs p ≡ greatest_key_at ys p
 
 -- both report the same of each slot from the point on
 abbrev pub ReportsSame : Index → ℕ → Pieces → Pieces → Type 0

@@ -5,7 +5,7 @@ ghost use Rattle.std.specs.Prelude.{if◌then◌else◌};
 ghost use Rattle.krl_modes.specs.declared.part.RangePart.TheVariants as range;
 ghost use Rattle.krl_modes.specs.declared.part.KeyPart.TheVariants as key;
 ghost use Rattle.krl_modes.specs.Spans.{meets};
-ghost use Rattle.krl_table.specs.Reports.{reported_range, reported_key};
+ghost use Rattle.krl_table.specs.Reports.{joined_range_over, greatest_key_at};
 ghost use Rattle.krl_table.specs.ReportSweep.{RangesOff, KeysOff, RangesRise, KeysRise, SameRanges};
 ghost use Rattle.krl_table.specs.ReportSweep.{SameKeys};
 
@@ -73,9 +73,9 @@ pub(crate) fn keys_from(pieces: &[KeyPiece], at: u64) -> &[KeyPiece]
 }
 
 /// The least range part above those of the pieces that meet the span.
-pub(crate) fn reported_range(pieces: &[RangePiece], rises: bool, span: Span) -> RangePart
+pub(crate) fn joined_range_over(pieces: &[RangePiece], rises: bool, span: Span) -> RangePart
     requires { rises ≡ true → RangesRise 0 pieces.now }
-    ensures { result ≡ reported_range pieces.now span }
+    ensures { result ≡ joined_range_over pieces.now span }
 {
     let mut part = RangePart::N;
     for piece in pieces {
@@ -99,9 +99,9 @@ fn range_on(piece: &RangePiece, span: Span) -> RangePart
 }
 
 /// The greatest key part of the pieces at the point.
-pub(crate) fn reported_key(pieces: &[KeyPiece], rises: bool, point: u64) -> KeyPart
+pub(crate) fn greatest_key_at(pieces: &[KeyPiece], rises: bool, point: u64) -> KeyPart
     requires { rises ≡ true → KeysRise 0 pieces.now }
-    ensures { result ≡ reported_key pieces.now point }
+    ensures { result ≡ greatest_key_at pieces.now point }
 {
     let mut part = KeyPart::N;
     for piece in pieces {

@@ -11,7 +11,7 @@ ghost use Rattle.krl_table.specs.Rows.{set_mode};
 ghost use Rattle.krl_table.specs.Waiters.{front_of};
 ghost use Rattle.krl_table.specs.FirstReplies.{row_reply};
 ghost use Rattle.krl_modes.specs.declared.limits.TheConstants.{MAX_CLIENTS};
-ghost use Rattle.krl_modes.specs.Limits.{max_clients};
+ghost use Rattle.krl_modes.specs.Constants.{max_clients};
 
 use crate::reply::{self, Reply};
 use krl_modes::{KeyPart, MAX_CLIENTS, Mode, RangePart};

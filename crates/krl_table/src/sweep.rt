@@ -88,8 +88,8 @@ impl<'a> Sweep<'a> {
         }
         let found = durable.find(next);
         let span = Span::new(found.low, found.point + 1).unwrap();
-        let range = pieces::reported_range(self.ranges, self.ranges_rise, span);
-        let key = pieces::reported_key(self.keys, self.keys_rise, found.point);
+        let range = pieces::joined_range_over(self.ranges, self.ranges_rise, span);
+        let key = pieces::greatest_key_at(self.keys, self.keys_rise, found.point);
         Some(ReportedSlot {
             slot: found.point,
             mode: Mode::at_or_above(range, key),

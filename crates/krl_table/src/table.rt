@@ -10,7 +10,7 @@ ghost use Rattle.krl_messages.specs.Values as values;
 ghost use Rattle.krl_durable.specs.Index.{Index, slot_of, span_of, is_slot};
 ghost use Rattle.krl_table.specs.Rows.{mode_at, blank_row};
 ghost use Rattle.krl_table.specs.Waiters.{front_of, waiter_of, WaitsNowhere, AreWaiting};
-ghost use Rattle.krl_table.specs.Calls.{lowered, cleared, enqueued, dropped, split, merged};
+ghost use Rattle.krl_table.specs.Calls.{lowered, cleared, enqueued, front_dropped, split, merged};
 ghost use Rattle.krl_table.specs.Kept.{mode_of, rows_of, Kept};
 ghost use Rattle.krl_table.specs.KeptRows.{IsOver};
 ghost use Rattle.krl_table.specs.Points.{range_at, key_at};
@@ -246,7 +246,8 @@ impl Table {
 
     /// The slot's first waiter no longer waits.
     pub fn drop_front(&mut self, slot: u64)
-        ensures dropped { (n : ℕ) → rows_of self.new.map n ≡ dropped (rows_of self.old.map) slot n }
+        ensures dropped { (n : ℕ) → rows_of self.new.map n
+            ≡ front_dropped (rows_of self.old.map) slot n }
         ensures slots { (m : Index) → IsOver m self.old.map → IsOver m self.new.map }
         ensures room { self.new.room ≡ self.old.room }
     {

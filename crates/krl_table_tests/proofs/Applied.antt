@@ -7,7 +7,8 @@ use Rattle.krl_messages.specs.declared.outcome.Outcome.{Outcome}
 use Rattle.krl_messages.specs.declared.outcome.Outcome.TheVariants as outcome
 use Rattle.krl_durable.specs.declared.record.Record.{Record}
 use Rattle.krl_durable.specs.Registers.{Durable, record_of}
-use Rattle.krl_durable.specs.Writes.{written, applied, applied_by}
+use Rattle.krl_durable.specs.Writes.{written, applied}
+use Rattle.krl_durable.specs.Splits.{applied_by}
 
 -- the write of a registered client that is Applied
 pub applied_index : (d new : Durable) (c : ℕ) (op : WriteOp) (o : Outcome) → IsSomeAnd (record_of d.register c) (λ r. r.last < END) → o ≡ outcome.Applied → new ≡ applied d c op o → new.index ≡ written d.index op

@@ -226,7 +226,7 @@ valued_request w c k v = request.Step (step.Command c (command.Write (valued_cha
 
 -- the same after 'take': the client takes the lock that the write needs
 abbrev pub taking_request : Valued → ℕ → ℕ → Value → Request
-taking_request w c k v = request.Step (step.Command c (command.Take (valued_change w k v)))
+taking_request w c k v = request.Step (step.Command c (command.Seize (valued_change w k v)))
 
 -- the command of a word to a client, with two numbers
 abbrev pub client_and_two_command : ClientAndTwo → ℕ → ℕ → Command
@@ -311,7 +311,7 @@ taken_of (word.Valued w) arguments =
     valued_of arguments >>= λ x. Ok (taking_request w x.0 x.1 x.2)
 taken_of (word.ClientAndNumber client_and_number.Delete) arguments =
     client_and_number_of arguments >>= λ x.
-    Ok (request.Step (step.Command x.0 (command.Take (write.Delete x.1))))
+    Ok (request.Step (step.Command x.0 (command.Seize (write.Delete x.1))))
 taken_of other arguments = Err UnknownWord
 
 abbrev pub take_of : List (List ℕ) → Result Request SyntaxFault

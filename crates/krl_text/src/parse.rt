@@ -260,7 +260,7 @@ fn taken(word: Word, arguments: &[&[u8]]) -> Result<Request, LineFault>
         Word::ClientAndNumber(ClientAndNumber::Delete) => {
             let (client, key) = client_and_number(arguments)?;
             let op = WriteOp::Delete { key };
-            Ok(Request::Step(Step::Command(client, Command::Take(op))))
+            Ok(Request::Step(Step::Command(client, Command::Seize(op))))
         }
         _ => Err(LineFault::Syntax(SyntaxFault::UnknownWord)),
     }

@@ -180,7 +180,7 @@ impl Valued {
     pub fn taking(self, client: u64, key: u64, value: Value) -> Request
         ensures { result ≡ taking_request self client key value }
     {
-        Request::Step(Step::Command(client, Command::Take(self.change(key, value))))
+        Request::Step(Step::Command(client, Command::Seize(self.change(key, value))))
     }
 }
 

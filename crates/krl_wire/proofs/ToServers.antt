@@ -23,13 +23,13 @@ use Rattle.krl_wire.proofs.Heads.{whole_takes, whole_again}
 -- ---- requests
 
 abbrev insert_of : Bool → ℕ → ℕ → Value → RequestBody
-insert_of takes n k v = request.Write n (write.Insert k v) takes
+insert_of seizes n k v = request.Write n (write.Insert k v) seizes
 
 abbrev put_of : Bool → ℕ → ℕ → Value → RequestBody
-put_of takes n k v = request.Write n (write.Put k v) takes
+put_of seizes n k v = request.Write n (write.Put k v) seizes
 
 abbrev delete_of : Bool → ℕ → ℕ → RequestBody
-delete_of takes n k = request.Write n (write.Delete k) takes
+delete_of seizes n k = request.Write n (write.Delete k) seizes
 
 abbrev IsRequest : ℕ → RequestBody → Type 0
 IsRequest kind b = (kind ≡ request_kind b) × FitsRequest b
@@ -44,28 +44,28 @@ lock_takes bytes x fits e =
     let t = four_take number_codec number_codec number_codec mode_codec request.Lock bytes x fits e in
     subst (λ (y : RequestBody). Reads 3 bytes (y, x.1)) t.4 (t.5, (refl, (t.6, t.7, t.8)))
 
-insert_takes : (kind : ℕ) (takes : Bool) (bytes : List ℕ) (x : RequestBody × List ℕ)
-    → ((k : ℕ) (v : Value) → kind ≡ write_kind (write.Insert k v) takes) → IsBytes bytes
-    → insert_at takes bytes ≡ Ok x → Reads kind bytes x
+insert_takes : (kind : ℕ) (seizes : Bool) (bytes : List ℕ) (x : RequestBody × List ℕ)
+    → ((k : ℕ) (v : Value) → kind ≡ write_kind (write.Insert k v) seizes) → IsBytes bytes
+    → insert_at seizes bytes ≡ Ok x → Reads kind bytes x
 unfolding insert_at
-insert_takes kind takes bytes x is fits e =
-    let t = three_take number_codec number_codec value_codec (insert_of takes) bytes x fits e in
+insert_takes kind seizes bytes x is fits e =
+    let t = three_take number_codec number_codec value_codec (insert_of seizes) bytes x fits e in
     subst (λ (y : RequestBody). Reads kind bytes (y, x.1)) t.3 (t.4, (is t.1 t.2, (t.5, t.6, t.7)))
 
-put_takes : (kind : ℕ) (takes : Bool) (bytes : List ℕ) (x : RequestBody × List ℕ)
-    → ((k : ℕ) (v : Value) → kind ≡ write_kind (write.Put k v) takes) → IsBytes bytes
-    → put_at takes bytes ≡ Ok x → Reads kind bytes x
+put_takes : (kind : ℕ) (seizes : Bool) (bytes : List ℕ) (x : RequestBody × List ℕ)
+    → ((k : ℕ) (v : Value) → kind ≡ write_kind (write.Put k v) seizes) → IsBytes bytes
+    → put_at seizes bytes ≡ Ok x → Reads kind bytes x
 unfolding put_at
-put_takes kind takes bytes x is fits e =
-    let t = three_take number_codec number_codec value_codec (put_of takes) bytes x fits e in
+put_takes kind seizes bytes x is fits e =
+    let t = three_take number_codec number_codec value_codec (put_of seizes) bytes x fits e in
     subst (λ (y : RequestBody). Reads kind bytes (y, x.1)) t.3 (t.4, (is t.1 t.2, (t.5, t.6, t.7)))
 
-delete_takes : (kind : ℕ) (takes : Bool) (bytes : List ℕ) (x : RequestBody × List ℕ)
-    → ((k : ℕ) → kind ≡ write_kind (write.Delete k) takes) → IsBytes bytes
-    → delete_at takes bytes ≡ Ok x → Reads kind bytes x
+delete_takes : (kind : ℕ) (seizes : Bool) (bytes : List ℕ) (x : RequestBody × List ℕ)
+    → ((k : ℕ) → kind ≡ write_kind (write.Delete k) seizes) → IsBytes bytes
+    → delete_at seizes bytes ≡ Ok x → Reads kind bytes x
 unfolding delete_at
-delete_takes kind takes bytes x is fits e =
-    let t = two_take number_codec number_codec (delete_of takes) bytes x fits e in
+delete_takes kind seizes bytes x is fits e =
+    let t = two_take number_codec number_codec (delete_of seizes) bytes x fits e in
     subst (λ (y : RequestBody). Reads kind bytes (y, x.1)) t.2 (t.3, (is t.1, (t.4, t.5)))
 
 release_takes : (bytes : List ℕ) (x : RequestBody × List ℕ) → IsBytes bytes → release_at bytes ≡ Ok x

@@ -5,7 +5,7 @@ use Rattle.krl_modes.specs.Spans.{Bounds}
 use Rattle.krl_modes.specs.declared.point.TheConstants.{TOP}
 use Rattle.krl_messages.specs.Values.{Value}
 use Rattle.krl_messages.specs.Ascending.{Ascend}
-use Rattle.krl_modes.specs.Limits.{max_holdings}
+use Rattle.krl_modes.specs.declared.limits.TheConstants.{MAX_HOLDINGS}
 use Rattle.krl_messages.specs.declared.holding.Holding.{Holding}
 use Rattle.krl_messages.specs.declared.range_pieces.RangePiece.{RangePiece}
 use Rattle.krl_messages.specs.declared.key_pieces.KeyPiece.{KeyPiece}
@@ -35,7 +35,7 @@ abbrev pub FitsHolding : Holding → Type 0
 FitsHolding h = FitsSpan h.span × IfSome h.value FitsValue
 
 abbrev pub FitsHoldings : List Holding → Type 0
-FitsHoldings hs = (1 ≤ length hs) × (length hs ≤ max_holdings) × Ascend hs × AllByRecursion FitsHolding hs
+FitsHoldings hs = (1 ≤ length hs) × (length hs ≤ MAX_HOLDINGS) × Ascend hs × AllByRecursion FitsHolding hs
 
 abbrev pub FitsRange : RangePiece → Type 0
 FitsRange p = FitsSpan p.span
@@ -51,9 +51,9 @@ FitsPieces p = FitsList FitsRange p.ranges × FitsList FitsKey p.keys
 
 abbrev pub FitsRequest : RequestBody → Type 0
 FitsRequest (asked.Lock req point hi m) = FitsNumber req × FitsNumber point × FitsNumber hi
-FitsRequest (asked.Write n (write.Insert k v) takes) = FitsNumber n × FitsNumber k × FitsValue v
-FitsRequest (asked.Write n (write.Put k v) takes) = FitsNumber n × FitsNumber k × FitsValue v
-FitsRequest (asked.Write n (write.Delete k) takes) = FitsNumber n × FitsNumber k
+FitsRequest (asked.Write n (write.Insert k v) seizes) = FitsNumber n × FitsNumber k × FitsValue v
+FitsRequest (asked.Write n (write.Put k v) seizes) = FitsNumber n × FitsNumber k × FitsValue v
+FitsRequest (asked.Write n (write.Delete k) seizes) = FitsNumber n × FitsNumber k
 FitsRequest (asked.Release s m) = FitsSpan s
 FitsRequest asked.Ack = Unit {0}
 

@@ -182,24 +182,24 @@ lock_at bytes = do
 
 -- a write, which takes the lock that it needs or not
 unfoldable pub insert_at : Bool → List ℕ → Result (RequestBody × List ℕ) Fault
-insert_at takes bytes = do
+insert_at seizes bytes = do
   n ← number_at w64 bytes
   k ← number_at w64 n.1
   v ← value_at k.1
-  Ok (asked.Write n.0 (write.Insert k.0 v.0) takes, v.1)
+  Ok (asked.Write n.0 (write.Insert k.0 v.0) seizes, v.1)
 
 unfoldable pub put_at : Bool → List ℕ → Result (RequestBody × List ℕ) Fault
-put_at takes bytes = do
+put_at seizes bytes = do
   n ← number_at w64 bytes
   k ← number_at w64 n.1
   v ← value_at k.1
-  Ok (asked.Write n.0 (write.Put k.0 v.0) takes, v.1)
+  Ok (asked.Write n.0 (write.Put k.0 v.0) seizes, v.1)
 
 unfoldable pub delete_at : Bool → List ℕ → Result (RequestBody × List ℕ) Fault
-delete_at takes bytes = do
+delete_at seizes bytes = do
   n ← number_at w64 bytes
   k ← number_at w64 n.1
-  Ok (asked.Write n.0 (write.Delete k.0) takes, k.1)
+  Ok (asked.Write n.0 (write.Delete k.0) seizes, k.1)
 
 unfoldable pub release_at : List ℕ → Result (RequestBody × List ℕ) Fault
 release_at bytes = do

@@ -115,15 +115,15 @@ write_kind (write.Delete k) true = 11
 -- the kind of each message to the server, and what it has after its head
 abbrev pub request_kind : RequestBody → ℕ
 request_kind (asked.Lock req point hi m) = 3
-request_kind (asked.Write n change takes) = write_kind change takes
+request_kind (asked.Write n change seizes) = write_kind change seizes
 request_kind (asked.Release s m) = 7
 request_kind asked.Ack = 8
 
 abbrev pub request_body : RequestBody → List ℕ
 request_body (asked.Lock req point hi m) = number req ++ number point ++ number hi ++ mode_tag m ∷ []
-request_body (asked.Write n (write.Insert k v) takes) = number n ++ number k ++ value v
-request_body (asked.Write n (write.Put k v) takes) = number n ++ number k ++ value v
-request_body (asked.Write n (write.Delete k) takes) = number n ++ number k
+request_body (asked.Write n (write.Insert k v) seizes) = number n ++ number k ++ value v
+request_body (asked.Write n (write.Put k v) seizes) = number n ++ number k ++ value v
+request_body (asked.Write n (write.Delete k) seizes) = number n ++ number k
 request_body (asked.Release s m) = span s ++ mode_tag m ∷ []
 request_body asked.Ack = []
 

@@ -128,11 +128,11 @@ fn put_request_body(out: &mut Vec<u8>, body: &RequestBody) -> Result<(), AllocEr
     }
 }
 
-// The kind names the change, and whether the write takes the lock that it needs.
-fn write_kind(op: &WriteOp, takes: bool) -> u8
-    ensures { result ≡ spelling.write_kind op.now takes }
+// The kind names the change, and whether the write seizes the lock that it needs.
+fn write_kind(op: &WriteOp, seizes: bool) -> u8
+    ensures { result ≡ spelling.write_kind op.now seizes }
 {
-    match (op, takes) {
+    match (op, seizes) {
         (WriteOp::Insert { .. }, false) => INSERT,
         (WriteOp::Put { .. }, false) => PUT,
         (WriteOp::Delete { .. }, false) => DELETE,
@@ -147,7 +147,7 @@ fn request_kind(body: &RequestBody) -> u8
 {
     match body {
         RequestBody::Lock { .. } => LOCK,
-        RequestBody::Write { op, takes, .. } => write_kind(op, *takes),
+        RequestBody::Write { op, seizes, .. } => write_kind(op, *seizes),
         RequestBody::Release { .. } => RELEASE,
         RequestBody::Ack => ACK,
     }

@@ -35,35 +35,35 @@ fn lock(reader: &mut Reader<'_>) -> Result<RequestBody, Fault>
 }
 
 #[tactic(auto, unfolding(crate::specs::Reading::insert_at))]
-fn insert(reader: &mut Reader<'_>, takes: bool) -> Result<RequestBody, Fault>
-    ensures { Reads result reader.new (insert_at takes reader.old) }
+fn insert(reader: &mut Reader<'_>, seizes: bool) -> Result<RequestBody, Fault>
+    ensures { Reads result reader.new (insert_at seizes reader.old) }
 {
     let number = reader.number()?;
     let key = reader.number()?;
     let value = reader.value()?;
     let op = WriteOp::Insert { key, value };
-    Ok(RequestBody::Write { number, op, takes })
+    Ok(RequestBody::Write { number, op, seizes })
 }
 
 #[tactic(auto, unfolding(crate::specs::Reading::put_at))]
-fn put(reader: &mut Reader<'_>, takes: bool) -> Result<RequestBody, Fault>
-    ensures { Reads result reader.new (put_at takes reader.old) }
+fn put(reader: &mut Reader<'_>, seizes: bool) -> Result<RequestBody, Fault>
+    ensures { Reads result reader.new (put_at seizes reader.old) }
 {
     let number = reader.number()?;
     let key = reader.number()?;
     let value = reader.value()?;
     let op = WriteOp::Put { key, value };
-    Ok(RequestBody::Write { number, op, takes })
+    Ok(RequestBody::Write { number, op, seizes })
 }
 
 #[tactic(auto, unfolding(crate::specs::Reading::delete_at))]
-fn delete(reader: &mut Reader<'_>, takes: bool) -> Result<RequestBody, Fault>
-    ensures { Reads result reader.new (delete_at takes reader.old) }
+fn delete(reader: &mut Reader<'_>, seizes: bool) -> Result<RequestBody, Fault>
+    ensures { Reads result reader.new (delete_at seizes reader.old) }
 {
     let number = reader.number()?;
     let key = reader.number()?;
     let op = WriteOp::Delete { key };
-    Ok(RequestBody::Write { number, op, takes })
+    Ok(RequestBody::Write { number, op, seizes })
 }
 
 #[tactic(auto, unfolding(crate::specs::Reading::release_at))]

@@ -26,7 +26,7 @@ use Rattle.krl_durable.specs.Registers.{Durable, record_of}
 use Rattle.krl_durable.specs.Limits.{Fits}
 use Rattle.krl_durable.specs.declared.record.Record.{Record}
 use Rattle.krl_table.specs.Points as table
-use Rattle.krl_table.specs.Reports.{reported_key, range_said}
+use Rattle.krl_table.specs.Reports.{greatest_key_at, joined_range_at}
 use Rattle.krl_server.specs.Servers.{Server, is_recovering, lists}
 use Rattle.krl_server.specs.Cases.{case_of, clears}
 use Rattle.krl_server.specs.Effects.{adopts}
@@ -72,8 +72,8 @@ step_clears w (step.Deliver i) c = clears_in w.server (message_at w.sent i) c
 step_clears w other c = false
 
 -- while nobody serves the bound stays, except for those clients
-abbrev pub cleared : (ℕ → Bool) → Bound → Bound
-cleared gone b = record {
+abbrev pub bound_cleared : (ℕ → Bool) → Bound → Bound
+bound_cleared gone b = record {
   range_at = λ c p. if gone c then range.N else b.range_at c p;
   key_at = λ c p. if gone c then key.N else b.key_at c p;
   index = b.index;
@@ -86,7 +86,7 @@ bound_at (Down d) kept = kept
 
 -- the bound after a step from one world to the next
 abbrev pub bound_after : State → Step → Bound → State → Bound
-bound_after w s b w' = bound_at w'.server (cleared (step_clears w s) b)
+bound_after w s b w' = bound_at w'.server (bound_cleared (step_clears w s) b)
 
 -- the world is reached, and this is the bound table of how it was. It stays if what a server left gets other limits
 pub data HasBound : State → Bound → Type 0 where
@@ -159,13 +159,13 @@ abbrev pub report_message : ℕ → ℕ → ℕ → Pieces → Message
 report_message c incarnation epoch pieces =
     message.ToServer (record { client = c; incarnation = incarnation; body = said.Report epoch pieces })
 
--- a report that the server would take: its client is missing, and it is of the registered incarnation and this epoch
+-- a report that the server would adopt: its client is missing, and it is of the registered incarnation and this epoch
 pub record IsAwaited (w : State) (s : Server) (c : ℕ) (r : Record) (pieces : Pieces) : Type 0 where
   pub missing : lists s.missing c ≡ true
   pub known : record_of s.durable.register c ≡ Some r
   pub sent : In (report_message c r.incarnation s.durable.epoch pieces) w.sent
 
--- the server's table once the client's report is taken
+-- the server's table once the client's report is adopted
 abbrev pub table_with : Server → ℕ → Pieces → Bound
 table_with s c pieces = table_of (adopts s c pieces)
 
@@ -173,19 +173,19 @@ table_with s c pieces = table_of (adopts s c pieces)
 pub record IsRecoveryWithin (w : State) (b : Bound) (s : Server) : Type 0 where
   -- an awaited report is, and it is at least what its client believes
   pub report : (c : ℕ) (r : Record) (pieces : Pieces) → IsAwaited w s c r pieces → (p : ℕ) →
-      IsRangeWithin (range_said pieces.ranges p) (b.range_at c p)
-      × IsKeyWithin (reported_key pieces.keys p) (b.key_at c p)
+      IsRangeWithin (joined_range_at pieces.ranges p) (b.range_at c p)
+      × IsKeyWithin (greatest_key_at pieces.keys p) (b.key_at c p)
   pub report_covers : (c : ℕ) (r : Record) (k : Client) (pieces : Pieces) → IsAwaited w s c r pieces →
       client_of w c ≡ Some k → k.incarnation ≡ r.incarnation → (p : ℕ) →
-      IsRangeWithin (range_held w c p) (range_said pieces.ranges p)
-      × IsKeyWithin (key_held w c p) (reported_key pieces.keys p)
+      IsRangeWithin (range_held w c p) (joined_range_at pieces.ranges p)
+      × IsKeyWithin (key_held w c p) (greatest_key_at pieces.keys p)
   -- a row that was rebuilt is, and it is at least what its client believes
   pub row : IsTableWithin (table_of s) b
   pub row_covers : (c : ℕ) → lists s.missing c ≡ false → Covers (table_of s) w c
-  -- so it is as soon as an awaited report is taken, even if it is the last and the server serves from then on
-  pub taken : (c : ℕ) (r : Record) (pieces : Pieces) → IsAwaited w s c r pieces →
+  -- so it is as soon as an awaited report is adopted, even if it is the last and the server serves from then on
+  pub adopted : (c : ℕ) (r : Record) (pieces : Pieces) → IsAwaited w s c r pieces →
       IsTableWithin (table_with s c pieces) b
-  pub taken_covers : (c : ℕ) (r : Record) (pieces : Pieces) → IsAwaited w s c r pieces → (d : ℕ) →
+  pub adopted_covers : (c : ℕ) (r : Record) (pieces : Pieces) → IsAwaited w s c r pieces → (d : ℕ) →
       lists (adopts s c pieces).missing d ≡ false → Covers (table_with s c pieces) w d
 
 -- what holds in each epoch, also while a server recovers

@@ -2,8 +2,7 @@
 use Rattle.std.specs.Prelude.{◌≡◌, ◌<◌, ℕ, Option, None, Some, is_some, true, List, [], length, slice_index_or}
 use Rattle.std.specs.FinMap as map
 use Rattle.krl_modes.specs.declared.limits.TheConstants.{MAX_CLIENTS}
-use Rattle.krl_modes.specs.declared.limits.TheConstants.{STANDARD_REACH}
-use Rattle.krl_modes.specs.Limits.{standard_room}
+use Rattle.krl_modes.specs.declared.limits.TheConstants.{STANDARD_REACH, STANDARD_ROOM}
 use Rattle.krl_durable.specs.Registers.{Durable, record_of}
 use Rattle.krl_client.specs.Fields as client_fields
 use Rattle.krl_server.specs.Servers.{incarnation_or_0}
@@ -19,7 +18,7 @@ abbrev pub server_there : Option KeptNode → KeptNode
 server_there (Some n) = n
 server_there None =
     kept.Down (record {
-      room = standard_room;
+      room = STANDARD_ROOM;
       reach = STANDARD_REACH;
       index = map.from_entries [];
       epoch = 0;
@@ -46,5 +45,5 @@ pub record AreUnstarted (d : Durable) (n : ℕ) (places : List KeptClientPlace) 
   pub each : (c : ℕ) → c < n → slice_index_or places c kept_nobody ≡ kept_unstarted d c
 
 -- the client of this number, if one runs
-abbrev pub kept_client : List KeptClientPlace → ℕ → Option client_fields.Fields
+abbrev pub kept_client : List KeptClientPlace → ℕ → Option client_fields.KeptClient
 kept_client places c = (slice_index_or places c kept_nobody).client

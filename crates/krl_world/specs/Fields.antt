@@ -12,7 +12,7 @@ use Rattle.krl_steps.specs.declared.applied_write.AppliedWrite.{AppliedWrite}
 use Rattle.krl_world.specs.States.{ServerPlace, Up, Down, ClientPlace, State}
 
 -- what the fields hold, apart from its memory
-pub record Fields : Type 0 where
+pub record KeptWorld : Type 0 where
   pub opening : Durable
   pub server : KeptNode
   pub places : List KeptClientPlace
@@ -25,7 +25,7 @@ node_of (kept.Up s) = Up (server_state.meaning s)
 node_of (kept.Down d) = Down d
 
 -- the client, if there is one
-abbrev pub client_there : Option client_fields.Fields → Option clients.Client
+abbrev pub client_there : Option client_fields.KeptClient → Option clients.Client
 client_there None = None
 client_there (Some k) = Some (client_fields.meaning k)
 
@@ -42,7 +42,7 @@ abbrev pub places_of : List KeptClientPlace → ℕ → ClientPlace
 places_of places c = place_of (slice_index_or places c kept_nobody)
 
 -- the world that the fields stand for
-abbrev pub meaning : Fields → State
+abbrev pub meaning : KeptWorld → State
 meaning w = record {
   opening = w.opening;
   server = node_of w.server;

@@ -7,7 +7,7 @@ use Rattle.krl_durable.specs.declared.change.Change.{Change}
 use Rattle.krl_durable.specs.declared.change.Change.TheVariants as change
 use Rattle.krl_client.specs.Clients.{Client, begun, free_pin}
 use Rattle.krl_client.specs.Commands
-use Rattle.krl_client.specs.Commands.{wrote, took, says_lock, says_write, says_release, lowered, pinned, unpinned, says_bye, start_refusal}
+use Rattle.krl_client.specs.Commands.{wrote, seized, says_lock, says_write, says_release, belief_lowered, pinned, unpinned, says_bye, start_refusal}
 use Rattle.krl_client.specs.FieldSteps.{Follows, IsTick}
 use Rattle.krl_client.specs.Messages as receiver
 use Rattle.krl_client.specs.Ticks.{says_hello}
@@ -26,11 +26,11 @@ use Rattle.krl_steps.specs.declared.refused.Refused.TheVariants as refused
 use Rattle.krl_steps.specs.Refusals.{refused_by_client, refused_at_start}
 use Rattle.krl_world.specs.declared.message.Message.{Message}
 use Rattle.krl_world.specs.States.{ServerPlace, Up, Down, ClientPlace, from_clients, from_server}
-use Rattle.krl_world.specs.Steps.{span, named, command_refusal, ScanAnswers, CommandTakesMemory, if_applied, applies}
+use Rattle.krl_world.specs.Steps.{span, named, command_refusal, ScanAnswers, CommandNeedsMemory, if_applied, applies}
 
 -- Refusals: the one that is due; or, if none is, want of memory, in what takes some
 abbrev pub IsRefused : Option Refused → Type 0 → Refused → Type 0
-IsRefused due takes r = (due ≡ Some r) ⊎ ((due ≡ None) × (r ≡ refused.OutOfMemory) × takes)
+IsRefused due needs r = (due ≡ Some r) ⊎ ((due ≡ None) × (r ≡ refused.OutOfMemory) × needs)
 
 -- Commands
 
@@ -42,12 +42,12 @@ Does k (command.Lock point hi m) answer next old new =
 Does k (command.Write op) answer next old new =
     (answer ≡ answered.Done) × (next ≡ Some (wrote k op))
     × (new ≡ old ++ from_clients (says_write (wrote k op) op ∷ []))
-Does k (command.Take op) answer next old new =
-    (answer ≡ answered.Done) × (next ≡ Some (took k op))
-    × (new ≡ old ++ from_clients (says_write (took k op) op ∷ []))
+Does k (command.Seize op) answer next old new =
+    (answer ≡ answered.Done) × (next ≡ Some (seized k op))
+    × (new ≡ old ++ from_clients (says_write (seized k op) op ∷ []))
 Does k (command.Scan lo hi) answer next old new = ScanAnswers k (span lo hi) answer × (next ≡ Some k) × (new ≡ old)
 Does k (command.Lower lo hi keep) answer next old new =
-    (answer ≡ answered.Done) × (next ≡ Some (lowered k (span lo hi) keep))
+    (answer ≡ answered.Done) × (next ≡ Some (belief_lowered k (span lo hi) keep))
     × (new ≡ old ++ from_clients (says_release k (span lo hi) keep ∷ []))
 Does k (command.Pin lo hi) answer next old new =
     (id : ℕ) × (free_pin k ≡ Some id) × (answer ≡ answered.Pinned id) × (next ≡ Some (pinned k (span lo hi) id))
@@ -61,7 +61,7 @@ abbrev pub Commanded : Client → Command → Option Client → List Message →
 Commanded k what next old new (Ok answer) = (command_refusal k what ≡ None) × Does k what answer next old new
 Commanded k what next old new (Err r) =
     (next ≡ Some k) × (new ≡ old)
-    × IsRefused (named refused_by_client (command_refusal k what)) (CommandTakesMemory k what) r
+    × IsRefused (named refused_by_client (command_refusal k what)) (CommandNeedsMemory k what) r
 
 -- if a client runs; none that doesn't obeys
 abbrev pub CommandedAt : Option Client → Command → Option Client → List Message → List Message → Result Answer Refused →
@@ -94,7 +94,7 @@ pub record Ticked (k : Client) (old new : List Message) : Type 0 where
 -- the client read the message, and continues as this one
 pub record HasRead (k : Client) (m : ToClient) (next : Client) (old new : List Message) : Type 0 where
   pub list : List ToServer
-  pub follows : Follows k (receiver.case_of k m) next list
+  pub follows : Follows k (receiver.client_case_of k m) next list
   pub sent : new ≡ old ++ from_clients list
 
 -- the server read the message, and became t

@@ -3,7 +3,7 @@ use Rattle.std.specs.Prelude.{◌≡◌, ℕ, zero, suc, ◌⊎◌, ◌≤◌, t
 use Rattle.krl_modes.specs.Spans.{Bounds}
 use Rattle.krl_messages.specs.declared.pieces.Pieces.{Pieces}
 use Rattle.krl_messages.specs.declared.outcome.Outcome.{Outcome}
-use Rattle.krl_messages.specs.Outcomes.{is_applied}
+use Rattle.krl_messages.specs.Writes.{is_applied}
 use Rattle.krl_messages.specs.declared.to_server.ToServer.{ToServer}
 use Rattle.krl_messages.specs.declared.to_client.ToClient.{ToClient}
 use Rattle.krl_durable.specs.declared.refused.EntriesRefused.{EntriesRefused}
@@ -16,7 +16,7 @@ use Rattle.krl_durable.specs.Migrations as migrations
 use Rattle.krl_durable.specs.Migrations.{DurableV1, migrated}
 use Rattle.krl_durable.specs.Registers.{Durable, not_left}
 use Rattle.krl_server.specs.Servers.{Server}
-use Rattle.krl_server.specs.Cases.{Case, Ignored, Registers, Leaves, Tells, Alarms, Rebuilds, Repeats, Acknowledges, Lowers, Waits, Judges, TakesLock, AnswersAgain, case_of}
+use Rattle.krl_server.specs.Cases.{Case, Ignored, Registers, Leaves, Tells, Alarms, Rebuilds, Repeats, Acknowledges, Lowers, Waits, Judges, SeizesLock, AnswersAgain, case_of}
 use Rattle.krl_server.specs.Steps as server
 use Rattle.krl_server.specs.Steps.{ServerStep}
 use Rattle.krl_cache.specs.Beliefs.{CoversAll}
@@ -25,11 +25,10 @@ use Rattle.krl_client.specs.declared.refused.CommandRefused.{CommandRefused}
 use Rattle.krl_client.specs.declared.scan_answer.ScanAnswer.TheVariants as scan_answer
 use Rattle.krl_client.specs.Clients.{Client, begun, is_writing_in, free_pin}
 use Rattle.krl_client.specs.Commands
-use Rattle.krl_client.specs.Commands.{lock_refusal, write_refusal, take_refusal, scan_refusal, lower_refusal, pin_refusal, unpin_refusal, start_refusal, says_lock, wrote, took, says_write, says_release, lowered, pinned, unpinned, says_bye}
+use Rattle.krl_client.specs.Commands.{lock_refusal, write_refusal, seize_refusal, scan_refusal, lower_refusal, pin_refusal, unpin_refusal, start_refusal, says_lock, wrote, seized, says_write, says_release, belief_lowered, pinned, unpinned, says_bye}
 use Rattle.krl_client.specs.Messages as receiver
 use Rattle.krl_client.specs.Ticks.{tick, says_hello}
-use Rattle.krl_modes.specs.declared.limits.TheConstants.{MAX_CLIENTS}
-use Rattle.krl_modes.specs.Limits.{standard_room}
+use Rattle.krl_modes.specs.declared.limits.TheConstants.{MAX_CLIENTS, STANDARD_ROOM}
 use Rattle.krl_messages.specs.Values.{Value}
 use Rattle.krl_world.specs.declared.message.Message.{Message}
 use Rattle.krl_world.specs.declared.message.Message.TheVariants as message
@@ -49,7 +48,7 @@ use Rattle.krl_world.specs.States.{ServerPlace, Up, Down, State, opened, client_
 
 -- a world may begin with these entries
 abbrev pub CanBegin : List (ℕ × Value) → Type 0
-CanBegin entries = (length entries ≤ standard_room) × AreGood entries (length entries)
+CanBegin entries = (length entries ≤ STANDARD_ROOM) × AreGood entries (length entries)
 
 -- or with this durable part, as a server keeps it: there is an epoch for the start, and each registered client has left
 pub record CanOpen (d : Durable) : Type 0 where
@@ -59,7 +58,7 @@ pub record CanOpen (d : Durable) : Type 0 where
 
 -- why no world begins with these entries
 abbrev pub CannotBegin : List (ℕ × Value) → Refused → Type 0
-CannotBegin entries r = (e : EntriesRefused) × Refuses standard_room entries e × (r ≡ refused_by_index e)
+CannotBegin entries r = (e : EntriesRefused) × Refuses STANDARD_ROOM entries e × (r ≡ refused_by_index e)
 
 -- why no world begins with this durable part
 abbrev pub CannotOpen : Durable → Refused → Type 0
@@ -67,8 +66,8 @@ CannotOpen d r = (r ≡ refused.OutOfMemory) ⊎ ((r ≡ refused.Spent) × (serv
 
 -- why no world begins with what survived when values were numbers: it can't be migrated; or there is no epoch for
 -- the start; or memory was not there
-abbrev pub CannotMigrate : DurableV1 → Refused → Type 0
-CannotMigrate d r =
+abbrev pub CannotOpenV1 : DurableV1 → Refused → Type 0
+CannotOpenV1 d r =
     ((e : NotMigrated) × migrations.CannotMigrate d e × (r ≡ refused_by_migration e))
     ⊎ ((not_left d.register ≡ []) × CannotOpen (migrated d) r)
 
@@ -87,7 +86,7 @@ span lo hi = record { lo = lo; hi = hi }
 abbrev pub command_refusal : Client → Command → Option CommandRefused
 command_refusal k (command.Lock point hi m) = lock_refusal k point hi
 command_refusal k (command.Write op) = write_refusal k op
-command_refusal k (command.Take op) = take_refusal k op
+command_refusal k (command.Seize op) = seize_refusal k op
 command_refusal k (command.Scan lo hi) = scan_refusal (span lo hi)
 command_refusal k (command.Lower lo hi keep) = lower_refusal k (span lo hi)
 command_refusal k (command.Pin lo hi) = pin_refusal k (span lo hi)
@@ -142,11 +141,12 @@ if_applied o x = if is_applied o then x ∷ [] else []
 abbrev pub applies : ToServer → Case → List AppliedWrite
 applies m (Judges number op o) =
     if_applied o (record { client = m.client; incarnation = m.incarnation; number = number; op = op })
-applies m (TakesLock number op) =
+applies m (SeizesLock number op) =
     record { client = m.client; incarnation = m.incarnation; number = number; op = op } ∷ []
 applies m other = []
 
--- the server reads the message; one that is down loses it
+-- The server of the world, which is the second argument, reads the message; one that is down loses it. Here and below a
+-- world comes with a part of it, so that an equation can tell what the part is.
 abbrev pub ServerReads : State → ServerPlace → ToServer → State → Type 0
 ServerReads w (Up s) m w' =
     (t : Server) × (outs : List ToClient) × ServerStep s m t outs
@@ -157,8 +157,8 @@ ServerReads w (Down d) m w' = w' ≡ w
 abbrev pub ClientReads : State → Option Client → ToClient → State → Type 0
 ClientReads w (Some k) m w' =
     (ps : Pieces) × Describes ps k.belief
-    × (w' ≡ with_client w m.client (Some (receiver.after k (receiver.case_of k m)))
-    (receiver.sends ps k (receiver.case_of k m)))
+    × (w' ≡ with_client w m.client (Some (receiver.after k (receiver.client_case_of k m)))
+    (receiver.sends ps k (receiver.client_case_of k m)))
 ClientReads w None m w' = w' ≡ w
 
 -- the message goes to its node
@@ -171,9 +171,9 @@ Delivers w None w' = ⊥
 
 -- what a client answers to a scan is the answer
 abbrev pub ScanAnswers : Client → Bounds → Answer → Type 0
-ScanAnswers k s (answered.Rows rows) = Commands.Answers k s (scan_answer.Rows rows)
-ScanAnswers k s (answered.Miss p) = Commands.Answers k s (scan_answer.Miss p)
-ScanAnswers k s (answered.Pending n) = Commands.Answers k s (scan_answer.Pending n)
+ScanAnswers k s (answered.Rows rows) = Commands.ScanGives k s (scan_answer.Rows rows)
+ScanAnswers k s (answered.Miss p) = Commands.ScanGives k s (scan_answer.Miss p)
+ScanAnswers k s (answered.Pending n) = Commands.ScanGives k s (scan_answer.Pending n)
 ScanAnswers k s other = ⊥
 
 -- a client that runs obeys a command
@@ -184,12 +184,12 @@ Obeys w c k (command.Lock point hi m) answer w' =
     (says_lock (Commands.locked k point hi m) point hi m ∷ []))
 Obeys w c k (command.Write op) answer w' =
     (answer ≡ answered.Done) × (w' ≡ with_client w c (Some (wrote k op)) (says_write (wrote k op) op ∷ []))
-Obeys w c k (command.Take op) answer w' =
-    (answer ≡ answered.Done) × (w' ≡ with_client w c (Some (took k op)) (says_write (took k op) op ∷ []))
+Obeys w c k (command.Seize op) answer w' =
+    (answer ≡ answered.Done) × (w' ≡ with_client w c (Some (seized k op)) (says_write (seized k op) op ∷ []))
 Obeys w c k (command.Scan lo hi) answer w' = ScanAnswers k (span lo hi) answer × (w' ≡ w)
 Obeys w c k (command.Lower lo hi keep) answer w' =
     (answer ≡ answered.Done)
-    × (w' ≡ with_client w c (Some (lowered k (span lo hi) keep)) (says_release k (span lo hi) keep ∷ []))
+    × (w' ≡ with_client w c (Some (belief_lowered k (span lo hi) keep)) (says_release k (span lo hi) keep ∷ []))
 Obeys w c k (command.Pin lo hi) answer w' =
     (id : ℕ) × (free_pin k ≡ Some id) × (answer ≡ answered.Pinned id)
     × (w' ≡ with_client w c (Some (pinned k (span lo hi) id)) [])
@@ -231,7 +231,7 @@ Does w (step.CrashClient c) answer w' = (answer ≡ answered.Done) × (w' ≡ wi
 Does w step.StartServer answer w' = (answer ≡ answered.Done) × (w' ≡ started w w.server)
 Does w step.CrashServer answer w' = (answer ≡ answered.Done) × (w' ≡ crashed w w.server)
 
--- Which steps take memory
+-- Which steps need memory
 
 -- the message's node runs
 abbrev pub Arrives : State → Option Message → Type 0
@@ -239,20 +239,20 @@ Arrives w (Some (message.ToServer m)) = server_down w.server ≡ None
 Arrives w (Some (message.ToClient m)) = is_some (client_of w m.client) ≡ true
 Arrives w None = ⊥
 
--- a scan takes memory only for its rows
-abbrev pub CommandTakesMemory : Client → Command → Type 0
-CommandTakesMemory k (command.Scan lo hi) = (is_writing_in k (span lo hi) ≡ false) × CoversAll k.belief (span lo hi)
-CommandTakesMemory k (command.Pin lo hi) = ⊥
-CommandTakesMemory k (command.Unpin id) = ⊥
-CommandTakesMemory k other = Unit {0}
+-- a scan needs memory only for its rows
+abbrev pub CommandNeedsMemory : Client → Command → Type 0
+CommandNeedsMemory k (command.Scan lo hi) = (is_writing_in k (span lo hi) ≡ false) × CoversAll k.belief (span lo hi)
+CommandNeedsMemory k (command.Pin lo hi) = ⊥
+CommandNeedsMemory k (command.Unpin id) = ⊥
+CommandNeedsMemory k other = Unit {0}
 
--- the step takes memory, and may be refused for want of it
-abbrev pub TakesMemory : State → Step → Type 0
-TakesMemory w (step.Deliver i) = Arrives w (message_at w.sent i)
-TakesMemory w (step.Command c what) = (k : Client) × (client_of w c ≡ Some k) × CommandTakesMemory k what
-TakesMemory w (step.CrashClient c) = ⊥
-TakesMemory w step.CrashServer = ⊥
-TakesMemory w other = Unit {0}
+-- the step needs memory, and may be refused for want of it
+abbrev pub NeedsMemory : State → Step → Type 0
+NeedsMemory w (step.Deliver i) = Arrives w (message_at w.sent i)
+NeedsMemory w (step.Command c what) = (k : Client) × (client_of w c ≡ Some k) × CommandNeedsMemory k what
+NeedsMemory w (step.CrashClient c) = ⊥
+NeedsMemory w step.CrashServer = ⊥
+NeedsMemory w other = Unit {0}
 
 -- Runs
 
@@ -261,11 +261,11 @@ abbrev pub Takes : State → Step → Answer → State → Type 0
 Takes w s answer w' = (refusal_of w s ≡ None) × Does w s answer w'
 
 -- The step is taken; or refused, and then nothing changes: for the first reason, or if there is none for want of
--- memory, if it takes some.
+-- memory, if it needs some.
 unfoldable pub Steps : State → Step → Result Answer Refused → State → Type 0
 Steps w s (Ok answer) w' = Takes w s answer w'
 Steps w s (Err r) w' =
-    (w' ≡ w) × ((refusal_of w s ≡ Some r) ⊎ ((refusal_of w s ≡ None) × (r ≡ refused.OutOfMemory) × TakesMemory w s))
+    (w' ≡ w) × ((refusal_of w s ≡ Some r) ⊎ ((refusal_of w s ≡ None) × (r ≡ refused.OutOfMemory) × NeedsMemory w s))
 
 -- these steps are taken one after another
 abbrev pub Runs : State → List Step → State → Type 0

@@ -68,15 +68,15 @@ fn write(client: &mut Client, sent: &mut Vec<Message>, op: WriteOp) -> Result<An
     Ok(Answer::Done)
 }
 
-/// The client writes, and takes the lock that it needs, if that is free.
-fn take(client: &mut Client, sent: &mut Vec<Message>, op: WriteOp) -> Result<Answer, Refused>
-    ensures { Commanded (meaning client.old) (command.Take op) (Some (meaning client.new))
+/// The client writes, and seizes the lock that it needs, if that is free.
+fn seize(client: &mut Client, sent: &mut Vec<Message>, op: WriteOp) -> Result<Answer, Refused>
+    ensures { Commanded (meaning client.old) (command.Seize op) (Some (meaning client.new))
         sent.old.items sent.new.items result }
 {
     if sent.reserve(MAX_OF_A_CLIENT).is_err() {
-        return Err(refused_without_room(client.take_refusal(op)));
+        return Err(refused_without_room(client.seize_refusal(op)));
     }
-    let messages = client.take(op)?;
+    let messages = client.seize(op)?;
     send_to_server(sent, messages);
     Ok(Answer::Done)
 }
@@ -171,7 +171,7 @@ pub fn obey(
     match what {
         Command::Lock { point, hi, mode } => lock(client, sent, point, hi, mode),
         Command::Write(op) => write(client, sent, op),
-        Command::Take(op) => take(client, sent, op),
+        Command::Seize(op) => seize(client, sent, op),
         Command::Scan { lo, hi } => scan(client, lo, hi),
         Command::Lower { lo, hi, keep } => lower(client, sent, lo, hi, keep),
         Command::Pin { lo, hi } => pin(client, lo, hi),

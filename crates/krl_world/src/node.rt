@@ -1,7 +1,7 @@
 //! The places at which a server and a client run.
 ghost use Rattle.std.specs.Prelude.{◌≡◌};
 ghost use Rattle.krl_steps.specs.declared.step.Step.TheVariants as steps;
-ghost use Rattle.krl_world.specs.Fields.{Fields, meaning, node_of};
+ghost use Rattle.krl_world.specs.Fields.{KeptWorld, meaning, node_of};
 ghost use Rattle.krl_world.specs.FieldParts.{kept_unstarted};
 ghost use Rattle.krl_world.specs.States.{durable_of};
 ghost use Rattle.krl_world.specs.Steps.{Steps};
@@ -43,7 +43,7 @@ impl Drop for ServerPlace {
 impl ServerPlace {
     /// A server starts on what the last one left, unless one runs.
     pub fn start(self, alloc: Global) -> (ServerPlace, Result<Answer, Refused>)
-        ensures { (w : Fields) → w.server ≡ self → Steps (meaning w) steps.StartServer result.1
+        ensures { (w : KeptWorld) → w.server ≡ self → Steps (meaning w) steps.StartServer result.1
             (meaning (record w { server = result.0 })) }
     {
         match self {
@@ -59,7 +59,7 @@ impl ServerPlace {
 
     /// The server stops, if one runs.
     pub fn crash(self) -> (ServerPlace, Result<Answer, Refused>)
-        ensures { (w : Fields) → w.server ≡ self → Steps (meaning w) steps.CrashServer result.1
+        ensures { (w : KeptWorld) → w.server ≡ self → Steps (meaning w) steps.CrashServer result.1
             (meaning (record w { server = result.0 })) }
     {
         match self {

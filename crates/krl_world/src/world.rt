@@ -7,7 +7,7 @@ ghost use Rattle.krl_blocks.specs.Runs.{runs_of};
 ghost use Rattle.krl_durable.specs.Migrations.{migrated};
 ghost use Rattle.krl_world.specs.States.{index_of, opened, fresh, range_held, key_held};
 ghost use Rattle.krl_world.specs.Steps.{Steps, RunsWith, CanBegin, CannotBegin, CanOpen};
-ghost use Rattle.krl_world.specs.Steps.{CannotMigrate, IsReachable, IsReachedByRun, message_at};
+ghost use Rattle.krl_world.specs.Steps.{CannotOpenV1, IsReachable, IsReachedByRun, message_at};
 ghost use Rattle.krl_world.specs.Promises.{IsCompatible, ScansIndex, WritesOnce, CanGoOn};
 ghost use Rattle.krl_world.specs.Bounds.{Bound, HasBound, IsBounded, HoldsOverRestarts};
 ghost use Rattle.krl_world.specs.Fields.{meaning};
@@ -37,11 +37,11 @@ impl Drop for World {
 }
 
 impl Model for World {
-    ghost use Rattle.krl_world.specs.Fields.{Fields, meaning};
+    ghost use Rattle.krl_world.specs.Fields.{KeptWorld, meaning};
     ghost use Rattle.krl_world.specs.Steps.{IsReachedByRun};
     ghost use Rattle.krl_world.specs.contracts.world_fields.WorldFields as kept_fields;
 
-    ghost Value = { Fields };
+    ghost Value = { KeptWorld };
 
     ghost coded = { kept_fields.the_row.coded };
 
@@ -80,7 +80,7 @@ impl World {
     pub fn migrate(alloc: Global, old: &DurableV1) -> Result<World, Refused>
         ensures { MatchResult result
             (λ w. CanOpen (migrated old.now) × (meaning w ≡ opened (migrated old.now)))
-            (CannotMigrate old.now) }
+            (CannotOpenV1 old.now) }
     {
         let fields = WorldFields::migrate(alloc, old)?;
         Ok(World { fields })

@@ -12,7 +12,7 @@ ghost use Rattle.krl_durable.specs.Registers.{not_left};
 ghost use Rattle.krl_durable.specs.Migrations.{migrated};
 ghost use Rattle.krl_world.specs.States.{index_of, unused, opened, fresh, range_held, key_held};
 ghost use Rattle.krl_world.specs.Steps.{Steps, CanBegin, CannotBegin, CanOpen, CannotOpen};
-ghost use Rattle.krl_world.specs.Steps.{CannotMigrate, message_at};
+ghost use Rattle.krl_world.specs.Steps.{CannotOpenV1, message_at};
 ghost use Rattle.krl_world.specs.Fields.{meaning};
 ghost use Rattle.krl_world.specs.FieldParts.{server_up, kept_client, AreUnstarted};
 ghost use Rattle.krl_modes.specs.declared.limits.TheConstants.{MAX_CLIENTS};
@@ -51,10 +51,10 @@ impl Model for WorldFields {
     ghost use Rattle.krl_world.specs.contracts.node.ClientPlace as place;
     ghost use Rattle.krl_world.specs.contracts.message.Message as message;
     ghost use Rattle.krl_steps.specs.contracts.applied_write.AppliedWrite as applied_write;
-    ghost use Rattle.krl_world.specs.Fields.{Fields};
+    ghost use Rattle.krl_world.specs.Fields.{KeptWorld};
     ghost use Rattle.krl_world.specs.FieldParts.{server_there, AreThere};
 
-    ghost Value = { Fields };
+    ghost Value = { KeptWorld };
 
     ghost coded = { Prim.hlevel (
       codes,
@@ -107,7 +107,7 @@ impl WorldFields {
     pub(crate) fn migrate(alloc: Global, old: &DurableV1) -> Result<WorldFields, Refused>
         ensures { MatchResult result
             (λ w. CanOpen (migrated old.now) × (meaning w ≡ opened (migrated old.now)))
-            (CannotMigrate old.now) }
+            (CannotOpenV1 old.now) }
     {
         let opening = Durable::migrate(alloc, old)?;
         let durable = Durable::migrate(alloc, old)?;

@@ -11,21 +11,22 @@ use Rattle.krl_messages.specs.declared.write_op.WriteOp.TheVariants as write
 use Rattle.krl_messages.specs.declared.outcome.Outcome.TheVariants as outcome
 use Rattle.krl_messages.specs.declared.to_client.PushBody.TheVariants as push
 use Rattle.krl_durable.specs.Index.{Index, slot_of}
-use Rattle.krl_durable.specs.Registers.{Register, with_record, new_record, left_by}
-use Rattle.krl_durable.specs.Writes.{noted, applied_by}
+use Rattle.krl_durable.specs.Registers.{Register, with_record, new_record}
+use Rattle.krl_durable.specs.Splits.{left_by, applied_by}
+use Rattle.krl_durable.specs.Writes.{noted}
 use Rattle.krl_table.specs.Rows.{blank_row, set_mode}
-use Rattle.krl_table.specs.Calls.{with_queue, wanted, behind_first, dropped, lowered, cleared, split, merged, mode_beside}
-use Rattle.krl_table.specs.Grants.{taken, granted}
+use Rattle.krl_table.specs.Calls.{with_queue, wanted, behind_first, front_dropped, lowered, cleared, split, merged, mode_beside}
+use Rattle.krl_table.specs.Grants.{reached_slots, granted}
 use Rattle.krl_table.specs.Replies.{asks_absent}
 use Rattle.krl_table.specs.Reports.{adopted}
 use Rattle.krl_table.proofs.Invariant.Compatible.{mode_here, mode_other}
 use Rattle.krl_messages.specs.Writes.{op_key as op_key_of}
-use Rattle.krl_server.specs.Takes.{lock_for}
+use Rattle.krl_server.specs.Seizing.{lock_for}
 use Rattle.krl_server.specs.Cases.{case_of}
 use Rattle.krl_server.specs.Effects as effects
 use Rattle.krl_server.specs.Effects.{effect, rows_after}
-use Rattle.krl_server.specs.Answering.{Turn, next_turn, answer_first, Answered, stops, goes_on}
-use Rattle.krl_server.specs.Steps.{ServerStep, Kind, kind_of, Ends, at_once, recovers, serves}
+use Rattle.krl_server.specs.Answering.{Turn, next_turn, answer_first, AnswersWaiters, stops, goes_on}
+use Rattle.krl_server.specs.Steps.{ServerStep, Following, following, Ends, at_once, recovers, serves}
 use Rattle.krl_server.proofs.Cased.{by_case}
 use Rattle.krl_server.proofs.Grants.{raised_others, raised_queue, along, granted_is}
 use Rattle.krl_server.proofs.Turns.{turn_is}
@@ -105,7 +106,7 @@ effect_empty s m h =
       judges = λ r number op o served under near new is. pushes_empty (effects.writes t c op o) c _
           (subst (λ x. EmptyIn (applied_by s.durable c op o x).register (rows_after index s.rows c op o)) (sym served.from.known)
           (with_empty es s.rows (rows_after index s.rows c op o) c (noted r o) (λ left. absurd (not_both r.left left served.from.here)) (written_empty index s.rows c op o) h));
-      takes = λ r number op served under near new may. let x = effects.takes s c op in
+      seizes = λ r number op served under near new may. let x = effects.seizes s c op in
           pushes_empty (effects.writes (acknowledged x c) c op outcome.Applied) c _
           (subst (λ y. EmptyIn (applied_by s.durable c op outcome.Applied y).register (rows_after index x.rows c op outcome.Applied)) (sym served.from.known)
           (with_empty es s.rows (rows_after index x.rows c op outcome.Applied) c (noted r outcome.Applied) (λ left. absurd (not_both r.left left served.from.here))
@@ -126,7 +127,7 @@ module _ (s : Server) (i : IsSound s) (n : ℕ) (u : Waiter) (us : List Waiter) 
   abbrev drop_row : Row
   drop_row = with_queue (s.rows n) us
 
-  dropped_waits : (k : ℕ) (v : Waiter) → In v (dropped s.rows n k).queue → In v (s.rows k).queue
+  dropped_waits : (k : ℕ) (v : Waiter) → In v (front_dropped s.rows n k).queue → In v (s.rows k).queue
   dropped_waits k v at = stayed_on s i n u us queue drop_row refl k v (subst (λ (r : Rows). In v (r k).queue) (sym (dropped_is s i n u us queue)) at)
 
   granted_waits : (k : ℕ) (v : Waiter) → In v (granted s.durable.reach s.durable.index s.rows n k).queue → In v (s.rows k).queue
@@ -140,7 +141,7 @@ module _ (s : Server) (i : IsSound s) (n : ℕ) (u : Waiter) (us : List Waiter) 
       (s.durable.reach - 1) n (set_row s.rows n grant_row) (omega arith)
       (λ d ne none k. sym (row_modes s.rows n grant_row d (sym (mode_other (s.rows n).modes u.client d (wanted (s.rows n) u) ne)) k) ∙ none k))
 
-  dropped_empty : AreEmpty s → EmptyIn s.durable.register (dropped s.rows n)
+  dropped_empty : AreEmpty s → EmptyIn s.durable.register (front_dropped s.rows n)
   dropped_empty h = subst (EmptyIn s.durable.register) (dropped_is s i n u us queue) (λ d r e left k. sym (drop_modes s i n u us queue d k) ∙ h d r e left k)
 
   granted_empty : AreHere s → AreEmpty s → EmptyIn s.durable.register (granted s.durable.reach s.durable.index s.rows n)
@@ -153,9 +154,9 @@ turn_here s t i e here =
     let first = (turn_is s t e).first in
     let us = behind_first (s.rows t.slot).queue in
     if_case (λ (x : Done). AreHere x.server) (asks_absent s.durable.index t.waiter) _ _
-    (λ yes. pushed (effects.with_rows s (dropped s.rows t.slot)) t.waiter.client (push.Absent t.waiter.req t.waiter.point) (λ k v at. here k v (dropped_waits s i t.slot t.waiter us first k v at)))
+    (λ yes. pushed (effects.with_rows s (front_dropped s.rows t.slot)) t.waiter.client (push.Absent t.waiter.req t.waiter.point) (λ k v at. here k v (dropped_waits s i t.slot t.waiter us first k v at)))
     (λ no. let u = effects.with_rows s (granted s.durable.reach s.durable.index s.rows t.slot) in
-    pushed u t.waiter.client (push.Grant t.waiter.req (effects.holdings u t.waiter.client (taken s.durable.reach s.durable.index s.rows t.slot))) (λ k v at. here k v (granted_waits s i t.slot t.waiter us first k v at)))
+    pushed u t.waiter.client (push.Grant t.waiter.req (effects.holdings u t.waiter.client (reached_slots s.durable.reach s.durable.index s.rows t.slot))) (λ k v at. here k v (granted_waits s i t.slot t.waiter us first k v at)))
   where
     pushed : (x : Server) (c : ℕ) (body : PushBody) → AreHere x → AreHere (pushes x c body).server
     pushed x c body h = if_case (λ (y : Done). AreHere y.server) (nat_lt (x.sessions c).last_push END) _ _ (λ e. h) (λ e. h)
@@ -165,20 +166,20 @@ turn_empty s t i e here h =
     let first = (turn_is s t e).first in
     let us = behind_first (s.rows t.slot).queue in
     if_case (λ (x : Done). AreEmpty x.server) (asks_absent s.durable.index t.waiter) _ _
-    (λ yes. pushes_empty (effects.with_rows s (dropped s.rows t.slot)) t.waiter.client (push.Absent t.waiter.req t.waiter.point) (dropped_empty s i t.slot t.waiter us first h))
+    (λ yes. pushes_empty (effects.with_rows s (front_dropped s.rows t.slot)) t.waiter.client (push.Absent t.waiter.req t.waiter.point) (dropped_empty s i t.slot t.waiter us first h))
     (λ no. let u = effects.with_rows s (granted s.durable.reach s.durable.index s.rows t.slot) in
-    pushes_empty u t.waiter.client (push.Grant t.waiter.req (effects.holdings u t.waiter.client (taken s.durable.reach s.durable.index s.rows t.slot))) (granted_empty s i t.slot t.waiter us first here h))
+    pushes_empty u t.waiter.client (push.Grant t.waiter.req (effects.holdings u t.waiter.client (reached_slots s.durable.reach s.durable.index s.rows t.slot))) (granted_empty s i t.slot t.waiter us first here h))
 
-answered_empty : (s t : Server) (outs : List ToClient) → Answered s t outs → IsSound s → AreHere s → AreEmpty s → AreEmpty t
+answered_empty : (s t : Server) (outs : List ToClient) → AnswersWaiters s t outs → IsSound s → AreHere s → AreEmpty s → AreEmpty t
 answered_empty s t outs (stops s' e) i here h = h
 answered_empty s t outs (goes_on s' t' turn later e rest) i here h =
     answered_empty (answer_first s turn).server t later rest (turn_sound s turn i e) (turn_here s turn i e here) (turn_empty s turn i e here h)
 
-ends_empty : (done : Done) (kind : Kind) (t : Server) (outs : List ToClient) → Ends done kind t outs → IsSound done.server → AreHere done.server → AreEmpty done.server → AreEmpty t
+ends_empty : (done : Done) (kind : Following) (t : Server) (outs : List ToClient) → Ends done kind t outs → IsSound done.server → AreHere done.server → AreEmpty done.server → AreEmpty t
 ends_empty done kind t outs (at_once e) i here h = h
 ends_empty done kind t outs (recovers e) i here h = h
 ends_empty done kind t outs (serves t' answers a b c) i here h = answered_empty done.server t answers c i here h
 
 -- after a message, if a client that waits after its case has not left
 pub step_empty : (s t : Server) (m : ToServer) (outs : List ToClient) → IsSound s → AreHere (effect s m (case_of s m)).server → ServerStep s m t outs → AreEmpty s → AreEmpty t
-step_empty s t m outs i here step h = ends_empty (effect s m (case_of s m)) (kind_of (case_of s m)) t outs step (effect_sound s m i) here (effect_empty s m h)
+step_empty s t m outs i here step h = ends_empty (effect s m (case_of s m)) (following (case_of s m)) t outs step (effect_sound s m i) here (effect_empty s m h)

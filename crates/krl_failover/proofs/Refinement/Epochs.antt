@@ -10,7 +10,8 @@ use Rattle.krl_messages.specs.declared.outcome.Outcome.{Outcome}
 use Rattle.krl_durable.specs.declared.change.Change.{Change}
 use Rattle.krl_durable.specs.declared.change.Change.TheVariants as change
 use Rattle.krl_durable.specs.declared.record.Record.{Record}
-use Rattle.krl_durable.specs.Registers.{Durable, record_of, left_by}
+use Rattle.krl_durable.specs.Registers.{Durable, record_of}
+use Rattle.krl_durable.specs.Splits.{left_by}
 use Rattle.krl_durable.specs.Changes.{changed_by, judged_of}
 use Rattle.krl_server.specs.Changes.{change_of}
 use Rattle.krl_server.specs.declared.out.ServerOut.{ServerOut}

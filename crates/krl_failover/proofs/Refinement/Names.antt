@@ -13,8 +13,7 @@ pub use Rattle.krl_modes.specs.Modes.{range_of, key_of}
 pub use Rattle.krl_modes.specs.Spans.{Bounds}
 pub use Rattle.krl_messages.specs.Values.{Value}
 pub use Rattle.krl_messages.specs.Members.{In}
-pub use Rattle.krl_messages.specs.Writes.{op_key}
-pub use Rattle.krl_messages.specs.Outcomes.{is_applied}
+pub use Rattle.krl_messages.specs.Writes.{op_key, is_applied}
 pub use Rattle.krl_messages.specs.declared.outcome.Outcome.{Outcome}
 pub use Rattle.krl_messages.specs.declared.pieces.Pieces.{Pieces}
 pub use Rattle.krl_messages.specs.declared.write_op.WriteOp.{WriteOp}

@@ -6,8 +6,9 @@ use Rattle.std.proofs.lemmas.Bool.{cases_lt}
 use Rattle.krl_messages.specs.declared.to_client.ToClientBody.TheVariants as told
 use Rattle.krl_durable.specs.Index.{slots}
 use Rattle.krl_machine.proofs.Links.{not_both}
-use Rattle.krl_server.specs.Callbacks.{callbacks_for, callbacks_of, callbacks_of_among}
-use Rattle.krl_server.specs.Steps.{nudge, nudge_served, nudge_missing, nudge_known}
+use Rattle.krl_server.specs.Callbacks.{callbacks_for, callbacks_of_among, callbacks_of}
+use Rattle.krl_server.specs.Splits.{nudge_known}
+use Rattle.krl_server.specs.Steps.{nudge, nudge_served, nudge_missing}
 use Rattle.krl_server.proofs.Invariant.Kept.{server_keeps}
 use Rattle.krl_refinement.specs.Server.AsLinks.{LinkIs, Shows, view}
 use Rattle.krl_refinement.proofs.Server.Follows.{record_kept}

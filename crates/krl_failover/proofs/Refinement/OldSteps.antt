@@ -15,8 +15,8 @@ use Rattle.krl_table.specs.Calls.{queue_with, with_queue}
 use Rattle.krl_table.proofs.Invariant.Stands.{in_queue_with}
 use Rattle.krl_server.specs.Cases.{Case, case_of}
 use Rattle.krl_server.specs.Changes.{change_of}
-use Rattle.krl_server.specs.Effects.{effect, queues, answers, holding}
-use Rattle.krl_server.specs.Steps.{ServerStep, kind_of, calls_of, at_once, recovers, serves}
+use Rattle.krl_server.specs.Effects.{effect, queues, tells_outcome, holding}
+use Rattle.krl_server.specs.Steps.{ServerStep, following, callbacks_after, at_once, recovers, serves}
 use Rattle.krl_server.specs.Effects as effects
 use Rattle.krl_server.proofs.Slots.{slot_here, slot_high}
 use Rattle.krl_server.specs.declared.out.ServerOut.{ServerOut}
@@ -136,9 +136,9 @@ module _ (first : ℕ → Option Value) (s : Server) (f : Fenced) (m : ToServer)
       moves.goes_on s (acknowledged s c) f _ refl x
       (goes_not (acknowledged s c) (queues (acknowledged s c) u) x.fenced (queues_shows (acknowledged s c) x.fenced u (own_heard r request b a) x.shows))
 
-  on_again : (r : Record) (request : Request) (number : ℕ) (op : WriteOp) (takes : Bool) (o : Outcome) (a : IsAsked s m r request (asked.Write number op takes)) → op_key op < END → 1 ≤ number → number ≡ r.last → r.outcome ≡ Some o → Goes s f (answers (acknowledged s c) c number op o)
-  on_again r request number op takes o a under some last is =
-      let b = asked.Write number op takes in
+  on_again : (r : Record) (request : Request) (number : ℕ) (op : WriteOp) (seizes : Bool) (o : Outcome) (a : IsAsked s m r request (asked.Write number op seizes)) → op_key op < END → 1 ≤ number → number ≡ r.last → r.outcome ≡ Some o → Goes s f (tells_outcome (acknowledged s c) c number op o)
+  on_again r request number op seizes o a under some last is =
+      let b = asked.Write number op seizes in
       let t = acknowledged s c in
       let x = hears r request b a in
       let can_t = can r request b a in
@@ -168,9 +168,9 @@ module _ (first : ℕ → Option Value) (s : Server) (f : Fenced) (m : ToServer)
         acknowledges = λ r request b a n. hears r request b a;
         lowers = λ r request span keep a n. on_lowers r request span keep a;
         waits = λ r request req point hi g a new free near n. on_waits r request req point hi g a;
-        judges = λ r request number op takes o a under near new is n. absurd (none-some _ (sym n));
-        takes = λ r request number op takes a under near new may n. absurd (none-some _ (sym n));
-        answers_again = λ r request number op takes o a under some last is n. on_again r request number op takes o a under some last is;
+        judges = λ r request number op seizes o a under near new is n. absurd (none-some _ (sym n));
+        seizes = λ r request number op seizes a under near new may n. absurd (none-some _ (sym n));
+        answers_again = λ r request number op seizes o a under some last is n. on_again r request number op seizes o a under some last is;
       })
 
   -- the whole step
@@ -185,13 +185,13 @@ module _ (first : ℕ → Option Value) (s : Server) (f : Fenced) (m : ToServer)
       let now = reached_on first END f x.fenced reached x.steps in
       let a = answering_goes u t x.fenced later rest sound (can_push_now first u x.fenced now (ap (λ y. y.end) x.beside.shared ∙ far) sound up x.shows) x.shows in
       let last = answering_sound u t later rest sound in
-      goes_both s t f done.outs (later ++ calls_of (kind_of (case_of s m)) t) u same x
+      goes_both s t f done.outs (later ++ callbacks_after (following (case_of s m)) t) u same x
       (record {
         fenced = a.fenced;
         steps = a.steps;
         beside = a.beside;
         shows = a.shows;
-        sent = λ o y. ⊎_elim (λ (z : In o later). a.sent o z) (λ (z : In o (calls_of (kind_of (case_of s m)) t)). calls_sent t a.fenced.world.links last.begun (kind_of (case_of s m)) o z) (in_both later (calls_of (kind_of (case_of s m)) t) o y);
+        sent = λ o y. ⊎_elim (λ (z : In o later). a.sent o z) (λ (z : In o (callbacks_after (following (case_of s m)) t)). calls_sent t a.fenced.world.links last.begun (following (case_of s m)) o z) (in_both later (callbacks_after (following (case_of s m)) t) o y);
       })
 
   pub step_goes : (t : Server) (outs : List ToClient) → ServerStep s m t outs → t.durable ≡ s.durable → Goes s f (record { server = t; outs = outs })

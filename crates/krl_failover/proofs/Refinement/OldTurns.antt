@@ -8,15 +8,15 @@ use Rattle.krl_modes.proofs.Basics.{not_both}
 use Rattle.krl_messages.specs.declared.to_client.PushBody.TheVariants as push
 use Rattle.krl_durable.specs.Index.{Index, is_slot}
 use Rattle.krl_table.specs.Rows.{set_mode}
-use Rattle.krl_table.specs.Calls.{with_mode, with_queue, wanted, behind_first, dropped, raised, raised_on}
-use Rattle.krl_table.specs.Grants.{taken_after, taken, granted}
+use Rattle.krl_table.specs.Calls.{with_mode, with_queue, wanted, behind_first, front_dropped, raised, raised_on}
+use Rattle.krl_table.specs.Grants.{reached_after, reached_slots, granted}
 use Rattle.krl_table.specs.Replies.{asks_absent, is_wanted_compatible}
 use Rattle.krl_table.proofs.Invariant.Compatible.{mode_here, mode_other, or_true}
 use Rattle.krl_machine.specs.Modes.{RangeAtMost, KeyAtMost, RangesAgree, KeysAgree}
-use Rattle.krl_server.specs.Answering.{can_push, Turn, next_turn, answer_first, Answered, stops, goes_on}
+use Rattle.krl_server.specs.Answering.{can_push, Turn, next_turn, answer_first, AnswersWaiters, stops, goes_on}
 use Rattle.krl_server.specs.Effects.{holdings}
 use Rattle.krl_server.proofs.Slots.{is_slot_true, is_slot_false, slot_here, slot_high}
-use Rattle.krl_server.proofs.Grants.{raised_queue, along, AreSlotsAfter, taken_slots, slot_near, slots_ascend, holdings_whole, granted_is, taken_is}
+use Rattle.krl_server.proofs.Grants.{raised_queue, along, AreSlotsAfter, taken_slots, slot_near, slots_ascend, holdings_whole, granted_is, reached_is}
 use Rattle.krl_server.proofs.Turns.{turn_is}
 use Rattle.krl_server.proofs.Invariant.AnswersSound.{one_sound, at_first, stayed_on, dropped_is, drop_modes, turn_sound}
 use Rattle.krl_server.proofs.Invariant.Kept.{server_keeps}
@@ -74,7 +74,7 @@ module _ (s : Server) (f : Fenced) (i : IsSound s) (can : CanPush s f) (h : Show
   grant_row = record { modes = set_mode (s.rows n).modes c (wanted (s.rows n) u); queue = us }
 
   abbrev all_rows : Rows
-  all_rows = raised_on (set_row s.rows n grant_row) (taken_after m (set_row s.rows n grant_row) n u (s.durable.reach - 1)) u
+  all_rows = raised_on (set_row s.rows n grant_row) (reached_after m (set_row s.rows n grant_row) n u (s.durable.reach - 1)) u
 
   free : (s.sessions c).unacked ≡ None
   free = none_of (s.sessions c).unacked (and_parts (not (is_some (s.sessions c).unacked)) (nat_lt (s.sessions c).last_push END) may).0
@@ -82,7 +82,7 @@ module _ (s : Server) (f : Fenced) (i : IsSound s) (can : CanPush s f) (h : Show
   own_heard : IsHeardBy s.durable.epoch (f.world.links c) (f.old s.durable.epoch c)
   own_heard = h.heard n u (at_first s i n u us queue)
 
-  absents : Goes s f (pushes (with_rows s (dropped s.rows n)) c (push.Absent u.req u.point))
+  absents : Goes s f (pushes (with_rows s (front_dropped s.rows n)) c (push.Absent u.req u.point))
   absents = subst (λ r. Goes s f (pushes (with_rows s r) c (push.Absent u.req u.point))) (dropped_is s i n u us queue)
       (let t = with_rows s (set_row s.rows n drop_row) in
       let shown : ShowsOld t f = same_shows s (set_row s.rows n drop_row) s.sessions f (λ d k. drop_modes s i n u us queue d k) (λ d. (refl, refl)) (λ k v at. h.heard k v (stayed_on s i n u us queue drop_row refl k v at)) h in
@@ -121,7 +121,7 @@ module _ (s : Server) (f : Fenced) (i : IsSound s) (can : CanPush s f) (h : Show
   slots_told [] low epoch phase h = tt
   slots_told (k ∷ ns) low epoch phase h = ((slot_near m i.near k h.1, is_slot_true m i.near k h.1), slots_told ns k epoch phase h.2)
 
-  grants_all : is_wanted_compatible s.rows n u ≡ true → Goes s f (let g = with_rows s all_rows in pushes g c (push.Grant u.req (holdings g c (n ∷ taken_after m (set_row s.rows n grant_row) n u (s.durable.reach - 1)))))
+  grants_all : is_wanted_compatible s.rows n u ≡ true → Goes s f (let g = with_rows s all_rows in pushes g c (push.Grant u.req (holdings g c (n ∷ reached_after m (set_row s.rows n grant_row) n u (s.durable.reach - 1)))))
   grants_all fits =
       let place = i.placed n u (at_first s i n u us queue) in
       let slot : IsSlot (seen_in m f.world.shared.epoch f.world.shared.phase) n = subst (IsSlot (seen_in m f.world.shared.epoch f.world.shared.phase)) place.1 (slot_here m i.near u.point place.0).0 in
@@ -137,7 +137,7 @@ module _ (s : Server) (f : Fenced) (i : IsSound s) (can : CanPush s f) (h : Show
       let r = along m u Raised n (λ rows k far there x done. raised_more rows k there x done) (s.durable.reach - 1) n (set_row s.rows n grant_row) (omega arith) first in
       let a = r.0 in
       let t = with_rows s all_rows in
-      let ns = taken_after m (set_row s.rows n grant_row) n u (s.durable.reach - 1) in
+      let ns = reached_after m (set_row s.rows n grant_row) n u (s.durable.reach - 1) in
       let slots = taken_slots m u (s.durable.reach - 1) n (set_row s.rows n grant_row) in
       let body = push.Grant u.req (holdings t c (n ∷ ns)) in
       let can_t = can_on s t f (silent t) refl can a in
@@ -147,10 +147,10 @@ module _ (s : Server) (f : Fenced) (i : IsSound s) (can : CanPush s f) (h : Show
       (heard_on s.durable.epoch f a.fenced c a.beside own_heard) free
       (record { says = λ is here. holdings_said t a.fenced c r.1 can_t.far a.shows is here (n ∷ ns) ((high, slot), slots_told ns n a.fenced.world.shared.epoch a.fenced.world.shared.phase slots); answer = inl refl }))
 
-  grants : is_wanted_compatible s.rows n u ≡ true → Goes s f (let g = with_rows s (granted s.durable.reach m s.rows n) in pushes g c (push.Grant u.req (holdings g c (taken s.durable.reach m s.rows n))))
+  grants : is_wanted_compatible s.rows n u ≡ true → Goes s f (let g = with_rows s (granted s.durable.reach m s.rows n) in pushes g c (push.Grant u.req (holdings g c (reached_slots s.durable.reach m s.rows n))))
   grants fits =
-      subst (λ r. Goes s f (let g = with_rows s r in pushes g c (push.Grant u.req (holdings g c (taken s.durable.reach m s.rows n))))) (sym (granted_is s.durable.reach m s.rows n u us queue))
-      (subst (λ ns. Goes s f (let g = with_rows s all_rows in pushes g c (push.Grant u.req (holdings g c ns)))) (sym (taken_is s.durable.reach m s.rows n u us queue))
+      subst (λ r. Goes s f (let g = with_rows s r in pushes g c (push.Grant u.req (holdings g c (reached_slots s.durable.reach m s.rows n))))) (sym (granted_is s.durable.reach m s.rows n u us queue))
+      (subst (λ ns. Goes s f (let g = with_rows s all_rows in pushes g c (push.Grant u.req (holdings g c ns)))) (sym (reached_is s.durable.reach m s.rows n u us queue))
       (grants_all fits))
 
 -- each answer to a waiter is some steps
@@ -163,7 +163,7 @@ turn_goes s f t i can e h =
     (λ no. grants s f i can h t.slot t.waiter (behind_first (s.rows t.slot).queue) x.first both.0 (or_true (asks_absent s.durable.index t.waiter) (is_wanted_compatible s.rows t.slot t.waiter) both.1 no))
 
 -- and so are all of them
-pub answering_goes : (s t : Server) (f : Fenced) (outs : List ToClient) → Answered s t outs → IsSound s → CanPush s f → ShowsOld s f → Goes s f (record { server = t; outs = outs })
+pub answering_goes : (s t : Server) (f : Fenced) (outs : List ToClient) → AnswersWaiters s t outs → IsSound s → CanPush s f → ShowsOld s f → Goes s f (record { server = t; outs = outs })
 answering_goes s t f outs (stops s' e) i can h = goes_not s s f h
 answering_goes s t f outs (goes_on s' t' turn later e rest) i can h =
     let u = (answer_first s turn).server in

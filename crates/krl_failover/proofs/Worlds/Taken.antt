@@ -39,7 +39,7 @@ module _ (w : FencedWorld) (h : Shown w) where
   on_command : (v : State) (c : ℕ) (k : Client) (what : Command) (answer : Answer) → client_of w.world c ≡ Some k → command_refusal k what ≡ None → Obeys w.world c k what answer v → To v
   on_command v c k (command.Lock point hi m) answer i e d = on_client v c _ _ (commands_show.lock k point hi m e (shared_of w.world.server) (h.of c) c (w.world.places c).last_incarnation (place_at c (Some k) i)) d.1
   on_command v c k (command.Write op) answer i e d = on_client v c _ _ (commands_show.write k op e (shared_of w.world.server) (h.of c) c (w.world.places c).last_incarnation (place_at c (Some k) i)) d.1
-  on_command v c k (command.Take op) answer i e d = on_client v c _ _ (commands_show.take k op e (shared_of w.world.server) (h.of c) c (w.world.places c).last_incarnation (place_at c (Some k) i)) d.1
+  on_command v c k (command.Seize op) answer i e d = on_client v c _ _ (commands_show.seize k op e (shared_of w.world.server) (h.of c) c (w.world.places c).last_incarnation (place_at c (Some k) i)) d.1
   on_command v c k (command.Scan lo hi) answer i e d = subst To (sym d.1) h
   on_command v c k (command.Lower lo hi keep) answer i e d = on_client v c _ _ (commands_show.lower k (span lo hi) keep e (shared_of w.world.server) (h.of c) c (w.world.places c).last_incarnation (place_at c (Some k) i)) d.1
   on_command v c k (command.Pin lo hi) answer i e d = on_client v c _ _ (commands_show.pin k (span lo hi) d.0 (shared_of w.world.server) (h.of c) c (w.world.places c).last_incarnation (place_at c (Some k) i)) d.3

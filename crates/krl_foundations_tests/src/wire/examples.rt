@@ -126,33 +126,33 @@ fn lock(alloc: Global) -> Result<Example<ToServer>, Fail> {
     requested(alloc, "03", text, body)
 }
 
-fn insert(alloc: Global, kind: &str, takes: bool) -> Result<Example<ToServer>, Fail> {
+fn insert(alloc: Global, kind: &str, seizes: bool) -> Result<Example<ToServer>, Fail> {
     let op = WriteOp::Insert {
         key: 10,
         value: value(),
     };
     let text = "0600000000000000 0a00000000000000 02 cafe";
     let number = 6;
-    requested(alloc, kind, text, RequestBody::Write { number, op, takes })
+    requested(alloc, kind, text, RequestBody::Write { number, op, seizes })
 }
 
-fn put(alloc: Global, kind: &str, takes: bool) -> Result<Example<ToServer>, Fail> {
+fn put(alloc: Global, kind: &str, seizes: bool) -> Result<Example<ToServer>, Fail> {
     let op = WriteOp::Put {
         key: 10,
         value: Value::from_u64(5),
     };
     let text = "0700000000000000 0a00000000000000 08 0000000000000005";
     let number = 7;
-    requested(alloc, kind, text, RequestBody::Write { number, op, takes })
+    requested(alloc, kind, text, RequestBody::Write { number, op, seizes })
 }
 
-fn delete(alloc: Global, kind: &str, takes: bool) -> Result<Example<ToServer>, Fail> {
+fn delete(alloc: Global, kind: &str, seizes: bool) -> Result<Example<ToServer>, Fail> {
     let op = WriteOp::Delete {
         key: 72623859790382856,
     };
     let text = "0800000000000000 0807060504030201";
     let number = 8;
-    requested(alloc, kind, text, RequestBody::Write { number, op, takes })
+    requested(alloc, kind, text, RequestBody::Write { number, op, seizes })
 }
 
 fn release(alloc: Global) -> Result<Example<ToServer>, Fail> {

@@ -10,10 +10,9 @@ use Rattle.krl_messages.specs.declared.to_client.PushBody.TheVariants as push
 use Rattle.krl_machine.specs.Links
 use Rattle.krl_machine.specs.Links.{Op, Said, Link, Shared, belief, adopted, OutAfter, joins, accepts}
 use Rattle.krl_machine.specs.Holdings.{said_at, or_by, said_by}
-use Rattle.krl_messages.specs.Holdings.{ends_at_end, has_its_value}
-use Rattle.krl_messages.specs.Several.{have_values}
+use Rattle.krl_messages.specs.Holdings.{ends_at_end, has_its_value, have_values}
 use Rattle.krl_cache.proofs.Calls.{same_of, last_not_end, none_at_end}
-use Rattle.krl_client.specs.Messages.{asked_after, says_ack, says_report, joined, accepted, judged_as, fits, Case, Ignores, AcksAgain, Adopts, Accepts, Lowers, case_of, case_of_body, after, sends}
+use Rattle.krl_client.specs.Messages.{asked_after, says_ack, says_report, joined, accepted, judged_as, fits, ClientCase, Ignores, AcksAgain, Adopts, Accepts, Lowers, client_case_of, client_case_of_body, after, sends}
 use Rattle.krl_refinement.proofs.Messages.{report_stands}
 use mathlib.Core.Bool.{and-true}
 use Rattle.krl_refinement.proofs.Client.Steps.{rests, took, lowers_show}
@@ -178,17 +177,17 @@ adopts_shows s l c g k ps inc epoch d h at e later = took s l _ c g _ _ h.1.numb
 -- Messages
 
 -- what a case makes
-abbrev Makes : Shared → Link → ℕ → ℕ → Client → Pieces → Case → Type 0
+abbrev Makes : Shared → Link → ℕ → ℕ → Client → Pieces → ClientCase → Type 0
 Makes s l c g k ps x = Leads s l c g (Some (after k x)) (sends ps k x)
 
-makes_either : (s : Shared) (l : Link) (c g : ℕ) (k : Client) (ps : Pieces) (b : Bool) (x y : Case) → (b ≡ true → Makes s l c g k ps x) → (b ≡ false → Makes s l c g k ps y) → Makes s l c g k ps (if b then x else y)
+makes_either : (s : Shared) (l : Link) (c g : ℕ) (k : Client) (ps : Pieces) (b : Bool) (x y : ClientCase) → (b ≡ true → Makes s l c g k ps x) → (b ≡ false → Makes s l c g k ps y) → Makes s l c g k ps (if b then x else y)
 makes_either s l c g k ps true x y f h = f refl
 makes_either s l c g k ps false x y f h = h refl
 
 own_epoch : (c : ℕ) (k : Client) (l : Link) (epoch : ℕ) → ShowsClient c k l.client → 1 ≤ epoch → nat_eq epoch k.epoch ≡ true → 1 ≤ l.epoch
 own_epoch c k l epoch h old e = let i = eqb-true epoch k.epoch e in let j = h.epoch in omega arith
 
-body_shows : (s : Shared) (l : Link) (c g : ℕ) (k : Client) (ps : Pieces) (inc : ℕ) (what : ToClientBody) → Describes ps k.belief → ShowsPlace c g (Some k) l → inc ≡ k.incarnation → IsTo l inc what → Makes s l c g k ps (case_of_body k what)
+body_shows : (s : Shared) (l : Link) (c g : ℕ) (k : Client) (ps : Pieces) (inc : ℕ) (what : ToClientBody) → Describes ps k.belief → ShowsPlace c g (Some k) l → inc ≡ k.incarnation → IsTo l inc what → Makes s l c g k ps (client_case_of_body k what)
 body_shows s l c g k ps inc (told.Epoch epoch) d h e at = makes_either s l c g k ps (nat_lt k.epoch epoch) (Adopts epoch) Ignores
     (λ t. adopts_shows s l c g k ps inc epoch d h at e (ltb-true k.epoch epoch t))
     (λ f. rests s l c g (Some k) h)
@@ -206,8 +205,8 @@ body_shows s l c g k ps inc (told.Callback epoch span keep) d h e at = makes_eit
     lowers_show s l c g k span keep h (own_epoch c k l epoch h.1 at.0 x.0) at.1 (or_parts (is_writing_in k span) (meets_pin k span) (not-true _ x.1)).0)
     (λ f. rests s l c g (Some k) h)
 
-pub receives_show : (s : Shared) (l : Link) (c g : ℕ) (k : Client) (ps : Pieces) (m : ToClient) → Describes ps k.belief → ShowsPlace c g (Some k) l → (m.client ≡ c → IsTo l m.incarnation m.body) → Makes s l c g k ps (case_of k m)
-receives_show s l c g k ps m d h at = makes_either s l c g k ps (nat_eq m.client k.number && nat_eq m.incarnation k.incarnation) (case_of_body k m.body) Ignores
+pub receives_show : (s : Shared) (l : Link) (c g : ℕ) (k : Client) (ps : Pieces) (m : ToClient) → Describes ps k.belief → ShowsPlace c g (Some k) l → (m.client ≡ c → IsTo l m.incarnation m.body) → Makes s l c g k ps (client_case_of k m)
+receives_show s l c g k ps m d h at = makes_either s l c g k ps (nat_eq m.client k.number && nat_eq m.incarnation k.incarnation) (client_case_of_body k m.body) Ignores
     (λ t. let x = and_parts (nat_eq m.client k.number) (nat_eq m.incarnation k.incarnation) t in
     let n = eqb-true m.client k.number x.0 in
     body_shows s l c g k ps m.incarnation m.body d h (eqb-true m.incarnation k.incarnation x.1) (at (cc (n, h.1.number))))

@@ -11,9 +11,9 @@ use Rattle.krl_client.specs.declared.refused.CommandRefused.TheVariants as refus
 use Rattle.krl_modes.proofs.Basics.{None-if_not_some}
 use Rattle.krl_cache.proofs.Truths.{outside_span}
 use Rattle.krl_cache.proofs.Calls.{either_none}
-use Rattle.krl_messages.specs.Writes.{op_key as key_of_op, takes_lock}
+use Rattle.krl_messages.specs.Writes.{op_key as key_of_op, can_seize}
 use Rattle.krl_modes.proofs.PartLaws.{range_is_X}
-use Rattle.krl_client.specs.Commands.{holds_for, lock_refusal, write_refusal, take_refusal, lower_refusal, locked, issued, wrote, lowered, says_lock, says_write, says_release, says_bye}
+use Rattle.krl_client.specs.Commands.{holds_for, lock_refusal, write_refusal, seize_refusal, lower_refusal, locked, issued, wrote, belief_lowered, says_lock, says_write, says_release, says_bye}
 use Rattle.krl_client.specs.Commands as commands
 use Rattle.krl_client.specs.Ticks.{says_hello}
 use Rattle.krl_refinement.proofs.Client.Basics.{grows_not, passed, lowered_at, before_last}
@@ -96,21 +96,21 @@ may_write k change e = let p1 = passed _ _ _ e in let p2 = passed _ _ _ p1.1 in 
     record { joined = not-false _ p2.0; free = None-if_not_some (outstanding k.written) p3.0; may = λ c l h. may_issue c k l change h (not-false _ p4.0) }
 
 -- a write that takes its lock needs nothing, except for a delete, which takes none
-may_issue_taking : (c : ℕ) (k : Client) (l : Link) (change : WriteOp) → ShowsClient c k l.client → (takes_lock change || holds_for k.belief change) ≡ true → MayIssue l (op_of change)
-may_issue_taking c k l (op.Insert n v) h e = tt
-may_issue_taking c k l (op.Put n v) h e = tt
-may_issue_taking c k l (op.Delete n) h e = may_issue c k l (op.Delete n) h e
+may_issue_seizing : (c : ℕ) (k : Client) (l : Link) (change : WriteOp) → ShowsClient c k l.client → (can_seize change || holds_for k.belief change) ≡ true → MayIssue l (op_of change)
+may_issue_seizing c k l (op.Insert n v) h e = tt
+may_issue_seizing c k l (op.Put n v) h e = tt
+may_issue_seizing c k l (op.Delete n) h e = may_issue c k l (op.Delete n) h e
 
-may_take : (k : Client) (change : WriteOp) → take_refusal k change ≡ None → MayWrite k change
-may_take k change e = let p1 = passed _ _ _ e in let p2 = passed _ _ _ p1.1 in let p3 = passed _ _ _ p2.1 in let p4 = passed _ _ _ p3.1 in
-    record { joined = not-false _ p2.0; free = None-if_not_some (outstanding k.written) p3.0; may = λ c l h. may_issue_taking c k l change h (not-false _ p4.0) }
+may_seize : (k : Client) (change : WriteOp) → seize_refusal k change ≡ None → MayWrite k change
+may_seize k change e = let p1 = passed _ _ _ e in let p2 = passed _ _ _ p1.1 in let p3 = passed _ _ _ p2.1 in let p4 = passed _ _ _ p3.1 in
+    record { joined = not-false _ p2.0; free = None-if_not_some (outstanding k.written) p3.0; may = λ c l h. may_issue_seizing c k l change h (not-false _ p4.0) }
 
 -- no write is outstanding in the machine's client either
 nothing_out : (k : Client) (out : Option Op) → out ≡ op_shown (outstanding k.written) → outstanding k.written ≡ None → out ≡ None
 nothing_out k out o e = subst (λ x. out ≡ op_shown x) e o
 
-issue_shows : (s : Shared) (l : Link) (c g : ℕ) (k : Client) (change : WriteOp) (takes : Bool) → ShowsPlace c g (Some k) l → MayWrite k change → Leads s l c g (Some (issued k change takes)) (says_write (issued k change takes) change ∷ [])
-issue_shows s l c g k change takes h may = took s l _ c g _ _ h.1.number refl (issues (op_of change) h.1.up (joined_epoch c k l h.1 may.joined) (nothing_out k l.out h.1.out may.free) (may.may c l h.1))
+issue_shows : (s : Shared) (l : Link) (c g : ℕ) (k : Client) (change : WriteOp) (seizes : Bool) → ShowsPlace c g (Some k) l → MayWrite k change → Leads s l c g (Some (issued k change seizes)) (says_write (issued k change seizes) change ∷ [])
+issue_shows s l c g k change seizes h may = took s l _ c g _ _ h.1.number refl (issues (op_of change) h.1.up (joined_epoch c k l h.1 may.joined) (nothing_out k l.out h.1.out may.free) (may.may c l h.1))
     (record { hellos = λ x i. i; byes = λ x i. i; heads = λ x i. inr i; releases = λ x i. i; writes = λ x i. inr i; reports = λ x i. i; notices = λ x i. i; pushes = λ x i. i })
     (h.0, record { number = h.1.number; up = h.1.up; inc = h.1.inc; epoch = h.1.epoch; seen = h.1.seen; issued = cc (h.1.issued); out = refl; numbered = inl (omega arith); range = h.1.range; key = h.1.key; value = h.1.value; at_end = h.1.at_end })
     (inl (cc (h.1.inc, h.1.epoch, h.1.seen)), inl (cc (h.1.inc, h.1.epoch, h.1.seen, h.1.issued)))
@@ -118,8 +118,8 @@ issue_shows s l c g k change takes h may = took s l _ c g _ _ h.1.number refl (i
 pub writes_show : (s : Shared) (l : Link) (c g : ℕ) (k : Client) (change : WriteOp) → ShowsPlace c g (Some k) l → write_refusal k change ≡ None → Leads s l c g (Some (wrote k change)) (says_write (wrote k change) change ∷ [])
 writes_show s l c g k change h e = issue_shows s l c g k change false h (may_write k change e)
 
-pub takes_show : (s : Shared) (l : Link) (c g : ℕ) (k : Client) (change : WriteOp) → ShowsPlace c g (Some k) l → take_refusal k change ≡ None → Leads s l c g (Some (commands.took k change)) (says_write (commands.took k change) change ∷ [])
-takes_show s l c g k change h e = issue_shows s l c g k change true h (may_take k change e)
+pub seizes_show : (s : Shared) (l : Link) (c g : ℕ) (k : Client) (change : WriteOp) → ShowsPlace c g (Some k) l → seize_refusal k change ≡ None → Leads s l c g (Some (commands.seized k change)) (says_write (commands.seized k change) change ∷ [])
+seizes_show s l c g k change h e = issue_shows s l c g k change true h (may_seize k change e)
 
 -- Lowering
 
@@ -156,7 +156,7 @@ not_in s k out o e x i =
     let f : is_in s (Some h.0) ≡ false = subst (λ y. is_in s y ≡ false) h.1 e in
     subst (λ n. (n < s.lo) ⊎ (s.hi ≤ n)) (sym h.2) (outside_span s (key_of_op h.0) f)
 
-pub lowers_show : (s : Shared) (l : Link) (c g : ℕ) (k : Client) (span : Bounds) (keep : Mode) → ShowsPlace c g (Some k) l → 1 ≤ l.epoch → span.lo < span.hi → is_writing_in k span ≡ false → Leads s l c g (Some (lowered k span keep)) (says_release k span keep ∷ [])
+pub lowers_show : (s : Shared) (l : Link) (c g : ℕ) (k : Client) (span : Bounds) (keep : Mode) → ShowsPlace c g (Some k) l → 1 ≤ l.epoch → span.lo < span.hi → is_writing_in k span ≡ false → Leads s l c g (Some (belief_lowered k span keep)) (says_release k span keep ∷ [])
 lowers_show s l c g k span keep h old some free = took s l _ c g _ _ h.1.number refl
     (lowers (record { head = head_of l; lo = span.lo; last = span.hi - 1; range = range_of keep; key = key_of keep }) (lower span keep k.belief).range_at (lower span keep k.belief).key_at h.1.up old refl (mode_parts keep) (λ x i. before_last span.lo span.hi (op_key x) some (not_in span k l.out h.1.out free x i))
     (λ q. lowered_at span keep (l.range q) (k.belief.range_at q) (l.key q) (k.belief.key_at q) q (contains span q) refl some (h.1.range q) (h.1.key q)))
@@ -179,6 +179,6 @@ lowers_show s l c g k span keep h old some free = took s l _ c g _ _ h.1.number 
     )
     (inl (cc (h.1.inc, h.1.epoch, h.1.seen)), (some, inl (cc (h.1.inc, h.1.epoch, h.1.seen))))
 
-pub given_back_shows : (s : Shared) (l : Link) (c g : ℕ) (k : Client) (span : Bounds) (keep : Mode) → ShowsPlace c g (Some k) l → lower_refusal k span ≡ None → Leads s l c g (Some (lowered k span keep)) (says_release k span keep ∷ [])
+pub given_back_shows : (s : Shared) (l : Link) (c g : ℕ) (k : Client) (span : Bounds) (keep : Mode) → ShowsPlace c g (Some k) l → lower_refusal k span ≡ None → Leads s l c g (Some (belief_lowered k span keep)) (says_release k span keep ∷ [])
 given_back_shows s l c g k span keep h e = let p1 = passed _ _ _ e in let p2 = passed _ _ _ p1.1 in let p3 = passed _ _ _ p2.1 in
     lowers_show s l c g k span keep h (joined_epoch c k l h.1 (not-false _ p2.0)) (ltb-true span.lo span.hi (and_parts (nat_lt span.lo span.hi) (nat_le span.hi TOP) (not-false _ p1.0)).0) p3.0

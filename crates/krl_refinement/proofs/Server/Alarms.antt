@@ -1,7 +1,7 @@
 -- The report of a missing client contradicts nobody's modes.
 use Rattle.krl_refinement.proofs.Names.{◌≡◌, ◌≢◌, ℕ, Bool, true, false, not, List, [], ◌∷◌, ◌++◌, map, Option, Some, None, refl, sym, ap, subst, ◌∙◌, arith, ◌||◌, cond, nat_eq, eqb-false}
 use Rattle.krl_refinement.proofs.Names.{nat_tests, none-some, list_all, END, compatible, Value, Pieces, ToServer, Record, is_slot, record_of, max_clients, mode_at, column}
-use Rattle.krl_refinement.proofs.Names.{is_compatible_there, rebuilt, adopted, conflicts, RangesAgree, KeysAgree, Recovering, Link, IsSlot, Logged, WorldInv, MayTake, no_alarm_of, slots_agree}
+use Rattle.krl_refinement.proofs.Names.{is_compatible_there, rebuilt, adopted, conflicts, RangesAgree, KeysAgree, Recovering, Link, IsSlot, Logged, WorldInv, MaySeize, no_alarm_of, slots_agree}
 use Rattle.krl_refinement.proofs.Names.{Server, lists, IsSound, report_of, Stands, IsRecord, machine_phase, view, Shows, world_of}
 use Rattle.std.specs.Ordering.{nat_cmp, eq_by_cmp}
 use Rattle.std.specs.FinMap.Entries.{find}
@@ -37,7 +37,7 @@ no_conflict s of log m epoch pieces r inv shows sound known same now missing sta
     let phase = machine_phase s.missing in
     let on : phase ≡ Recovering = listed_phase s.missing c missing in
     let record_is : IsRecord (Some r) (of c) = subst (λ o. IsRecord o (of c)) known (shows.link c).known in
-    let may : MayTake (view s) (of c) (report_of m.incarnation epoch pieces) = record { sent = stands.0; recovering = on; missing = (shows.link c).missing ∙ missing; inc = same ∙ sym record_is.reg; epoch = now } in
+    let may : MaySeize (view s) (of c) (report_of m.incarnation epoch pieces) = record { sent = stands.0; recovering = on; missing = (shows.link c).missing ∙ missing; inc = same ∙ sym record_is.reg; epoch = now } in
     let built = report_shown index s.durable.epoch phase sound.near s.rows c m.incarnation epoch pieces stands.1 in
     -- on each slot
     let beside : (n : ℕ) → IsSlot (view s) n → (d : ℕ) → d ≢ c → compatible (rebuilt index pieces n) (mode_at s.rows n d) ≡ true = λ n slot d ne.

@@ -1,9 +1,9 @@
 -- Callbacks may always be sent.
 use Rattle.krl_refinement.proofs.Names.{ℕ, zero, suc, ◌≤◌, Bool, true, false, List, [], ◌∷◌, inl, inr, sym, subst, ⊎_elim, arith, if◌then◌else◌, cap, ToClient, In, in_both, Waiter, span_of, slots}
-use Rattle.krl_refinement.proofs.Names.{max_clients, wanted, Link, Server, callback_to, Kind, Idle, Quiet, Acts, calls_of, WasSent}
+use Rattle.krl_refinement.proofs.Names.{max_clients, wanted, Link, Server, callback_to, Following, Nothing, Answers, Calls, callbacks_after, WasSent}
 use Rattle.krl_table.specs.Replies.{asks_absent}
 use Rattle.krl_table.proofs.Rows.Slots.{low_under}
-use Rattle.krl_server.specs.Callbacks.{is_compatible, callbacks_from, callbacks_for, callbacks_at, callbacks_among}
+use Rattle.krl_server.specs.Callbacks.{is_compatible, callbacks_from, callbacks_for, callbacks_among, callbacks_at}
 
 module _ (s : Server) (of : ℕ → Link) (begun : 1 ≤ s.durable.epoch) where
   abbrev Sent : ToClient → Type 0
@@ -34,7 +34,7 @@ module _ (s : Server) (of : ℕ → Link) (begun : 1 ≤ s.durable.epoch) where
   among_sent [] o at = absurd at
   among_sent (n ∷ ns) o at = ⊎_elim (λ (x : In o (callbacks_at s n (s.rows n).queue)). at_sent n (s.rows n).queue o x) (λ (x : In o (callbacks_among s ns)). among_sent ns o x) (in_both (callbacks_at s n (s.rows n).queue) (callbacks_among s ns) o at)
 
-  pub calls_sent : (k : Kind) (o : ToClient) → In o (calls_of k s) → WasSent (of o.client) o.incarnation o.body
-  calls_sent Idle o at = absurd at
-  calls_sent Quiet o at = absurd at
-  calls_sent Acts o at = among_sent (slots s.durable.index) o at
+  pub calls_sent : (k : Following) (o : ToClient) → In o (callbacks_after k s) → WasSent (of o.client) o.incarnation o.body
+  calls_sent Nothing o at = absurd at
+  calls_sent Answers o at = absurd at
+  calls_sent Calls o at = among_sent (slots s.durable.index) o at

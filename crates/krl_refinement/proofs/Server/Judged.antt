@@ -1,7 +1,7 @@
 -- The answer to a write, of which the durable record already shows how it was judged.
 use Rattle.krl_refinement.proofs.Names.{◌≡◌, ℕ, ◌≤◌, ◌<◌, Bool, true, false, Option, Some, None, List, [], ◌∷◌, inl, inr, refl, sym, ap, subst, ◌∙◌, arith, AllByRecursion, END, KeyPart, key_of}
 use Rattle.krl_refinement.proofs.Names.{WriteOp, Outcome, Value, op_key, is_applied, In, slot_of, column, mode_at, Head, Write, Link, Passes, IsSlot, MaySay, Logged, put, put_changed, Server, shown}
-use Rattle.krl_refinement.proofs.Names.{holding, holdings, acknowledged, answers, IsSound, slot_here, slot_high, span_here, session_here, pushes_serve, acknowledged_sound, op_of, LinkShows, Shows}
+use Rattle.krl_refinement.proofs.Names.{holding, holdings, acknowledged, tells_outcome, IsSound, slot_here, slot_high, span_here, session_here, pushes_serve, acknowledged_sound, op_of, LinkShows, Shows}
 use Rattle.krl_refinement.proofs.Names.{view}
 use Rattle.std.specs.FinMap as map
 use Rattle.krl_modes.specs.Weights.{rank}
@@ -49,7 +49,7 @@ key_same (write.Put k v) = refl
 key_same (write.Delete k) = refl
 
 -- the server's answer to a write, if the durable record already shows it
-pub answers_on : (s : Server) (of : ℕ → Link) (log : List Logged) (cleared : ℕ → Bool) (c : ℕ) (a : Head) (number : ℕ) (op : WriteOp) (o : Outcome) → IsSound s → (view s).phase ≡ links.Serving → (s.sessions c).unacked ≡ None → In (let w : Write = record { head = a; number = number; op = op_of op } in w) (of c).writes → In a (of c).heads → a.inc ≡ (of c).reg → a.epoch ≡ s.durable.epoch → (of c).left ≡ false → number ≡ (of c).done → 1 ≤ number → is_applied o ≡ (of c).applied → op_key op < END → Shows s of → Goes s of log cleared (answers s c number op o) log
+pub answers_on : (s : Server) (of : ℕ → Link) (log : List Logged) (cleared : ℕ → Bool) (c : ℕ) (a : Head) (number : ℕ) (op : WriteOp) (o : Outcome) → IsSound s → (view s).phase ≡ links.Serving → (s.sessions c).unacked ≡ None → In (let w : Write = record { head = a; number = number; op = op_of op } in w) (of c).writes → In a (of c).heads → a.inc ≡ (of c).reg → a.epoch ≡ s.durable.epoch → (of c).left ≡ false → number ≡ (of c).done → 1 ≤ number → is_applied o ≡ (of c).applied → op_key op < END → Shows s of → Goes s of log cleared (tells_outcome s c number op o) log
 answers_on s of log cleared c a number op o i serving free at head inc epoch left last some applied under h =
     let n = slot_of s.durable.index (op_key op) in
     let w : Write = record { head = a; number = number; op = op_of op } in
@@ -64,7 +64,7 @@ answers_on s of log cleared c a number op o i serving free at head inc epoch lef
     })
     h
 
-pub answers_again : (s : Server) (of : ℕ → Link) (log : List Logged) (cleared : ℕ → Bool) (c : ℕ) (a : Head) (number : ℕ) (op : WriteOp) (o : Outcome) → IsSound s → In (let w : Write = record { head = a; number = number; op = op_of op } in w) (of c).writes → In a (of c).heads → Passes (view s) (of c) a → number ≡ (of c).done → 1 ≤ number → is_applied o ≡ (of c).applied → op_key op < END → Shows s of → Goes s of log cleared (answers (acknowledged s c) c number op o) log
+pub answers_again : (s : Server) (of : ℕ → Link) (log : List Logged) (cleared : ℕ → Bool) (c : ℕ) (a : Head) (number : ℕ) (op : WriteOp) (o : Outcome) → IsSound s → In (let w : Write = record { head = a; number = number; op = op_of op } in w) (of c).writes → In a (of c).heads → Passes (view s) (of c) a → number ≡ (of c).done → 1 ≤ number → is_applied o ≡ (of c).applied → op_key op < END → Shows s of → Goes s of log cleared (tells_outcome (acknowledged s c) c number op o) log
 answers_again s of log cleared c a number op o i at head ok last some applied under h =
     let l : Link = record (of c) { acked = true } in
     let ch = put_changed of c l in

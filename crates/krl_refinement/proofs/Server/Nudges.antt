@@ -3,7 +3,7 @@ use Rattle.krl_refinement.proofs.Names.{◌≡◌, ℕ, ◌≤◌, Bool, true, f
 use Rattle.krl_refinement.proofs.Names.{slots, record_of, Link, Logged, none, Server, is_recovering, lists, epoch_to, push_to, nudge_served, nudge_missing, nudge_known, IsSound, WasSent, Shows}
 use Rattle.krl_refinement.proofs.Names.{world_of, Follows, BoundStays, NudgeFollows}
 use Rattle.krl_messages.specs.declared.to_client.ToClientBody.TheVariants as told
-use Rattle.krl_server.specs.Callbacks.{callbacks_for, callbacks_of, callbacks_of_among}
+use Rattle.krl_server.specs.Callbacks.{callbacks_for, callbacks_of_among, callbacks_of}
 use Rattle.krl_refinement.proofs.Server.Follows.{one_sent, reg_is}
 use Rattle.krl_refinement.proofs.Server.Pushes.{tells}
 use Rattle.krl_refinement.proofs.Server.Callbacks.{callbacks_for_sent}

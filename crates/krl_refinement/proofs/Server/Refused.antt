@@ -1,7 +1,7 @@
 -- A new write that is not Applied; and the record of a client after any new write.
 use Rattle.krl_refinement.proofs.Names.{◌≡◌, ◌≢◌, ℕ, suc, ◌<◌, Bool, true, false, Some, None, List, refl, sym, ap, subst, ◌∙◌, arith, none-some, same_Some, END, WriteOp, Outcome, op_key, is_applied}
 use Rattle.krl_refinement.proofs.Names.{In, Record, Register, record_of, with_record, range_at, key_at, Head, Write, Shared, Link, Passes, next, idle, takes_head, refuses, Logged, put, put_changed}
-use Rattle.krl_refinement.proofs.Names.{heard_kept, link_steps, Session, Server, lists, set_session, acknowledged, writes, answers, IsSound, session_here, record_here, record_other, pushes_serve}
+use Rattle.krl_refinement.proofs.Names.{heard_kept, link_steps, Session, Server, lists, set_session, acknowledged, writes, tells_outcome, IsSound, session_here, record_here, record_other, pushes_serve}
 use Rattle.krl_refinement.proofs.Names.{op_of, IsRecord, LinkIs, Shows, view}
 use Rattle.krl_durable.specs.Writes.{noted, applied}
 use Rattle.krl_server.proofs.Invariant.WritesSound.{with_noted, refusal_is}
@@ -18,7 +18,7 @@ noted_known es c o r l m k reg left done applied =
 pub noted_rest : (s : Shared) (es : Register) (c : ℕ) (x : Record) (d : ℕ) (b : Bool) (session : Session) (r : ℕ → Rattle.krl_modes.specs.declared.part.RangePart.RangePart) (k : ℕ → Rattle.krl_modes.specs.declared.part.KeyPart.KeyPart) (l : Link) → d ≢ c → LinkIs s (record_of es d) b session r k l → LinkIs s (record_of (with_record es c x) d) b session r k l
 noted_rest s es c x d b session r k l ne h = subst (λ o. LinkIs s o b session r k l) (sym (record_other es c d x ne)) h
 
-pub refused : (s : Server) (of : ℕ → Link) (log : List Logged) (cleared : ℕ → Bool) (c : ℕ) (a : Head) (number : ℕ) (op : WriteOp) (o : Outcome) (r : Record) → record_of s.durable.register c ≡ Some r → is_applied o ≡ false → IsSound s → In (let w : Write = record { head = a; number = number; op = op_of op } in w) (of c).writes → In a (of c).heads → Passes (view s) (of c) a → number ≡ suc r.last → op_key op < END → Shows s of → Goes s of log cleared (answers (writes (acknowledged s c) c op o) c number op o) log
+pub refused : (s : Server) (of : ℕ → Link) (log : List Logged) (cleared : ℕ → Bool) (c : ℕ) (a : Head) (number : ℕ) (op : WriteOp) (o : Outcome) (r : Record) → record_of s.durable.register c ≡ Some r → is_applied o ≡ false → IsSound s → In (let w : Write = record { head = a; number = number; op = op_of op } in w) (of c).writes → In a (of c).heads → Passes (view s) (of c) a → number ≡ suc r.last → op_key op < END → Shows s of → Goes s of log cleared (tells_outcome (writes (acknowledged s c) c op o) c number op o) log
 refused s of log cleared c a number op o r known not i at head ok num under h =
     let k = h.link c in
     let old : IsRecord (Some r) (of c) = subst (λ x. IsRecord x (of c)) known k.known in
@@ -30,7 +30,7 @@ refused s of log cleared c a number op o r known not i at head ok num under h =
     let ch = put_changed of c l in
     let passed : Passes (view s) l1 a = record { serving = ok.serving; here = ok.here; inc = ok.inc; epoch = ok.epoch; seen = ok.seen } in
     let next_one : number ≡ suc (of c).done = num ∙ ap (λ x. suc x) (sym (old.done (sym old.left ∙ ok.here))) in
-    subst (λ x. Goes s of log cleared (answers x c number op o) log) (refusal_is (acknowledged s c) c op o r known not)
+    subst (λ x. Goes s of log cleared (tells_outcome x c number op o) log) (refusal_is (acknowledged s c) c op o r known not)
     (steps_then s t of (put of c l) log log log cleared _ (pushes_serve t c _ (not_recovering s.missing ok.serving)) (put_client of c l refl)
     (link_steps (view s) log c (of c) l of (put of c l) refl (next (takes_head a head ok) (next (refuses w at passed refl next_one) idle)) ch)
     (answers_on t (put of c l) log cleared c a number op o (record { near = i.near; begun = i.begun; strangers = i.strangers; placed = i.placed; clients = i.clients }) ok.serving (ap (λ x. x.unacked) (session_here s.sessions c session))

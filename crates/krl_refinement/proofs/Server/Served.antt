@@ -4,7 +4,7 @@ use Rattle.krl_refinement.proofs.Names.{crash, start, finish, Steps, none, more,
 use Rattle.krl_refinement.proofs.Names.{answered_up, WasSent, Shows, world_of}
 use Rattle.krl_messages.specs.declared.to_client.ToClientBody.TheVariants as told
 use Rattle.krl_machine.specs.Links.{Notice, Push, Shared, Link, LinkStep, registers, notifies, pushes}
-use Rattle.krl_server.specs.Answering.{answer_first, Answered, stops, goes_on}
+use Rattle.krl_server.specs.Answering.{answer_first, AnswersWaiters, stops, goes_on}
 use Rattle.krl_refinement.proofs.Server.Follows.{Goes, serving_phase}
 use Rattle.krl_refinement.proofs.Server.Turns.{turn_follows}
 
@@ -41,7 +41,7 @@ sent_kept u w a c inc (told.Push epoch number body) h = ((steps_keep u w a c).1 
 sent_kept u w a c inc (told.Callback epoch span keep) h = h
 
 -- the answering of first waiters until none is answerable is some steps
-pub answering_follows : (s t : Server) (of : ℕ → Link) (log : List Logged) (cleared : ℕ → Bool) (outs : List ToClient) → Answered s t outs → IsSound s → WorldInv (world_of s of log) → is_recovering s.missing ≡ false → Shows s of → Goes s of log cleared (record { server = t; outs = outs }) log
+pub answering_follows : (s t : Server) (of : ℕ → Link) (log : List Logged) (cleared : ℕ → Bool) (outs : List ToClient) → AnswersWaiters s t outs → IsSound s → WorldInv (world_of s of log) → is_recovering s.missing ≡ false → Shows s of → Goes s of log cleared (record { server = t; outs = outs }) log
 answering_follows s t of log cleared outs (stops s' e) i inv up h = record { after = of; steps = none; shows = h; sent = λ o at. absurd at; clients = λ c. refl; bound = λ g. absurd (not_both (is_recovering s.missing) g up) }
 answering_follows s t of log cleared outs (goes_on s' t' turn later e rest) i inv up h =
     let f = turn_follows s of log cleared turn i inv (serving_phase s.missing up) e h in

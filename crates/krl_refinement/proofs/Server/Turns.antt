@@ -2,19 +2,19 @@
 use Rattle.std.specs.Prelude.{◌-◌}
 use Rattle.krl_refinement.proofs.Names.{◌≡◌, ◌≢◌, ℕ, ◌≤◌, ◌<◌, Bool, true, false, not, ◌||◌, Some, List, [], ◌∷◌, inl, refl, sym, ap, subst, ◌∙◌, arith, and_parts, none-some, AllByRecursion, END}
 use Rattle.krl_refinement.proofs.Names.{RangePart, KeyPart, range_of, key_of, In, Waiter, Index, is_slot, record_of, Row, Rows, max_clients, mode_at, column, set_row, set_mode, range_at, key_at, with_mode, with_queue}
-use Rattle.krl_refinement.proofs.Names.{wanted, behind_first, dropped, raised, raised_on, RangeAtMost, KeyAtMost, RangesAgree, KeysAgree, Link, IsSlot, Logged, Steps, none, more, WorldInv}
+use Rattle.krl_refinement.proofs.Names.{wanted, behind_first, front_dropped, raised, raised_on, RangeAtMost, KeyAtMost, RangesAgree, KeysAgree, Link, IsSlot, Logged, Steps, none, more, WorldInv}
 use Rattle.krl_refinement.proofs.Names.{grant_raises, put, put_changed, heard_kept, steps_on, world_steps, Server, lists, with_rows, holdings, pushes, IsSound, slot_here, slot_high, is_slot_true}
 use Rattle.krl_refinement.proofs.Names.{is_slot_false, same_range, same_key, row_here, row_other, mode_here, mode_other, row_modes, pushes_serve, one_sound, at_first, stayed_on, dropped_is}
 use Rattle.krl_refinement.proofs.Names.{drop_modes, if_case, none_of, LinkShows, IsHeardOf, Shows, view, world_of}
 use Rattle.std.specs.Prelude.{nat_lt, is_some}
 use Rattle.krl_messages.specs.declared.to_client.PushBody.TheVariants as push
-use Rattle.krl_table.specs.Grants.{taken_after, taken, granted}
+use Rattle.krl_table.specs.Grants.{reached_after, reached_slots, granted}
 use Rattle.krl_table.specs.Replies.{asks_absent, is_wanted_compatible}
 use Rattle.krl_table.proofs.Invariant.Compatible.{or_true}
 use Rattle.krl_machine.specs.Links as links
 use Rattle.krl_machine.specs.Tables as machine
 use Rattle.krl_server.specs.Answering.{can_push, Turn, next_turn, answer_first}
-use Rattle.krl_server.proofs.Grants.{raised_queue, along, AreSlotsAfter, taken_slots, slot_near, slots_ascend, holdings_whole, granted_is, taken_is}
+use Rattle.krl_server.proofs.Grants.{raised_queue, along, AreSlotsAfter, taken_slots, slot_near, slots_ascend, holdings_whole, granted_is, reached_is}
 use Rattle.krl_server.proofs.Turns.{turn_is}
 use Rattle.krl_refinement.proofs.Server.Meaning.{range_is, key_is}
 use Rattle.krl_refinement.proofs.Server.Follows.{Goes, steps_then, put_client, put_shows, relink, not_two, not_recovering, record_kept}
@@ -117,7 +117,7 @@ module _ (s : Server) (i : IsSound s) (n : ℕ) (u : Waiter) (us : List Waiter) 
   grant_row = record { modes = set_mode (s.rows n).modes u.client (wanted (s.rows n) u); queue = us }
 
   abbrev all_rows : Rows
-  all_rows = raised_on (set_row s.rows n grant_row) (taken_after s.durable.index (set_row s.rows n grant_row) n u (s.durable.reach - 1)) u
+  all_rows = raised_on (set_row s.rows n grant_row) (reached_after s.durable.index (set_row s.rows n grant_row) n u (s.durable.reach - 1)) u
 
   drop_shows : (of : ℕ → Link) → Shows s of → Shows (with_rows s (set_row s.rows n drop_row)) of
   drop_shows of h = record {
@@ -126,7 +126,7 @@ module _ (s : Server) (i : IsSound s) (n : ℕ) (u : Waiter) (us : List Waiter) 
     heard = λ m v at. h.heard m v (stayed_on s i n u us queue drop_row refl m v at);
   }
 
-  pub absents_follow : (of : ℕ → Link) (log : List Logged) (cleared : ℕ → Bool) → (view s).phase ≡ links.Serving → can_push (s.sessions u.client) ≡ true → Shows s of → Goes s of log cleared (pushes (with_rows s (dropped s.rows n)) u.client (push.Absent u.req u.point)) log
+  pub absents_follow : (of : ℕ → Link) (log : List Logged) (cleared : ℕ → Bool) → (view s).phase ≡ links.Serving → can_push (s.sessions u.client) ≡ true → Shows s of → Goes s of log cleared (pushes (with_rows s (front_dropped s.rows n)) u.client (push.Absent u.req u.point)) log
   absents_follow of log cleared serving can h = subst (λ r. Goes s of log cleared (pushes (with_rows s r) u.client (push.Absent u.req u.point)) log) (dropped_is s i n u us queue)
       (let t = with_rows s (set_row s.rows n drop_row) in
       steps_then s t of of log log log cleared _ (pushes_serve t u.client (push.Absent u.req u.point) (not_recovering s.missing serving)) (λ c. refl) none
@@ -147,7 +147,7 @@ module _ (s : Server) (i : IsSound s) (n : ℕ) (u : Waiter) (us : List Waiter) 
   slots_told [] low h = tt
   slots_told (k ∷ ns) low h = ((slot_near s.durable.index i.near k h.1, is_slot_true s.durable.index i.near k h.1), slots_told ns k h.2)
 
-  grants_step : (of : ℕ → Link) (log : List Logged) (cleared : ℕ → Bool) → WorldInv (world_of s of log) → (view s).phase ≡ links.Serving → can_push (s.sessions u.client) ≡ true → is_wanted_compatible s.rows n u ≡ true → Shows s of → Goes s of log cleared (let g = with_rows s all_rows in pushes g u.client (push.Grant u.req (holdings g u.client (n ∷ taken_after s.durable.index (set_row s.rows n grant_row) n u (s.durable.reach - 1))))) log
+  grants_step : (of : ℕ → Link) (log : List Logged) (cleared : ℕ → Bool) → WorldInv (world_of s of log) → (view s).phase ≡ links.Serving → can_push (s.sessions u.client) ≡ true → is_wanted_compatible s.rows n u ≡ true → Shows s of → Goes s of log cleared (let g = with_rows s all_rows in pushes g u.client (push.Grant u.req (holdings g u.client (n ∷ reached_after s.durable.index (set_row s.rows n grant_row) n u (s.durable.reach - 1))))) log
   grants_step of log cleared inv serving can may h =
       let c = u.client in
       let m = s.durable.index in
@@ -160,7 +160,7 @@ module _ (s : Server) (i : IsSound s) (n : ℕ) (u : Waiter) (us : List Waiter) 
       (λ d ne. subst (λ y. RangesAgree (range_of y) (range_of (mode_at s.rows n d)) × KeysAgree (key_of y) (key_of (mode_at s.rows n d))) (sym (mode_here (s.rows n).modes c (wanted (s.rows n) u))) (compatible_agrees s.rows n c (wanted (s.rows n) u) (λ e ge. i.strangers n e ge) may d ne)) in
       let r = along m u (λ rows. Raises s of log c rows) n (λ rows k far there is_compatible_there x. raises_more s of log u lt inv serving rows k there is_compatible_there x) (s.durable.reach - 1) n (set_row s.rows n grant_row) (omega arith) first in
       let t = with_rows s all_rows in
-      let ns = taken_after m (set_row s.rows n grant_row) n u (s.durable.reach - 1) in
+      let ns = reached_after m (set_row s.rows n grant_row) n u (s.durable.reach - 1) in
       let body = push.Grant u.req (holdings t c (n ∷ ns)) in
       steps_then s t of r.after log log log cleared _ (pushes_serve t c body (not_recovering s.missing serving)) r.clients r.steps
       (pushes_on t r.after log cleared c body serving i.begun
@@ -169,10 +169,10 @@ module _ (s : Server) (i : IsSound s) (n : ℕ) (u : Waiter) (us : List Waiter) 
       (record { says = holdings_say t r.sound c (r.after c) (r.shows.link c) serving (n ∷ ns) ((high, slot), slots_told ns n (taken_slots m u (s.durable.reach - 1) n (set_row s.rows n grant_row))); answer = inl refl })
       r.shows)
 
-  pub grants_follow : (of : ℕ → Link) (log : List Logged) (cleared : ℕ → Bool) → WorldInv (world_of s of log) → (view s).phase ≡ links.Serving → can_push (s.sessions u.client) ≡ true → is_wanted_compatible s.rows n u ≡ true → Shows s of → Goes s of log cleared (let g = with_rows s (granted s.durable.reach s.durable.index s.rows n) in pushes g u.client (push.Grant u.req (holdings g u.client (taken s.durable.reach s.durable.index s.rows n)))) log
+  pub grants_follow : (of : ℕ → Link) (log : List Logged) (cleared : ℕ → Bool) → WorldInv (world_of s of log) → (view s).phase ≡ links.Serving → can_push (s.sessions u.client) ≡ true → is_wanted_compatible s.rows n u ≡ true → Shows s of → Goes s of log cleared (let g = with_rows s (granted s.durable.reach s.durable.index s.rows n) in pushes g u.client (push.Grant u.req (holdings g u.client (reached_slots s.durable.reach s.durable.index s.rows n)))) log
   grants_follow of log cleared inv serving can may h =
-      subst (λ r. Goes s of log cleared (let g = with_rows s r in pushes g u.client (push.Grant u.req (holdings g u.client (taken s.durable.reach s.durable.index s.rows n)))) log) (sym (granted_is s.durable.reach s.durable.index s.rows n u us queue))
-      (subst (λ ns. Goes s of log cleared (let g = with_rows s all_rows in pushes g u.client (push.Grant u.req (holdings g u.client ns))) log) (sym (taken_is s.durable.reach s.durable.index s.rows n u us queue))
+      subst (λ r. Goes s of log cleared (let g = with_rows s r in pushes g u.client (push.Grant u.req (holdings g u.client (reached_slots s.durable.reach s.durable.index s.rows n)))) log) (sym (granted_is s.durable.reach s.durable.index s.rows n u us queue))
+      (subst (λ ns. Goes s of log cleared (let g = with_rows s all_rows in pushes g u.client (push.Grant u.req (holdings g u.client ns))) log) (sym (reached_is s.durable.reach s.durable.index s.rows n u us queue))
       (grants_step of log cleared inv serving can may h))
 
 -- each answer to a waiter is some steps

@@ -9,7 +9,7 @@ use Rattle.krl_messages.specs.declared.to_server.RequestBody.{RequestBody}
 use Rattle.krl_messages.specs.declared.outcome.Outcome.TheVariants as outcome
 use Rattle.krl_messages.specs.declared.to_server.ToServerBody.TheVariants as said
 use Rattle.krl_messages.specs.declared.to_server.RequestBody.TheVariants as asked
-use Rattle.krl_server.specs.Cases.{Case, Ignored, Registers, Leaves, Tells, Rebuilds, Repeats, Acknowledges, Lowers, Waits, Judges, TakesLock, AnswersAgain, judged, case_of, is_alarm, clears}
+use Rattle.krl_server.specs.Cases.{Case, Ignored, Registers, Leaves, Tells, Rebuilds, Repeats, Acknowledges, Lowers, Waits, Judges, SeizesLock, AnswersAgain, judged, case_of, is_alarm, clears}
 use Rattle.krl_server.proofs.Cased.{IsFrom, IsAsked, by_said}
 use Rattle.krl_refinement.specs.Messages.{head_of, RequestStands, Stands}
 use Rattle.krl_refinement.proofs.Server.Follows.{Goes, stays, serving_phase}
@@ -20,7 +20,7 @@ use Rattle.krl_refinement.proofs.Server.LockRequests.{waits_follow}
 use Rattle.krl_refinement.proofs.Server.Releases.{lowers_follow}
 use Rattle.krl_refinement.proofs.Server.HelloAndBye.{registers_follow, leaves_follow}
 use Rattle.krl_refinement.proofs.Server.Writes.{writes_follow}
-use Rattle.krl_refinement.proofs.Server.Takes.{takes_follow}
+use Rattle.krl_refinement.proofs.Server.Seizes.{seizes_follow}
 use Rattle.krl_refinement.proofs.Server.Rebuilt.{rebuilds_follow}
 use Rattle.krl_refinement.proofs.Server.Alarms.{no_conflict}
 use mathlib.Core.Bool.{and-false, and-true}
@@ -66,14 +66,14 @@ module _ (s : Server) (of : ℕ → Link) (log : List Logged) (m : ToServer) (in
     passes : Passes (view s) (of m.client) (head_of m.incarnation request)
     passes = let own = shown r a.served.from in record { serving = serving_phase s.missing a.served.serves; here = own.left ∙ a.served.from.here; inc = a.served.from.same ∙ sym own.reg; epoch = a.now; seen = a.seen ∙ sym (h.link m.client).last_push }
 
-  on_judged : (r : Record) (request : Request) (number : ℕ) (op : WriteOp) (takes : Bool) (o : Outcome) → IsAsked s m r request (asked.Write number op takes) → op_key op < END → number ≡ suc r.last → judged s m.client op ≡ o → P (Judges number op o)
-  on_judged r request number op takes o a under num is = by_outcome o is
+  on_judged : (r : Record) (request : Request) (number : ℕ) (op : WriteOp) (seizes : Bool) (o : Outcome) → IsAsked s m r request (asked.Write number op seizes) → op_key op < END → number ≡ suc r.last → judged s m.client op ≡ o → P (Judges number op o)
+  on_judged r request number op seizes o a under num is = by_outcome o is
     where
       refusal : (o : Outcome) → is_applied o ≡ false → Goes s of log (cleared (Judges number op o)) (effect s m (Judges number op o)) log
-      refusal o not = refused s of log (cleared (Judges number op o)) m.client (head_of m.incarnation request) number op o r a.served.from.known not i (asks r request (asked.Write number op takes) a) (stands r request (asked.Write number op takes) a).0 (passes r request (asked.Write number op takes) a) num under h
+      refusal o not = refused s of log (cleared (Judges number op o)) m.client (head_of m.incarnation request) number op o r a.served.from.known not i (asks r request (asked.Write number op seizes) a) (stands r request (asked.Write number op seizes) a).0 (passes r request (asked.Write number op seizes) a) num under h
 
       by_outcome : (o : Outcome) → judged s m.client op ≡ o → P (Judges number op o)
-      by_outcome outcome.Applied is = (refl, writes_follow s of log (cleared (Judges number op outcome.Applied)) m (head_of m.incarnation request) number op r i inv a.served.from.known a.served.from.same a.served.from.client (asks r request (asked.Write number op takes) a) (stands r request (asked.Write number op takes) a).0 (passes r request (asked.Write number op takes) a) num under is h)
+      by_outcome outcome.Applied is = (refl, writes_follow s of log (cleared (Judges number op outcome.Applied)) m (head_of m.incarnation request) number op r i inv a.served.from.known a.served.from.same a.served.from.client (asks r request (asked.Write number op seizes) a) (stands r request (asked.Write number op seizes) a).0 (passes r request (asked.Write number op seizes) a) num under is h)
       by_outcome outcome.Exists is = (refl, refusal outcome.Exists refl)
       by_outcome outcome.Absent is = (refl, refusal outcome.Absent refl)
       by_outcome outcome.NotHeld is = (refl, refusal outcome.NotHeld refl)
@@ -93,7 +93,7 @@ module _ (s : Server) (of : ℕ → Link) (log : List Logged) (m : ToServer) (in
         acknowledges = λ r request b a. (refl, acknowledges s of log (cleared Acknowledges) m.client (head_of m.incarnation request) (stands r request b a).0 (passes r request b a) h);
         lowers = λ r request span keep a. (refl, lowers_follow s of log (cleared (Lowers span keep)) m.client (head_of m.incarnation request) span keep a.served.from.client i (asks r request (asked.Release span keep) a).1 (stands r request (asked.Release span keep) a).0 (passes r request (asked.Release span keep) a) h);
         waits = λ r request req point hi g a new free near. (refl, waits_follow s of log (cleared (Waits req point hi g)) (record { client = m.client; req = req; point = point; hi = hi; mode = g }) (head_of m.incarnation request) (stands r request (asked.Lock req point hi g) a).0 (passes r request (asked.Lock req point hi g) a) h);
-        judges = λ r request number op takes o a under near new is. on_judged r request number op takes o a under new is;
-        takes = λ r request number op takes a under near new may. (refl, takes_follow s of log (cleared (TakesLock number op)) m (head_of m.incarnation request) number op r i inv a.served.from.known a.served.from.same a.served.from.client (asks r request (asked.Write number op takes) a) (stands r request (asked.Write number op takes) a).0 (passes r request (asked.Write number op takes) a) new under may h);
-        answers_again = λ r request number op takes o a under some last is. (refl, answers_again s of log (cleared (AnswersAgain number op o)) m.client (head_of m.incarnation request) number op o i (asks r request (asked.Write number op takes) a) (stands r request (asked.Write number op takes) a).0 (passes r request (asked.Write number op takes) a) (last ∙ sym ((shown r a.served.from).done a.served.from.here)) some (sym ((shown r a.served.from).applied o a.served.from.here is)) under h);
+        judges = λ r request number op seizes o a under near new is. on_judged r request number op seizes o a under new is;
+        seizes = λ r request number op seizes a under near new may. (refl, seizes_follow s of log (cleared (SeizesLock number op)) m (head_of m.incarnation request) number op r i inv a.served.from.known a.served.from.same a.served.from.client (asks r request (asked.Write number op seizes) a) (stands r request (asked.Write number op seizes) a).0 (passes r request (asked.Write number op seizes) a) new under may h);
+        answers_again = λ r request number op seizes o a under some last is. (refl, answers_again s of log (cleared (AnswersAgain number op o)) m.client (head_of m.incarnation request) number op o i (asks r request (asked.Write number op seizes) a) (stands r request (asked.Write number op seizes) a).0 (passes r request (asked.Write number op seizes) a) (last ∙ sym ((shown r a.served.from).done a.served.from.here)) some (sym ((shown r a.served.from).applied o a.served.from.here is)) under h);
       })

@@ -1,6 +1,6 @@
 -- Each step of the server is some steps of the machine.
 use Rattle.krl_refinement.proofs.Names.{ℕ, false, ◌&&◌, List, ◌++◌, refl, ◌∙◌, ⊎_elim, nat_eq, END, ToServer, ToClient, In, in_both, Link, Logged, WorldInv, steps_on, world_steps}
-use Rattle.krl_refinement.proofs.Names.{reachable_inv, Server, is_recovering, case_of, clears, effect, calls_of, kind_of, at_once, recovers, serves, ServerStep, IsSound, not_both, answering_sound}
+use Rattle.krl_refinement.proofs.Names.{reachable_inv, Server, is_recovering, case_of, clears, effect, callbacks_after, following, at_once, recovers, serves, ServerStep, IsSound, not_both, answering_sound}
 use Rattle.krl_refinement.proofs.Names.{answered_up, Stands, Shows, world_of, logged, StepFollows, ServerFollows}
 use Rattle.krl_server.proofs.Invariant.Sounds.{effect_sound}
 use Rattle.krl_refinement.proofs.Server.Follows.{Goes}
@@ -41,8 +41,8 @@ module _ (s : Server) (of : ℕ → Link) (log : List Logged) (m : ToServer) (in
           sound = sound;
           sent = λ o x. ⊎_elim
               (λ (y : In o done.outs). sent_kept (world_of done.server f.after log') (world_of t g.after log') g.steps o.client o.incarnation o.body (f.sent o y))
-              (λ (y : In o (answers ++ calls_of (kind_of (case_of s m)) t)). ⊎_elim (λ (z : In o answers). g.sent o z) (λ (z : In o (calls_of (kind_of (case_of s m)) t)). calls_sent t g.after sound.begun (kind_of (case_of s m)) o z) (in_both answers (calls_of (kind_of (case_of s m)) t) o y))
-              (in_both done.outs (answers ++ calls_of (kind_of (case_of s m)) t) o x);
+              (λ (y : In o (answers ++ callbacks_after (following (case_of s m)) t)). ⊎_elim (λ (z : In o answers). g.sent o z) (λ (z : In o (callbacks_after (following (case_of s m)) t)). calls_sent t g.after sound.begun (following (case_of s m)) o z) (in_both answers (callbacks_after (following (case_of s m)) t) o y))
+              (in_both done.outs (answers ++ callbacks_after (following (case_of s m)) t) o x);
           clients = λ c. g.clients c ∙ f.clients c;
         };
         writes = refl;

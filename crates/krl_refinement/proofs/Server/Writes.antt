@@ -2,7 +2,7 @@
 use Rattle.krl_refinement.proofs.Names.{◌≡◌, ℕ, suc, ◌<◌, Bool, true, Option, Some, None, List, ◌∷◌, refl, sym, ap, subst, ◌∙◌, arith, and_parts, none-some, is_some, END, KeyPart, Value, WriteOp}
 use Rattle.krl_refinement.proofs.Names.{ToServer, op_key, In, Waiter, Record, Index, record_of, with_record, Rows, max_clients, column, range_at, key_at, Head, Write, Shared, Link, Passes, Logged}
 use Rattle.krl_refinement.proofs.Names.{Changed, Applies, Step, applies, wrote_by, none, more, steps_on, world_steps, put, put_changed, changed_twice, heard_kept, WorldInv, Written, Session, Server}
-use Rattle.krl_refinement.proofs.Names.{lists, set_session, acknowledged, rows_written, answers, effect, Judges, judged, IsSound, session_here, pushes_serve, acknowledged_sound, None-if_not_some, Some-if_some}
+use Rattle.krl_refinement.proofs.Names.{lists, set_session, acknowledged, rows_written, tells_outcome, effect, Judges, judged, IsSound, session_here, pushes_serve, acknowledged_sound, None-if_not_some, Some-if_some}
 use Rattle.krl_refinement.proofs.Names.{op_of, IsRecord, LinkIs, Shows, view, world_of, logged}
 use Rattle.std.specs.FinMap as map
 use Rattle.krl_messages.specs.declared.write_op.WriteOp.TheVariants as write
@@ -34,7 +34,7 @@ IsWritten s of log c op index rows = Written (record { shared = view s; links = 
 abbrev pub entry_of : ℕ → ℕ → ℕ → WriteOp → Logged
 entry_of c inc number op = record { client = c; wrote = record { inc = inc; number = number; op = op_of op } }
 
-pub written_goes : (s : Server) (of : ℕ → Link) (log : List Logged) (cleared : ℕ → Bool) (c : ℕ) (a : Head) (number : ℕ) (op : WriteOp) (r : Record) (index : Index) (rows : Rows) → record_of s.durable.register c ≡ Some r → In (let w : Write = record { head = a; number = number; op = op_of op } in w) (of c).writes → In a (of c).heads → Passes (view s) (of c) a → number ≡ suc r.last → op_key op < END → Shows s of → IsWritten s of log c op index rows → ((n : ℕ) (u : Waiter) → In u (rows n).queue → (k : ℕ) × In u (s.rows k).queue) → IsSound (with_write s c r index rows) → Goes s of log cleared (answers (with_write s c r index rows) c number op outcome.Applied) (entry_of c (of c).reg (suc (of c).done) op ∷ log)
+pub written_goes : (s : Server) (of : ℕ → Link) (log : List Logged) (cleared : ℕ → Bool) (c : ℕ) (a : Head) (number : ℕ) (op : WriteOp) (r : Record) (index : Index) (rows : Rows) → record_of s.durable.register c ≡ Some r → In (let w : Write = record { head = a; number = number; op = op_of op } in w) (of c).writes → In a (of c).heads → Passes (view s) (of c) a → number ≡ suc r.last → op_key op < END → Shows s of → IsWritten s of log c op index rows → ((n : ℕ) (u : Waiter) → In u (rows n).queue → (k : ℕ) × In u (s.rows k).queue) → IsSound (with_write s c r index rows) → Goes s of log cleared (tells_outcome (with_write s c r index rows) c number op outcome.Applied) (entry_of c (of c).reg (suc (of c).done) op ∷ log)
 written_goes s of log cleared c a number op r index rows known at head ok num under h x from sound =
     let k = h.link c in
     let old : IsRecord (Some r) (of c) = subst (λ y. IsRecord y (of c)) known k.known in
@@ -109,6 +109,6 @@ writes_follow s of log cleared m a number op r i inv known same own at head ok n
     let old : IsRecord (Some r) (of c) = subst (λ y. IsRecord y (of c)) known (h.link c).known in
     let l = lasts s c op i own under e in
     let g = written_goes s of log cleared c a number op r (written s.durable.index op) (rows_written s.durable.index s.rows c op) known at head ok num under h (is_written s of log c a op i inv head ok under e h) l.from (lasts_sound s c op r i l) in
-    subst (λ t. Goes s of log cleared (answers t c number op outcome.Applied) (entry_of c m.incarnation number op ∷ log)) (writes_is s c op r known)
-    (subst (λ x. Goes s of log cleared (answers (with_write s c r (written s.durable.index op) (rows_written s.durable.index s.rows c op)) c number op outcome.Applied) (entry_of c x number op ∷ log)) (old.reg ∙ sym same)
-    (subst (λ x. Goes s of log cleared (answers (with_write s c r (written s.durable.index op) (rows_written s.durable.index s.rows c op)) c number op outcome.Applied) (entry_of c (of c).reg x op ∷ log)) (ap (λ x. suc x) (old.done (sym old.left ∙ ok.here)) ∙ sym num) g))
+    subst (λ t. Goes s of log cleared (tells_outcome t c number op outcome.Applied) (entry_of c m.incarnation number op ∷ log)) (writes_is s c op r known)
+    (subst (λ x. Goes s of log cleared (tells_outcome (with_write s c r (written s.durable.index op) (rows_written s.durable.index s.rows c op)) c number op outcome.Applied) (entry_of c x number op ∷ log)) (old.reg ∙ sym same)
+    (subst (λ x. Goes s of log cleared (tells_outcome (with_write s c r (written s.durable.index op) (rows_written s.durable.index s.rows c op)) c number op outcome.Applied) (entry_of c (of c).reg x op ∷ log)) (ap (λ x. suc x) (old.done (sym old.left ∙ ok.here)) ∙ sym num) g))

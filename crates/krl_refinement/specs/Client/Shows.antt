@@ -13,12 +13,12 @@ use Rattle.krl_messages.specs.declared.to_client.ToClientBody.TheVariants as tol
 use Rattle.krl_messages.specs.declared.to_client.PushBody.{PushBody}
 use Rattle.krl_messages.specs.declared.to_client.PushBody.TheVariants as push
 use Rattle.krl_messages.specs.Members.{In}
-use Rattle.krl_messages.specs.Outcomes.{is_applied}
+use Rattle.krl_messages.specs.Writes.{is_applied}
 use Rattle.krl_machine.specs.Links
 use Rattle.krl_machine.specs.Links.{Op, Link, Shared, LinkSteps, Head}
 use Rattle.krl_machine.specs.Holdings.{said_by}
 use Rattle.krl_machine.specs.Worlds.{row_of}
-use Rattle.krl_table.specs.Reports.{range_said, reported_key}
+use Rattle.krl_table.specs.Reports.{joined_range_at, greatest_key_at}
 use Rattle.krl_cache.specs.Kept.{Describes}
 use Rattle.krl_client.specs.Clients.{Client, outstanding}
 use Rattle.krl_refinement.specs.Messages.{op_of, Stands, WasSent}
@@ -36,7 +36,11 @@ IsFrom l incarnation said.Hello = Stands l incarnation said.Hello
 IsFrom l incarnation said.Bye = Stands l incarnation said.Bye
 IsFrom l incarnation (said.Report epoch ps) =
     Stands l incarnation (said.Report epoch ps)
-    × Describes ps (record { range_at = range_said ps.ranges; key_at = reported_key ps.keys; value_at = λ p. None })
+    × Describes ps (record {
+      range_at = joined_range_at ps.ranges;
+      key_at = greatest_key_at ps.keys;
+      value_at = λ p. None;
+    })
 IsFrom l incarnation (said.Request r) = Stands l incarnation (said.Request r)
 
 -- the machine's push states what these holdings state

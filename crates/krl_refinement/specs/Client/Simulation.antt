@@ -9,8 +9,8 @@ use Rattle.krl_messages.specs.declared.to_server.ToServer.{ToServer}
 use Rattle.krl_machine.specs.Links.{Link, Shared}
 use Rattle.krl_cache.specs.Kept.{Describes}
 use Rattle.krl_client.specs.Clients.{Client, begun}
-use Rattle.krl_client.specs.Commands.{lock_refusal, locked, says_lock, write_refusal, wrote, take_refusal, took, says_write, lower_refusal, lowered, says_release, pinned, unpinned, says_bye}
-use Rattle.krl_client.specs.Messages.{case_of, after, sends}
+use Rattle.krl_client.specs.Commands.{lock_refusal, locked, says_lock, write_refusal, wrote, seize_refusal, seized, says_write, lower_refusal, belief_lowered, says_release, pinned, unpinned, says_bye}
+use Rattle.krl_client.specs.Messages.{client_case_of, after, sends}
 use Rattle.krl_client.specs.Ticks.{tick, says_hello}
 use Rattle.krl_refinement.specs.Client.Shows.{IsTo, ShowsPlace, Leads}
 
@@ -34,11 +34,11 @@ pub record CommandsShow : Type 0 where
       Shown k (Some (locked k point hi mode)) (says_lock (locked k point hi mode) point hi mode ∷ [])
   pub write : (k : Client) (change : WriteOp) → write_refusal k change ≡ None →
       Shown k (Some (wrote k change)) (says_write (wrote k change) change ∷ [])
-  pub take : (k : Client) (change : WriteOp) → take_refusal k change ≡ None →
-      Shown k (Some (took k change)) (says_write (took k change) change ∷ [])
+  pub seize : (k : Client) (change : WriteOp) → seize_refusal k change ≡ None →
+      Shown k (Some (seized k change)) (says_write (seized k change) change ∷ [])
   pub scan : (k : Client) → Shown k (Some k) []
   pub lower : (k : Client) (span : Bounds) (keep : Mode) → lower_refusal k span ≡ None →
-      Shown k (Some (lowered k span keep)) (says_release k span keep ∷ [])
+      Shown k (Some (belief_lowered k span keep)) (says_release k span keep ∷ [])
   pub pin : (k : Client) (span : Bounds) (id : ℕ) → Shown k (Some (pinned k span id)) []
   pub unpin : (k : Client) (id : ℕ) → Shown k (Some (unpinned k id)) []
   pub leave : (k : Client) → Shown k None (says_bye k ∷ [])
@@ -52,4 +52,4 @@ abbrev pub MessagesShow : Type 0
 MessagesShow =
     (k : Client) (ps : Pieces) (m : ToClient) → Describes ps k.belief → (s : Shared) (l : Link) (c g : ℕ) →
     ShowsPlace c g (Some k) l → (m.client ≡ c → IsTo l m.incarnation m.body) →
-    Leads s l c g (Some (after k (case_of k m))) (sends ps k (case_of k m))
+    Leads s l c g (Some (after k (client_case_of k m))) (sends ps k (client_case_of k m))

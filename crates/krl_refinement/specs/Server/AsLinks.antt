@@ -9,7 +9,7 @@ use Rattle.krl_messages.specs.declared.to_server.ToServer.{ToServer}
 use Rattle.krl_messages.specs.declared.to_client.ToClientBody.TheVariants as told
 use Rattle.krl_messages.specs.declared.to_client.PushBody.{PushBody}
 use Rattle.krl_messages.specs.Members.{In}
-use Rattle.krl_messages.specs.Outcomes.{is_applied}
+use Rattle.krl_messages.specs.Writes.{is_applied}
 use Rattle.krl_queue.specs.declared.waiter.Waiter.{Waiter}
 use Rattle.krl_machine.specs.Links as links
 use Rattle.krl_machine.specs.Links.{Head, Shared, Link}
@@ -19,7 +19,7 @@ use Rattle.krl_durable.specs.Registers.{Durable, record_of}
 use Rattle.krl_table.specs.Points.{range_at, key_at}
 use Rattle.krl_server.specs.declared.session.Session.{Session}
 use Rattle.krl_server.specs.Servers.{Server, lists}
-use Rattle.krl_server.specs.Cases.{Case, Ignored, Registers, Leaves, Tells, Alarms, Rebuilds, Repeats, Acknowledges, Lowers, Waits, Judges, TakesLock, AnswersAgain}
+use Rattle.krl_server.specs.Cases.{Case, Ignored, Registers, Leaves, Tells, Alarms, Rebuilds, Repeats, Acknowledges, Lowers, Waits, Judges, SeizesLock, AnswersAgain}
 use Rattle.krl_refinement.specs.Messages.{op_of, WasSent}
 
 abbrev pub machine_phase : List ℕ → links.Phase
@@ -102,6 +102,6 @@ logged m (Judges number op o) log =
     if is_applied o
     then record { client = m.client; wrote = record { inc = m.incarnation; number = number; op = op_of op } } ∷ log
     else log
-logged m (TakesLock number op) log =
+logged m (SeizesLock number op) log =
     record { client = m.client; wrote = record { inc = m.incarnation; number = number; op = op_of op } } ∷ log
 logged m (AnswersAgain number op o) log = log

@@ -3,8 +3,8 @@ use Rattle.std.proofs.Common.{◌≡◌, ◌≢◌, ℕ, suc, ◌*◌, ◌≤◌
 use Rattle.krl_server.proofs.Names.{lt-ltb, and_parts, fun_ext, is_some, set, if◌then◌else◌, END, Mode, at_most, compatible, ToClient, ToServer, In, Waiter, eq_cases, Index, slots, slot_of}
 use Rattle.krl_server.proofs.Names.{Row, Rows, front_of, all_below, max_clients, enqueued, queue_with, with_queue, wanted, granted, nobody_waits, is_granted_at_once, KeptTable, rows_of}
 use Rattle.krl_server.proofs.Names.{asks_absent, is_wanted_compatible, first_reply, IsTable, WaitsNowhere, Session, State, Server, set_session, is_recovering, sessions_of, meaning, meant, Waits}
-use Rattle.krl_server.proofs.Names.{case_of, with_rows, acknowledged, queues, effect, can_push, next_turn, answer_first, grants, Answered, stops, goes_on, callbacks, Acts, Ends}
-use Rattle.krl_server.proofs.Names.{serves, kind_of, ServerStep, IsSound, turn_here, HasTurned, HasAnsweredFirst, IsServer, waiting_clients, Sent, Sends}
+use Rattle.krl_server.proofs.Names.{case_of, with_rows, acknowledged, queues, effect, can_push, next_turn, answer_first, grants, AnswersWaiters, stops, goes_on, callbacks, Calls, Ends}
+use Rattle.krl_server.proofs.Names.{serves, following, ServerStep, IsSound, turn_here, HasTurned, HasAnsweredFirst, IsServer, waiting_clients, Sent, Sends}
 use Rattle.krl_modes.specs.declared.mode.Mode.TheVariants as mode
 use Rattle.krl_table.specs.declared.reply.Reply.TheVariants as reply
 use Rattle.krl_server.specs.declared.case.Case.{Case as Found}
@@ -118,10 +118,10 @@ module _ (q t : Server) (n : ℕ) (u : Waiter) (o : ToClient) (sound : IsSound q
       (λ e. empty_none (answer_first q only_round.turn).server k (turn_empties_here q only_round.turn only_round.next k (ap (λ q. length q) (ap (λ x. (q.rows x).queue) e ∙ one)) (let a = only_round.slot in e ∙ sym a)))
       (λ ne. beside k ne (q.rows k).queue refl))
 
-  pub answered_alone : Answered q t (o ∷ [])
+  pub answered_alone : AnswersWaiters q t (o ∷ [])
   answered_alone =
-      subst (λ x. Answered q t (x ++ [])) only_round.outs
-      (goes_on q t only_round.turn [] only_round.next (subst (λ x. Answered x t []) only_round.is (stops t (none_among t (slots t.durable.index) none_left))))
+      subst (λ x. AnswersWaiters q t (x ++ [])) only_round.outs
+      (goes_on q t only_round.turn [] only_round.next (subst (λ x. AnswersWaiters x t []) only_round.is (stops t (none_among t (slots t.durable.index) none_left))))
 
 -- a place in the queue lets nobody be answered at another slot
 module _ (s : Server) (u : Waiter) (table : IsTable s.durable.index s.rows) (settled : next_turn s ≡ None) (free : WaitsNowhere s.rows u.client) where
@@ -165,9 +165,9 @@ steps_at_once s m req point hi g t o sound table e serving settled free empty tu
     let more : waiting_clients q ≤ suc (waiting_clients s) = subst (λ k. waiting_clients (effect s m k).server ≤ suc (waiting_clients s)) e (one_more_client s m (case_of s m) (all_came s m sound) table) in
     let all = few_waiting q q_sound q_table in
     let less = r.less in
-    let calls = calls_few t Acts r.sound in
+    let calls = calls_few t Calls r.sound in
     record {
-      step = subst (λ k. Ends (effect s m k) (kind_of k) t (o ∷ callbacks t)) (sym e) (serves t (o ∷ []) (λ x. absurd (cc)) serving answered);
+      step = subst (λ k. Ends (effect s m k) (following k) t (o ∷ callbacks t)) (sym e) (serves t (o ∷ []) (λ x. absurd (cc)) serving answered);
       sound = r.sound;
       few = omega (arith, more, all, less, calls);
       came = subst (NobodyCame s) (sym r.is) (alone_answered s q n r.turn refl r.next r.slot (ap (λ us. length us) one) (queue_besides s.durable.index s.rows u));

@@ -2,7 +2,7 @@
 use Rattle.krl_server.proofs.Names.{◌≡◌, ℕ, ◌≤◌, ◌<◌, Bool, true, false, not, ◌||◌, nat_eq, ltb-false, Option, Some, None, List, refl, sym, ap, subst, ◌∙◌, arith, eqb-false, or_parts, nat_lt}
 use Rattle.krl_server.proofs.Names.{is_some, IsSome, IsSomeAnd, if◌then◌else◌, END, ToClient, ToServer, Pieces, WriteOp, Outcome, op_key, Record, Index, slots, is_slot, IsIncarnation, record_of}
 use Rattle.krl_server.proofs.Names.{first_of, Rows, max_clients, waits, conflicts, IsTable, Server, Case, Ignored, Registers, Leaves, Tells, Alarms, Rebuilds, Repeats, Acknowledges, Lowers, Waits}
-use Rattle.krl_server.proofs.Names.{PushBody, pushed_again, case_of_unacked, Judges, TakesLock, may_take, takes, judged, case_of_new_write, AnswersAgain, is_malformed, case_of_record, case_of, acknowledged, writes, answers, effect, meant, case_of_pieces, WaitsNowhere, IsPerformed}
+use Rattle.krl_server.proofs.Names.{PushBody, pushed_again, case_of_unacked, Judges, SeizesLock, may_seize, seizes, judged, case_of_new_write, AnswersAgain, is_malformed, case_of_record, case_of, acknowledged, writes, tells_outcome, effect, meant, case_of_pieces, WaitsNowhere, IsPerformed}
 use Rattle.krl_messages.specs.declared.to_server.ToServerBody.TheVariants as said
 use Rattle.krl_messages.specs.declared.outcome.Outcome.TheVariants as outcome
 use Rattle.krl_durable.specs.declared.change.Change.TheVariants as change
@@ -23,9 +23,9 @@ pub record MayWrite (s : Server) (m : ToServer) (op : WriteOp) : Type 0 where
   pub unspent : IsSomeAnd (record_of s.durable.register m.client) (λ r. r.last < END)
 
 -- and the lock that the write needs is free
-pub record MayTakeLock (s : Server) (m : ToServer) (op : WriteOp) : Type 0 where
+pub record MaySeizeLock (s : Server) (m : ToServer) (op : WriteOp) : Type 0 where
   pub write : MayWrite s m op
-  pub lock : may_take s m.client op ≡ true
+  pub lock : may_seize s m.client op ≡ true
 
 pub record MayWait (s : Server) (m : ToServer) : Type 0 where
   pub client : m.client < 64
@@ -55,7 +55,7 @@ CaseFacts s m Acknowledges = m.client < 64
 CaseFacts s m (Lowers span keep) = m.client < 64
 CaseFacts s m (Waits req point hi g) = MayWait s m
 CaseFacts s m (Judges number op o) = MayWrite s m op
-CaseFacts s m (TakesLock number op) = MayTakeLock s m op
+CaseFacts s m (SeizesLock number op) = MaySeizeLock s m op
 CaseFacts s m (AnswersAgain number op o) = MayAnswer m op
 
 module _ (s : Server) (m : ToServer) where
@@ -81,9 +81,9 @@ module _ (s : Server) (m : ToServer) where
         acknowledges = λ r request b a. low a.served.from.client;
         lowers = λ r request span keep a. low a.served.from.client;
         waits = λ r request req point hi g a new free near. record { client = low a.served.from.client; free = free };
-        judges = λ r request number op takes o a under near new is. record { client = low a.served.from.client; key = under; unspent = noted_at (record_of s.durable.register m.client) r a.served.from.known (omega (arith, near, new)) };
-        takes = λ r request number op takes a under near new may. record { write = record { client = low a.served.from.client; key = under; unspent = noted_at (record_of s.durable.register m.client) r a.served.from.known (omega (arith, near, new)) }; lock = may };
-        answers_again = λ r request number op takes o a under some last is. record { client = low a.served.from.client; key = under };
+        judges = λ r request number op seizes o a under near new is. record { client = low a.served.from.client; key = under; unspent = noted_at (record_of s.durable.register m.client) r a.served.from.known (omega (arith, near, new)) };
+        seizes = λ r request number op seizes a under near new may. record { write = record { client = low a.served.from.client; key = under; unspent = noted_at (record_of s.durable.register m.client) r a.served.from.known (omega (arith, near, new)) }; lock = may };
+        answers_again = λ r request number op seizes o a under some last is. record { client = low a.served.from.client; key = under };
       })
 
   -- a malformed message is ignored
@@ -122,7 +122,7 @@ module _ (s : Server) (m : ToServer) where
   }
 
   -- a new write was done and answered
-  pub performed_write : (t : Server) (number : ℕ) (op : WriteOp) (o : Outcome) (outs : List ToClient) → Judges number op o ≡ case_of s m → t ≡ (answers (acknowledged (writes s m.client op o) m.client) m.client number op o).server → outs ≡ (answers (acknowledged (writes s m.client op o) m.client) m.client number op o).outs → IsPerformed s m t after.Calls outs
+  pub performed_write : (t : Server) (number : ℕ) (op : WriteOp) (o : Outcome) (outs : List ToClient) → Judges number op o ≡ case_of s m → t ≡ (tells_outcome (acknowledged (writes s m.client op o) m.client) m.client number op o).server → outs ≡ (tells_outcome (acknowledged (writes s m.client op o) m.client) m.client number op o).outs → IsPerformed s m t after.Calls outs
   performed_write t number op o outs e server sent = record {
     server = server ∙ ap (λ k. (effect s m k).server) e;
     outs_are = sent ∙ ap (λ k. (effect s m k).outs) e;
@@ -131,46 +131,46 @@ module _ (s : Server) (m : ToServer) where
 
   -- and what holds of a write that asks for its lock, whether it takes it or not
   write_facts : (number : ℕ) (op : WriteOp) → CaseFacts s m (case_of_new_write s m.client number op true) → MayWrite s m op
-  write_facts number op = if_both (λ k. CaseFacts s m k → MayWrite s m op) (may_take s m.client op) (TakesLock number op) (Judges number op (judged s m.client op)) (λ h. h.write) (λ h. h)
+  write_facts number op = if_both (λ k. CaseFacts s m k → MayWrite s m op) (may_seize s m.client op) (SeizesLock number op) (Judges number op (judged s m.client op)) (λ h. h.write) (λ h. h)
 
-  pub taking_facts : (f : Found) (number : ℕ) (op : WriteOp) → meant s m.client m.body f ≡ case_of s m → f ≡ found.TakesLock number op → MayWrite s m op
-  taking_facts f number op e is = write_facts number op (facts_of f (found.TakesLock number op) e is)
+  pub taking_facts : (f : Found) (number : ℕ) (op : WriteOp) → meant s m.client m.body f ≡ case_of s m → f ≡ found.SeizesLock number op → MayWrite s m op
+  taking_facts f number op e is = write_facts number op (facts_of f (found.SeizesLock number op) e is)
 
   -- it was done and answered
-  pub performed_taking : (t : Server) (number : ℕ) (op : WriteOp) (o : Outcome) (x : Server) (outs : List ToClient) → case_of_new_write s m.client number op true ≡ case_of s m → o ≡ (if may_take s m.client op then outcome.Applied else judged s m.client op) → x ≡ (if may_take s m.client op then writes (takes s m.client op) m.client op outcome.Applied else writes s m.client op (judged s m.client op)) → t ≡ (answers (acknowledged x m.client) m.client number op o).server → outs ≡ (answers (acknowledged x m.client) m.client number op o).outs → IsPerformed s m t after.Calls outs
-  performed_taking t number op o x outs e is written server sent = by_test (may_take s m.client op) refl
+  pub performed_taking : (t : Server) (number : ℕ) (op : WriteOp) (o : Outcome) (x : Server) (outs : List ToClient) → case_of_new_write s m.client number op true ≡ case_of s m → o ≡ (if may_seize s m.client op then outcome.Applied else judged s m.client op) → x ≡ (if may_seize s m.client op then writes (seizes s m.client op) m.client op outcome.Applied else writes s m.client op (judged s m.client op)) → t ≡ (tells_outcome (acknowledged x m.client) m.client number op o).server → outs ≡ (tells_outcome (acknowledged x m.client) m.client number op o).outs → IsPerformed s m t after.Calls outs
+  performed_taking t number op o x outs e is written server sent = by_test (may_seize s m.client op) refl
     where
-      done : (k : Case) (p : Outcome) (y : Server) → k ≡ case_of s m → o ≡ p → x ≡ y → effect s m k ≡ answers (acknowledged y m.client) m.client number op p → Rattle.krl_server.specs.FoundCases.after_of k ≡ after.Calls → IsPerformed s m t after.Calls outs
+      done : (k : Case) (p : Outcome) (y : Server) → k ≡ case_of s m → o ≡ p → x ≡ y → effect s m k ≡ tells_outcome (acknowledged y m.client) m.client number op p → Rattle.krl_server.specs.FoundCases.after_of k ≡ after.Calls → IsPerformed s m t after.Calls outs
       done k p y same o_is x_is effect_is calls =
-          let all = ap (λ z. answers (acknowledged z m.client) m.client number op o) x_is ∙ ap (λ z. answers (acknowledged y m.client) m.client number op z) o_is ∙ sym effect_is ∙ ap (effect s m) same in
+          let all = ap (λ z. tells_outcome (acknowledged z m.client) m.client number op o) x_is ∙ ap (λ z. tells_outcome (acknowledged y m.client) m.client number op z) o_is ∙ sym effect_is ∙ ap (effect s m) same in
           record {
             server = server ∙ ap (λ d. d.server) all;
             outs_are = sent ∙ ap (λ d. d.outs) all;
             after = sym calls ∙ ap Rattle.krl_server.specs.FoundCases.after_of same;
           }
 
-      by_test : (b : Bool) → may_take s m.client op ≡ b → IsPerformed s m t after.Calls outs
-      by_test true f = done (TakesLock number op) outcome.Applied (writes (takes s m.client op) m.client op outcome.Applied)
-          (sym (ap (λ b. if b then TakesLock number op else Judges number op (judged s m.client op)) f) ∙ e)
+      by_test : (b : Bool) → may_seize s m.client op ≡ b → IsPerformed s m t after.Calls outs
+      by_test true f = done (SeizesLock number op) outcome.Applied (writes (seizes s m.client op) m.client op outcome.Applied)
+          (sym (ap (λ b. if b then SeizesLock number op else Judges number op (judged s m.client op)) f) ∙ e)
           (is ∙ ap (λ b. if b then outcome.Applied else judged s m.client op) f)
-          (written ∙ ap (λ b. if b then writes (takes s m.client op) m.client op outcome.Applied else writes s m.client op (judged s m.client op)) f) refl refl
+          (written ∙ ap (λ b. if b then writes (seizes s m.client op) m.client op outcome.Applied else writes s m.client op (judged s m.client op)) f) refl refl
       by_test false f = done (Judges number op (judged s m.client op)) (judged s m.client op) (writes s m.client op (judged s m.client op))
-          (sym (ap (λ b. if b then TakesLock number op else Judges number op (judged s m.client op)) f) ∙ e)
+          (sym (ap (λ b. if b then SeizesLock number op else Judges number op (judged s m.client op)) f) ∙ e)
           (is ∙ ap (λ b. if b then outcome.Applied else judged s m.client op) f)
-          (written ∙ ap (λ b. if b then writes (takes s m.client op) m.client op outcome.Applied else writes s m.client op (judged s m.client op)) f) refl refl
+          (written ∙ ap (λ b. if b then writes (seizes s m.client op) m.client op outcome.Applied else writes s m.client op (judged s m.client op)) f) refl refl
 
   -- and it is the change that the step reports
-  pub changed_taking : (number : ℕ) (op : WriteOp) (o : Outcome) → case_of_new_write s m.client number op true ≡ case_of s m → o ≡ (if may_take s m.client op then outcome.Applied else judged s m.client op) → Some (change.Judged m.client number op o) ≡ change_of m (case_of s m)
-  changed_taking number op o e is = by_test (may_take s m.client op) refl
+  pub changed_taking : (number : ℕ) (op : WriteOp) (o : Outcome) → case_of_new_write s m.client number op true ≡ case_of s m → o ≡ (if may_seize s m.client op then outcome.Applied else judged s m.client op) → Some (change.Judged m.client number op o) ≡ change_of m (case_of s m)
+  changed_taking number op o e is = by_test (may_seize s m.client op) refl
     where
-      by_test : (b : Bool) → may_take s m.client op ≡ b → Some (change.Judged m.client number op o) ≡ change_of m (case_of s m)
+      by_test : (b : Bool) → may_seize s m.client op ≡ b → Some (change.Judged m.client number op o) ≡ change_of m (case_of s m)
       by_test true f = ap (λ p. Some (change.Judged m.client number op p)) (is ∙ ap (λ b. if b then outcome.Applied else judged s m.client op) f)
-          ∙ ap (change_of m) (sym (ap (λ b. if b then TakesLock number op else Judges number op (judged s m.client op)) f) ∙ e)
+          ∙ ap (change_of m) (sym (ap (λ b. if b then SeizesLock number op else Judges number op (judged s m.client op)) f) ∙ e)
       by_test false f = ap (λ p. Some (change.Judged m.client number op p)) (is ∙ ap (λ b. if b then outcome.Applied else judged s m.client op) f)
-          ∙ ap (change_of m) (sym (ap (λ b. if b then TakesLock number op else Judges number op (judged s m.client op)) f) ∙ e)
+          ∙ ap (change_of m) (sym (ap (λ b. if b then SeizesLock number op else Judges number op (judged s m.client op)) f) ∙ e)
 
   -- the last write was answered again
-  pub performed_again : (t : Server) (number : ℕ) (op : WriteOp) (o : Outcome) (outs : List ToClient) → AnswersAgain number op o ≡ case_of s m → t ≡ (answers (acknowledged s m.client) m.client number op o).server → outs ≡ (answers (acknowledged s m.client) m.client number op o).outs → IsPerformed s m t after.Calls outs
+  pub performed_again : (t : Server) (number : ℕ) (op : WriteOp) (o : Outcome) (outs : List ToClient) → AnswersAgain number op o ≡ case_of s m → t ≡ (tells_outcome (acknowledged s m.client) m.client number op o).server → outs ≡ (tells_outcome (acknowledged s m.client) m.client number op o).outs → IsPerformed s m t after.Calls outs
   performed_again t number op o outs e server sent = record {
     server = server ∙ ap (λ k. (effect s m k).server) e;
     outs_are = sent ∙ ap (λ k. (effect s m k).outs) e;

@@ -1,5 +1,5 @@
 -- What is left to be done after a case.
-use Rattle.krl_server.proofs.Names.{◌≡◌, ◌+◌, ◌≤◌, Bool, true, false, [], ◌++◌, length, sym, ap, subst, ◌∙◌, arith, append-nil, if◌then◌else◌, Server, is_recovering, callbacks, Acts, IsSound, Sent}
+use Rattle.krl_server.proofs.Names.{◌≡◌, ◌+◌, ◌≤◌, Bool, true, false, [], ◌++◌, length, sym, ap, subst, ◌∙◌, arith, append-nil, if◌then◌else◌, Server, is_recovering, callbacks, Calls, IsSound, Sent}
 use Rattle.krl_server.proofs.Names.{Sends, HasAnswered, calls_after, rests, still_recovering, served, HasFinished, HasRoom}
 use Rattle.krl_server.specs.declared.case.After.{After}
 use Rattle.krl_server.specs.Afters.{does_answer, does_call}
@@ -34,7 +34,7 @@ module _ (s t : Server) (left : After) (box mid : Sent) (answers recovers : Bool
   room_for_calls calls e f sound room =
       let all = room.calls (sym e ∙ f) in
       let less = answered_less s t h.outs h.answered in
-      let few = calls_few t Acts sound in
+      let few = calls_few t Calls sound in
       let long = sends_length box mid h.outs h.sends in
       let more = h.sends.room in
       omega (arith, all, less, few, long, more)

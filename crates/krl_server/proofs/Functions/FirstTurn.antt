@@ -1,6 +1,6 @@
 -- The turn of a slot's first waiter, as the code takes it.
 use Rattle.krl_server.proofs.Names.{◌≡◌, ℕ, suc, ◌<◌, ◌≤◌, length, inl, inr, arith, Bool, true, false, not, ◌&&◌, ◌||◌, Option, Some, None, List, [], ◌∷◌, refl, sym, ap, subst, ◌∙◌, nat_lt, is_some, if◌then◌else◌, END}
-use Rattle.krl_server.proofs.Names.{Holding, In, Waiter, Index, is_slot, slots, Rows, front_of, dropped, behind_first, taken, granted, asks_absent, is_wanted_compatible, reply_to, first_reply, answerable, Server}
+use Rattle.krl_server.proofs.Names.{Holding, In, Waiter, Index, is_slot, slots, Rows, front_of, front_dropped, behind_first, reached_slots, granted, asks_absent, is_wanted_compatible, reply_to, first_reply, answerable, Server}
 use Rattle.krl_server.proofs.Names.{with_rows, holdings, push_to, Turn, can_push, is_answerable, turn_at, tells_absent, grants, pushes, turn_here, HasAnsweredFirst, Sent, Sends, waiting_on, waiting}
 use Rattle.std.proofs.lemmas.Bool.{ltb-true, and_parts}
 use Rattle.krl_messages.specs.declared.to_client.PushBody.TheVariants as push
@@ -68,7 +68,7 @@ no_reply true o t f e = f e
 no_reply false o t f e = refl
 
 -- the push of a grant, from the rows that are raised
-pub granted_push : (q mid : Server) (u : Waiter) (n : ℕ) (ns : List ℕ) (hs : List Holding) → mid ≡ with_rows q (granted q.durable.reach q.durable.index q.rows n) → ns ≡ taken q.durable.reach q.durable.index q.rows n → hs ≡ holdings mid u.client ns → pushes mid u.client (push.Grant u.req hs) ≡ grants q (record { slot = n; waiter = u })
+pub granted_push : (q mid : Server) (u : Waiter) (n : ℕ) (ns : List ℕ) (hs : List Holding) → mid ≡ with_rows q (granted q.durable.reach q.durable.index q.rows n) → ns ≡ reached_slots q.durable.reach q.durable.index q.rows n → hs ≡ holdings mid u.client ns → pushes mid u.client (push.Grant u.req hs) ≡ grants q (record { slot = n; waiter = u })
 granted_push q mid u n ns hs e f h =
     ap (λ x. pushes mid u.client (push.Grant u.req x)) h
     ∙ ap (λ x. pushes x u.client (push.Grant u.req (holdings x u.client ns))) e
@@ -100,7 +100,7 @@ module _ (s : Server) (n : ℕ) (u : Waiter) (first : front_of (s.rows n).queue 
     answered_grant t old new a server sends =
         let r = some_reply acked (reply_to s.durable.index s.rows n u) reply.Grant (sym (a ∙ answer acked)) in
         let g = grant_says s.durable.index s.rows n u r.1 in
-        let body = push.Grant u.req (holdings (with_rows s (granted s.durable.reach s.durable.index s.rows n)) u.client (taken s.durable.reach s.durable.index s.rows n)) in
+        let body = push.Grant u.req (holdings (with_rows s (granted s.durable.reach s.durable.index s.rows n)) u.client (reached_slots s.durable.reach s.durable.index s.rows n)) in
         let x = push_to (with_rows s (granted s.durable.reach s.durable.index s.rows n)) u.client (suc (s.sessions u.client).last_push) body in
         let next = pushes_next (with_rows s (granted s.durable.reach s.durable.index s.rows n)) u.client body (pushable r.0) in
         let here_is = yes (ap (λ b. b && (asks_absent s.durable.index u || is_wanted_compatible s.rows n u)) (sym is ∙ r.0) ∙ ap (λ b. b || is_wanted_compatible s.rows n u) g.0 ∙ g.1) in
@@ -120,8 +120,8 @@ module _ (s : Server) (n : ℕ) (u : Waiter) (first : front_of (s.rows n).queue 
         let r = some_reply acked (reply_to s.durable.index s.rows n u) reply.Absent (sym (a ∙ answer acked)) in
         let g = absent_says s.durable.index s.rows n u r.1 in
         let body = push.Absent u.req u.point in
-        let x = push_to (with_rows s (dropped s.rows n)) u.client (suc (s.sessions u.client).last_push) body in
-        let next = pushes_next (with_rows s (dropped s.rows n)) u.client body (pushable r.0) in
+        let x = push_to (with_rows s (front_dropped s.rows n)) u.client (suc (s.sessions u.client).last_push) body in
+        let next = pushes_next (with_rows s (front_dropped s.rows n)) u.client body (pushable r.0) in
         let here_is = yes (ap (λ b. b && (asks_absent s.durable.index u || is_wanted_compatible s.rows n u)) (sym is ∙ r.0) ∙ ap (λ b. b || is_wanted_compatible s.rows n u) g) in
         let same = ap (λ b. if b then tells_absent s turn else grants s turn) g in record {
           out = x;

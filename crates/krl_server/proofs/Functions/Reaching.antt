@@ -8,10 +8,10 @@ use Rattle.krl_messages.specs.declared.to_client.PushBody.TheVariants as push
 use Rattle.krl_messages.specs.Writes.{op_key}
 use Rattle.krl_durable.specs.declared.record.Record.{Record}
 use Rattle.krl_durable.specs.Index.{slot_of}
-use Rattle.krl_durable.specs.Registers.{left_by, record_of}
-use Rattle.krl_durable.specs.Writes.{applied_by}
-use Rattle.krl_server.specs.Cases.{Case, Ignored, Registers, Leaves, Tells, Alarms, Rebuilds, Repeats, Acknowledges, Lowers, Waits, Judges, TakesLock, AnswersAgain}
-use Rattle.krl_server.specs.Effects.{effect, answers, acknowledged, takes, writes, holding}
+use Rattle.krl_durable.specs.Registers.{record_of}
+use Rattle.krl_durable.specs.Splits.{left_by, applied_by}
+use Rattle.krl_server.specs.Cases.{Case, Ignored, Registers, Leaves, Tells, Alarms, Rebuilds, Repeats, Acknowledges, Lowers, Waits, Judges, SeizesLock, AnswersAgain}
+use Rattle.krl_server.specs.Effects.{effect, tells_outcome, acknowledged, seizes, writes, holding}
 use Rattle.krl_server.proofs.Outputs.Ends.{pushes_durable}
 
 left_reach : (d : Durable) (c : ℕ) (o : Option Record) → (left_by d c o).reach ≡ d.reach
@@ -22,7 +22,7 @@ applied_reach : (d : Durable) (c : ℕ) (op : WriteOp) (o : Outcome) (r : Option
 applied_reach d c op o None = refl
 applied_reach d c op o (Some r) = refl
 
-answers_reach : (s : Server) (c number : ℕ) (op : WriteOp) (o : Outcome) → (answers s c number op o).server.durable.reach ≡ s.durable.reach
+answers_reach : (s : Server) (c number : ℕ) (op : WriteOp) (o : Outcome) → (tells_outcome s c number op o).server.durable.reach ≡ s.durable.reach
 answers_reach s c number op o = ap (λ (d : Durable). d.reach) (pushes_durable s c (push.Answer number o (holding s (slot_of s.durable.index (op_key op)) c)))
 
 pub effect_reach : (s : Server) (m : ToServer) (k : Case) → (effect s m k).server.durable.reach ≡ s.durable.reach
@@ -38,6 +38,6 @@ effect_reach s m (Lowers span keep) = refl
 effect_reach s m (Waits req point hi g) = refl
 effect_reach s m (Judges number op o) =
     answers_reach (writes (acknowledged s m.client) m.client op o) m.client number op o ∙ applied_reach s.durable m.client op o (record_of s.durable.register m.client)
-effect_reach s m (TakesLock number op) =
-    answers_reach (writes (acknowledged (takes s m.client op) m.client) m.client op outcome.Applied) m.client number op outcome.Applied ∙ applied_reach s.durable m.client op outcome.Applied (record_of s.durable.register m.client)
+effect_reach s m (SeizesLock number op) =
+    answers_reach (writes (acknowledged (seizes s m.client op) m.client) m.client op outcome.Applied) m.client number op outcome.Applied ∙ applied_reach s.durable m.client op outcome.Applied (record_of s.durable.register m.client)
 effect_reach s m (AnswersAgain number op o) = answers_reach (acknowledged s m.client) m.client number op o

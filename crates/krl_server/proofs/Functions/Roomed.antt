@@ -1,6 +1,6 @@
 -- The rooms for the grants of waiters, and what leaves them as good.
 use Rattle.krl_server.proofs.Names.{◌≡◌, ◌≢◌, ℕ, ◌+◌, ◌≤◌, inl, inr, List, [], ◌∷◌, Option, Some, None, length, refl, sym, ap, subst, ◌∙◌, arith, eq-eqb, nat_eq, set, get_or-set_other, eq_cases, In, Waiter}
-use Rattle.krl_server.proofs.Names.{front_of, behind_first, dropped, granted, granted_first, taken, with_queue, grant_first, times, times_more, one, alone_here, Row, IsTable, Durable, Server, Turn, with_rows}
+use Rattle.krl_server.proofs.Names.{front_of, behind_first, front_dropped, granted, granted_first, reached_slots, with_queue, grant_first, times, times_more, one, alone_here, Row, IsTable, Durable, Server, Turn, with_rows}
 use Rattle.krl_server.proofs.Names.{holdings, grants, tells_absent, answer_first, next_turn}
 use Rattle.std.proofs.lemmas.List.{length-set}
 use Rattle.krl_messages.specs.declared.to_client.PushBody.TheVariants as push
@@ -76,7 +76,7 @@ module _ (s : Server) (n : ℕ) (u : Waiter) (first : front_of (s.rows n).queue 
       let r = s.durable.reach in
       let m = s.durable.index in
       let mid = with_rows s (granted r m s.rows n) in
-      let body = push.Grant u.req (holdings mid u.client (taken r m s.rows n)) in
+      let body = push.Grant u.req (holdings mid u.client (reached_slots r m s.rows n)) in
       let rows = pushes_rows mid u.client body in
       rooms_without s (grants s (record { slot = n; waiter = u })).server n u (behind_first (s.rows n).queue) queue
       (ap (λ (d : Durable). d.reach) (pushes_durable mid u.client body))
@@ -87,7 +87,7 @@ module _ (s : Server) (n : ℕ) (u : Waiter) (first : front_of (s.rows n).queue 
   -- there is no entry for it
   pub absent_rooms : (rooms : List (Option ℕ)) → HasGrantRooms s rooms → HasGrantRooms (tells_absent s (record { slot = n; waiter = u })).server rooms
   absent_rooms rooms h =
-      let mid = with_rows s (dropped s.rows n) in
+      let mid = with_rows s (front_dropped s.rows n) in
       let body = push.Absent u.req u.point in
       let rows = pushes_rows mid u.client body in
       let row = with_queue (s.rows n) (behind_first (s.rows n).queue) in

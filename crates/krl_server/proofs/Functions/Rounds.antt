@@ -1,9 +1,9 @@
 -- One walk upward over the slots answers all waiters that can be answered.
 use Rattle.krl_server.proofs.Names.{◌≡◌, ◌≢◌, ℕ, suc, ◌≤◌, ◌<◌, Bool, true, false, not, ◌&&◌, ◌||◌, Option, Some, None, List, [], ◌∷◌, ◌++◌, map, inl, inr, refl, sym, ap, subst, ◌∙◌, ⊎_elim}
 use Rattle.krl_server.proofs.Names.{append_assoc, arith, nat_eq, cases_lt, append-nil, none-some, same_Some, nat_lt, is_some, if◌then◌else◌, AllByRecursion, END, Value, ToClient, PushBody, In}
-use Rattle.krl_server.proofs.Names.{Waiter, eq_cases, Index, slots, is_slot, Row, all_below, max_clients, wanted, with_queue, behind_first, dropped, taken, granted, asks_absent}
+use Rattle.krl_server.proofs.Names.{Waiter, eq_cases, Index, slots, is_slot, Row, all_below, max_clients, wanted, with_queue, behind_first, front_dropped, reached_slots, granted, asks_absent}
 use Rattle.krl_server.proofs.Names.{is_wanted_compatible, IsTable, Session, Server, set_session, Done, with_session, with_rows, push_to, pushes, silent, holdings, Turn, can_push, is_answerable}
-use Rattle.krl_server.proofs.Names.{turn_at, turn_among, next_turn, tells_absent, grants, answer_first, Answered, goes_on, stops, waiting, IsSound, turn_here, HasTurned, Rises, from_above}
+use Rattle.krl_server.proofs.Names.{turn_at, turn_among, next_turn, tells_absent, grants, answer_first, AnswersWaiters, goes_on, stops, waiting, IsSound, turn_here, HasTurned, Rises, from_above}
 use Rattle.krl_server.proofs.Names.{keys_of_map_rise}
 use Rattle.std.specs.FinMap as fin
 use Rattle.krl_messages.specs.declared.to_client.PushBody.TheVariants as push
@@ -20,16 +20,16 @@ use Rattle.krl_server.proofs.Invariant.Kept.{turn_table}
 
 -- whatever answers follow, these come before
 abbrev pub HasBegun : Server → Server → List ToClient → Type 0
-HasBegun s t outs = (u : Server) (later : List ToClient) → Answered t u later → Answered s u (outs ++ later)
+HasBegun s t outs = (u : Server) (later : List ToClient) → AnswersWaiters t u later → AnswersWaiters s u (outs ++ later)
 
 pub begun : (s : Server) → HasBegun s s []
 begun s u later h = h
 
 pub one_more : (s t : Server) (turn : Turn) (outs more : List ToClient) → HasBegun s t outs → next_turn t ≡ Some turn → (answer_first t turn).outs ≡ more → HasBegun s (answer_first t turn).server (outs ++ more)
-one_more s t turn outs more h e is u later rest = subst (Answered s u) (sym (append_assoc outs more later)) (h u (more ++ later) (subst (λ x. Answered t u (x ++ later)) is (goes_on t u turn later e rest)))
+one_more s t turn outs more h e is u later rest = subst (AnswersWaiters s u) (sym (append_assoc outs more later)) (h u (more ++ later) (subst (λ x. AnswersWaiters t u (x ++ later)) is (goes_on t u turn later e rest)))
 
-pub all_told : (s t : Server) (outs : List ToClient) → HasBegun s t outs → next_turn t ≡ None → Answered s t outs
-all_told s t outs h e = subst (Answered s t) (append-nil outs) (h t [] (stops t e))
+pub all_told : (s t : Server) (outs : List ToClient) → HasBegun s t outs → next_turn t ≡ None → AnswersWaiters s t outs
+all_told s t outs h e = subst (AnswersWaiters s t) (append-nil outs) (h t [] (stops t e))
 
 -- The order of the slots
 
@@ -132,19 +132,19 @@ pushes_can s c body d = if_both (λ (x : Done). can_push (x.server.sessions d) �
 
 pub turn_can : (s : Server) (t : Turn) (d : ℕ) → can_push ((answer_first s t).server.sessions d) ≡ true → can_push (s.sessions d) ≡ true
 turn_can s t d = if_both (λ (x : Done). can_push (x.server.sessions d) ≡ true → can_push (s.sessions d) ≡ true) (asks_absent s.durable.index t.waiter) (tells_absent s t) (grants s t)
-    (pushes_can (with_rows s (dropped s.rows t.slot)) t.waiter.client (push.Absent t.waiter.req t.waiter.point) d)
-    (pushes_can (with_rows s (granted s.durable.reach s.durable.index s.rows t.slot)) t.waiter.client (push.Grant t.waiter.req (holdings (with_rows s (granted s.durable.reach s.durable.index s.rows t.slot)) t.waiter.client (taken s.durable.reach s.durable.index s.rows t.slot))) d)
+    (pushes_can (with_rows s (front_dropped s.rows t.slot)) t.waiter.client (push.Absent t.waiter.req t.waiter.point) d)
+    (pushes_can (with_rows s (granted s.durable.reach s.durable.index s.rows t.slot)) t.waiter.client (push.Grant t.waiter.req (holdings (with_rows s (granted s.durable.reach s.durable.index s.rows t.slot)) t.waiter.client (reached_slots s.durable.reach s.durable.index s.rows t.slot))) d)
 
 turn_row : (s : Server) (t : Turn) (k : ℕ) → k < t.slot → (answer_first s t).server.rows k ≡ s.rows k
 turn_row s t k lt = if_both (λ (x : Done). x.server.rows k ≡ s.rows k) (asks_absent s.durable.index t.waiter) (tells_absent s t) (grants s t)
-    (ap (λ r. r k) (pushes_rows (with_rows s (dropped s.rows t.slot)) t.waiter.client (push.Absent t.waiter.req t.waiter.point)) ∙ row_other s.rows t.slot (with_queue (s.rows t.slot) (behind_first (s.rows t.slot).queue)) k (λ e. omega (arith, e, lt)))
-    (ap (λ r. r k) (pushes_rows (with_rows s (granted s.durable.reach s.durable.index s.rows t.slot)) t.waiter.client (push.Grant t.waiter.req (holdings (with_rows s (granted s.durable.reach s.durable.index s.rows t.slot)) t.waiter.client (taken s.durable.reach s.durable.index s.rows t.slot)))) ∙ granted_below s.durable.reach s.durable.index s.rows t.slot k lt)
+    (ap (λ r. r k) (pushes_rows (with_rows s (front_dropped s.rows t.slot)) t.waiter.client (push.Absent t.waiter.req t.waiter.point)) ∙ row_other s.rows t.slot (with_queue (s.rows t.slot) (behind_first (s.rows t.slot).queue)) k (λ e. omega (arith, e, lt)))
+    (ap (λ r. r k) (pushes_rows (with_rows s (granted s.durable.reach s.durable.index s.rows t.slot)) t.waiter.client (push.Grant t.waiter.req (holdings (with_rows s (granted s.durable.reach s.durable.index s.rows t.slot)) t.waiter.client (reached_slots s.durable.reach s.durable.index s.rows t.slot)))) ∙ granted_below s.durable.reach s.durable.index s.rows t.slot k lt)
 
 -- nor does it change a row at which somebody waits, next to its own
 pub turn_row_beside : (s : Server) (t : Turn) (k : ℕ) (v : Waiter) (vs : List Waiter) → k ≢ t.slot → (s.rows k).queue ≡ v ∷ vs → (answer_first s t).server.rows k ≡ s.rows k
 turn_row_beside s t k v vs ne queue = if_both (λ (x : Done). x.server.rows k ≡ s.rows k) (asks_absent s.durable.index t.waiter) (tells_absent s t) (grants s t)
-    (ap (λ r. r k) (pushes_rows (with_rows s (dropped s.rows t.slot)) t.waiter.client (push.Absent t.waiter.req t.waiter.point)) ∙ row_other s.rows t.slot (with_queue (s.rows t.slot) (behind_first (s.rows t.slot).queue)) k ne)
-    (ap (λ r. r k) (pushes_rows (with_rows s (granted s.durable.reach s.durable.index s.rows t.slot)) t.waiter.client (push.Grant t.waiter.req (holdings (with_rows s (granted s.durable.reach s.durable.index s.rows t.slot)) t.waiter.client (taken s.durable.reach s.durable.index s.rows t.slot)))) ∙ granted_compatible s.durable.reach s.durable.index s.rows t.slot k v vs ne queue)
+    (ap (λ r. r k) (pushes_rows (with_rows s (front_dropped s.rows t.slot)) t.waiter.client (push.Absent t.waiter.req t.waiter.point)) ∙ row_other s.rows t.slot (with_queue (s.rows t.slot) (behind_first (s.rows t.slot).queue)) k ne)
+    (ap (λ r. r k) (pushes_rows (with_rows s (granted s.durable.reach s.durable.index s.rows t.slot)) t.waiter.client (push.Grant t.waiter.req (holdings (with_rows s (granted s.durable.reach s.durable.index s.rows t.slot)) t.waiter.client (reached_slots s.durable.reach s.durable.index s.rows t.slot)))) ∙ granted_compatible s.durable.reach s.durable.index s.rows t.slot k v vs ne queue)
 
 module _ (s u : Server) (k : ℕ) (index : u.durable ≡ s.durable) (row : u.rows k ≡ s.rows k) (can : (v : Waiter) → In v (s.rows k).queue → can_push (u.sessions v.client) ≡ true → can_push (s.sessions v.client) ≡ true) where
   same_has : (v : Waiter) → (asks_absent u.durable.index v || is_wanted_compatible u.rows k v) ≡ (asks_absent s.durable.index v || is_wanted_compatible s.rows k v)

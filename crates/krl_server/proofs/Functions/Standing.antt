@@ -1,8 +1,8 @@
 -- Each push that a step sends is the last one to its client, and not acknowledged yet.
 use Rattle.krl_server.proofs.Names.{◌≡◌, ◌≢◌, ℕ, suc, not, ◌||◌, Some, None, List, [], ◌∷◌, ◌++◌, inl, inr, refl, sym, ap, subst, ◌∙◌, ⊎_elim, append_assoc, append-nil, and_parts, none-some, nat_lt}
-use Rattle.krl_server.proofs.Names.{is_some, END, ToServer, ToClient, PushBody, op_key, In, in_both, slot_of, dropped, granted, asks_absent, is_wanted_compatible, Session, Server, case_of, Done}
-use Rattle.krl_server.proofs.Names.{holding, acknowledged, pushes, effect, callbacks, can_push, Turn, next_turn, answer_first, tells_absent, grants, Answered, stops, goes_on, Kind, Idle, Quiet, Acts}
-use Rattle.krl_server.proofs.Names.{kind_of, calls_of, Ends, at_once, recovers, serves, ServerStep, PushesStand}
+use Rattle.krl_server.proofs.Names.{is_some, END, ToServer, ToClient, PushBody, op_key, In, in_both, slot_of, front_dropped, granted, asks_absent, is_wanted_compatible, Session, Server, case_of, Done}
+use Rattle.krl_server.proofs.Names.{holding, acknowledged, pushes, effect, callbacks, can_push, Turn, next_turn, answer_first, tells_absent, grants, AnswersWaiters, stops, goes_on, Following, Nothing, Answers, Calls}
+use Rattle.krl_server.proofs.Names.{following, callbacks_after, Ends, at_once, recovers, serves, ServerStep, PushesStand}
 use Rattle.krl_messages.specs.declared.to_client.ToClientBody.TheVariants as told
 use Rattle.krl_messages.specs.declared.to_client.PushBody.TheVariants as push
 use Rattle.krl_messages.specs.declared.outcome.Outcome.TheVariants as outcome
@@ -54,12 +54,12 @@ others_pushed s c a d ne = if_both (λ (x : Done). x.server.sessions d ≡ s.ses
 others_turned : (s : Server) (t : Turn) (d : ℕ) → d ≢ t.waiter.client →
     (answer_first s t).server.sessions d ≡ s.sessions d
 others_turned s t d ne = if_both (λ (x : Done). x.server.sessions d ≡ s.sessions d) (asks_absent s.durable.index t.waiter) (tells_absent s t) (grants s t)
-    (others_pushed (effects.with_rows s (dropped s.rows t.slot)) t.waiter.client _ d ne)
+    (others_pushed (effects.with_rows s (front_dropped s.rows t.slot)) t.waiter.client _ d ne)
     (others_pushed (effects.with_rows s (granted s.durable.reach s.durable.index s.rows t.slot)) t.waiter.client _ d ne)
 
 turned_stands : (s : Server) (t : Turn) → PushesStand (answer_first s t).server (answer_first s t).outs
 turned_stands s t = if_both (λ (x : Done). PushesStand x.server x.outs) (asks_absent s.durable.index t.waiter) (tells_absent s t) (grants s t)
-    (pushed_stands (effects.with_rows s (dropped s.rows t.slot)) t.waiter.client _)
+    (pushed_stands (effects.with_rows s (front_dropped s.rows t.slot)) t.waiter.client _)
     (pushed_stands (effects.with_rows s (granted s.durable.reach s.durable.index s.rows t.slot)) t.waiter.client _)
 
 -- a client that is answered has acknowledged every push
@@ -77,7 +77,7 @@ still_stand s t outs next h o e number body at is =
     let same = others_turned s t o.client ne in
     (ap (λ y. y.last_push) same ∙ x.0, ap (λ y. y.unacked) same ∙ x.1)
 
-answered_stand : (s t : Server) (outs own : List ToClient) → Answered s t outs → PushesStand s own → PushesStand t (own ++ outs)
+answered_stand : (s t : Server) (outs own : List ToClient) → AnswersWaiters s t outs → PushesStand s own → PushesStand t (own ++ outs)
 answered_stand s t outs own (stops s' e) h = subst (PushesStand s) (sym (append-nil own)) h
 answered_stand s t outs own (goes_on s' t' turn later e rest) h =
     subst (PushesStand t) (append_assoc own (answer_first s turn).outs later)
@@ -92,10 +92,10 @@ called_stand t o e number body at is =
     let bad = sym (ap (λ (y : ToClient). y.body) x.4) ∙ is in
     absurd (cc)
 
-callbacks_stand : (k : Kind) (t : Server) → PushesStand t (calls_of k t)
-callbacks_stand Idle t = none_stand t
-callbacks_stand Quiet t = none_stand t
-callbacks_stand Acts t = called_stand t
+callbacks_stand : (k : Following) (t : Server) → PushesStand t (callbacks_after k t)
+callbacks_stand Nothing t = none_stand t
+callbacks_stand Answers t = none_stand t
+callbacks_stand Calls t = called_stand t
 
 -- Cases
 
@@ -113,19 +113,19 @@ own_stands s m = let t = acknowledged s m.client in
       acknowledges = λ r request b a. none_stand t;
       lowers = λ r request span keep a. none_stand (effects.lowers t m.client span keep);
       waits = λ r request req point hi g a new free near. none_stand (effects.queues t (record { client = m.client; req = req; point = point; hi = hi; mode = g }));
-      judges = λ r request number op takes o a under near new is. let x = effects.writes t m.client op o in
+      judges = λ r request number op seizes o a under near new is. let x = effects.writes t m.client op o in
           pushed_stands x m.client (push.Answer number o (holding x (slot_of x.durable.index (op_key op)) m.client));
-      takes = λ r request number op takes a under near new may. let x = effects.writes (acknowledged (effects.takes s m.client op) m.client) m.client op outcome.Applied in
+      seizes = λ r request number op seizes a under near new may. let x = effects.writes (acknowledged (effects.seizes s m.client op) m.client) m.client op outcome.Applied in
           pushed_stands x m.client (push.Answer number outcome.Applied (holding x (slot_of x.durable.index (op_key op)) m.client));
-      answers_again = λ r request number op takes o a under some last is. pushed_stands t m.client (push.Answer number o (holding t (slot_of t.durable.index (op_key op)) m.client));
+      answers_again = λ r request number op seizes o a under some last is. pushed_stands t m.client (push.Answer number o (holding t (slot_of t.durable.index (op_key op)) m.client));
     })
 
-ends_stand : (done : Done) (kind : Kind) (t : Server) (outs : List ToClient) → Ends done kind t outs → PushesStand done.server done.outs → PushesStand t outs
+ends_stand : (done : Done) (kind : Following) (t : Server) (outs : List ToClient) → Ends done kind t outs → PushesStand done.server done.outs → PushesStand t outs
 ends_stand done kind t outs (at_once e) h = h
 ends_stand done kind t outs (recovers g) h = h
 ends_stand done kind t outs (serves t' answers acted up rest) h =
-    subst (PushesStand t) (append_assoc done.outs answers (calls_of kind t))
-    (both_stand t (done.outs ++ answers) (calls_of kind t) (answered_stand done.server t answers done.outs rest h) (callbacks_stand kind t))
+    subst (PushesStand t) (append_assoc done.outs answers (callbacks_after kind t))
+    (both_stand t (done.outs ++ answers) (callbacks_after kind t) (answered_stand done.server t answers done.outs rest h) (callbacks_stand kind t))
 
 pub pushes_stand : (s t : Server) (m : ToServer) (outs : List ToClient) → ServerStep s m t outs → PushesStand t outs
-pushes_stand s t m outs step = ends_stand (effect s m (case_of s m)) (kind_of (case_of s m)) t outs step (own_stands s m)
+pushes_stand s t m outs step = ends_stand (effect s m (case_of s m)) (following (case_of s m)) t outs step (own_stands s m)

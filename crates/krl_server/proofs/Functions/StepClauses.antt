@@ -1,9 +1,9 @@
 -- What a step reports of its message: what survives it, whom it calls back, which write it answers.
 use Rattle.krl_server.proofs.Names.{◌≡◌, ◌≢◌, ℕ, suc, ◌≤◌, ◌<◌, Bool, true, false, ◌↔◌, Some, None, List, [], ◌∷◌, ◌++◌, ◌⊎◌, inl, inr, refl, sym, ap, subst, ◌∙◌, ⊎_elim, eq-eqb, lt-ltb, le-ltb}
 use Rattle.krl_server.proofs.Names.{append-nil, nat_lt, IfSome, Result, Ok, Err, IfOk, OnErr, END, Holding, Outcome, WriteOp, Record, ToServer, ToClient, PushBody, op_key, In, in_both, in_right, slot_of, Durable}
-use Rattle.krl_server.proofs.Names.{record_of, dropped, taken, granted, asks_absent, State, ServerOut, Server, is_recovering, incarnation_or_0, meaning, Case, Ignored, Registers, Leaves, Tells}
-use Rattle.krl_server.proofs.Names.{Alarms, Rebuilds, Repeats, Acknowledges, Lowers, Waits, Judges, TakesLock, AnswersAgain, case_of, Done, holding, holdings, acknowledged, push_to, pushes, effect, Turn}
-use Rattle.krl_server.proofs.Names.{answer_first, tells_absent, grants, Answered, stops, goes_on, Kind, Idle, Quiet, Acts, kind_of, calls_of, Ends, at_once, recovers, serves, ServerStep}
+use Rattle.krl_server.proofs.Names.{record_of, front_dropped, reached_slots, granted, asks_absent, State, ServerOut, Server, is_recovering, incarnation_or_0, meaning, Case, Ignored, Registers, Leaves, Tells}
+use Rattle.krl_server.proofs.Names.{Alarms, Rebuilds, Repeats, Acknowledges, Lowers, Waits, Judges, SeizesLock, AnswersAgain, case_of, Done, holding, holdings, acknowledged, push_to, pushes, effect, Turn}
+use Rattle.krl_server.proofs.Names.{answer_first, tells_absent, grants, AnswersWaiters, stops, goes_on, Following, Nothing, Answers, Calls, following, callbacks_after, Ends, at_once, recovers, serves, ServerStep}
 use Rattle.krl_server.proofs.Names.{changes_durable, is_new_write, may_change, may_change_durable, is_callback, IsCallback, HasCallbacks, is_answer, answered_write, IsAnswered, AnswersWrite}
 use Rattle.krl_server.proofs.Names.{HasStepped}
 use Rattle.krl_messages.specs.declared.to_client.ToClientBody.{ToClientBody}
@@ -37,13 +37,13 @@ changes_said s m = by_said s m (λ k. may_change_durable s m ≡ false → chang
       acknowledges = λ r request b a no. refl;
       lowers = λ r request span keep a no. refl;
       waits = λ r request req point hi g a new free near no. refl;
-      judges = λ r request number op takes o a under near new is no. absurd (not_both (may_change_durable s m) (new_write r request number op takes a new) no);
-      takes = λ r request number op takes a under near new may no. absurd (not_both (may_change_durable s m) (new_write r request number op takes a new) no);
-      answers_again = λ r request number op takes o a under some last is no. refl;
+      judges = λ r request number op seizes o a under near new is no. absurd (not_both (may_change_durable s m) (new_write r request number op seizes a new) no);
+      seizes = λ r request number op seizes a under near new may no. absurd (not_both (may_change_durable s m) (new_write r request number op seizes a new) no);
+      answers_again = λ r request number op seizes o a under some last is no. refl;
     })
   where
-    new_write : (r : Record) (request : Request) (number : ℕ) (op : WriteOp) (takes : Bool) → IsAsked s m r request (asked.Write number op takes) → number ≡ suc r.last → may_change_durable s m ≡ true
-    new_write r request number op takes a new =
+    new_write : (r : Record) (request : Request) (number : ℕ) (op : WriteOp) (seizes : Bool) → IsAsked s m r request (asked.Write number op seizes) → number ≡ suc r.last → may_change_durable s m ≡ true
+    new_write r request number op seizes a new =
         ap (λ x. may_change x m.body) a.served.from.known
         ∙ ap (may_change (Some r)) a.said
         ∙ ap (is_new_write (Some r)) a.asked
@@ -73,18 +73,18 @@ module _ (f : ToClientBody → Bool) where
   module _ (grant : (epoch number req : ℕ) (hs : List Holding) → f (told.Push epoch number (push.Grant req hs)) ≡ false) (absent : (epoch number req point : ℕ) → f (told.Push epoch number (push.Absent req point)) ≡ false) where
     none_turned : (s : Server) (t : Turn) → NoneIs f (answer_first s t).outs
     none_turned s t = if_both (λ (x : Done). NoneIs f x.outs) (asks_absent s.durable.index t.waiter) (tells_absent s t) (grants s t)
-        (none_pushed (effects.with_rows s (dropped s.rows t.slot)) t.waiter.client (push.Absent t.waiter.req t.waiter.point) (λ epoch number. absent epoch number t.waiter.req t.waiter.point))
+        (none_pushed (effects.with_rows s (front_dropped s.rows t.slot)) t.waiter.client (push.Absent t.waiter.req t.waiter.point) (λ epoch number. absent epoch number t.waiter.req t.waiter.point))
         (let g = effects.with_rows s (granted s.durable.reach s.durable.index s.rows t.slot) in
-        none_pushed g t.waiter.client (push.Grant t.waiter.req (holdings g t.waiter.client (taken s.durable.reach s.durable.index s.rows t.slot))) (λ epoch number. grant epoch number t.waiter.req (holdings g t.waiter.client (taken s.durable.reach s.durable.index s.rows t.slot))))
+        none_pushed g t.waiter.client (push.Grant t.waiter.req (holdings g t.waiter.client (reached_slots s.durable.reach s.durable.index s.rows t.slot))) (λ epoch number. grant epoch number t.waiter.req (holdings g t.waiter.client (reached_slots s.durable.reach s.durable.index s.rows t.slot))))
 
-    none_answered : (s t : Server) (outs : List ToClient) → Answered s t outs → NoneIs f outs
+    none_answered : (s t : Server) (outs : List ToClient) → AnswersWaiters s t outs → NoneIs f outs
     none_answered s t outs (stops s' e) = λ o at. absurd at
     none_answered s t outs (goes_on s' t' turn later e rest) = both_are (answer_first s turn).outs later (none_turned s turn) (none_answered (answer_first s turn).server t later rest)
 
-no_calls_answered : (s t : Server) (outs : List ToClient) → Answered s t outs → NoneIs is_callback outs
+no_calls_answered : (s t : Server) (outs : List ToClient) → AnswersWaiters s t outs → NoneIs is_callback outs
 no_calls_answered = none_answered is_callback (λ epoch number req h. refl) (λ epoch number req point. refl)
 
-no_answers_answered : (s t : Server) (outs : List ToClient) → Answered s t outs → NoneIs is_answer outs
+no_answers_answered : (s t : Server) (outs : List ToClient) → AnswersWaiters s t outs → NoneIs is_answer outs
 no_answers_answered = none_answered is_answer (λ epoch number req h. refl) (λ epoch number req point. refl)
 
 -- Callbacks
@@ -102,36 +102,36 @@ no_own_calls s m Acknowledges = λ o at. absurd at
 no_own_calls s m (Lowers span keep) = λ o at. absurd at
 no_own_calls s m (Waits req point hi g) = λ o at. absurd at
 no_own_calls s m (Judges number op o) = let t = effects.writes (acknowledged s m.client) m.client op o in none_pushed is_callback t m.client (push.Answer number o (holding t (slot_of t.durable.index (op_key op)) m.client)) (λ epoch number. refl)
-no_own_calls s m (TakesLock number op) = let t = effects.writes (acknowledged (effects.takes s m.client op) m.client) m.client op outcome.Applied in none_pushed is_callback t m.client (push.Answer number outcome.Applied (holding t (slot_of t.durable.index (op_key op)) m.client)) (λ epoch number. refl)
+no_own_calls s m (SeizesLock number op) = let t = effects.writes (acknowledged (effects.seizes s m.client op) m.client) m.client op outcome.Applied in none_pushed is_callback t m.client (push.Answer number outcome.Applied (holding t (slot_of t.durable.index (op_key op)) m.client)) (λ epoch number. refl)
 no_own_calls s m (AnswersAgain number op o) = let t = acknowledged s m.client in none_pushed is_callback t m.client (push.Answer number o (holding t (slot_of t.durable.index (op_key op)) m.client)) (λ epoch number. refl)
 
 called : (t : Server) (o : ToClient) → IsCallback t o → is_callback o.body ≡ true
 called t o x = ap (λ (y : ToClient). is_callback y.body) x.4
 
-no_calls_of : (k : Kind) (t : Server) → (k ≢ Acts) ⊎ (is_recovering t.missing ≡ true) → is_recovering t.missing ≡ false → NoneIs is_callback (calls_of k t)
-no_calls_of Idle t why up = λ o at. absurd at
-no_calls_of Quiet t why up = λ o at. absurd at
-no_calls_of Acts t why up = absurd (⊎_elim (λ (ne : Acts ≢ Acts). ne refl) (λ (g : is_recovering t.missing ≡ true). not_both (is_recovering t.missing) g up) why)
+no_calls_of : (k : Following) (t : Server) → (k ≢ Calls) ⊎ (is_recovering t.missing ≡ true) → is_recovering t.missing ≡ false → NoneIs is_callback (callbacks_after k t)
+no_calls_of Nothing t why up = λ o at. absurd at
+no_calls_of Answers t why up = λ o at. absurd at
+no_calls_of Calls t why up = absurd (⊎_elim (λ (ne : Calls ≢ Calls). ne refl) (λ (g : is_recovering t.missing ≡ true). not_both (is_recovering t.missing) g up) why)
 
-no_calls : (done : Done) (kind : Kind) (t : Server) (outs : List ToClient) → Ends done kind t outs → NoneIs is_callback done.outs → (kind ≢ Acts) ⊎ (is_recovering t.missing ≡ true) → NoneIs is_callback outs
+no_calls : (done : Done) (kind : Following) (t : Server) (outs : List ToClient) → Ends done kind t outs → NoneIs is_callback done.outs → (kind ≢ Calls) ⊎ (is_recovering t.missing ≡ true) → NoneIs is_callback outs
 no_calls done kind t outs (at_once e) own why = own
 no_calls done kind t outs (recovers g) own why = own
 no_calls done kind t outs (serves t' answers acted up rest) own why =
-    both_are is_callback done.outs (answers ++ calls_of kind t) own
-    (both_are is_callback answers (calls_of kind t) (no_calls_answered done.server t answers rest) (no_calls_of kind t why (answered_up done.server t answers rest up)))
+    both_are is_callback done.outs (answers ++ callbacks_after kind t) own
+    (both_are is_callback answers (callbacks_after kind t) (no_calls_answered done.server t answers rest) (no_calls_of kind t why (answered_up done.server t answers rest up)))
 
-the_calls : (done : Done) (kind : Kind) (t : Server) (outs : List ToClient) → Ends done kind t outs → NoneIs is_callback done.outs → kind ≡ Acts → is_recovering t.missing ≡ false → (o : ToClient) → (In o outs × (is_callback o.body ≡ true)) ↔ IsCallback t o
-the_calls done kind t outs (at_once e) own acts up o = absurd (let bad : Idle ≡ Acts = sym e ∙ acts in cc)
+the_calls : (done : Done) (kind : Following) (t : Server) (outs : List ToClient) → Ends done kind t outs → NoneIs is_callback done.outs → kind ≡ Calls → is_recovering t.missing ≡ false → (o : ToClient) → (In o outs × (is_callback o.body ≡ true)) ↔ IsCallback t o
+the_calls done kind t outs (at_once e) own acts up o = absurd (let bad : Nothing ≡ Calls = sym e ∙ acts in cc)
 the_calls done kind t outs (recovers g) own acts up o = absurd (not_both (is_recovering done.server.missing) g up)
 the_calls done kind t outs (serves t' answers acted begun rest) own acts up o = (
   (λ x. ⊎_elim
       (λ (y : In o done.outs). absurd (not_both (is_callback o.body) x.1 (own o y)))
-      (λ (y : In o (answers ++ calls_of kind t)). ⊎_elim
+      (λ (y : In o (answers ++ callbacks_after kind t)). ⊎_elim
       (λ (z : In o answers). absurd (not_both (is_callback o.body) x.1 (no_calls_answered done.server t answers rest o z)))
-      (λ (z : In o (calls_of kind t)). (all_said.callbacks t o).0 (subst (λ k. In o (calls_of k t)) acts z))
-      (in_both answers (calls_of kind t) o y))
-      (in_both done.outs (answers ++ calls_of kind t) o x.0)),
-  (λ x. (in_right done.outs (answers ++ calls_of kind t) o (in_right answers (calls_of kind t) o (subst (λ k. In o (calls_of k t)) (sym acts) ((all_said.callbacks t o).1 x))), called t o x)),
+      (λ (z : In o (callbacks_after kind t)). (all_said.callbacks t o).0 (subst (λ k. In o (callbacks_after k t)) acts z))
+      (in_both answers (callbacks_after kind t) o y))
+      (in_both done.outs (answers ++ callbacks_after kind t) o x.0)),
+  (λ x. (in_right done.outs (answers ++ callbacks_after kind t) o (in_right answers (callbacks_after kind t) o (subst (λ k. In o (callbacks_after k t)) (sym acts) ((all_said.callbacks t o).1 x))), called t o x)),
 )
 
 pub calls_said : (s t : Server) (m : ToServer) (outs : List ToClient) → ServerStep s m t outs → HasCallbacks s m t outs
@@ -139,8 +139,8 @@ calls_said s t m outs step =
     let done = effect s m (case_of s m) in
     let own = no_own_calls s m (case_of s m) in
     record {
-      exactly = λ acts up o. the_calls done (kind_of (case_of s m)) t outs step own acts up o;
-      none = λ why. no_calls done (kind_of (case_of s m)) t outs step own why;
+      exactly = λ acts up o. the_calls done (following (case_of s m)) t outs step own acts up o;
+      none = λ why. no_calls done (following (case_of s m)) t outs step own why;
     }
 
 -- Answers to writes
@@ -151,18 +151,18 @@ pub record HasRest (t : Server) (own outs : List ToClient) : Type 0 where
   pub all : outs ≡ own ++ rest
   pub none : NoneIs is_answer rest
 
-no_answer_of : (k : Kind) (t : Server) → NoneIs is_answer (calls_of k t)
-no_answer_of Idle t = λ o at. absurd at
-no_answer_of Quiet t = λ o at. absurd at
-no_answer_of Acts t = λ o at. let x = (all_said.callbacks t o).0 at in ap (λ (y : ToClient). is_answer y.body) x.4
+no_answer_of : (k : Following) (t : Server) → NoneIs is_answer (callbacks_after k t)
+no_answer_of Nothing t = λ o at. absurd at
+no_answer_of Answers t = λ o at. absurd at
+no_answer_of Calls t = λ o at. let x = (all_said.callbacks t o).0 at in ap (λ (y : ToClient). is_answer y.body) x.4
 
-rest_of : (done : Done) (kind : Kind) (t : Server) (outs : List ToClient) → Ends done kind t outs → HasRest t done.outs outs
+rest_of : (done : Done) (kind : Following) (t : Server) (outs : List ToClient) → Ends done kind t outs → HasRest t done.outs outs
 rest_of done kind t outs (at_once e) = record { rest = []; all = sym (append-nil done.outs); none = λ o at. absurd at }
 rest_of done kind t outs (recovers g) = record { rest = []; all = sym (append-nil done.outs); none = λ o at. absurd at }
 rest_of done kind t outs (serves t' answers acted up rest) = record {
-  rest = answers ++ calls_of kind t;
+  rest = answers ++ callbacks_after kind t;
   all = refl;
-  none = both_are is_answer answers (calls_of kind t) (no_answers_answered done.server t answers rest) (no_answer_of kind t);
+  none = both_are is_answer answers (callbacks_after kind t) (no_answers_answered done.server t answers rest) (no_answer_of kind t);
 }
 
 -- a push, by what survives
@@ -178,7 +178,7 @@ module _ (s x : Server) (c : ℕ) (number : ℕ) (o : Outcome) (h : Holding) (sa
   pushed_never : END ≤ (s.sessions c).last_push → (pushes x c (push.Answer number o h)).outs ≡ []
   pushed_never le = rw (le-ltb (x.sessions c).last_push END (subst (λ n. END ≤ n) (sym same) le)) refl
 
-  answered_so : (kind : Kind) (t : Server) (outs : List ToClient) → Ends (pushes x c (push.Answer number o h)) kind t outs → IsAnswered s c t outs (number, o)
+  answered_so : (kind : Following) (t : Server) (outs : List ToClient) → Ends (pushes x c (push.Answer number o h)) kind t outs → IsAnswered s c t outs (number, o)
   answered_so kind t outs ends =
       let a = push.Answer number o h in
       let r = rest_of (pushes x c a) kind t outs ends in
@@ -195,7 +195,7 @@ module _ (s x : Server) (c : ℕ) (number : ℕ) (o : Outcome) (h : Holding) (sa
 acknowledged_pushed : (s : Server) (c : ℕ) → ((acknowledged s c).sessions c).last_push ≡ (s.sessions c).last_push
 acknowledged_pushed s c = ap (λ y. y.last_push) (session_here s.sessions c (record (s.sessions c) { unacked = None }))
 
-answers_of : (s t : Server) (m : ToServer) (outs : List ToClient) (k : Case) → Ends (effect s m k) (kind_of k) t outs → IfSome (answered_write k) (IsAnswered s m.client t outs)
+answers_of : (s t : Server) (m : ToServer) (outs : List ToClient) (k : Case) → Ends (effect s m k) (following k) t outs → IfSome (answered_write k) (IsAnswered s m.client t outs)
 answers_of s t m outs Ignored ends = tt
 answers_of s t m outs Registers ends = tt
 answers_of s t m outs Leaves ends = tt
@@ -208,13 +208,13 @@ answers_of s t m outs (Lowers span keep) ends = tt
 answers_of s t m outs (Waits req point hi g) ends = tt
 answers_of s t m outs (Judges number op o) ends =
     let x = effects.writes (acknowledged s m.client) m.client op o in
-    answered_so s x m.client number o (holding x (slot_of x.durable.index (op_key op)) m.client) (acknowledged_pushed s m.client) Acts t outs ends
-answers_of s t m outs (TakesLock number op) ends =
-    let x = effects.writes (acknowledged (effects.takes s m.client op) m.client) m.client op outcome.Applied in
-    answered_so s x m.client number outcome.Applied (holding x (slot_of x.durable.index (op_key op)) m.client) (acknowledged_pushed s m.client) Acts t outs ends
+    answered_so s x m.client number o (holding x (slot_of x.durable.index (op_key op)) m.client) (acknowledged_pushed s m.client) Calls t outs ends
+answers_of s t m outs (SeizesLock number op) ends =
+    let x = effects.writes (acknowledged (effects.seizes s m.client op) m.client) m.client op outcome.Applied in
+    answered_so s x m.client number outcome.Applied (holding x (slot_of x.durable.index (op_key op)) m.client) (acknowledged_pushed s m.client) Calls t outs ends
 answers_of s t m outs (AnswersAgain number op o) ends =
     let x = acknowledged s m.client in
-    answered_so s x m.client number o (holding x (slot_of x.durable.index (op_key op)) m.client) (acknowledged_pushed s m.client) Acts t outs ends
+    answered_so s x m.client number o (holding x (slot_of x.durable.index (op_key op)) m.client) (acknowledged_pushed s m.client) Calls t outs ends
 
 pub answers_said : (s t : Server) (m : ToServer) (outs : List ToClient) → ServerStep s m t outs → AnswersWrite s m t outs
 answers_said s t m outs step = answers_of s t m outs (case_of s m) step

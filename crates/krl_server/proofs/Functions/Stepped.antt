@@ -1,7 +1,7 @@
 -- A step: there is room for it, and it ends as it should.
 use Rattle.std.proofs.Common.{◌≡◌, ◌≢◌, ℕ, suc, ◌+◌, ◌*◌, ◌≤◌, ◌⊎◌, ⊎_elim, Bool, true, false, Option, Some, None, List, [], ◌++◌, length, refl, sym, ap, subst, ◌∙◌, arith}
 use Rattle.krl_server.proofs.Names.{In, Waiter, append-nil, if◌then◌else◌, ToClient, ToServer, conflicts, IsTable, Server, Case, Ignored, Registers, Leaves, Tells, Alarms, Rebuilds, Repeats, Acknowledges}
-use Rattle.krl_server.proofs.Names.{Lowers, Waits, Judges, TakesLock, AnswersAgain, WriteOp, case_of_new_write, may_take, takes, case_of, is_alarm, judged, Done, effect, acknowledged, writes, Idle, kind_of, calls_of, Ends, at_once}
+use Rattle.krl_server.proofs.Names.{Lowers, Waits, Judges, SeizesLock, AnswersAgain, WriteOp, case_of_new_write, may_seize, seizes, case_of, is_alarm, judged, Done, effect, acknowledged, writes, Nothing, following, callbacks_after, Ends, at_once}
 use Rattle.krl_server.proofs.Names.{PushBody, case_of_unacked, recovers, serves, meant, case_of_pieces, after_of, waiting, IsSound, Sent, Sends, own_of, room_for, waiting_clients, calls_after, Finished, rests}
 use Rattle.krl_server.proofs.Names.{still_recovering, served, HasRoom, alarm_of}
 use Rattle.krl_messages.specs.declared.to_server.ToServerBody.{ToServerBody}
@@ -50,15 +50,15 @@ module _ (s : Server) (m : ToServer) where
 
   -- a write that asks for its lock
   new_few : (number : ℕ) (op : WriteOp) → length (effect s m (case_of_new_write s m.client number op true)).outs ≤ 1
-  new_few number op = if_both (λ k. length (effect s m k).outs ≤ 1) (may_take s m.client op) (TakesLock number op) (Judges number op (judged s m.client op))
-      (answers_few (writes (acknowledged (takes s m.client op) m.client) m.client op outcome.Applied) m.client number op outcome.Applied)
+  new_few number op = if_both (λ k. length (effect s m k).outs ≤ 1) (may_seize s m.client op) (SeizesLock number op) (Judges number op (judged s m.client op))
+      (answers_few (writes (acknowledged (seizes s m.client op) m.client) m.client op outcome.Applied) m.client number op outcome.Applied)
       (answers_few (writes (acknowledged s m.client) m.client op (judged s m.client op)) m.client number op (judged s m.client op))
 
   new_asks : (number : ℕ) (op : WriteOp) → asks (case_of_new_write s m.client number op true) ≡ false
-  new_asks number op = if_both (λ k. asks k ≡ false) (may_take s m.client op) (TakesLock number op) (Judges number op (judged s m.client op)) refl refl
+  new_asks number op = if_both (λ k. asks k ≡ false) (may_seize s m.client op) (SeizesLock number op) (Judges number op (judged s m.client op)) refl refl
 
   new_asked : (number : ℕ) (op : WriteOp) (u : Waiter) → IsAsked m u (case_of_new_write s m.client number op true) → ⊥
-  new_asked number op u = if_both (λ k. IsAsked m u k → ⊥) (may_take s m.client op) (TakesLock number op) (Judges number op (judged s m.client op)) (λ e. e) (λ e. e)
+  new_asked number op u = if_both (λ k. IsAsked m u k → ⊥) (may_seize s m.client op) (SeizesLock number op) (Judges number op (judged s m.client op)) (λ e. e) (λ e. e)
 
   again_idle : {A : Type 0} (o : Option PushBody) → does_answer (after_of (case_of_unacked o)) ≡ true → A
   again_idle None e = absurd (cc)
@@ -80,7 +80,7 @@ module _ (s : Server) (m : ToServer) where
   own_few (found.Lowers span keep) = omega arith
   own_few (found.Waits req point hi g) = omega arith
   own_few (found.Judges number op) = answers_few (writes (acknowledged s m.client) m.client op (judged s m.client op)) m.client number op (judged s m.client op)
-  own_few (found.TakesLock number op) = new_few number op
+  own_few (found.SeizesLock number op) = new_few number op
   own_few (found.AnswersAgain number op o) = answers_few (acknowledged s m.client) m.client number op o
 
   pub own_room : (f : Found) (w : ℕ) → own_of f ≤ room_for w f
@@ -94,7 +94,7 @@ module _ (s : Server) (m : ToServer) where
   own_room (found.Lowers span keep) w = omega arith
   own_room (found.Waits req point hi g) w = omega arith
   own_room (found.Judges number op) w = omega arith
-  own_room (found.TakesLock number op) w = omega arith
+  own_room (found.SeizesLock number op) w = omega arith
   own_room (found.AnswersAgain number op o) w = omega arith
 
   answers_room : (f : Found) (w u : ℕ) → (asks (meant s m.client m.body f) ≡ false → u ≤ w) → u ≤ suc w → does_answer (after_of (meant s m.client m.body f)) ≡ true → own_of f + u ≤ room_for w f
@@ -108,7 +108,7 @@ module _ (s : Server) (m : ToServer) where
   answers_room (found.Lowers span keep) w u few more e = let x = few refl in omega (arith, x)
   answers_room (found.Waits req point hi g) w u few more e = omega (arith, more)
   answers_room (found.Judges number op) w u few more e = let x = few refl in omega (arith, x)
-  answers_room (found.TakesLock number op) w u few more e = let x = few (new_asks number op) in omega (arith, x)
+  answers_room (found.SeizesLock number op) w u few more e = let x = few (new_asks number op) in omega (arith, x)
   answers_room (found.AnswersAgain number op o) w u few more e = let x = few refl in omega (arith, x)
 
   calls_room : (f : Found) (w u : ℕ) → (asks (meant s m.client m.body f) ≡ false → u ≤ w) → u ≤ suc w → does_call (after_of (meant s m.client m.body f)) ≡ true → own_of f + 64 * u ≤ room_for w f
@@ -122,7 +122,7 @@ module _ (s : Server) (m : ToServer) where
   calls_room (found.Lowers span keep) w u few more e = absurd (cc)
   calls_room (found.Waits req point hi g) w u few more e = omega (arith, more)
   calls_room (found.Judges number op) w u few more e = let x = few refl in omega (arith, x)
-  calls_room (found.TakesLock number op) w u few more e = let x = few (new_asks number op) in omega (arith, x)
+  calls_room (found.SeizesLock number op) w u few more e = let x = few (new_asks number op) in omega (arith, x)
   calls_room (found.AnswersAgain number op o) w u few more e = let x = few refl in omega (arith, x)
 
   reports_ask : (b : ToServerBody) (u : Waiter) → IsAsked m u (case_of_pieces s m.client b) → ⊥
@@ -151,7 +151,7 @@ module _ (s : Server) (m : ToServer) where
   asked_room (found.Lowers span keep) rooms u room e = absurd e
   asked_room (found.Waits req point hi g) rooms u room e = subst (λ (w : Waiter). slots_asked s.durable.reach w.point w.hi ≤ room_of rooms w.client) (sym e) room
   asked_room (found.Judges number op) rooms u room e = absurd e
-  asked_room (found.TakesLock number op) rooms u room e = absurd (new_asked number op u e)
+  asked_room (found.SeizesLock number op) rooms u room e = absurd (new_asked number op u e)
   asked_room (found.AnswersAgain number op o) rooms u room e = absurd e
 
   module _ (sound : IsSound s) (table : IsTable s.durable.index s.rows) (f : Found) (is : meant s m.client m.body f ≡ case_of s m) where
@@ -195,7 +195,7 @@ module _ (s : Server) (m : ToServer) where
 
 -- Ends
 
-idle_of : (k : Case) → does_answer (after_of k) ≡ false → kind_of k ≡ Idle
+idle_of : (k : Case) → does_answer (after_of k) ≡ false → following k ≡ Nothing
 idle_of Ignored e = refl
 idle_of Registers e = absurd (cc)
 idle_of Leaves e = absurd (cc)
@@ -207,10 +207,10 @@ idle_of Acknowledges e = absurd (cc)
 idle_of (Lowers span keep) e = absurd (cc)
 idle_of (Waits req point hi g) e = absurd (cc)
 idle_of (Judges number op o) e = absurd (cc)
-idle_of (TakesLock number op) e = absurd (cc)
+idle_of (SeizesLock number op) e = absurd (cc)
 idle_of (AnswersAgain number op o) e = absurd (cc)
 
-acts_of : (k : Case) → does_answer (after_of k) ≡ true → kind_of k ≢ Idle
+acts_of : (k : Case) → does_answer (after_of k) ≡ true → following k ≢ Nothing
 acts_of Ignored e f = absurd (cc)
 acts_of Registers e f = absurd (cc)
 acts_of Leaves e f = absurd (cc)
@@ -222,10 +222,10 @@ acts_of Acknowledges e f = absurd (cc)
 acts_of (Lowers span keep) e f = absurd (cc)
 acts_of (Waits req point hi g) e f = absurd (cc)
 acts_of (Judges number op o) e f = absurd (cc)
-acts_of (TakesLock number op) e f = absurd (cc)
+acts_of (SeizesLock number op) e f = absurd (cc)
 acts_of (AnswersAgain number op o) e f = absurd (cc)
 
-calls_are : (k : Case) (t : Server) → calls_after (after_of k) t ≡ calls_of (kind_of k) t
+calls_are : (k : Case) (t : Server) → calls_after (after_of k) t ≡ callbacks_after (following k) t
 calls_are Ignored t = refl
 calls_are Registers t = refl
 calls_are Leaves t = refl
@@ -237,7 +237,7 @@ calls_are Acknowledges t = refl
 calls_are (Lowers span keep) t = refl
 calls_are (Waits req point hi g) t = refl
 calls_are (Judges number op o) t = refl
-calls_are (TakesLock number op) t = refl
+calls_are (SeizesLock number op) t = refl
 calls_are (AnswersAgain number op o) t = refl
 
 alarm_is : (k : Case) → does_alarm (after_of k) ≡ is_alarm k
@@ -252,19 +252,19 @@ alarm_is Acknowledges = refl
 alarm_is (Lowers span keep) = refl
 alarm_is (Waits req point hi g) = refl
 alarm_is (Judges number op o) = refl
-alarm_is (TakesLock number op) = refl
+alarm_is (SeizesLock number op) = refl
 alarm_is (AnswersAgain number op o) = refl
 
-finished_ends : (k : Case) (done : Done) (t : Server) (outs : List ToClient) → Finished done.server (after_of k) t outs → Ends done (kind_of k) t (done.outs ++ outs)
-finished_ends k done t outs (rests e) = subst (Ends done (kind_of k) done.server) (sym (append-nil done.outs)) (at_once (idle_of k e))
-finished_ends k done t outs (still_recovering e) = subst (Ends done (kind_of k) done.server) (sym (append-nil done.outs)) (recovers e)
-finished_ends k done t outs (served t' answers e f a) = subst (λ l. Ends done (kind_of k) t' (done.outs ++ (answers ++ l))) (sym (calls_are k t')) (serves t' answers (acts_of k e) f a)
+finished_ends : (k : Case) (done : Done) (t : Server) (outs : List ToClient) → Finished done.server (after_of k) t outs → Ends done (following k) t (done.outs ++ outs)
+finished_ends k done t outs (rests e) = subst (Ends done (following k) done.server) (sym (append-nil done.outs)) (at_once (idle_of k e))
+finished_ends k done t outs (still_recovering e) = subst (Ends done (following k) done.server) (sym (append-nil done.outs)) (recovers e)
+finished_ends k done t outs (served t' answers e f a) = subst (λ l. Ends done (following k) t' (done.outs ++ (answers ++ l))) (sym (calls_are k t')) (serves t' answers (acts_of k e) f a)
 
 -- the message was taken
 pub step_is : (s : Server) (m : ToServer) (mid t : Server) (left : After) (own outs : List ToClient) → mid ≡ (effect s m (case_of s m)).server → own ≡ (effect s m (case_of s m)).outs → left ≡ after_of (case_of s m) → Finished mid left t outs → Rattle.krl_server.specs.Steps.ServerStep s m t (own ++ outs)
 step_is s m mid t left own outs server sent e h =
     let done = effect s m (case_of s m) in
-    subst (λ l. Ends done (kind_of (case_of s m)) t (l ++ outs)) (sym sent)
+    subst (λ l. Ends done (following (case_of s m)) t (l ++ outs)) (sym sent)
     (finished_ends (case_of s m) done t outs (subst (λ x. Finished x (after_of (case_of s m)) t outs) server (subst (λ x. Finished mid x t outs) e h)))
 
 pub alarm_said : (s : Server) (m : ToServer) (left : After) → left ≡ after_of (case_of s m) → (if does_alarm left then Some m.client else None) ≡ alarm_of s m

@@ -1,8 +1,8 @@
 -- A server stays sound when it pushes and when it answers first waiters, and the missing are as they were.
 use Rattle.std.specs.Prelude.{◌-◌}
 use Rattle.krl_server.proofs.Names.{◌≡◌, ℕ, false, refl, ap, ◌∙◌, ◌≢◌, ◌<◌, Some, List, ◌∷◌, inl, inr, sym, subst, ⊎_elim, arith, nat_lt, END, PushBody, In, ToClient, Waiter, Row, Rows}
-use Rattle.krl_server.proofs.Names.{max_clients, mode_at, set_row, set_mode, with_mode, with_queue, wanted, behind_first, dropped, raised_on, taken_after, taken, granted, asks_absent}
-use Rattle.krl_server.proofs.Names.{Server, is_recovering, Done, acknowledged, pushes, with_rows, holdings, IsSound, Turn, next_turn, tells_absent, grants, answer_first, Answered, stops, goes_on}
+use Rattle.krl_server.proofs.Names.{max_clients, mode_at, set_row, set_mode, with_mode, with_queue, wanted, behind_first, front_dropped, raised_on, reached_after, reached_slots, granted, asks_absent}
+use Rattle.krl_server.proofs.Names.{Server, is_recovering, Done, acknowledged, pushes, with_rows, holdings, IsSound, Turn, next_turn, tells_absent, grants, answer_first, AnswersWaiters, stops, goes_on}
 use Rattle.krl_table.proofs.Invariant.Compatible.{mode_other}
 use Rattle.krl_messages.specs.declared.to_client.PushBody.TheVariants as push
 use Rattle.krl_server.proofs.Tests.{if_both}
@@ -48,7 +48,7 @@ module _ (s : Server) (i : IsSound s) (n : ℕ) (u : Waiter) (us : List Waiter) 
   abbrev grant_row : Row
   grant_row = record { modes = set_mode (s.rows n).modes u.client (wanted (s.rows n) u); queue = us }
 
-  pub dropped_is : set_row s.rows n drop_row ≡ dropped s.rows n
+  pub dropped_is : set_row s.rows n drop_row ≡ front_dropped s.rows n
   dropped_is = ap (λ q. set_row s.rows n (with_queue (s.rows n) (behind_first q))) (sym queue)
 
   pub drop_modes : (c m : ℕ) → mode_at s.rows m c ≡ mode_at (set_row s.rows n drop_row) m c
@@ -63,7 +63,7 @@ module _ (s : Server) (i : IsSound s) (n : ℕ) (u : Waiter) (us : List Waiter) 
     clients = λ m v at. i.clients m v (stayed_on drop_row refl m v at);
   }
 
-  pub dropped_sound : IsSound (with_rows s (dropped s.rows n))
+  pub dropped_sound : IsSound (with_rows s (front_dropped s.rows n))
   dropped_sound = subst (λ r. IsSound (with_rows s r)) dropped_is drop_sound
 
   grant_sound : IsSound (with_rows s (set_row s.rows n grant_row))
@@ -71,7 +71,7 @@ module _ (s : Server) (i : IsSound s) (n : ℕ) (u : Waiter) (us : List Waiter) 
 
   -- the rows that a grant leaves
   abbrev all_rows : Rows
-  all_rows = raised_on (set_row s.rows n grant_row) (taken_after s.durable.index (set_row s.rows n grant_row) n u (s.durable.reach - 1)) u
+  all_rows = raised_on (set_row s.rows n grant_row) (reached_after s.durable.index (set_row s.rows n grant_row) n u (s.durable.reach - 1)) u
 
   pub granted_sound : IsSound (with_rows s (granted s.durable.reach s.durable.index s.rows n))
   granted_sound = subst (λ r. IsSound (with_rows s r)) (sym (granted_is s.durable.reach s.durable.index s.rows n u us queue))
@@ -83,19 +83,19 @@ pub turn_sound : (s : Server) (t : Turn) → IsSound s → next_turn s ≡ Some 
 turn_sound s t i e =
     let x = turn_is s t e in
     if_both (λ (x : Done). IsSound x.server) (asks_absent s.durable.index t.waiter) _ _
-    (pushes_sound (with_rows s (dropped s.rows t.slot)) t.waiter.client (push.Absent t.waiter.req t.waiter.point) (dropped_sound s i t.slot t.waiter (behind_first (s.rows t.slot).queue) x.first))
-    (pushes_sound (with_rows s (granted s.durable.reach s.durable.index s.rows t.slot)) t.waiter.client (push.Grant t.waiter.req (holdings (with_rows s (granted s.durable.reach s.durable.index s.rows t.slot)) t.waiter.client (taken s.durable.reach s.durable.index s.rows t.slot))) (granted_sound s i t.slot t.waiter (behind_first (s.rows t.slot).queue) x.first))
+    (pushes_sound (with_rows s (front_dropped s.rows t.slot)) t.waiter.client (push.Absent t.waiter.req t.waiter.point) (dropped_sound s i t.slot t.waiter (behind_first (s.rows t.slot).queue) x.first))
+    (pushes_sound (with_rows s (granted s.durable.reach s.durable.index s.rows t.slot)) t.waiter.client (push.Grant t.waiter.req (holdings (with_rows s (granted s.durable.reach s.durable.index s.rows t.slot)) t.waiter.client (reached_slots s.durable.reach s.durable.index s.rows t.slot))) (granted_sound s i t.slot t.waiter (behind_first (s.rows t.slot).queue) x.first))
 
 pub turn_missing : (s : Server) (t : Turn) → (answer_first s t).server.missing ≡ s.missing
 turn_missing s t = if_both (λ (x : Done). x.server.missing ≡ s.missing) (asks_absent s.durable.index t.waiter) (tells_absent s t) (grants s t)
-    (pushes_missing (with_rows s (dropped s.rows t.slot)) t.waiter.client (push.Absent t.waiter.req t.waiter.point))
-    (pushes_missing (with_rows s (granted s.durable.reach s.durable.index s.rows t.slot)) t.waiter.client (push.Grant t.waiter.req (holdings (with_rows s (granted s.durable.reach s.durable.index s.rows t.slot)) t.waiter.client (taken s.durable.reach s.durable.index s.rows t.slot))))
+    (pushes_missing (with_rows s (front_dropped s.rows t.slot)) t.waiter.client (push.Absent t.waiter.req t.waiter.point))
+    (pushes_missing (with_rows s (granted s.durable.reach s.durable.index s.rows t.slot)) t.waiter.client (push.Grant t.waiter.req (holdings (with_rows s (granted s.durable.reach s.durable.index s.rows t.slot)) t.waiter.client (reached_slots s.durable.reach s.durable.index s.rows t.slot))))
 
 -- an answer leaves the missing clients as they are
-pub answered_up : (s t : Server) (outs : List ToClient) → Answered s t outs → is_recovering s.missing ≡ false → is_recovering t.missing ≡ false
+pub answered_up : (s t : Server) (outs : List ToClient) → AnswersWaiters s t outs → is_recovering s.missing ≡ false → is_recovering t.missing ≡ false
 answered_up s t outs (stops s' e) up = up
 answered_up s t outs (goes_on s' t' turn later e rest) up = answered_up (answer_first s turn).server t later rest (ap is_recovering (turn_missing s turn) ∙ up)
 
-pub answering_sound : (s t : Server) (outs : List ToClient) → Answered s t outs → IsSound s → IsSound t
+pub answering_sound : (s t : Server) (outs : List ToClient) → AnswersWaiters s t outs → IsSound s → IsSound t
 answering_sound s t outs (stops s' e) i = i
 answering_sound s t outs (goes_on s' t' turn later e rest) i = answering_sound (answer_first s turn).server t later rest (turn_sound s turn i e)

@@ -1,9 +1,9 @@
 -- Each step of a server keeps its table and its register in order, and leaves no waiter that could be answered.
 use Rattle.krl_server.proofs.Names.{◌≡◌, ℕ, suc, ◌<◌, true, not, Some, None, List, [], ◌∷◌, refl, sym, ap, subst, ◌∙◌, arith, ne_eqb, and_parts, same_Some, nat_lt, END, WriteOp, Outcome, ToServer}
 use Rattle.krl_server.proofs.Names.{ToClient, PushBody, eq_cases, Record, slot_of, slots, Durable, Register, record_of, with_record, new_record, left_by, HasOutcomes, op_key, noted, applied_by}
-use Rattle.krl_server.proofs.Names.{HasOutcome, blank_rows, max_clients, cleared, dropped, behind_first, taken, granted, asks_absent, is_wanted_compatible, IsTable, or_true, Server, is_recovering}
-use Rattle.krl_server.proofs.Names.{Case, Ignored, Registers, Leaves, Tells, Alarms, Rebuilds, Repeats, Acknowledges, Lowers, Waits, Judges, TakesLock, AnswersAgain, judged, case_of, Done, acknowledged}
-use Rattle.krl_server.proofs.Names.{rows_after, pushes, effect, Turn, turn_among, next_turn, answer_first, tells_absent, grants, can_push, Answered, stops, goes_on, Kind, Idle, kind_of, Ends}
+use Rattle.krl_server.proofs.Names.{HasOutcome, blank_rows, max_clients, cleared, front_dropped, behind_first, reached_slots, granted, asks_absent, is_wanted_compatible, IsTable, or_true, Server, is_recovering}
+use Rattle.krl_server.proofs.Names.{Case, Ignored, Registers, Leaves, Tells, Alarms, Rebuilds, Repeats, Acknowledges, Lowers, Waits, Judges, SeizesLock, AnswersAgain, judged, case_of, Done, acknowledged}
+use Rattle.krl_server.proofs.Names.{rows_after, pushes, effect, Turn, turn_among, next_turn, answer_first, tells_absent, grants, can_push, AnswersWaiters, stops, goes_on, Following, Nothing, following, Ends}
 use Rattle.krl_server.proofs.Names.{at_once, recovers, serves, IsSettled, start, IsSound, lock_for}
 use Rattle.krl_messages.specs.declared.outcome.Outcome.TheVariants as outcome
 use Rattle.krl_messages.specs.declared.to_client.PushBody.TheVariants as push
@@ -15,7 +15,7 @@ use Rattle.krl_server.proofs.Tests.{if_case}
 use Rattle.krl_server.proofs.Turns.{turn_is}
 use Rattle.krl_server.proofs.Invariant.AnswersSound.{turn_sound, answering_sound}
 use Rattle.krl_server.proofs.Invariant.Sounds.{effect_sound}
-use Rattle.krl_server.proofs.Invariant.TakesSound.{take_is, take_judged, takes_sound}
+use Rattle.krl_server.proofs.Invariant.SeizesSound.{take_is, take_judged, takes_sound}
 use Rattle.krl_server.proofs.Grants.{slot_always}
 use Rattle.krl_server.proofs.Invariant.RowsSound.{start_sound}
 use Rattle.krl_server.proofs.Outputs.Ends.{pushes_durable, turn_durable}
@@ -36,7 +36,7 @@ effect_of_write es c o r h = with_outcome es c (noted r o) (sym (ap not (ne_eqb 
 
 -- Answers leave the durable part
 
-pub answered_durable : (s t : Server) (outs : List ToClient) → Answered s t outs → t.durable ≡ s.durable
+pub answered_durable : (s t : Server) (outs : List ToClient) → AnswersWaiters s t outs → t.durable ≡ s.durable
 answered_durable s t outs (stops s' e) = refl
 answered_durable s t outs (goes_on s' t' turn later e rest) = answered_durable (answer_first s turn).server t later rest ∙ turn_durable s turn
 
@@ -57,7 +57,7 @@ effect_outcomes s m h = let t = acknowledged s m.client in
       judges = λ r number op o served under near new is. let u = effects.writes t m.client op o in
           subst (λ d. HasOutcomes d.register) (sym (pushes_durable u m.client (push.Answer number o (effects.holding u (slot_of u.durable.index (op_key op)) m.client))))
           (subst (λ x. HasOutcomes (applied_by s.durable m.client op o x).register) (sym served.from.known) (effect_of_write s.durable.register m.client o r h));
-      takes = λ r number op served under near new may. let u = effects.writes (acknowledged (effects.takes s m.client op) m.client) m.client op outcome.Applied in
+      seizes = λ r number op served under near new may. let u = effects.writes (acknowledged (effects.seizes s m.client op) m.client) m.client op outcome.Applied in
           subst (λ d. HasOutcomes d.register) (sym (pushes_durable u m.client (push.Answer number outcome.Applied (effects.holding u (slot_of u.durable.index (op_key op)) m.client))))
           (subst (λ x. HasOutcomes (applied_by s.durable m.client op outcome.Applied x).register) (sym served.from.known) (effect_of_write s.durable.register m.client outcome.Applied r h));
       answers_again = λ r number op o served under some last is.
@@ -66,7 +66,7 @@ effect_outcomes s m h = let t = acknowledged s m.client in
 
 -- Soundness
 
-ends_sound : (done : Done) (kind : Kind) (t : Server) (outs : List ToClient) → Ends done kind t outs → IsSound done.server → IsSound t
+ends_sound : (done : Done) (kind : Following) (t : Server) (outs : List ToClient) → Ends done kind t outs → IsSound done.server → IsSound t
 ends_sound done kind t outs (at_once e) i = i
 ends_sound done kind t outs (recovers e) i = i
 ends_sound done kind t outs (serves t' answers a b c) i = answering_sound done.server t answers c i
@@ -107,9 +107,9 @@ effect_kept s m i k = let t = acknowledged s m.client in
       waits = λ r req point hi g served new free near. enqueued_kept s.durable.index s.rows (record { client = m.client; req = req; point = point; hi = hi; mode = g }) i.near served.from.client near free k;
       judges = λ r number op o served under near new is. let u = effects.writes t m.client op o in
           pushes_kept u m.client (push.Answer number o (effects.holding u (slot_of u.durable.index (op_key op)) m.client)) (write_kept s m.client op o r i served.from.client under served.from.known is k);
-      takes = λ r number op served under near new may.
+      seizes = λ r number op served under near new may.
           let can = take_is s m.client op may in
-          let x = effects.takes s m.client op in
+          let x = effects.seizes s m.client op in
           let u = effects.writes (acknowledged x m.client) m.client op outcome.Applied in
           pushes_kept u m.client (push.Answer number outcome.Applied (effects.holding u (slot_of u.durable.index (op_key op)) m.client))
           (write_kept x m.client op outcome.Applied r (takes_sound s m.client op i served.from.client) served.from.client under served.from.known (take_judged s m.client op i under can)
@@ -120,22 +120,22 @@ effect_kept s m i k = let t = acknowledged s m.client in
 pub turn_kept : (s : Server) (t : Turn) → next_turn s ≡ Some t → ServerKept s → ServerKept (answer_first s t).server
 turn_kept s t e k = let x = turn_is s t e in
     if_case (λ (y : Done). ServerKept y.server) (asks_absent s.durable.index t.waiter) (tells_absent s t) (grants s t)
-    (λ f. pushes_kept (effects.with_rows s (dropped s.rows t.slot)) t.waiter.client (push.Absent t.waiter.req t.waiter.point) (dropped_kept s.durable.index s.rows t.slot t.waiter (behind_first (s.rows t.slot).queue) k x.first))
+    (λ f. pushes_kept (effects.with_rows s (front_dropped s.rows t.slot)) t.waiter.client (push.Absent t.waiter.req t.waiter.point) (dropped_kept s.durable.index s.rows t.slot t.waiter (behind_first (s.rows t.slot).queue) k x.first))
     (λ f. let u = effects.with_rows s (granted s.durable.reach s.durable.index s.rows t.slot) in
-    pushes_kept u t.waiter.client (push.Grant t.waiter.req (effects.holdings u t.waiter.client (taken s.durable.reach s.durable.index s.rows t.slot)))
+    pushes_kept u t.waiter.client (push.Grant t.waiter.req (effects.holdings u t.waiter.client (reached_slots s.durable.reach s.durable.index s.rows t.slot)))
     (granted_kept s.durable.reach s.durable.index s.rows t.slot t.waiter (behind_first (s.rows t.slot).queue) k x.first (or_true (asks_absent s.durable.index t.waiter) (is_wanted_compatible s.rows t.slot t.waiter) (and_parts (can_push (s.sessions t.waiter.client)) _ x.answerable).1 f)))
 
-pub answered_kept : (s t : Server) (outs : List ToClient) → Answered s t outs → ServerKept s → ServerKept t
+pub answered_kept : (s t : Server) (outs : List ToClient) → AnswersWaiters s t outs → ServerKept s → ServerKept t
 answered_kept s t outs (stops s' e) k = k
 answered_kept s t outs (goes_on s' t' turn later e rest) k = answered_kept (answer_first s turn).server t later rest (turn_kept s turn e k)
 
-ends_kept : (done : Done) (kind : Kind) (t : Server) (outs : List ToClient) → Ends done kind t outs → ServerKept done.server → ServerKept t
+ends_kept : (done : Done) (kind : Following) (t : Server) (outs : List ToClient) → Ends done kind t outs → ServerKept done.server → ServerKept t
 ends_kept done kind t outs (at_once e) k = k
 ends_kept done kind t outs (recovers e) k = k
 ends_kept done kind t outs (serves t' answers a b c) k = answered_kept done.server t answers c k
 
 -- after the answers of a step the durable part is that after its effect
-pub ends_durable : (done : Done) (kind : Kind) (t : Server) (outs : List ToClient) → Ends done kind t outs → t.durable ≡ done.server.durable
+pub ends_durable : (done : Done) (kind : Following) (t : Server) (outs : List ToClient) → Ends done kind t outs → t.durable ≡ done.server.durable
 ends_durable done kind t outs (at_once e) = refl
 ends_durable done kind t outs (recovers e) = refl
 ends_durable done kind t outs (serves t' answers a b c) = answered_durable done.server t answers c
@@ -148,12 +148,12 @@ turn_table s t e h = let u = (answer_first s t).server in table_of u.durable.ind
 
 -- Nobody is left
 
-answered_settled : (s t : Server) (outs : List ToClient) → Answered s t outs → next_turn t ≡ None
+answered_settled : (s t : Server) (outs : List ToClient) → AnswersWaiters s t outs → next_turn t ≡ None
 answered_settled s t outs (stops s' e) = e
 answered_settled s t outs (goes_on s' t' turn later e rest) = answered_settled (answer_first s turn).server t later rest
 
 -- a case that has not acted leaves the server as it is
-idle_same : (s : Server) (m : ToServer) (k : Case) → kind_of k ≡ Idle → (effect s m k).server ≡ s
+idle_same : (s : Server) (m : ToServer) (k : Case) → following k ≡ Nothing → (effect s m k).server ≡ s
 idle_same s m Ignored e = refl
 idle_same s m Registers e = absurd (cc)
 idle_same s m Leaves e = absurd (cc)
@@ -165,10 +165,10 @@ idle_same s m Acknowledges e = absurd (cc)
 idle_same s m (Lowers span keep) e = absurd (cc)
 idle_same s m (Waits req point hi g) e = absurd (cc)
 idle_same s m (Judges number op o) e = absurd (cc)
-idle_same s m (TakesLock number op) e = absurd (cc)
+idle_same s m (SeizesLock number op) e = absurd (cc)
 idle_same s m (AnswersAgain number op o) e = absurd (cc)
 
-ends_settled : (done : Done) (kind : Kind) (t : Server) (outs : List ToClient) → Ends done kind t outs → (kind ≡ Idle → IsSettled done.server) → IsSettled t
+ends_settled : (done : Done) (kind : Following) (t : Server) (outs : List ToClient) → Ends done kind t outs → (kind ≡ Nothing → IsSettled done.server) → IsSettled t
 ends_settled done kind t outs (at_once e) h = h e
 ends_settled done kind t outs (recovers e) h = λ up. absurd (not_both (is_recovering done.server.missing) e up)
 ends_settled done kind t outs (serves t' answers a b c) h = λ up. answered_settled done.server t answers c
@@ -185,13 +185,13 @@ server_keeps = record {
   sound_turn = λ s t e i. turn_sound s t i e;
   ordered_turn = λ s t e h. record { table = turn_table s t e h.table; outcomes = subst (λ d. HasOutcomes d.register) (sym (turn_durable s t)) h.outcomes };
   turn_durable = turn_durable;
-  sound_step = λ s t m outs i a. ends_sound (effect s m (case_of s m)) (kind_of (case_of s m)) t outs a (effect_sound s m i);
+  sound_step = λ s t m outs i a. ends_sound (effect s m (case_of s m)) (following (case_of s m)) t outs a (effect_sound s m i);
   ordered_step = λ s t m outs i h a. record {
-    table = table_of t.durable.index t.rows (ends_kept (effect s m (case_of s m)) (kind_of (case_of s m)) t outs a (effect_kept s m i (kept_of s.durable.index s.rows h.table)));
-    outcomes = subst (λ d. HasOutcomes d.register) (sym (ends_durable (effect s m (case_of s m)) (kind_of (case_of s m)) t outs a)) (effect_outcomes s m h.outcomes);
+    table = table_of t.durable.index t.rows (ends_kept (effect s m (case_of s m)) (following (case_of s m)) t outs a (effect_kept s m i (kept_of s.durable.index s.rows h.table)));
+    outcomes = subst (λ d. HasOutcomes d.register) (sym (ends_durable (effect s m (case_of s m)) (following (case_of s m)) t outs a)) (effect_outcomes s m h.outcomes);
   };
-  settled_step = λ s t m outs h a. ends_settled (effect s m (case_of s m)) (kind_of (case_of s m)) t outs a (λ e. subst IsSettled (sym (idle_same s m (case_of s m) e)) h);
-  step_durable = λ s t m outs a. ends_durable (effect s m (case_of s m)) (kind_of (case_of s m)) t outs a;
+  settled_step = λ s t m outs h a. ends_settled (effect s m (case_of s m)) (following (case_of s m)) t outs a (λ e. subst IsSettled (sym (idle_same s m (case_of s m) e)) h);
+  step_durable = λ s t m outs a. ends_durable (effect s m (case_of s m)) (following (case_of s m)) t outs a;
   sound_start = start_sound;
   ordered_start = λ d h. (record { table = table_of d.index blank_rows (blank_kept d.index); outcomes = h }, λ up. start_settled d (slots d.index));
 }

@@ -1,8 +1,8 @@
 -- Whoever waits is registered and has not left.
 use Rattle.krl_server.proofs.Names.{◌≡◌, ◌≢◌, ℕ, true, false, List, [], ◌∷◌, ◌⊎◌, inl, inr, refl, sym, subst, ◌∙◌, ⊎_elim, ToServer, ToClient, op_key, In, Waiter, eq_cases, Record, slot_of, Register}
-use Rattle.krl_server.proofs.Names.{Durable, with_record, new_record, left_by, noted, applied_by, Row, Rows, set_row, with_queue, grant_first, behind_first, dropped, cleared, granted, asks_absent}
-use Rattle.krl_server.proofs.Names.{in_unqueue, Server, Case, Rebuilds, Lowers, Waits, Judges, TakesLock, AnswersAgain, case_of, Done, acknowledged, effect, Turn, answer_first, tells_absent, grants, Answered}
-use Rattle.krl_server.proofs.Names.{stops, goes_on, Kind, kind_of, Ends, at_once, recovers, serves, ServerStep, IsSound, IsRegistered, AreRegistered}
+use Rattle.krl_server.proofs.Names.{Durable, with_record, new_record, left_by, noted, applied_by, Row, Rows, set_row, with_queue, grant_first, behind_first, front_dropped, cleared, granted, asks_absent}
+use Rattle.krl_server.proofs.Names.{in_unqueue, Server, Case, Rebuilds, Lowers, Waits, Judges, SeizesLock, AnswersAgain, case_of, Done, acknowledged, effect, Turn, answer_first, tells_absent, grants, AnswersWaiters}
+use Rattle.krl_server.proofs.Names.{stops, goes_on, Following, following, Ends, at_once, recovers, serves, ServerStep, IsSound, IsRegistered, AreRegistered}
 use Rattle.krl_messages.specs.declared.to_client.PushBody.TheVariants as push
 use Rattle.krl_messages.specs.declared.outcome.Outcome.TheVariants as outcome
 use Rattle.krl_server.specs.Effects as effects
@@ -47,7 +47,7 @@ row_came rows n row less m u at = ⊎_elim
 turn_came : (s : Server) (t : Turn) (m : ℕ) (u : Waiter) → In u ((answer_first s t).server.rows m).queue → In u (s.rows m).queue
 turn_came s t m u = if_both (λ (x : Done). In u (x.server.rows m).queue → In u (s.rows m).queue) (asks_absent s.durable.index t.waiter) (tells_absent s t) (grants s t)
     (λ at. row_came s.rows t.slot (with_queue (s.rows t.slot) (behind_first (s.rows t.slot).queue)) (behind_in (s.rows t.slot).queue) m u
-    (subst (λ (r : Rows). In u (r m).queue) (pushes_rows (effects.with_rows s (dropped s.rows t.slot)) t.waiter.client _) at))
+    (subst (λ (r : Rows). In u (r m).queue) (pushes_rows (effects.with_rows s (front_dropped s.rows t.slot)) t.waiter.client _) at))
     (λ at. row_came s.rows t.slot (grant_first (s.rows t.slot) (s.rows t.slot).queue)
     (λ v x. ⊎_elim (λ (y : In v (s.rows t.slot).queue). y) (λ (y : In v (s.rows t.slot).queue). y) (granted_in (s.rows t.slot) (s.rows t.slot).queue v x)) m u
     (subst (In u) (granted_queue s.durable.reach s.durable.index s.rows t.slot m) (subst (λ (r : Rows). In u (r m).queue) (pushes_rows (effects.with_rows s (granted s.durable.reach s.durable.index s.rows t.slot)) t.waiter.client _) at)))
@@ -55,7 +55,7 @@ turn_came s t m u = if_both (λ (x : Done). In u (x.server.rows m).queue → In 
 turn_here : (s : Server) (t : Turn) → AreRegistered s → AreRegistered (answer_first s t).server
 turn_here s t h n u at = subst (λ (d : Durable). IsRegistered d.register u.client) (sym (turn_durable s t)) (h n u (turn_came s t n u at))
 
-answered_here : (s t : Server) (outs : List ToClient) → Answered s t outs → AreRegistered s → AreRegistered t
+answered_here : (s t : Server) (outs : List ToClient) → AnswersWaiters s t outs → AreRegistered s → AreRegistered t
 answered_here s t outs (stops s' e) h = h
 answered_here s t outs (goes_on s' t' turn later e rest) h = answered_here (answer_first s turn).server t later rest (turn_here s turn h)
 
@@ -94,21 +94,21 @@ module _ (s : Server) (m : ToServer) (h : AreRegistered s) where
             (λ (old : (j : ℕ) × In u (s.rows j).queue). h old.0 u old.1)
             (λ (new : (asks (Judges number op o) ≡ true) × (u.client ≡ m.client) × IsAsked m u (Judges number op o)). subst (IsRegistered s.durable.register) (sym new.1) (r, served.from.known, served.from.here))
             (came n u at))));
-        takes = λ r number op served under near new may came n u at. let x = effects.writes (acknowledged (effects.takes s m.client op) m.client) m.client op outcome.Applied in
+        seizes = λ r number op served under near new may came n u at. let x = effects.writes (acknowledged (effects.seizes s m.client op) m.client) m.client op outcome.Applied in
             subst (λ (d : Durable). IsRegistered d.register u.client) (sym (pushes_durable x m.client (push.Answer number outcome.Applied (effects.holding x (slot_of x.durable.index (op_key op)) m.client))))
             (subst (λ y. IsRegistered (applied_by s.durable m.client op outcome.Applied y).register u.client) (sym served.from.known)
             (with_here s.durable.register m.client u.client (noted r outcome.Applied) served.from.here (⊎_elim
             (λ (old : (j : ℕ) × In u (s.rows j).queue). h old.0 u old.1)
-            (λ (new : (asks (TakesLock number op) ≡ true) × (u.client ≡ m.client) × IsAsked m u (TakesLock number op)). subst (IsRegistered s.durable.register) (sym new.1) (r, served.from.known, served.from.here))
+            (λ (new : (asks (SeizesLock number op) ≡ true) × (u.client ≡ m.client) × IsAsked m u (SeizesLock number op)). subst (IsRegistered s.durable.register) (sym new.1) (r, served.from.known, served.from.here))
             (came n u at))));
         answers_again = λ r number op o served under some last is. same_here (AnswersAgain number op o) r served.from (pushes_durable t m.client (push.Answer number o (effects.holding t (slot_of t.durable.index (op_key op)) m.client)));
       })
       (all_came s m sound)
 
-ends_here : (done : Done) (kind : Kind) (t : Server) (outs : List ToClient) → Ends done kind t outs → AreRegistered done.server → AreRegistered t
+ends_here : (done : Done) (kind : Following) (t : Server) (outs : List ToClient) → Ends done kind t outs → AreRegistered done.server → AreRegistered t
 ends_here done kind t outs (at_once e) h = h
 ends_here done kind t outs (recovers e) h = h
 ends_here done kind t outs (serves t' answers a b c) h = answered_here done.server t answers c h
 
 pub step_here : (s t : Server) (m : ToServer) (outs : List ToClient) → IsSound s → AreRegistered s → ServerStep s m t outs → AreRegistered t
-step_here s t m outs sound h step = ends_here (effect s m (case_of s m)) (kind_of (case_of s m)) t outs step (effect_here s m h sound)
+step_here s t m outs sound h step = ends_here (effect s m (case_of s m)) (following (case_of s m)) t outs step (effect_here s m h sound)

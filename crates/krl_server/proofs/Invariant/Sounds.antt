@@ -10,7 +10,7 @@ use Rattle.krl_server.specs.Effects as effects
 use Rattle.krl_server.proofs.Updates.{row_modes}
 use Rattle.krl_server.proofs.Invariant.AnswersSound.{acknowledged_sound, pushes_sound}
 use Rattle.krl_server.proofs.Invariant.WritesSound.{with_noted, refusal_is, writes_sound}
-use Rattle.krl_server.proofs.Invariant.TakesSound.{take_is, take_judged, takes_sound}
+use Rattle.krl_server.proofs.Invariant.SeizesSound.{take_is, take_judged, takes_sound}
 use Rattle.krl_server.proofs.Turns.{in_row}
 use Rattle.krl_server.proofs.Invariant.RowsSound.{lowered_sound, adopts_sound}
 use Rattle.krl_server.proofs.Cased.{IsFrom, by_case}
@@ -70,10 +70,10 @@ queues_sound s u lt le i =
           (in_row s.rows n row m v at);
     }
 
-refused_sound : (s : Server) (c number : ℕ) (op : WriteOp) (o : Outcome) (r : Record) → record_of s.durable.register c ≡ Some r → is_applied o ≡ false → IsSound s → IsSound (effects.answers (effects.writes (acknowledged s c) c op o) c number op o).server
+refused_sound : (s : Server) (c number : ℕ) (op : WriteOp) (o : Outcome) (r : Record) → record_of s.durable.register c ≡ Some r → is_applied o ≡ false → IsSound s → IsSound (effects.tells_outcome (effects.writes (acknowledged s c) c op o) c number op o).server
 refused_sound s c number op o r known not i =
     let t = with_noted (acknowledged s c) c o r in
-    subst (λ t. IsSound (effects.answers t c number op o).server) (refusal_is (acknowledged s c) c op o r known not)
+    subst (λ t. IsSound (effects.tells_outcome t c number op o).server) (refusal_is (acknowledged s c) c op o r known not)
     (pushes_sound t c (push.Answer number o (effects.holding t (slot_of t.durable.index (op_key op)) c)) (record { near = i.near; begun = i.begun; strangers = i.strangers; placed = i.placed; clients = i.clients }))
 
 judges_sound : (s : Server) (m : ToServer) (r : Record) (number : ℕ) (op : WriteOp) (o : Outcome) → IsFrom s m r → IsSound s → op_key op < END → judged s m.client op ≡ o → IsSound (effect s m (Judges number op o)).server
@@ -98,8 +98,8 @@ effect_sound s m i = let t = acknowledged s m.client in let j = acknowledged_sou
       lowers = λ r span keep served. lowered_sound t m.client span keep served.from.client j;
       waits = λ r req point hi g served new free near. queues_sound t (record { client = m.client; req = req; point = point; hi = hi; mode = g }) served.from.client near j;
       judges = λ r number op o served under near new is. judges_sound s m r number op o served.from i under is;
-      takes = λ r number op served under near new may.
+      seizes = λ r number op served under near new may.
           let can = take_is s m.client op may in
-          writes_sound (effects.takes s m.client op) m number op r served.from.known (takes_sound s m.client op i served.from.client) served.from.client under (take_judged s m.client op i under can);
+          writes_sound (effects.seizes s m.client op) m number op r served.from.known (takes_sound s m.client op i served.from.client) served.from.client under (take_judged s m.client op i under can);
       answers_again = λ r number op o served under some last is. pushes_sound t m.client (push.Answer number o (effects.holding t (slot_of t.durable.index (op_key op)) m.client)) j;
     })

@@ -3,7 +3,7 @@ use Rattle.std.specs.Prelude.{◌-◌}
 use Rattle.krl_server.proofs.Names.{◌≡◌, ◌≢◌, ℕ, ◌≤◌, ◌<◌, Bool, true, false, not, ◌&&◌, None, List, [], ◌∷◌, inl, inr, refl, sym, ap, subst, ◌∙◌, ⊎_elim, arith, nat_eq, ne_eqb, fun_ext, not-false}
 use Rattle.krl_server.proofs.Names.{is_some, if◌then◌else◌, END, Mode, compatible, meet, Bounds, within, Pieces, In, Waiter, first_of, eq_cases, Index, slot_of, slots, is_slot, span_of, Row, Rows}
 use Rattle.krl_server.proofs.Names.{max_clients, mode_at, set_row, set_mode, is_compatible_there, waits, with_mode, with_queue, lowered, unqueue, cleared, queue_with, enqueued, wanted, behind_first}
-use Rattle.krl_server.proofs.Names.{dropped, raised, granted, rebuilt, conflicts, adopted, is_wanted_compatible, IsPlaced, times, AreCompatible, one, times_more, times_fewer, times_with}
+use Rattle.krl_server.proofs.Names.{front_dropped, raised, granted, rebuilt, conflicts, adopted, is_wanted_compatible, IsPlaced, times, AreCompatible, one, times_more, times_fewer, times_with}
 use Rattle.krl_server.proofs.Names.{none_times, alone_fewer, alone_new, meet_compatible, none_compatible, turned, other_compatible, in_unqueue, in_queue_with}
 use Rattle.krl_table.proofs.Invariant.Compatible.{mode_here, mode_other}
 use Rattle.std.specs.FinMap as fin
@@ -147,7 +147,7 @@ front_kept m rows n u us row k queue rest same fit = record {
     apart : (j : ℕ) → is_slot m j ≡ false → j ≢ n
     apart j e f = not_both (is_slot m n) (slot_waits m rows k n u first) (ap (is_slot m) (sym f) ∙ e)
 
-pub dropped_kept : (m : Index) (rows : Rows) (n : ℕ) (u : Waiter) (us : List Waiter) → IsKept m rows → (rows n).queue ≡ u ∷ us → IsKept m (dropped rows n)
+pub dropped_kept : (m : Index) (rows : Rows) (n : ℕ) (u : Waiter) (us : List Waiter) → IsKept m rows → (rows n).queue ≡ u ∷ us → IsKept m (front_dropped rows n)
 dropped_kept m rows n u us k queue = subst (IsKept m) (ap (λ q. set_row rows n (with_queue (rows n) (behind_first q))) (sym queue))
     (front_kept m rows n u us (with_queue (rows n) us) k queue refl (λ d ne. refl) (λ d ne. k.beside n u.client d (λ e. ne (sym e))))
 

@@ -1,7 +1,7 @@
 -- Who waits after a case, and how many.
 use Rattle.krl_server.proofs.Names.{◌≡◌, ℕ, ◌<◌, Bool, true, false, ◌⊎◌, inl, inr, refl, ap, subst, ⊎_elim, if◌then◌else◌, ToServer, Outcome, WriteOp, Waiter, op_key, END, In, slot_of, is_slot, Row}
 use Rattle.krl_server.proofs.Names.{max_clients, with_mode, with_queue, queue_with, in_unqueue, in_queue_with, Server, Case, Ignored, Registers, Leaves, Tells, Alarms, Rebuilds, Repeats}
-use Rattle.krl_server.proofs.Names.{Acknowledges, Lowers, Waits, Judges, TakesLock, AnswersAgain, lock_for, takes, case_of, judged, acknowledged, writes, rows_after, holding, effect, IsSound}
+use Rattle.krl_server.proofs.Names.{Acknowledges, Lowers, Waits, Judges, SeizesLock, AnswersAgain, lock_for, seizes, case_of, judged, acknowledged, writes, rows_after, holding, effect, IsSound}
 use Rattle.krl_messages.specs.declared.to_client.PushBody.TheVariants as push
 use Rattle.krl_messages.specs.declared.outcome.Outcome.TheVariants as outcome
 use Rattle.krl_server.proofs.Tests.{if_both}
@@ -9,7 +9,7 @@ use Rattle.krl_server.proofs.Cased.{by_case}
 use Rattle.krl_server.proofs.Turns.{in_row}
 use Rattle.krl_server.proofs.Grants.{raised_queue}
 use Rattle.krl_server.proofs.Invariant.WritesSound.{lasts}
-use Rattle.krl_server.proofs.Invariant.TakesSound.{take_is, take_judged, takes_sound}
+use Rattle.krl_server.proofs.Invariant.SeizesSound.{take_is, take_judged, takes_sound}
 use Rattle.krl_server.proofs.Outputs.Ends.{pushes_rows}
 
 -- the case takes a lock request
@@ -25,7 +25,7 @@ asks Acknowledges = false
 asks (Lowers span keep) = false
 asks (Waits req point hi g) = true
 asks (Judges number op o) = false
-asks (TakesLock number op) = false
+asks (SeizesLock number op) = false
 asks (AnswersAgain number op o) = false
 
 -- the waiter asks by this case
@@ -70,8 +70,8 @@ module _ (s : Server) (m : ToServer) (sound : IsSound s) where
             (in_row s.rows (slot_of s.durable.index point) (with_queue (s.rows (slot_of s.durable.index point)) (queue_with (s.rows (slot_of s.durable.index point)) (record { client = m.client; req = req; point = point; hi = hi; mode = g }))) n u at);
         judges = λ r number op o served under near new is n u at. let x = writes t m.client op o in
             inl (came_written op o served.from.client under is n u (subst (λ rows. In u (rows n).queue) (pushes_rows x m.client (push.Answer number o (holding x (slot_of x.durable.index (op_key op)) m.client))) at));
-        takes = λ r number op served under near new may n u at.
-            let x = takes s m.client op in
+        seizes = λ r number op served under near new may n u at.
+            let x = seizes s m.client op in
             let y = writes (acknowledged x m.client) m.client op outcome.Applied in
             let old = (lasts x m.client op (takes_sound s m.client op sound served.from.client) served.from.client under (take_judged s m.client op sound under (take_is s m.client op may))).from n u
             (subst (λ rows. In u (rows n).queue) (pushes_rows y m.client (push.Answer number outcome.Applied (holding y (slot_of y.durable.index (op_key op)) m.client))) at) in

@@ -2,9 +2,9 @@
 use Rattle.krl_server.proofs.Names.{◌≡◌, ◌≢◌, ℕ, suc, ◌+◌, ◌-◌, ◌≤◌, ◌<◌, Bool, true, false, not, cond, ◌||◌, Some, None, List, [], ◌∷◌, length, ◌⊎◌, inl, inr, refl, sym, ap, subst, ◌∙◌, ⊎_elim}
 use Rattle.krl_server.proofs.Names.{arith, nat_eq, eq-eqb, eqb-true, ltb-true, ltb-false, eqb-false, or_parts, not-false, none-some, same_Some, nat_lt, is_some, if◌then◌else◌, END, WriteOp, Outcome}
 use Rattle.krl_server.proofs.Names.{ToServer, ToClient, PushBody, eq_cases, Record, Index, slot_of, Register, Durable, record_of, with_record, new_record, left_by, not_left, op_key, In}
-use Rattle.krl_server.proofs.Names.{held, column, judge, judged_insert, noted, index_after, applied_by, Rows, max_clients, dropped, granted, asks_absent, Session, Server, is_recovering, lists}
+use Rattle.krl_server.proofs.Names.{held, column, judge, judged_insert, noted, index_after, applied_by, Rows, max_clients, front_dropped, granted, asks_absent, Session, Server, is_recovering, lists}
 use Rattle.krl_server.proofs.Names.{unlist, set_session, blank_session, Ignored, case_of, case_of_record, is_malformed, Done, acknowledged, pushes, effect, Turn, answer_first, tells_absent}
-use Rattle.krl_server.proofs.Names.{grants, Answered, stops, goes_on, Ends, Kind, at_once, recovers, serves, start, can_start, kind_of, AreApart, clients_of, IsEntry, IsDurableWithin, IsWithin}
+use Rattle.krl_server.proofs.Names.{grants, AnswersWaiters, stops, goes_on, Ends, Following, at_once, recovers, serves, start, can_start, following, AreApart, clients_of, IsEntry, IsDurableWithin, IsWithin}
 use Rattle.krl_server.proofs.Names.{ServerWithin}
 use Rattle.std.specs.Cmp.{nat_cmp_total}
 use Rattle.std.specs.FinMap as map
@@ -17,7 +17,7 @@ use Rattle.krl_server.proofs.Updates.{session_here, session_other, record_here, 
 use Rattle.krl_modes.proofs.Basics.{not_both}
 use Rattle.krl_server.proofs.Tests.{if_both, if_case}
 use Rattle.krl_server.proofs.Invariant.WritesSound.{change_may}
-use Rattle.krl_server.proofs.Invariant.TakesSound.{take_is}
+use Rattle.krl_server.proofs.Invariant.SeizesSound.{take_is}
 use Rattle.krl_server.proofs.Cased.{by_case}
 use Rattle.krl_server.proofs.Outputs.Counted.{few_apart}
 
@@ -186,10 +186,10 @@ rows_within s rows w = record { durable = w.durable; last_push = w.last_push; mi
 
 turn_within : (s : Server) (t : Turn) → IsWithin s → IsWithin (answer_first s t).server
 turn_within s t w = if_both (λ (x : Done). IsWithin x.server) (asks_absent s.durable.index t.waiter) (tells_absent s t) (grants s t)
-    (pushes_within (effects.with_rows s (dropped s.rows t.slot)) t.waiter.client _ (rows_within s (dropped s.rows t.slot) w))
+    (pushes_within (effects.with_rows s (front_dropped s.rows t.slot)) t.waiter.client _ (rows_within s (front_dropped s.rows t.slot) w))
     (pushes_within (effects.with_rows s (granted s.durable.reach s.durable.index s.rows t.slot)) t.waiter.client _ (rows_within s (granted s.durable.reach s.durable.index s.rows t.slot) w))
 
-answered_within : (s t : Server) (outs : List ToClient) → Answered s t outs → IsWithin s → IsWithin t
+answered_within : (s t : Server) (outs : List ToClient) → AnswersWaiters s t outs → IsWithin s → IsWithin t
 answered_within s t outs (stops s' e) w = w
 answered_within s t outs (goes_on s' t' turn later e rest) w = answered_within (answer_first s turn).server t later rest (turn_within s turn w)
 
@@ -248,7 +248,7 @@ module _ (s : Server) (m : ToServer) (w : IsWithin s) where
         waits = λ r req point hi g served new free near. record { durable = w.durable; last_push = sessions_within t.sessions m.client (record (t.sessions m.client) { last_request = req }) (u.last_push m.client) u.last_push; missing = w.missing; missing_once = w.missing_once };
         judges = λ r number op o served under near new is. let x = effects.writes t m.client op o in
             pushes_within x m.client (push.Answer number o (effects.holding x (slot_of x.durable.index (op_key op)) m.client)) (writes_within r number op (held s.durable.index (column s.rows m.client) op) o served.from.known served.serves near new is);
-        takes = λ r number op served under near new may. let x = effects.writes (acknowledged (effects.takes s m.client op) m.client) m.client op outcome.Applied in
+        seizes = λ r number op served under near new may. let x = effects.writes (acknowledged (effects.seizes s m.client op) m.client) m.client op outcome.Applied in
             pushes_within x m.client (push.Answer number outcome.Applied (effects.holding x (slot_of x.durable.index (op_key op)) m.client)) (rows_within (effects.writes t m.client op outcome.Applied) x.rows (writes_within r number op true outcome.Applied served.from.known served.serves near new (take_is s m.client op may).applied));
         answers_again = λ r number op o served under some last is. pushes_within t m.client (push.Answer number o (effects.holding t (slot_of t.durable.index (op_key op)) m.client)) u;
       })
@@ -263,7 +263,7 @@ module _ (s : Server) (m : ToServer) (w : IsWithin s) where
           let y = or_parts (nat_eq m.incarnation 0) (nat_lt END m.incarnation) x.1 in
           of_known (let ne = eqb-false m.incarnation 0 y.0 in omega (arith, ne)) (ltb-false END m.incarnation y.1)
 
-ends_within : (done : Done) (kind : Kind) (t : Server) (outs : List ToClient) → Ends done kind t outs → IsWithin done.server → IsWithin t
+ends_within : (done : Done) (kind : Following) (t : Server) (outs : List ToClient) → Ends done kind t outs → IsWithin done.server → IsWithin t
 ends_within done kind t outs (at_once e) w = w
 ends_within done kind t outs (recovers e) w = w
 ends_within done kind t outs (serves t' answers a b c) w = answered_within done.server t answers c w
@@ -284,7 +284,7 @@ pub all_within : ServerWithin
 all_within = record {
   effect = effect_within;
   turn = turn_within;
-  step = λ s t m outs w step. ends_within (effect s m (case_of s m)) (kind_of (case_of s m)) t outs step (effect_within s m w);
+  step = λ s t m outs w step. ends_within (effect s m (case_of s m)) (following (case_of s m)) t outs step (effect_within s m w);
   registered_step = step_here;
   registered_start = λ d n u at. absurd at;
   start = start_within;

@@ -1,7 +1,7 @@
 -- A server stays sound when it judges a new write.
 use Rattle.krl_server.proofs.Names.{◌≡◌, ℕ, false, Some, refl, sym, ap, ◌∙◌, ◌≤◌, ◌<◌, Bool, true, None, subst, arith, is_some, END, WriteOp, Outcome, is_applied, op_key, ToServer, Record, Index}
 use Rattle.krl_server.proofs.Names.{Durable, record_of, with_record, noted, index_after, applied_by, applied, written, judged_insert, judged_change, Rows, max_clients, mode_at, Server, rows_after}
-use Rattle.krl_server.proofs.Names.{writes, acknowledged, rows_written, answers, effect, Judges, judged, IsSound}
+use Rattle.krl_server.proofs.Names.{writes, acknowledged, rows_written, tells_outcome, effect, Judges, judged, IsSound}
 use Rattle.std.specs.FinMap as map
 use Rattle.krl_modes.specs.declared.mode.Mode.TheVariants as mode
 use Rattle.krl_messages.specs.declared.outcome.Outcome.TheVariants as outcome
@@ -101,5 +101,5 @@ lasts_sound s c op r i l = record { near = l.near; begun = i.begun; strangers = 
 
 pub writes_sound : (s : Server) (m : ToServer) (number : ℕ) (op : WriteOp) (r : Record) → record_of s.durable.register m.client ≡ Some r → IsSound s → m.client < max_clients → op_key op < END → judged s m.client op ≡ outcome.Applied → IsSound (effect s m (Judges number op outcome.Applied)).server
 writes_sound s m number op r known i own under e =
-    subst (λ t. IsSound (answers t m.client number op outcome.Applied).server) (writes_is s m.client op r known)
+    subst (λ t. IsSound (tells_outcome t m.client number op outcome.Applied).server) (writes_is s m.client op r known)
     (pushes_sound (with_write s m.client r (written s.durable.index op) (rows_written s.durable.index s.rows m.client op)) m.client _ (lasts_sound s m.client op r i (lasts s m.client op i own under e)))

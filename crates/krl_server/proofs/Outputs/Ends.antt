@@ -1,8 +1,8 @@
 -- The answering of first waiters ends, in one way.
 use Rattle.krl_server.proofs.Names.{◌≡◌, ◌≢◌, ℕ, zero, suc, ◌+◌, ◌≤◌, Bool, true, false, Option, Some, None, List, [], ◌∷◌, ◌++◌, length, ◌⊎◌, inl, inr, refl, sym, ap, subst, ◌∙◌, ⊎_elim, arith}
 use Rattle.krl_server.proofs.Names.{length-append, none-some, same_Some, nat_lt, if◌then◌else◌, END, ToClient, PushBody, ToServer, In, Waiter, eq_cases, slots, Row, Rows, set_row, with_queue}
-use Rattle.krl_server.proofs.Names.{grant_first, granted_first, behind_first, dropped, granted, asks_absent, Server, is_recovering, case_of, Done, with_rows, pushes, effect, Turn, is_answerable}
-use Rattle.krl_server.proofs.Names.{turn_at, turn_among, next_turn, tells_absent, grants, answer_first, Answered, stops, goes_on, Kind, Idle, Quiet, Acts, kind_of, calls_of, Ends, at_once, recovers}
+use Rattle.krl_server.proofs.Names.{grant_first, granted_first, behind_first, front_dropped, granted, asks_absent, Server, is_recovering, case_of, Done, with_rows, pushes, effect, Turn, is_answerable}
+use Rattle.krl_server.proofs.Names.{turn_at, turn_among, next_turn, tells_absent, grants, answer_first, AnswersWaiters, stops, goes_on, Following, Nothing, Answers, Calls, following, callbacks_after, Ends, at_once, recovers}
 use Rattle.krl_server.proofs.Names.{serves, ServerStep, waiting_on, waiting}
 use Rattle.krl_server.proofs.Updates.{row_here, row_other}
 use Rattle.krl_modes.proofs.Basics.{not_both}
@@ -35,10 +35,10 @@ pub pushes_few : (s : Server) (c : ℕ) (body : PushBody) → length (pushes s c
 pushes_few s c body = if_both (λ (x : Done). length x.outs ≤ 1) (nat_lt (s.sessions c).last_push END) _ _ (omega arith) (omega arith)
 
 pub turn_few : (s : Server) (t : Turn) → length (answer_first s t).outs ≤ 1
-turn_few s t = if_both (λ (x : Done). length x.outs ≤ 1) (asks_absent s.durable.index t.waiter) (tells_absent s t) (grants s t) (pushes_few (with_rows s (dropped s.rows t.slot)) t.waiter.client _) (pushes_few (with_rows s (granted s.durable.reach s.durable.index s.rows t.slot)) t.waiter.client _)
+turn_few s t = if_both (λ (x : Done). length x.outs ≤ 1) (asks_absent s.durable.index t.waiter) (tells_absent s t) (grants s t) (pushes_few (with_rows s (front_dropped s.rows t.slot)) t.waiter.client _) (pushes_few (with_rows s (granted s.durable.reach s.durable.index s.rows t.slot)) t.waiter.client _)
 
 pub turn_durable : (s : Server) (t : Turn) → (answer_first s t).server.durable ≡ s.durable
-turn_durable s t = if_both (λ (x : Done). x.server.durable ≡ s.durable) (asks_absent s.durable.index t.waiter) (tells_absent s t) (grants s t) (pushes_durable (with_rows s (dropped s.rows t.slot)) t.waiter.client _) (pushes_durable (with_rows s (granted s.durable.reach s.durable.index s.rows t.slot)) t.waiter.client _)
+turn_durable s t = if_both (λ (x : Done). x.server.durable ≡ s.durable) (asks_absent s.durable.index t.waiter) (tells_absent s t) (grants s t) (pushes_durable (with_rows s (front_dropped s.rows t.slot)) t.waiter.client _) (pushes_durable (with_rows s (granted s.durable.reach s.durable.index s.rows t.slot)) t.waiter.client _)
 
 -- each row waits for as many as before, except for the turn's slot, which waits for one less
 pub record Shorter (old new : Rows) (slot : ℕ) : Type 0 where
@@ -71,7 +71,7 @@ turn_shorter : (s : Server) (t : Turn) → next_turn s ≡ Some t → Shorter s.
 turn_shorter s t e =
     let first = (turn_is s t e).first in
     if_both (λ (x : Done). Shorter s.rows x.server.rows t.slot) (asks_absent s.durable.index t.waiter) (tells_absent s t) (grants s t)
-    (subst (λ r. Shorter s.rows r t.slot) (sym (pushes_rows (with_rows s (dropped s.rows t.slot)) t.waiter.client _))
+    (subst (λ r. Shorter s.rows r t.slot) (sym (pushes_rows (with_rows s (front_dropped s.rows t.slot)) t.waiter.client _))
     (set_shorter s.rows t.slot (with_queue (s.rows t.slot) (behind_first (s.rows t.slot).queue)) (behind (s.rows t.slot).queue t.waiter first)))
     (subst (λ r. Shorter s.rows r t.slot) (sym (pushes_rows (with_rows s (granted s.durable.reach s.durable.index s.rows t.slot)) t.waiter.client _))
     (as_short s.rows (granted_first s.rows t.slot) (granted s.durable.reach s.durable.index s.rows t.slot) t.slot (granted_queue s.durable.reach s.durable.index s.rows t.slot)
@@ -95,7 +95,7 @@ pub turn_less : (s : Server) (t : Turn) → next_turn s ≡ Some t → suc (wait
 turn_less s t e = subst (λ d. suc (waiting_on (answer_first s t).server.rows (slots d.index)) ≤ waiting s) (sym (turn_durable s t))
     (one_less s.rows (answer_first s t).server.rows t.slot (slots s.durable.index) (place_of s (slots s.durable.index) t e) (turn_shorter s t e))
 
-pub answered_less : (s t : Server) (outs : List ToClient) → Answered s t outs → waiting t + length outs ≤ waiting s
+pub answered_less : (s t : Server) (outs : List ToClient) → AnswersWaiters s t outs → waiting t + length outs ≤ waiting s
 answered_less s t outs (stops s' e) = omega arith
 answered_less s t outs (goes_on s' t' turn later e rest) =
     let ih = answered_less (answer_first s turn).server t later rest in
@@ -108,7 +108,7 @@ answered_less s t outs (goes_on s' t' turn later e rest) =
 pub record AnEnd (s : Server) : Type 0 where
   pub after : Server
   pub outs : List ToClient
-  pub answered : Answered s after outs
+  pub answered : AnswersWaiters s after outs
 
 go_on : (s : Server) (t : Turn) → next_turn s ≡ Some t → AnEnd (answer_first s t).server → AnEnd s
 go_on s t e x = record { after = x.after; outs = (answer_first s t).outs ++ x.outs; answered = goes_on s x.after t x.outs e x.answered }
@@ -126,20 +126,20 @@ answering_ends s = ends_within (waiting s) s (omega arith)
 
 -- One end
 
-went : (s t : Server) (outs : List ToClient) → Answered s t outs → ((next_turn s ≡ None) × (t ≡ s) × (outs ≡ [])) ⊎ ((turn : Turn) × (later : List ToClient) × (next_turn s ≡ Some turn) × Answered (answer_first s turn).server t later × (outs ≡ (answer_first s turn).outs ++ later))
+went : (s t : Server) (outs : List ToClient) → AnswersWaiters s t outs → ((next_turn s ≡ None) × (t ≡ s) × (outs ≡ [])) ⊎ ((turn : Turn) × (later : List ToClient) × (next_turn s ≡ Some turn) × AnswersWaiters (answer_first s turn).server t later × (outs ≡ (answer_first s turn).outs ++ later))
 went s t outs (stops s' e) = inl (e, refl, refl)
 went s t outs (goes_on s' t' turn later e rest) = inr (turn, later, e, rest, refl)
 
-pub one_answering : (s t u : Server) (outs others : List ToClient) → Answered s t outs → Answered s u others → (t ≡ u) × (outs ≡ others)
+pub one_answering : (s t u : Server) (outs others : List ToClient) → AnswersWaiters s t outs → AnswersWaiters s u others → (t ≡ u) × (outs ≡ others)
 one_answering s t u outs others (stops s' e) b = ⊎_elim
     (λ (x : (next_turn s ≡ None) × (u ≡ s) × (others ≡ [])). (sym x.1, sym x.2))
-    (λ (x : (turn : Turn) × (later : List ToClient) × (next_turn s ≡ Some turn) × Answered (answer_first s turn).server u later × (others ≡ (answer_first s turn).outs ++ later)). absurd (none-some x.0 (sym e ∙ x.2)))
+    (λ (x : (turn : Turn) × (later : List ToClient) × (next_turn s ≡ Some turn) × AnswersWaiters (answer_first s turn).server u later × (others ≡ (answer_first s turn).outs ++ later)). absurd (none-some x.0 (sym e ∙ x.2)))
     (went s u others b)
 one_answering s t u outs others (goes_on s' t' turn later e rest) b = ⊎_elim
     (λ (x : (next_turn s ≡ None) × (u ≡ s) × (others ≡ [])). absurd (none-some turn (sym x.0 ∙ e)))
-    (λ (x : (turn : Turn) × (later : List ToClient) × (next_turn s ≡ Some turn) × Answered (answer_first s turn).server u later × (others ≡ (answer_first s turn).outs ++ later)).
+    (λ (x : (turn : Turn) × (later : List ToClient) × (next_turn s ≡ Some turn) × AnswersWaiters (answer_first s turn).server u later × (others ≡ (answer_first s turn).outs ++ later)).
     let same = same_Some x.0 turn (sym x.2 ∙ e) in
-    let ih = one_answering (answer_first s turn).server t u later x.1 rest (subst (λ y. Answered (answer_first s y).server u x.1) same x.3) in (
+    let ih = one_answering (answer_first s turn).server t u later x.1 rest (subst (λ y. AnswersWaiters (answer_first s y).server u x.1) same x.3) in (
       ih.0,
       ap (λ y. (answer_first s turn).outs ++ y) ih.1 ∙ ap (λ y. (answer_first s y).outs ++ x.1) (sym same)
           ∙ sym x.4,
@@ -148,34 +148,34 @@ one_answering s t u outs others (goes_on s' t' turn later e rest) b = ⊎_elim
 
 -- Steps
 
-by_kind : (k : Kind) → (k ≡ Idle) ⊎ (k ≢ Idle)
-by_kind Idle = inl refl
-by_kind Quiet = inr (λ e. absurd (cc))
-by_kind Acts = inr (λ e. absurd (cc))
+by_kind : (k : Following) → (k ≡ Nothing) ⊎ (k ≢ Nothing)
+by_kind Nothing = inl refl
+by_kind Answers = inr (λ e. absurd (cc))
+by_kind Calls = inr (λ e. absurd (cc))
 
-by_phase : (done : Done) (kind : Kind) → kind ≢ Idle → (b : Bool) → is_recovering done.server.missing ≡ b → (t : Server) × (outs : List ToClient) × Ends done kind t outs
+by_phase : (done : Done) (kind : Following) → kind ≢ Nothing → (b : Bool) → is_recovering done.server.missing ≡ b → (t : Server) × (outs : List ToClient) × Ends done kind t outs
 by_phase done kind acts true e = (done.server, done.outs, recovers e)
-by_phase done kind acts false e = let x = answering_ends done.server in (x.after, done.outs ++ (x.outs ++ calls_of kind x.after), serves x.after x.outs acts e x.answered)
+by_phase done kind acts false e = let x = answering_ends done.server in (x.after, done.outs ++ (x.outs ++ callbacks_after kind x.after), serves x.after x.outs acts e x.answered)
 
 pub step_ends : (s : Server) (m : ToServer) → (t : Server) × (outs : List ToClient) × ServerStep s m t outs
-step_ends s m = let done = effect s m (case_of s m) in let kind = kind_of (case_of s m) in
-    ⊎_elim (λ (e : kind ≡ Idle). (done.server, done.outs, at_once e)) (λ (ne : kind ≢ Idle). by_phase done kind ne (is_recovering done.server.missing) refl) (by_kind kind)
+step_ends s m = let done = effect s m (case_of s m) in let kind = following (case_of s m) in
+    ⊎_elim (λ (e : kind ≡ Nothing). (done.server, done.outs, at_once e)) (λ (ne : kind ≢ Nothing). by_phase done kind ne (is_recovering done.server.missing) refl) (by_kind kind)
 
 -- how a step ended
-ended : (done : Done) (kind : Kind) (t : Server) (outs : List ToClient) → Ends done kind t outs → (((kind ≡ Idle) ⊎ (is_recovering done.server.missing ≡ true)) × (t ≡ done.server) × (outs ≡ done.outs)) ⊎ ((answers : List ToClient) × (kind ≢ Idle) × (is_recovering done.server.missing ≡ false) × Answered done.server t answers × (outs ≡ done.outs ++ (answers ++ calls_of kind t)))
+ended : (done : Done) (kind : Following) (t : Server) (outs : List ToClient) → Ends done kind t outs → (((kind ≡ Nothing) ⊎ (is_recovering done.server.missing ≡ true)) × (t ≡ done.server) × (outs ≡ done.outs)) ⊎ ((answers : List ToClient) × (kind ≢ Nothing) × (is_recovering done.server.missing ≡ false) × AnswersWaiters done.server t answers × (outs ≡ done.outs ++ (answers ++ callbacks_after kind t)))
 ended done kind t outs (at_once e) = inl (inl e, refl, refl)
 ended done kind t outs (recovers e) = inl (inr e, refl, refl)
 ended done kind t outs (serves t' answers acts e rest) = inr (answers, acts, e, rest, refl)
 
-pub one_end : (done : Done) (kind : Kind) (t u : Server) (outs others : List ToClient) → Ends done kind t outs → Ends done kind u others → (t ≡ u) × (outs ≡ others)
+pub one_end : (done : Done) (kind : Following) (t u : Server) (outs others : List ToClient) → Ends done kind t outs → Ends done kind u others → (t ≡ u) × (outs ≡ others)
 one_end done kind t u outs others a b = join (ended done kind t outs a) (ended done kind u others b)
   where
-    join : (((kind ≡ Idle) ⊎ (is_recovering done.server.missing ≡ true)) × (t ≡ done.server) × (outs ≡ done.outs)) ⊎ ((answers : List ToClient) × (kind ≢ Idle) × (is_recovering done.server.missing ≡ false) × Answered done.server t answers × (outs ≡ done.outs ++ (answers ++ calls_of kind t))) → (((kind ≡ Idle) ⊎ (is_recovering done.server.missing ≡ true)) × (u ≡ done.server) × (others ≡ done.outs)) ⊎ ((answers : List ToClient) × (kind ≢ Idle) × (is_recovering done.server.missing ≡ false) × Answered done.server u answers × (others ≡ done.outs ++ (answers ++ calls_of kind u))) → (t ≡ u) × (outs ≡ others)
+    join : (((kind ≡ Nothing) ⊎ (is_recovering done.server.missing ≡ true)) × (t ≡ done.server) × (outs ≡ done.outs)) ⊎ ((answers : List ToClient) × (kind ≢ Nothing) × (is_recovering done.server.missing ≡ false) × AnswersWaiters done.server t answers × (outs ≡ done.outs ++ (answers ++ callbacks_after kind t))) → (((kind ≡ Nothing) ⊎ (is_recovering done.server.missing ≡ true)) × (u ≡ done.server) × (others ≡ done.outs)) ⊎ ((answers : List ToClient) × (kind ≢ Nothing) × (is_recovering done.server.missing ≡ false) × AnswersWaiters done.server u answers × (others ≡ done.outs ++ (answers ++ callbacks_after kind u))) → (t ≡ u) × (outs ≡ others)
     join (inl x) (inl y) = (x.1 ∙ sym y.1, x.2 ∙ sym y.2)
-    join (inl x) (inr y) = absurd (⊎_elim (λ (e : kind ≡ Idle). y.1 e) (λ (g : is_recovering done.server.missing ≡ true). not_both (is_recovering done.server.missing) g y.2) x.0)
-    join (inr x) (inl y) = absurd (⊎_elim (λ (e : kind ≡ Idle). x.1 e) (λ (g : is_recovering done.server.missing ≡ true). not_both (is_recovering done.server.missing) g x.2) y.0)
+    join (inl x) (inr y) = absurd (⊎_elim (λ (e : kind ≡ Nothing). y.1 e) (λ (g : is_recovering done.server.missing ≡ true). not_both (is_recovering done.server.missing) g y.2) x.0)
+    join (inr x) (inl y) = absurd (⊎_elim (λ (e : kind ≡ Nothing). x.1 e) (λ (g : is_recovering done.server.missing ≡ true). not_both (is_recovering done.server.missing) g x.2) y.0)
     join (inr x) (inr y) = let z = one_answering done.server t u x.0 y.0 x.3 y.3 in
-        (z.0, x.4 ∙ ap (λ v. done.outs ++ (v ++ calls_of kind t)) z.1 ∙ ap (λ v. done.outs ++ (y.0 ++ calls_of kind v)) z.0 ∙ sym y.4)
+        (z.0, x.4 ∙ ap (λ v. done.outs ++ (v ++ callbacks_after kind t)) z.1 ∙ ap (λ v. done.outs ++ (y.0 ++ callbacks_after kind v)) z.0 ∙ sym y.4)
 
 none_left : (us : List Waiter) → length us ≤ 0 → us ≡ []
 none_left [] h = refl

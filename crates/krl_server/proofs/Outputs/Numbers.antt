@@ -2,8 +2,8 @@
 use Rattle.std.proofs.Common.{◌≡◌, ℕ, zero, suc, ◌+◌, ◌*◌, ◌≤◌, ◌<◌, Bool, true, false, ◌||◌, Option, Some, None, List, [], ◌∷◌, ◌++◌, length, inl, refl, sym, ap, subst, arith, length-append, nat_eq, eq-eqb}
 use Rattle.krl_server.proofs.Names.{if◌then◌else◌, compatible, cap, ToClient, PushBody, ToServer, WriteOp, Outcome, Waiter, eq_cases, Record, slot_of, slots, span_of, op_key, In, record_of}
 use Rattle.krl_server.proofs.Names.{max_clients, mode_at, wanted, asks_absent, IsTable, Server, is_recovering, lists, Case, Ignored, Registers, Leaves, Tells, Alarms, Rebuilds, Repeats}
-use Rattle.krl_server.proofs.Names.{Acknowledges, Lowers, Waits, Judges, TakesLock, takes, AnswersAgain, case_of, callback_to, epoch_to, holding, acknowledged, writes, answers, effect, stops, is_compatible}
-use Rattle.krl_server.proofs.Names.{callbacks_from, callbacks_for, callbacks_at, callbacks_among, callbacks_of, callbacks_of_among, Kind, Idle, Quiet, Acts, kind_of, calls_of, at_once, recovers}
+use Rattle.krl_server.proofs.Names.{Acknowledges, Lowers, Waits, Judges, SeizesLock, seizes, AnswersAgain, case_of, callback_to, epoch_to, holding, acknowledged, writes, tells_outcome, effect, stops, is_compatible}
+use Rattle.krl_server.proofs.Names.{callbacks_from, callbacks_for, callbacks_at, callbacks_among, callbacks_of, callbacks_of_among, Following, Nothing, Answers, Calls, following, callbacks_after, at_once, recovers}
 use Rattle.krl_server.proofs.Names.{serves, ServerStep, nudge_served, nudge_missing, nudge_known, nudge, IsSound, waiting_on, waiting, max_messages, StepsEnd}
 use Rattle.krl_messages.specs.declared.to_client.PushBody.TheVariants as push
 use Rattle.krl_messages.specs.declared.outcome.Outcome.TheVariants as outcome
@@ -73,14 +73,14 @@ of_among_fewer s c (n ∷ ns) =
     let ih = of_among_fewer s c ns in
     omega (arith, here, ih, length-append (callbacks_of c s n (s.rows n).queue) (callbacks_of_among c s ns), length-append (callbacks_at s n (s.rows n).queue) (callbacks_among s ns))
 
-pub calls_few : (s : Server) (k : Kind) → IsSound s → length (calls_of k s) ≤ 63 * waiting s
-calls_few s Idle i = omega arith
-calls_few s Quiet i = omega arith
-calls_few s Acts i = among_few s (slots s.durable.index) i
+pub calls_few : (s : Server) (k : Following) → IsSound s → length (callbacks_after k s) ≤ 63 * waiting s
+calls_few s Nothing i = omega arith
+calls_few s Answers i = omega arith
+calls_few s Calls i = among_few s (slots s.durable.index) i
 
 -- Steps
 
-pub answers_few : (s : Server) (c number : ℕ) (op : WriteOp) (o : Outcome) → length (answers s c number op o).outs ≤ 1
+pub answers_few : (s : Server) (c number : ℕ) (op : WriteOp) (o : Outcome) → length (tells_outcome s c number op o).outs ≤ 1
 answers_few s c number op o = pushes_few s c (push.Answer number o (holding s (slot_of s.durable.index (op_key op)) c))
 
 effect_few : (s : Server) (m : ToServer) (k : Case) → length (effect s m k).outs ≤ 1
@@ -95,7 +95,7 @@ effect_few s m Acknowledges = omega arith
 effect_few s m (Lowers span keep) = omega arith
 effect_few s m (Waits req point hi g) = omega arith
 effect_few s m (Judges number op o) = answers_few (writes (acknowledged s m.client) m.client op o) m.client number op o
-effect_few s m (TakesLock number op) = answers_few (writes (acknowledged (takes s m.client op) m.client) m.client op outcome.Applied) m.client number op outcome.Applied
+effect_few s m (SeizesLock number op) = answers_few (writes (acknowledged (seizes s m.client op) m.client) m.client op outcome.Applied) m.client number op outcome.Applied
 effect_few s m (AnswersAgain number op o) = answers_few (acknowledged s m.client) m.client number op o
 
 pub no_more_wait : (s : Server) → IsSound s → IsTable s.durable.index s.rows → waiting s ≤ 64
@@ -106,12 +106,12 @@ step_few s m t outs i table (at_once e) = let x = effect_few s m (case_of s m) i
 step_few s m t outs i table (recovers e) = let x = effect_few s m (case_of s m) in omega (arith, x, many)
 step_few s m t outs i table (serves t' answers acts e rest) =
     let done = effect s m (case_of s m) in
-    let kind = kind_of (case_of s m) in
+    let kind = following (case_of s m) in
     let here = effect_few s m (case_of s m) in
     let wait = no_more_wait done.server i table in
     let less = answered_less done.server t answers rest in
     let calls = calls_few t kind (answering_sound done.server t answers rest i) in
-    omega (arith, here, wait, less, calls, many, length-append done.outs (answers ++ calls_of kind t), length-append answers (calls_of kind t))
+    omega (arith, here, wait, less, calls, many, length-append done.outs (answers ++ callbacks_after kind t), length-append answers (callbacks_after kind t))
 
 pub nudge_few : (s : Server) (c : ℕ) → IsSound s → IsTable s.durable.index s.rows → length (nudge s c) ≤ max_messages
 nudge_few s c i table = known (record_of s.durable.register c)
@@ -139,7 +139,7 @@ nudge_few s c i table = known (record_of s.durable.register c)
 pub all_end : StepsEnd
 all_end = record {
   some = step_ends;
-  one = λ s t u m outs others a b. one_end (effect s m (case_of s m)) (kind_of (case_of s m)) t u outs others a b;
+  one = λ s t u m outs others a b. one_end (effect s m (case_of s m)) (following (case_of s m)) t u outs others a b;
   answers = answered_less;
   few = λ s t m outs i table step. step_few s m t outs (effect_sound s m i) (effect_table s m i table) step;
   nobody_left = λ s settled up. stops s (settled up);

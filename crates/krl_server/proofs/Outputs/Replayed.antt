@@ -1,7 +1,7 @@
 -- What a step reports of its change: it makes what survives, and so do the changes of many steps.
 use Rattle.krl_server.proofs.Names.{◌≡◌, ℕ, suc, ◌<◌, Bool, true, false, Option, Some, None, List, [], ◌∷◌, refl, sym, ap, subst, ◌∙◌, arith, WriteOp, Outcome, ToServer, ToClient, op_key, Record}
 use Rattle.krl_server.proofs.Names.{slot_of, Durable, record_of, with_record, new_record, registered, left_by, departed, index_after, applied, ServerOut, Server, incarnation_or_0, Case, case_of}
-use Rattle.krl_server.proofs.Names.{holding, acknowledged, effect, kind_of, ServerStep, HasStepped, last_of}
+use Rattle.krl_server.proofs.Names.{holding, acknowledged, effect, following, ServerStep, HasStepped, last_of}
 use Rattle.krl_messages.specs.declared.to_client.PushBody.TheVariants as push
 use Rattle.krl_messages.specs.declared.outcome.Outcome.TheVariants as outcome
 use Rattle.krl_durable.specs.Changes.{judged_in, judged_of, judged, changed_by, IsChange}
@@ -23,7 +23,7 @@ judged_is d c number op o r e new =
     ∙ ap (λ n. record d { index = index_after d.index op o; register = with_record d.register c (judged_in r n o) }) (sym new)
     ∙ sym (ap (judged_of d c number op o) e)
 
-answered_durable : (s : Server) (m : ToServer) (number : ℕ) (op : WriteOp) (o : Outcome) (x : Server) → (effects.answers x m.client number op o).server.durable ≡ x.durable
+answered_durable : (s : Server) (m : ToServer) (number : ℕ) (op : WriteOp) (o : Outcome) (x : Server) → (effects.tells_outcome x m.client number op o).server.durable ≡ x.durable
 answered_durable s m number op o x = pushes_durable x m.client (push.Answer number o (holding x (slot_of x.durable.index (op_key op)) m.client))
 
 -- the client has left
@@ -52,8 +52,8 @@ module _ (s : Server) (m : ToServer) where
     judges = λ r number op o served under near new is.
         answered_durable s m number op o (effects.writes (acknowledged s m.client) m.client op o)
         ∙ judged_is s.durable m.client number op o r served.from.known new;
-    takes = λ r number op served under near new may.
-        answered_durable s m number op outcome.Applied (effects.writes (acknowledged (effects.takes s m.client op) m.client) m.client op outcome.Applied)
+    seizes = λ r number op served under near new may.
+        answered_durable s m number op outcome.Applied (effects.writes (acknowledged (effects.seizes s m.client op) m.client) m.client op outcome.Applied)
         ∙ judged_is s.durable m.client number op outcome.Applied r served.from.known new;
     answers_again = λ r number op o served under some last is. answered_durable s m number op o (acknowledged s m.client);
   })
@@ -101,15 +101,15 @@ module _ (s : Server) (m : ToServer) where
     judges = λ r number op o served under near new is same.
         absurd (no_same_write number op o r served.from.known new
         (sym (answered_durable s m number op o (effects.writes (acknowledged s m.client) m.client op o) ∙ judged_is s.durable m.client number op o r served.from.known new) ∙ same));
-    takes = λ r number op served under near new may same.
+    seizes = λ r number op served under near new may same.
         absurd (no_same_write number op outcome.Applied r served.from.known new
-        (sym (answered_durable s m number op outcome.Applied (effects.writes (acknowledged (effects.takes s m.client op) m.client) m.client op outcome.Applied) ∙ judged_is s.durable m.client number op outcome.Applied r served.from.known new) ∙ same));
+        (sym (answered_durable s m number op outcome.Applied (effects.writes (acknowledged (effects.seizes s m.client op) m.client) m.client op outcome.Applied) ∙ judged_is s.durable m.client number op outcome.Applied r served.from.known new) ∙ same));
     answers_again = λ r number op o served under some last is same. refl;
   })
 
   module _ (t : Server) (outs : List ToClient) (step : ServerStep s m t outs) where
     after : t.durable ≡ (effect s m (case_of s m)).server.durable
-    after = ends_durable (effect s m (case_of s m)) (kind_of (case_of s m)) t outs step
+    after = ends_durable (effect s m (case_of s m)) (following (case_of s m)) t outs step
 
     makes : t.durable ≡ changed_by (change_of m (case_of s m)) s.durable
     makes = after ∙ case_makes

@@ -1,10 +1,10 @@
 -- What a step changes and sends.
 use Rattle.krl_server.proofs.Names.{◌≡◌, ◌≢◌, ℕ, zero, suc, ◌+◌, ◌≤◌, ◌<◌, Bool, true, false, not, ◌||◌, ◌↔◌, Some, List, [], ◌∷◌, inl, inr, refl, sym, ap, subst, ◌∙◌, ⊎_elim, arith, nat_eq, ne_eqb}
 use Rattle.krl_server.proofs.Names.{eqb-false, and_parts, or_parts, none-some, same_Some, nat_lt, is_some, if◌then◌else◌, END, compatible, cap, ToServer, ToClient, PushBody, Waiter, eq_cases}
-use Rattle.krl_server.proofs.Names.{slot_of, span_of, slots, op_key, In, in_both, in_left, in_right, max_clients, mode_at, front_of, wanted, dropped, taken, granted, asks_absent}
-use Rattle.krl_server.proofs.Names.{is_wanted_compatible, Session, Server, Case, Ignored, Registers, Leaves, Tells, Alarms, Rebuilds, Repeats, Acknowledges, Lowers, Waits, Judges, TakesLock, AnswersAgain}
+use Rattle.krl_server.proofs.Names.{slot_of, span_of, slots, op_key, In, in_both, in_left, in_right, max_clients, mode_at, front_of, wanted, front_dropped, reached_slots, granted, asks_absent}
+use Rattle.krl_server.proofs.Names.{is_wanted_compatible, Session, Server, Case, Ignored, Registers, Leaves, Tells, Alarms, Rebuilds, Repeats, Acknowledges, Lowers, Waits, Judges, SeizesLock, AnswersAgain}
 use Rattle.krl_server.proofs.Names.{case_of, Done, silent, with_session, with_rows, holding, holdings, acknowledged, push_to, callback_to, pushes, effect, can_push, Turn, next_turn, tells_absent}
-use Rattle.krl_server.proofs.Names.{grants, is_compatible, callbacks_from, callbacks_for, callbacks_at, callbacks_among, callbacks, changes_durable, IsCallback, IsNextPush, ServerSays, kind_of}
+use Rattle.krl_server.proofs.Names.{grants, is_compatible, callbacks_from, callbacks_for, callbacks_at, callbacks_among, callbacks, changes_durable, IsCallback, IsNextPush, ServerSays, following}
 use Rattle.krl_messages.specs.declared.to_client.PushBody.TheVariants as push
 use Rattle.krl_server.proofs.Updates.{session_here}
 use Rattle.krl_server.proofs.Turns.{turn_is}
@@ -24,7 +24,7 @@ effect_durable s m Acknowledges e = refl
 effect_durable s m (Lowers span keep) e = refl
 effect_durable s m (Waits req point hi g) e = refl
 effect_durable s m (Judges number op o) e = absurd (cc)
-effect_durable s m (TakesLock number op) e = absurd (cc)
+effect_durable s m (SeizesLock number op) e = absurd (cc)
 effect_durable s m (AnswersAgain number op o) e = let t = acknowledged s m.client in pushes_durable t m.client (push.Answer number o (holding t (slot_of t.durable.index (op_key op)) m.client))
 
 -- Callbacks
@@ -117,12 +117,12 @@ answer_is s t e =
     let c = t.waiter.client in
     let lt = (and_parts (not (is_some (s.sessions c).unacked)) (nat_lt (s.sessions c).last_push END) (and_parts (can_push (s.sessions c)) (asks_absent s.durable.index t.waiter || is_wanted_compatible s.rows t.slot t.waiter) x.answerable).0).1 in
     if_both (λ (d : Done). IsPush s c d) (asks_absent s.durable.index t.waiter) (tells_absent s t) (grants s t)
-    (one_push (with_rows s (dropped s.rows t.slot)) c (push.Absent t.waiter.req t.waiter.point) lt)
-    (let g = with_rows s (granted s.durable.reach s.durable.index s.rows t.slot) in one_push g c (push.Grant t.waiter.req (holdings g c (taken s.durable.reach s.durable.index s.rows t.slot))) lt)
+    (one_push (with_rows s (front_dropped s.rows t.slot)) c (push.Absent t.waiter.req t.waiter.point) lt)
+    (let g = with_rows s (granted s.durable.reach s.durable.index s.rows t.slot) in one_push g c (push.Grant t.waiter.req (holdings g c (reached_slots s.durable.reach s.durable.index s.rows t.slot))) lt)
 
 pub all_said : ServerSays
 all_said = record {
-  durable = λ s t m outs e step. ends_durable (effect s m (case_of s m)) (kind_of (case_of s m)) t outs step ∙ effect_durable s m (case_of s m) e;
+  durable = λ s t m outs e step. ends_durable (effect s m (case_of s m)) (following (case_of s m)) t outs step ∙ effect_durable s m (case_of s m) e;
   callbacks = callbacks_are;
   answer = answer_is;
 }

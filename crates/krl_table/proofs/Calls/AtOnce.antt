@@ -1,9 +1,9 @@
 -- A waiter that goes to a slot where nobody waits, and is granted there.
 use Rattle.krl_table.proofs.Names.{◌≡◌, ℕ, ◌-◌, Bool, true, false, not, ◌&&◌, List, [], ◌∷◌, ◌++◌, Some, refl, sym, ap, ◌∙◌, nat_eq, eq-eqb, fun_ext, if◌then◌else◌, at_most, Waiter, Index, slot_of, Row}
 use Rattle.krl_table.proofs.Names.{Rows, front_of, set_row, set_mode, with_mode, with_queue, wanted, queue_with, enqueued, grant_first, granted_first, raised, raised_on, asks_absent}
-use Rattle.krl_table.proofs.Names.{is_wanted_compatible, nobody_waits, is_granted_at_once, taken_after, taken, granted}
+use Rattle.krl_table.proofs.Names.{is_wanted_compatible, nobody_waits, is_granted_at_once, reached_after, reached_slots, granted}
 use Rattle.krl_modes.specs.declared.mode.Mode.TheVariants as mode
-use Rattle.krl_table.proofs.Calls.Raises.{granted_from, taken_from}
+use Rattle.krl_table.proofs.Calls.Raises.{granted_from, reached_from}
 
 no_queue : (us : List Waiter) → nobody_waits us ≡ true → us ≡ []
 no_queue [] e = refl
@@ -54,10 +54,10 @@ module _ (m : Index) (rows : Rows) (u : Waiter) (n : ℕ) (at : slot_of m u.poin
   front : front_of (queued n).queue ≡ Some u
   front = ap (λ (r : Row). front_of r.queue) here
 
-  pub at_once_granted : (j : ℕ) → granted j m (enqueued m rows u) (slot_of m u.point) ≡ raised_on (raised rows n u) (taken_after m (raised rows n u) n u (j - 1)) u
+  pub at_once_granted : (j : ℕ) → granted j m (enqueued m rows u) (slot_of m u.point) ≡ raised_on (raised rows n u) (reached_after m (raised rows n u) n u (j - 1)) u
   at_once_granted j = ap (λ k. granted j m (enqueued m rows u) k) at ∙ ap (λ (r : Rows). granted j m r n) queued_is ∙ granted_from j m queued n u front
-      ∙ ap (λ (r : Rows). raised_on r (taken_after m r n u (j - 1)) u) first_is
+      ∙ ap (λ (r : Rows). raised_on r (reached_after m r n u (j - 1)) u) first_is
 
-  pub at_once_taken : (j : ℕ) → taken j m (enqueued m rows u) (slot_of m u.point) ≡ n ∷ taken_after m (raised rows n u) n u (j - 1)
-  at_once_taken j = ap (λ k. taken j m (enqueued m rows u) k) at ∙ ap (λ (r : Rows). taken j m r n) queued_is ∙ taken_from j m queued n u front
-      ∙ ap (λ (r : Rows). n ∷ taken_after m r n u (j - 1)) first_is
+  pub at_once_reached : (j : ℕ) → reached_slots j m (enqueued m rows u) (slot_of m u.point) ≡ n ∷ reached_after m (raised rows n u) n u (j - 1)
+  at_once_reached j = ap (λ k. reached_slots j m (enqueued m rows u) k) at ∙ ap (λ (r : Rows). reached_slots j m r n) queued_is ∙ reached_from j m queued n u front
+      ∙ ap (λ (r : Rows). n ∷ reached_after m r n u (j - 1)) first_is

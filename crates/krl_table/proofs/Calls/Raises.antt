@@ -1,11 +1,12 @@
 -- A client's mode on one slot rises to what a waiter wants; and so on slot after slot.
 use Rattle.krl_table.proofs.Names.{◌≡◌, ℕ, zero, suc, ◌-◌, ◌≤◌, ◌<◌, Bool, true, false, ◌&&◌, ◌||◌, List, [], ◌∷◌, ◌++◌, Option, Some, None, IfSome, length, refl, sym, ap, subst, ◌∙◌, append_assoc}
 use Rattle.krl_table.proofs.Names.{arith, fun_ext, END, Mode, compatible, Waiter, Index, slot_of, is_slot, Row, Rows, blank_row, front_of, max_clients, is_compatible_in_row, with_mode}
-use Rattle.krl_table.proofs.Names.{wanted, raised, raised_on, granted_first, is_wanted_compatible, can_take, goes_on, taken_after, taken_by, granted_by, Kept, rows_of, IsSet, IsOver}
+use Rattle.krl_table.proofs.Names.{wanted, raised, raised_on, granted_first, is_wanted_compatible, is_open_to, goes_on, reached_after, reached_by, granted_by, Kept, rows_of, IsSet, IsOver}
 use Rattle.krl_table.proofs.Names.{IsSound, AreListed}
 use Rattle.std.specs.Prelude.{nat_eq, nat_lt, if◌then◌else◌}
 use Rattle.krl_modes.specs.declared.mode.Mode.TheVariants as mode
 use Rattle.krl_table.proofs.Rows.Below.{below_true, clients_are}
+use Rattle.krl_table.proofs.Calls.Reaches.{reached_raised}
 use Rattle.krl_table.proofs.Invariant.Compatible.{none_compatible, set_compatible, compatible_row}
 use Rattle.krl_table.proofs.Invariant.Sounds.{set_strangers, modes_sound, same_queue, fewer_over, listed_same}
 
@@ -35,46 +36,48 @@ module _ (t u : Kept) (k : ℕ) (w : Waiter) (sound : IsSound t) (client : w.cli
 
 -- A grant that continues
 
-nothing_more : (m : Index) (rows : Rows) (n : ℕ) (w : Waiter) (k : ℕ) → goes_on m rows n w ≡ false → taken_after m rows n w k ≡ []
+nothing_more : (m : Index) (rows : Rows) (n : ℕ) (w : Waiter) (k : ℕ) → goes_on m rows n w ≡ false → reached_after m rows n w k ≡ []
 nothing_more m rows n w zero e = refl
-nothing_more m rows n w (suc k) e = ap (λ b. if b then slot_of m (suc n) ∷ taken_after m (raised rows (slot_of m (suc n)) w) (slot_of m (suc n)) w k else []) e
+nothing_more m rows n w (suc k) e = ap (λ b. if b then slot_of m (suc n) ∷ reached_after m rows (slot_of m (suc n)) w k else []) e
 
-one_more : (m : Index) (rows : Rows) (n : ℕ) (w : Waiter) (k : ℕ) → goes_on m rows n w ≡ true → taken_after m rows n w (suc k) ≡ slot_of m (suc n) ∷ taken_after m (raised rows (slot_of m (suc n)) w) (slot_of m (suc n)) w k
-one_more m rows n w k e = ap (λ b. if b then slot_of m (suc n) ∷ taken_after m (raised rows (slot_of m (suc n)) w) (slot_of m (suc n)) w k else []) e
+one_more : (m : Index) (rows : Rows) (n : ℕ) (w : Waiter) (k : ℕ) → goes_on m rows n w ≡ true → reached_after m rows n w (suc k) ≡ slot_of m (suc n) ∷ reached_after m (raised rows (slot_of m (suc n)) w) (slot_of m (suc n)) w k
+one_more m rows n w k e =
+    ap (λ b. if b then slot_of m (suc n) ∷ reached_after m rows (slot_of m (suc n)) w k else []) e
+    ∙ ap (λ ns. slot_of m (suc n) ∷ ns) (reached_raised m w rows (slot_of m (suc n)) k)
 
 -- where the grant stands: these rows, the last slot, and how many are noted; what is left of it leads to one end
 pub record IsGoing (r : ℕ) (m : Index) (first : Kept) (slot : ℕ) (w : Waiter) (noted : List ℕ) (t : Kept) (at : ℕ) (now : List ℕ) : Type 0 where
   pub over : IsOver m t
-  pub rows : raised_on (rows_of first) (taken_after m (rows_of first) slot w (r - length noted)) w ≡ raised_on (rows_of t) (taken_after m (rows_of t) at w (r - length now)) w
-  pub taken : noted ++ taken_after m (rows_of first) slot w (r - length noted) ≡ now ++ taken_after m (rows_of t) at w (r - length now)
+  pub rows : raised_on (rows_of first) (reached_after m (rows_of first) slot w (r - length noted)) w ≡ raised_on (rows_of t) (reached_after m (rows_of t) at w (r - length now)) w
+  pub reached : noted ++ reached_after m (rows_of first) slot w (r - length noted) ≡ now ++ reached_after m (rows_of t) at w (r - length now)
 
 pub begins : (r : ℕ) (m : Index) (t : Kept) (slot : ℕ) (w : Waiter) (noted : List ℕ) → IsOver m t → IsGoing r m t slot w noted t slot noted
-begins r m t slot w noted over = record { over = over; rows = refl; taken = refl }
+begins r m t slot w noted over = record { over = over; rows = refl; reached = refl }
 
 module _ (r : ℕ) (m : Index) (first : Kept) (slot : ℕ) (w : Waiter) (noted : List ℕ) (t : Kept) (at : ℕ) (now : List ℕ) (going : IsGoing r m first slot w noted t at now) where
   -- nothing is left
-  pub ends_rows : taken_after m (rows_of t) at w (r - length now) ≡ [] → rows_of t ≡ raised_on (rows_of first) (taken_after m (rows_of first) slot w (r - length noted)) w
+  pub ends_rows : reached_after m (rows_of t) at w (r - length now) ≡ [] → rows_of t ≡ raised_on (rows_of first) (reached_after m (rows_of first) slot w (r - length noted)) w
   ends_rows none = sym (going.rows ∙ ap (λ ns. raised_on (rows_of t) ns w) none)
 
-  pub ends_taken : taken_after m (rows_of t) at w (r - length now) ≡ [] → now ≡ noted ++ taken_after m (rows_of first) slot w (r - length noted)
-  ends_taken none = sym (going.taken ∙ ap (λ ns. now ++ ns) none ∙ append_nil now)
+  pub ends_reached : reached_after m (rows_of t) at w (r - length now) ≡ [] → now ≡ noted ++ reached_after m (rows_of first) slot w (r - length noted)
+  ends_reached none = sym (going.reached ∙ ap (λ ns. now ++ ns) none ∙ append_nil now)
     where
       append_nil : (xs : List ℕ) → xs ++ [] ≡ xs
       append_nil [] = refl
       append_nil (x ∷ xs) = ap (λ ys. x ∷ ys) (append_nil xs)
 
-  pub full_ends : r ≤ length now → taken_after m (rows_of t) at w (r - length now) ≡ []
-  full_ends e = let zero_left : r - length now ≡ 0 = omega (arith, e) in ap (λ k. taken_after m (rows_of t) at w k) zero_left
+  pub full_ends : r ≤ length now → reached_after m (rows_of t) at w (r - length now) ≡ []
+  full_ends e = let zero_left : r - length now ≡ 0 = omega (arith, e) in ap (λ k. reached_after m (rows_of t) at w k) zero_left
 
-  pub test_ends : goes_on m (rows_of t) at w ≡ false → taken_after m (rows_of t) at w (r - length now) ≡ []
+  pub test_ends : goes_on m (rows_of t) at w ≡ false → reached_after m (rows_of t) at w (r - length now) ≡ []
   test_ends stops = nothing_more m (rows_of t) at w (r - length now) stops
 
-  -- the next slot is taken
+  -- the next slot is reached
   pub goes : (u : Kept) (next : ℕ) → length now < r → slot_of m (suc at) ≡ next → goes_on m (rows_of t) at w ≡ true → ((n : ℕ) → rows_of u n ≡ raised (rows_of t) next w n) → IsOver m u → IsGoing r m first slot w noted u next (now ++ next ∷ [])
   goes u next room slot_is on rows over = record {
     over = over;
-    rows = going.rows ∙ ap (λ ns. raised_on (rows_of t) ns w) step ∙ ap (λ (q : Rows). raised_on q (taken_after m (rows_of u) next w (r - length (now ++ next ∷ []))) w) (sym is_raised);
-    taken = going.taken ∙ ap (λ ns. now ++ ns) step ∙ sym (append_assoc now (next ∷ []) (taken_after m (rows_of u) next w (r - length (now ++ next ∷ []))));
+    rows = going.rows ∙ ap (λ ns. raised_on (rows_of t) ns w) step ∙ ap (λ (q : Rows). raised_on q (reached_after m (rows_of u) next w (r - length (now ++ next ∷ []))) w) (sym is_raised);
+    reached = going.reached ∙ ap (λ ns. now ++ ns) step ∙ sym (append_assoc now (next ∷ []) (reached_after m (rows_of u) next w (r - length (now ++ next ∷ []))));
   }
     where
       is_raised : rows_of u ≡ raised (rows_of t) next w
@@ -87,25 +90,25 @@ module _ (r : ℕ) (m : Index) (first : Kept) (slot : ℕ) (w : Waiter) (noted :
       left : r - length now ≡ suc (r - length (now ++ next ∷ []))
       left = let a = longer now in omega (arith, a, room)
 
-      step : taken_after m (rows_of t) at w (r - length now) ≡ next ∷ taken_after m (rows_of u) next w (r - length (now ++ next ∷ []))
-      step = ap (λ k. taken_after m (rows_of t) at w k) left ∙ one_more m (rows_of t) at w (r - length (now ++ next ∷ [])) on
-          ∙ ap (λ s. s ∷ taken_after m (raised (rows_of t) s w) s w (r - length (now ++ next ∷ []))) slot_is
-          ∙ ap (λ (q : Rows). next ∷ taken_after m q next w (r - length (now ++ next ∷ []))) (sym is_raised)
+      step : reached_after m (rows_of t) at w (r - length now) ≡ next ∷ reached_after m (rows_of u) next w (r - length (now ++ next ∷ []))
+      step = ap (λ k. reached_after m (rows_of t) at w k) left ∙ one_more m (rows_of t) at w (r - length (now ++ next ∷ [])) on
+          ∙ ap (λ s. s ∷ reached_after m (raised (rows_of t) s w) s w (r - length (now ++ next ∷ []))) slot_is
+          ∙ ap (λ (q : Rows). next ∷ reached_after m q next w (r - length (now ++ next ∷ []))) (sym is_raised)
 
 -- Tests
 
 pub no_after_end : (m : Index) (rows : Rows) (n : ℕ) (w : Waiter) → nat_lt n END ≡ false → goes_on m rows n w ≡ false
-no_after_end m rows n w e = ap (λ b. b && (nat_lt (suc n) w.hi && can_take rows (slot_of m (suc n)) w)) e
+no_after_end m rows n w e = ap (λ b. b && (nat_lt (suc n) w.hi && is_open_to rows (slot_of m (suc n)) w)) e
 
 pub no_past : (m : Index) (rows : Rows) (n : ℕ) (w : Waiter) → nat_lt (suc n) w.hi ≡ false → goes_on m rows n w ≡ false
-no_past m rows n w e = ap (λ b. nat_lt n END && (b && can_take rows (slot_of m (suc n)) w)) e ∙ and_false (nat_lt n END)
+no_past m rows n w e = ap (λ b. nat_lt n END && (b && is_open_to rows (slot_of m (suc n)) w)) e ∙ and_false (nat_lt n END)
   where
     and_false : (b : Bool) → (b && false) ≡ false
     and_false true = refl
     and_false false = refl
 
-pub by_take : (m : Index) (rows : Rows) (n next : ℕ) (w : Waiter) (b : Bool) → nat_lt n END ≡ true → nat_lt (suc n) w.hi ≡ true → slot_of m (suc n) ≡ next → can_take rows next w ≡ b → goes_on m rows n w ≡ b
-by_take m rows n next w b near below is e = ap (λ x. x && (nat_lt (suc n) w.hi && can_take rows (slot_of m (suc n)) w)) near ∙ ap (λ x. x && can_take rows (slot_of m (suc n)) w) below ∙ ap (λ s. can_take rows s w) is ∙ e
+pub by_take : (m : Index) (rows : Rows) (n next : ℕ) (w : Waiter) (b : Bool) → nat_lt n END ≡ true → nat_lt (suc n) w.hi ≡ true → slot_of m (suc n) ≡ next → is_open_to rows next w ≡ b → goes_on m rows n w ≡ b
+by_take m rows n next w b near below is e = ap (λ x. x && (nat_lt (suc n) w.hi && is_open_to rows (slot_of m (suc n)) w)) near ∙ ap (λ x. x && is_open_to rows (slot_of m (suc n)) w) below ∙ ap (λ s. is_open_to rows s w) is ∙ e
 
 -- A grant
 
@@ -123,8 +126,8 @@ module _ (r : ℕ) (m : Index) (rows : Rows) (n : ℕ) (w : Waiter) (front : fro
   by_front P h [] e = absurd (cc)
   by_front P h (v ∷ ws) e = let same : v ≡ w = cc in subst (λ x. P (x ∷ ws)) (sym same) (h ws)
 
-  pub granted_from : granted_by r m rows n (rows n).queue ≡ raised_on (granted_first rows n) (taken_after m (granted_first rows n) n w (r - 1)) w
-  granted_from = by_front (λ ws. granted_by r m rows n ws ≡ raised_on (granted_first rows n) (taken_after m (granted_first rows n) n w (r - 1)) w) (λ ws. refl) (rows n).queue front
+  pub granted_from : granted_by r m rows n (rows n).queue ≡ raised_on (granted_first rows n) (reached_after m (granted_first rows n) n w (r - 1)) w
+  granted_from = by_front (λ ws. granted_by r m rows n ws ≡ raised_on (granted_first rows n) (reached_after m (granted_first rows n) n w (r - 1)) w) (λ ws. refl) (rows n).queue front
 
-  pub taken_from : taken_by r m rows n (rows n).queue ≡ n ∷ taken_after m (granted_first rows n) n w (r - 1)
-  taken_from = by_front (λ ws. taken_by r m rows n ws ≡ n ∷ taken_after m (granted_first rows n) n w (r - 1)) (λ ws. refl) (rows n).queue front
+  pub reached_from : reached_by r m rows n (rows n).queue ≡ n ∷ reached_after m (granted_first rows n) n w (r - 1)
+  reached_from = by_front (λ ws. reached_by r m rows n ws ≡ n ∷ reached_after m (granted_first rows n) n w (r - 1)) (λ ws. refl) (rows n).queue front

@@ -2,7 +2,7 @@
 use Rattle.krl_table.proofs.Names.{◌≡◌, ◌≢◌, ℕ, zero, suc, ◌+◌, ◌≤◌, ◌<◌, Bool, true, false, not, ◌&&◌, List, [], ◌∷◌, Option, Some, None, IsSome, ◌⊎◌, ◌||◌, inl, inr, drop, slice_index_or, length}
 use Rattle.krl_table.proofs.Names.{refl, sym, ap, subst, ◌∙◌, ⊎_elim, arith, cases_lt, ne_eqb, nat_tests, fun_ext, drop_all, list_all, get, END, TOP, RangePart, KeyPart, Mode, range_join}
 use Rattle.krl_table.proofs.Names.{key_join, at_or_above, compatible, meet, Bounds, meets, Pieces, In, Index, low_of, slots, is_slot, IsSlotOf, SlotRow, Row, Rows, blank_row, is_compatible_there}
-use Rattle.krl_table.proofs.Names.{mode_at, set_mode, all_below, max_clients, is_compatible_in_row, with_mode, reported_range, reported_key, rebuilt, conflicts, adopted, RangesOff, KeysOff}
+use Rattle.krl_table.proofs.Names.{mode_at, set_mode, all_below, max_clients, is_compatible_in_row, with_mode, joined_range_over, greatest_key_at, rebuilt, conflicts, adopted, RangesOff, KeysOff}
 use Rattle.krl_table.proofs.Names.{BeginsSpan, NothingFrom, IsNextReported, Kept, row_of, row_there, rows_of, IsSet, IsAll, IsOver, IsSound, AreCompatible, times, lowered_between}
 use Rattle.std.proofs.Math.Seq.{drop-cons}
 use Rattle.std.specs.Prelude.{nat_eq, nat_lt, if◌then◌else◌}
@@ -47,33 +47,33 @@ from_item xs i x lt e = let one : suc i ≡ i + 1 = omega arith in drop-cons xs 
 pub from_place : {X : Type 0} (xs : List X) (i : ℕ) (d : X) → i < length xs → drop i xs ≡ slice_index_or xs i d ∷ drop (i + 1) xs
 from_place xs i d lt = let one : suc i ≡ i + 1 = omega arith in drop-cons xs i d lt ∙ ap (λ j. slice_index_or xs i d ∷ drop j xs) one
 
-pub range_begins : (xs : List RangePiece) (span : Bounds) → range_join range.N (reported_range xs span) ≡ reported_range xs span
-range_begins xs span = range_left (reported_range xs span)
+pub range_begins : (xs : List RangePiece) (span : Bounds) → range_join range.N (joined_range_over xs span) ≡ joined_range_over xs span
+range_begins xs span = range_left (joined_range_over xs span)
 
 pub range_goes : (xs : List RangePiece) (i : ℕ) (d : RangePiece) (span : Bounds) (part : RangePart) → i < length xs → d ≡ slice_index_or xs i d →
-    range_join (range_join part (if meets d.span span then d.part else range.N)) (reported_range (drop (i + 1) xs) span) ≡ range_join part (reported_range (drop i xs) span)
-range_goes xs i d span part lt e = by_test (meets d.span span) ∙ ap (λ ys. range_join part (reported_range ys span)) (sym (from_item xs i d lt e))
+    range_join (range_join part (if meets d.span span then d.part else range.N)) (joined_range_over (drop (i + 1) xs) span) ≡ range_join part (joined_range_over (drop i xs) span)
+range_goes xs i d span part lt e = by_test (meets d.span span) ∙ ap (λ ys. range_join part (joined_range_over ys span)) (sym (from_item xs i d lt e))
   where
-    by_test : (b : Bool) → range_join (range_join part (if b then d.part else range.N)) (reported_range (drop (i + 1) xs) span) ≡ range_join part (if b then range_join d.part (reported_range (drop (i + 1) xs) span) else reported_range (drop (i + 1) xs) span)
-    by_test true = range_assoc part d.part (reported_range (drop (i + 1) xs) span)
-    by_test false = ap (λ p. range_join p (reported_range (drop (i + 1) xs) span)) (range_right part)
+    by_test : (b : Bool) → range_join (range_join part (if b then d.part else range.N)) (joined_range_over (drop (i + 1) xs) span) ≡ range_join part (if b then range_join d.part (joined_range_over (drop (i + 1) xs) span) else joined_range_over (drop (i + 1) xs) span)
+    by_test true = range_assoc part d.part (joined_range_over (drop (i + 1) xs) span)
+    by_test false = ap (λ p. range_join p (joined_range_over (drop (i + 1) xs) span)) (range_right part)
 
-pub range_ends : (xs : List RangePiece) (i : ℕ) (span : Bounds) (part : RangePart) → length xs ≤ i → range_join part (reported_range (drop i xs) span) ≡ part
-range_ends xs i span part le = ap (λ ys. range_join part (reported_range ys span)) (drop_all i xs le) ∙ range_right part
+pub range_ends : (xs : List RangePiece) (i : ℕ) (span : Bounds) (part : RangePart) → length xs ≤ i → range_join part (joined_range_over (drop i xs) span) ≡ part
+range_ends xs i span part le = ap (λ ys. range_join part (joined_range_over ys span)) (drop_all i xs le) ∙ range_right part
 
-pub key_begins : (xs : List KeyPiece) (p : ℕ) → key_join key.N (reported_key xs p) ≡ reported_key xs p
-key_begins xs p = key_left (reported_key xs p)
+pub key_begins : (xs : List KeyPiece) (p : ℕ) → key_join key.N (greatest_key_at xs p) ≡ greatest_key_at xs p
+key_begins xs p = key_left (greatest_key_at xs p)
 
 pub key_goes : (xs : List KeyPiece) (i : ℕ) (d : KeyPiece) (p : ℕ) (part : KeyPart) → i < length xs →
-    key_join (key_join part (if nat_eq (slice_index_or xs i d).point p then (slice_index_or xs i d).part else key.N)) (reported_key (drop (i + 1) xs) p) ≡ key_join part (reported_key (drop i xs) p)
-key_goes xs i d p part lt = by_test (nat_eq (slice_index_or xs i d).point p) ∙ ap (λ ys. key_join part (reported_key ys p)) (sym (from_place xs i d lt))
+    key_join (key_join part (if nat_eq (slice_index_or xs i d).point p then (slice_index_or xs i d).part else key.N)) (greatest_key_at (drop (i + 1) xs) p) ≡ key_join part (greatest_key_at (drop i xs) p)
+key_goes xs i d p part lt = by_test (nat_eq (slice_index_or xs i d).point p) ∙ ap (λ ys. key_join part (greatest_key_at ys p)) (sym (from_place xs i d lt))
   where
-    by_test : (b : Bool) → key_join (key_join part (if b then (slice_index_or xs i d).part else key.N)) (reported_key (drop (i + 1) xs) p) ≡ key_join part (if b then key_join (slice_index_or xs i d).part (reported_key (drop (i + 1) xs) p) else reported_key (drop (i + 1) xs) p)
-    by_test true = key_assoc part (slice_index_or xs i d).part (reported_key (drop (i + 1) xs) p)
-    by_test false = ap (λ x. key_join x (reported_key (drop (i + 1) xs) p)) (key_right part)
+    by_test : (b : Bool) → key_join (key_join part (if b then (slice_index_or xs i d).part else key.N)) (greatest_key_at (drop (i + 1) xs) p) ≡ key_join part (if b then key_join (slice_index_or xs i d).part (greatest_key_at (drop (i + 1) xs) p) else greatest_key_at (drop (i + 1) xs) p)
+    by_test true = key_assoc part (slice_index_or xs i d).part (greatest_key_at (drop (i + 1) xs) p)
+    by_test false = ap (λ x. key_join x (greatest_key_at (drop (i + 1) xs) p)) (key_right part)
 
-pub key_ends : (xs : List KeyPiece) (i : ℕ) (p : ℕ) (part : KeyPart) → length xs ≤ i → key_join part (reported_key (drop i xs) p) ≡ part
-key_ends xs i p part le = ap (λ ys. key_join part (reported_key ys p)) (drop_all i xs le) ∙ key_right part
+pub key_ends : (xs : List KeyPiece) (i : ℕ) (p : ℕ) (part : KeyPart) → length xs ≤ i → key_join part (greatest_key_at (drop i xs) p) ≡ part
+key_ends xs i p part le = ap (λ ys. key_join part (greatest_key_at ys p)) (drop_all i xs le) ∙ key_right part
 
 -- What lies before the next piece
 
@@ -103,9 +103,9 @@ ranges_nearer [] at p q le h = tt
 ranges_nearer (x ∷ xs) at p q le h = (⊎_elim (λ (a : x.span.hi ≤ at). inl a) (λ (a : (p ≤ x.span.lo) ⊎ (p ≤ at)). inr (⊎_elim (λ (b : p ≤ x.span.lo). inl (omega (arith, b, le))) (λ (b : p ≤ at). inr (omega (arith, b, le))) a)) h.0, ranges_nearer xs at p q le h.1)
 
 -- a span that lies there meets no piece
-no_range : (xs : List RangePiece) (at p low n : ℕ) → at ≤ low → low ≤ n → n < p → RangesOff xs at p → reported_range xs (let s : Bounds = record { lo = low; hi = suc n } in s) ≡ range.N
+no_range : (xs : List RangePiece) (at p low n : ℕ) → at ≤ low → low ≤ n → n < p → RangesOff xs at p → joined_range_over xs (let s : Bounds = record { lo = low; hi = suc n } in s) ≡ range.N
 no_range [] at p low n a b lt h = refl
-no_range (x ∷ xs) at p low n a b lt h = ap (λ t. if t then range_join x.part (reported_range xs (let s : Bounds = record { lo = low; hi = suc n } in s)) else reported_range xs (let s : Bounds = record { lo = low; hi = suc n } in s)) misses ∙ no_range xs at p low n a b lt h.1
+no_range (x ∷ xs) at p low n a b lt h = ap (λ t. if t then range_join x.part (joined_range_over xs (let s : Bounds = record { lo = low; hi = suc n } in s)) else joined_range_over xs (let s : Bounds = record { lo = low; hi = suc n } in s)) misses ∙ no_range xs at p low n a b lt h.1
   where
     behind : x.span.hi ≤ at → nat_lt low x.span.hi ≡ false
     behind e = grind (arith, nat_tests, e, a)
@@ -123,9 +123,9 @@ no_range (x ∷ xs) at p low n a b lt h = ap (λ t. if t then range_join x.part 
         (λ (e : x.span.hi ≤ at). and_no (nat_lt x.span.lo (suc n)) (nat_lt low x.span.hi) (behind e))
         (λ (e : (p ≤ x.span.lo) ⊎ (p ≤ at)). ap (λ t. t && nat_lt low x.span.hi) (before e)) h.0
 
-no_key : (xs : List KeyPiece) (at p n : ℕ) → at ≤ n → n < p → KeysOff xs at p → reported_key xs n ≡ key.N
+no_key : (xs : List KeyPiece) (at p n : ℕ) → at ≤ n → n < p → KeysOff xs at p → greatest_key_at xs n ≡ key.N
 no_key [] at p n a lt h = refl
-no_key (x ∷ xs) at p n a lt h = ap (λ t. if t then key_join x.part (reported_key xs n) else reported_key xs n)
+no_key (x ∷ xs) at p n a lt h = ap (λ t. if t then key_join x.part (greatest_key_at xs n) else greatest_key_at xs n)
     (ne_eqb x.point n (λ e. ⊎_elim (λ (b : x.point < at). omega (arith, b, e, a)) (λ (b : p ≤ x.point). omega (arith, b, e, lt)) h.0)) ∙ no_key xs at p n a lt h.1
 
 module _ (m : Index) (near : (k : ℕ) → END ≤ k → get m k ≡ None) (pieces : Pieces) (at : ℕ) (begins : BeginsSpan m at) where

@@ -1,7 +1,7 @@
 -- Lists of pieces that rise, and what is left of a report after a point.
 use Rattle.krl_table.proofs.Names.{◌≡◌, ℕ, zero, suc, ◌+◌, ◌≤◌, ◌<◌, Bool, true, false, ◌&&◌, List, [], ◌∷◌, None, inl, inr, drop, slice_index_or, length, refl, sym, ap, subst, ◌∙◌, arith, ne_eqb}
-use Rattle.krl_table.proofs.Names.{nat_tests, drop_all, nat_lt, if◌then◌else◌, get, END, RangePart, KeyPart, range_join, key_join, at_or_above, Bounds, meets, Pieces, Index, span_of, reported_range}
-use Rattle.krl_table.proofs.Names.{reported_key, RangesOff, KeysOff, RangesRise, KeysRise, SameRanges, SameKeys, ReportsSame, BeginsSpan, IsNextReported, NothingFrom}
+use Rattle.krl_table.proofs.Names.{nat_tests, drop_all, nat_lt, if◌then◌else◌, get, END, RangePart, KeyPart, range_join, key_join, at_or_above, Bounds, meets, Pieces, Index, span_of, joined_range_over}
+use Rattle.krl_table.proofs.Names.{greatest_key_at, RangesOff, KeysOff, RangesRise, KeysRise, SameRanges, SameKeys, ReportsSame, BeginsSpan, IsNextReported, NothingFrom}
 use Rattle.krl_modes.specs.declared.part.RangePart.TheVariants as range
 use Rattle.krl_modes.specs.declared.part.KeyPart.TheVariants as key
 use Rattle.krl_messages.specs.declared.range_pieces.RangePiece.{RangePiece}
@@ -26,9 +26,9 @@ ranges_at : (xs : List RangePiece) (i : ℕ) (x : RangePiece) → i < length xs 
 ranges_at xs i x lt e h = subst (RangesRise x.span.lo) (sym (from_item xs i x lt e)) (let at : RangesRise 0 (x ∷ drop (i + 1) xs) = subst (RangesRise 0) (from_item xs i x lt e) (ranges_drop xs i h) in (omega arith, at.1))
 
 -- spans that begin at or after a span's end don't meet it
-none_behind : (low : ℕ) (xs : List RangePiece) (span : Bounds) → span.hi ≤ low → RangesRise low xs → reported_range xs span ≡ range.N
+none_behind : (low : ℕ) (xs : List RangePiece) (span : Bounds) → span.hi ≤ low → RangesRise low xs → joined_range_over xs span ≡ range.N
 none_behind low [] span le h = refl
-none_behind low (x ∷ xs) span le h = ap (λ t. if t then range_join x.part (reported_range xs span) else reported_range xs span) misses ∙ none_behind x.span.lo xs span (omega (arith, le, h.0)) h.1
+none_behind low (x ∷ xs) span le h = ap (λ t. if t then range_join x.part (joined_range_over xs span) else joined_range_over xs span) misses ∙ none_behind x.span.lo xs span (omega (arith, le, h.0)) h.1
   where
     far : nat_lt x.span.lo span.hi ≡ false
     far = let a = h.0 in grind (arith, nat_tests, le, a)
@@ -36,11 +36,11 @@ none_behind low (x ∷ xs) span le h = ap (λ t. if t then range_join x.part (re
     misses : meets x.span span ≡ false
     misses = ap (λ t. t && nat_lt span.lo x.span.hi) far
 
-no_range_from : (xs : List RangePiece) (i : ℕ) (x : RangePiece) (span : Bounds) → i < length xs → x ≡ slice_index_or xs i x → span.hi ≤ x.span.lo → RangesRise 0 xs → reported_range (drop i xs) span ≡ range.N
+no_range_from : (xs : List RangePiece) (i : ℕ) (x : RangePiece) (span : Bounds) → i < length xs → x ≡ slice_index_or xs i x → span.hi ≤ x.span.lo → RangesRise 0 xs → joined_range_over (drop i xs) span ≡ range.N
 no_range_from xs i x span lt e le h = none_behind x.span.lo (drop i xs) span le (ranges_at xs i x lt e h)
 
 pub range_stops : (xs : List RangePiece) (i : ℕ) (x : RangePiece) (span : Bounds) (part : RangePart) → i < length xs → x ≡ slice_index_or xs i x → span.hi ≤ x.span.lo → RangesRise 0 xs →
-    range_join part (reported_range (drop i xs) span) ≡ reported_range xs span → part ≡ reported_range xs span
+    range_join part (joined_range_over (drop i xs) span) ≡ joined_range_over xs span → part ≡ joined_range_over xs span
 range_stops xs i x span part lt e le h so_far = sym (ap (range_join part) (no_range_from xs i x span lt e le h) ∙ range_right part) ∙ so_far
 
 off_behind : (low : ℕ) (xs : List RangePiece) (at p : ℕ) → p ≤ low → RangesRise low xs → RangesOff xs at p
@@ -52,7 +52,7 @@ ranges_off_from xs i x at p lt e le h = off_behind x.span.lo (drop i xs) at p le
 
 -- a span that ends at or below the point states nothing from there on
 pub range_passed : (x : RangePiece) (xs : List RangePiece) (at : ℕ) → x.span.hi ≤ at → SameRanges at xs (x ∷ xs)
-range_passed x xs at le span from = sym (ap (λ t. if t then range_join x.part (reported_range xs span) else reported_range xs span) (misses (nat_lt x.span.lo span.hi) (nat_lt span.lo x.span.hi) before))
+range_passed x xs at le span from = sym (ap (λ t. if t then range_join x.part (joined_range_over xs span) else joined_range_over xs span) (misses (nat_lt x.span.lo span.hi) (nat_lt span.lo x.span.hi) before))
   where
     before : nat_lt span.lo x.span.hi ≡ false
     before = grind (arith, nat_tests, le, from)
@@ -87,16 +87,16 @@ keys_at : (xs : List KeyPiece) (i : ℕ) (d : KeyPiece) → i < length xs → Ke
 keys_at xs i d lt h = let x = slice_index_or xs i d in subst (KeysRise x.point) (sym (from_place xs i d lt)) (let at : KeysRise 0 (x ∷ drop (i + 1) xs) = subst (KeysRise 0) (from_place xs i d lt) (keys_drop xs i h) in (omega arith, at.1))
 
 -- points after a point aren't that one
-none_past : (low : ℕ) (xs : List KeyPiece) (p : ℕ) → p < low → KeysRise low xs → reported_key xs p ≡ key.N
+none_past : (low : ℕ) (xs : List KeyPiece) (p : ℕ) → p < low → KeysRise low xs → greatest_key_at xs p ≡ key.N
 none_past low [] p lt h = refl
-none_past low (x ∷ xs) p lt h = ap (λ t. if t then key_join x.part (reported_key xs p) else reported_key xs p) (ne_eqb x.point p (λ e. omega (arith, e, lt, h.0)))
+none_past low (x ∷ xs) p lt h = ap (λ t. if t then key_join x.part (greatest_key_at xs p) else greatest_key_at xs p) (ne_eqb x.point p (λ e. omega (arith, e, lt, h.0)))
     ∙ none_past x.point xs p (omega (arith, lt, h.0)) h.1
 
-no_key_from : (xs : List KeyPiece) (i : ℕ) (d : KeyPiece) (p : ℕ) → i < length xs → p < (slice_index_or xs i d).point → KeysRise 0 xs → reported_key (drop i xs) p ≡ key.N
+no_key_from : (xs : List KeyPiece) (i : ℕ) (d : KeyPiece) (p : ℕ) → i < length xs → p < (slice_index_or xs i d).point → KeysRise 0 xs → greatest_key_at (drop i xs) p ≡ key.N
 no_key_from xs i d p lt past h = none_past (slice_index_or xs i d).point (drop i xs) p past (keys_at xs i d lt h)
 
 pub key_stops : (xs : List KeyPiece) (i : ℕ) (d : KeyPiece) (p : ℕ) (part : KeyPart) → i < length xs → p < (slice_index_or xs i d).point → KeysRise 0 xs →
-    key_join part (reported_key (drop i xs) p) ≡ reported_key xs p → part ≡ reported_key xs p
+    key_join part (greatest_key_at (drop i xs) p) ≡ greatest_key_at xs p → part ≡ greatest_key_at xs p
 key_stops xs i d p part lt past h so_far = sym (ap (key_join part) (no_key_from xs i d p lt past h) ∙ key_right part) ∙ so_far
 
 off_past : (low : ℕ) (xs : List KeyPiece) (at p : ℕ) → p ≤ low → KeysRise low xs → KeysOff xs at p
@@ -107,7 +107,7 @@ pub keys_off_from : (xs : List KeyPiece) (i : ℕ) (d : KeyPiece) (at p : ℕ) �
 keys_off_from xs i d at p lt le h = off_past (slice_index_or xs i d).point (drop i xs) at p le (keys_at xs i d lt h)
 
 pub key_passed : (x : KeyPiece) (xs : List KeyPiece) (at : ℕ) → x.point < at → SameKeys at xs (x ∷ xs)
-key_passed x xs at lt p from = sym (ap (λ t. if t then key_join x.part (reported_key xs p) else reported_key xs p) (ne_eqb x.point p (λ e. omega (arith, e, lt, from))))
+key_passed x xs at lt p from = sym (ap (λ t. if t then key_join x.part (greatest_key_at xs p) else greatest_key_at xs p) (ne_eqb x.point p (λ e. omega (arith, e, lt, from))))
 
 pub keys_look : (xs : List KeyPiece) (i : ℕ) (d : KeyPiece) (low : ℕ) → i < length xs → low ≤ (slice_index_or xs i d).point →
     (KeysRise low (drop i xs) → KeysRise 0 xs) → KeysRise (slice_index_or xs i d).point (drop (i + 1) xs) → KeysRise 0 xs

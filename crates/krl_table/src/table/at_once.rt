@@ -2,7 +2,7 @@
 ghost use Rattle.std.specs.Prelude.{◌≡◌, ◌<◌, ◌↔◌, ◌&&◌, ℕ, true, [], IfSome, IfNone, is_some};
 ghost use Rattle.krl_durable.specs.Index.{slot_of};
 ghost use Rattle.krl_table.specs.Calls.{enqueued};
-ghost use Rattle.krl_table.specs.Grants.{granted, taken, nobody_waits};
+ghost use Rattle.krl_table.specs.Grants.{granted, reached_slots, nobody_waits};
 ghost use Rattle.krl_table.specs.FirstReplies.{is_granted_at_once};
 ghost use Rattle.krl_table.specs.Kept.{rows_of};
 ghost use Rattle.krl_table.specs.KeptRows.{IsOver};
@@ -40,7 +40,7 @@ impl Table {
     /// Gives the client what `enqueue` of the waiter, and then `grant` on the slot of its point,
     /// would give it, without a place in the queue: if nobody waits on that slot, and
     /// `answerable` would then answer that the waiter can be granted. It answers the slots that
-    /// were taken, in ascending order. It takes no memory.
+    /// the grant reached, in ascending order. It takes no memory.
     ///
     /// None, and nothing changes, if somebody waits there, if what the waiter wants is not
     /// compatible with what all others hold, and if it asks for an entry and there is none.
@@ -58,8 +58,8 @@ impl Table {
             ≡ granted durable.now.reach durable.now.index
             (enqueued durable.now.index (rows_of self.old.map) waiter.now)
             (slot_of durable.now.index waiter.now.point) n) }
-        ensures taken { IfSome result (λ slots. slots.items
-            ≡ taken durable.now.reach durable.now.index
+        ensures reached { IfSome result (λ slots. slots.items
+            ≡ reached_slots durable.now.reach durable.now.index
             (enqueued durable.now.index (rows_of self.old.map) waiter.now)
             (slot_of durable.now.index waiter.now.point)) }
         ensures none { IfNone result (self.new ≡ self.old) }
@@ -70,10 +70,10 @@ impl Table {
         if reply::asks_absent(slot, waiter) || !self.is_free_for(slot, waiter) {
             return None;
         }
-        let mut taken = ArrayVec::new();
-        taken.push(Point::new(slot).unwrap());
+        let mut reached = ArrayVec::new();
+        reached.push(Point::new(slot).unwrap());
         self.raise(durable, slot, waiter);
-        self.go_on(durable, slot, waiter, &mut taken);
-        Some(taken)
+        self.go_on(durable, slot, waiter, &mut reached);
+        Some(reached)
     }
 }

@@ -8,9 +8,10 @@ ghost use Rattle.krl_modes.specs.Modes.{needs_entry};
 ghost use Rattle.krl_durable.specs.Index.{Index, slot_of, is_slot};
 ghost use Rattle.krl_table.specs.Waiters.{front_of};
 ghost use Rattle.krl_table.specs.Calls.{granted_first, raised, raised_on};
-ghost use Rattle.krl_table.specs.Grants.{granted, taken, can_take, goes_on, taken_after};
+ghost use Rattle.krl_table.specs.Grants.{granted, reached_slots, reached_after};
+ghost use Rattle.krl_table.specs.Grants.{is_open_to, goes_on};
 ghost use Rattle.krl_table.specs.Kept.{row_of, rows_of};
-ghost use Rattle.krl_table.specs.KeptRows.{row_takes, IsOver, IsTaken};
+ghost use Rattle.krl_table.specs.KeptRows.{is_row_open, IsOver, IsNextReached};
 ghost use Rattle.krl_table.specs.Replies.{is_wanted_compatible};
 ghost use Rattle.krl_modes.specs.declared.limits.TheConstants.{MAX_CLIENTS};
 
@@ -23,10 +24,10 @@ use krl_durable::Durable;
 use krl_modes::{END, MAX_HOLDINGS, Point};
 use krl_queue::Waiter;
 
-/// Whether the waiter may take the slot, which has this row, next to its own.
-fn row_takes(row: &SlotRow, slot: u64, waiter: &Waiter) -> bool
+/// Whether the slot, which has this row, is open to the waiter.
+fn is_row_open(row: &SlotRow, slot: u64, waiter: &Waiter) -> bool
     requires { waiter.now.client < MAX_CLIENTS }
-    ensures { result ≡ row_takes slot (row_of row.now) waiter.now }
+    ensures { result ≡ is_row_open slot (row_of row.now) waiter.now }
 {
     let free = row.queue.is_empty();
     let is_compatible_there = row.is_wanted_compatible(waiter);
@@ -46,7 +47,7 @@ impl Table {
     /// end of what the waiter asks for, as far as the reach of what survives. It ends before the
     /// first slot where somebody waits, or where what it asks for is not compatible with what
     /// others hold, or which is END if the waiter asks only for an entry. It answers the slots that
-    /// were taken, in ascending order; none if nobody waits. It takes no memory.
+    /// it reached, in ascending order; none if nobody waits. It takes no memory.
     pub fn grant(&mut self, durable: &Durable, slot: u64) -> ArrayVec<Point, MAX_HOLDINGS>
         requires over { IsOver durable.now.index self.old.map }
         requires rows { durable.now.room < self.old.room }
@@ -54,18 +55,18 @@ impl Table {
             (λ u. is_wanted_compatible (rows_of self.old.map) slot u ≡ true) }
         ensures granted { (n : ℕ) → rows_of self.new.map n
             ≡ granted durable.now.reach durable.now.index (rows_of self.old.map) slot n }
-        ensures taken { result.items
-            ≡ taken durable.now.reach durable.now.index (rows_of self.old.map) slot }
+        ensures reached { result.items
+            ≡ reached_slots durable.now.reach durable.now.index (rows_of self.old.map) slot }
         ensures slots { IsOver durable.now.index self.new.map }
         ensures room { self.new.room ≡ self.old.room }
     {
-        let mut taken = ArrayVec::new();
+        let mut reached = ArrayVec::new();
         if let Some(waiter) = self.front(slot) {
             self.grant_first(slot);
-            taken.push(Point::new(slot).unwrap());
-            self.go_on(durable, slot, &waiter, &mut taken);
+            reached.push(Point::new(slot).unwrap());
+            self.go_on(durable, slot, &waiter, &mut reached);
         }
-        taken
+        reached
     }
 
     /// The slot's first waiter gets what it wants there, and no longer waits.
@@ -83,44 +84,44 @@ impl Table {
         self.waiting.leave(&first);
     }
 
-    /// The waiter's client gets what it wants on the slots after this one, as far as it may take
-    /// them and there is room to note them. A finger goes along in the index, so that a slot after
-    /// the first costs no search there.
+    /// The waiter's client gets what it wants on the slots after this one, as far as they are
+    /// open to it and there is room to note them. A finger goes along in the index, so that a slot
+    /// after the first costs no search there.
     pub(super) fn go_on(
         &mut self,
         durable: &Durable,
         slot: u64,
         waiter: &Waiter,
-        taken: &mut ArrayVec<Point, MAX_HOLDINGS>,
+        reached: &mut ArrayVec<Point, MAX_HOLDINGS>,
     )
         requires over { IsOver durable.now.index self.old.map }
         requires client { waiter.now.client < MAX_CLIENTS }
         requires rows { durable.now.room < self.old.room }
         ensures rows { rows_of self.new.map
             ≡ raised_on (rows_of self.old.map)
-            (taken_after durable.now.index (rows_of self.old.map) slot waiter.now
-            (durable.now.reach - length taken.old.items)) waiter.now }
-        ensures taken { taken.new.items ≡ taken.old.items
-            ++ taken_after durable.now.index (rows_of self.old.map) slot waiter.now
-            (durable.now.reach - length taken.old.items) }
+            (reached_after durable.now.index (rows_of self.old.map) slot waiter.now
+            (durable.now.reach - length reached.old.items)) waiter.now }
+        ensures reached { reached.new.items ≡ reached.old.items
+            ++ reached_after durable.now.index (rows_of self.old.map) slot waiter.now
+            (durable.now.reach - length reached.old.items) }
         ensures slots { IsOver durable.now.index self.new.map }
         ensures room { self.new.room ≡ self.old.room }
     {
         let most = durable.reach();
         let mut finger = Finger::new();
         let mut at = slot;
-        while taken.len() < most {
-            let Some(next) = self.next_taken(durable, at, waiter, &mut finger) else {
+        while reached.len() < most {
+            let Some(next) = self.next_reached(durable, at, waiter, &mut finger) else {
                 return;
             };
             self.raise(durable, next.get(), waiter);
-            taken.push(next);
+            reached.push(next);
             at = next.get();
         }
     }
 
-    /// The slot after this one, if the waiter may take it. The search begins at the finger.
-    fn next_taken(
+    /// The slot after this one, if it is open to the waiter. The search begins at the finger.
+    fn next_reached(
         &self,
         durable: &Durable,
         at: u64,
@@ -130,7 +131,7 @@ impl Table {
         requires over { IsOver durable.now.index self.now.map }
         requires client { waiter.now.client < MAX_CLIENTS }
         ensures some { IfSome result
-            (λ next. IsTaken durable.now.index self.now.map at waiter.now next) }
+            (λ next. IsNextReached durable.now.index self.now.map at waiter.now next) }
         ensures slot { IfSome result (λ next. is_slot durable.now.index next ≡ true) }
         ensures none { IfNone result
             (goes_on durable.now.index (rows_of self.now.map) at waiter.now ≡ false) }
@@ -139,24 +140,24 @@ impl Table {
             return None;
         }
         let next = durable.find_by(at + 1, finger).point;
-        if self.can_take(next, waiter) {
+        if self.is_open_to(next, waiter) {
             Point::new(next)
         } else {
             None
         }
     }
 
-    /// Whether the waiter may take the slot without a place in its queue: nobody waits there, what it
-    /// wants there is compatible with what all others hold, and it does not ask only for an entry
-    /// if the slot is END. The clause `is_compatible_there` is what `raise` asks.
-    pub fn can_take(&self, slot: u64, waiter: &Waiter) -> bool
+    /// Whether the slot is open to the waiter, which has no place in its queue: nobody waits there,
+    /// what it wants there is compatible with what all others hold, and it does not ask only for an
+    /// entry if the slot is END. The clause `is_compatible_there` is what `raise` asks.
+    pub fn is_open_to(&self, slot: u64, waiter: &Waiter) -> bool
         requires { waiter.now.client < MAX_CLIENTS }
-        ensures result { result ≡ can_take (rows_of self.now.map) slot waiter.now }
+        ensures result { result ≡ is_open_to (rows_of self.now.map) slot waiter.now }
         ensures is_compatible_there { result ≡ true
             → is_wanted_compatible (rows_of self.now.map) slot waiter.now ≡ true }
     {
         match self.rows.get(slot) {
-            Some(row) => row_takes(row, slot, waiter),
+            Some(row) => is_row_open(row, slot, waiter),
             None => !lacks_entry(slot, waiter),
         }
     }

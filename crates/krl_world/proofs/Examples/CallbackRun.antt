@@ -1,7 +1,7 @@
 -- On from the first run: another client wants the same gap exclusively, so the first is called back, and the other is
 -- granted it.
 use Rattle.krl_world.proofs.Names.{◌≡◌, Some, None, List, [], ◌∷◌, refl, sym, ap, ToServer, ToClient, Index, max_clients, Server, Registers, Waits, Lowers, case_of, effect, Turn, next_turn}
-use Rattle.krl_world.proofs.Names.{answer_first, callbacks, ServerStep, Client, locked, lowered, says_report, says_ack, accepted, Step, Up, State, seated, served, with_client, opened, span}
+use Rattle.krl_world.proofs.Names.{answer_first, callbacks, ServerStep, Client, locked, belief_lowered, says_report, says_ack, accepted, Step, Up, State, seated, served, with_client, opened, span}
 use Rattle.krl_world.proofs.Names.{applies, Takes, Runs}
 use Rattle.std.specs.FinMap as map
 use Rattle.krl_modes.specs.declared.part.RangePart.TheVariants as range
@@ -110,7 +110,7 @@ reads_release m e = answers_one (blocked m) release (Lowers (span 0 11) mode.N) 
 -- The clients
 
 abbrev pub k4 : Client
-k4 = lowered k3 (span 0 11) mode.N
+k4 = belief_lowered k3 (span 0 11) mode.N
 
 abbrev j1 : Client
 j1 = messages.joined (clients.begun 1 1) 1

@@ -1,6 +1,6 @@
 -- What the server does in another short run: a client may insert into the gap below 20, and inserts 15.
-use Rattle.krl_world.proofs.Names.{◌≡◌, ℕ, false, Some, None, List, [], ◌∷◌, ◌++◌, refl, sym, subst, Value, Holding, ToServer, ToClient, PushBody, Index, standard_room, max_clients, Server, Waits, Judges}
-use Rattle.krl_world.proofs.Names.{case_of, effect, Turn, next_turn, answer_first, Answered, stops, goes_on, callbacks, Acts, kind_of, Ends, serves, ServerStep}
+use Rattle.krl_world.proofs.Names.{◌≡◌, ℕ, false, Some, None, List, [], ◌∷◌, ◌++◌, refl, sym, subst, Value, Holding, ToServer, ToClient, PushBody, Index, STANDARD_ROOM, max_clients, Server, Waits, Judges}
+use Rattle.krl_world.proofs.Names.{case_of, effect, Turn, next_turn, answer_first, AnswersWaiters, stops, goes_on, callbacks, Calls, following, Ends, serves, ServerStep}
 use Rattle.std.specs.FinMap as map
 use Rattle.krl_modes.specs.declared.mode.Mode.TheVariants as mode
 use Rattle.krl_messages.specs.declared.outcome.Outcome.TheVariants as outcome
@@ -73,20 +73,20 @@ lock_calls : (m : Index) → map.entries m ≡ two → callbacks (granted m) ≡
 unfolding max_clients
 lock_calls m e = simp (e, map.get-entries)
 
-answers_lock : (m : Index) → map.entries m ≡ two → Answered (waiting m) (granted m) (grant ∷ [])
-answers_lock m e = subst (λ (xs : List ToClient). Answered (waiting m) (granted m) (xs ++ [])) (lock_outs m e) (goes_on (waiting m) (granted m) turn [] (lock_turn m e) (stops (granted m) (lock_ends m e)))
+answers_lock : (m : Index) → map.entries m ≡ two → AnswersWaiters (waiting m) (granted m) (grant ∷ [])
+answers_lock m e = subst (λ (xs : List ToClient). AnswersWaiters (waiting m) (granted m) (xs ++ [])) (lock_outs m e) (goes_on (waiting m) (granted m) turn [] (lock_turn m e) (stops (granted m) (lock_ends m e)))
 
-ends_lock : (m : Index) → map.entries m ≡ two → Ends (effect (joined m) lock (Waits 1 15 16 mode.RangeIN)) Acts (granted m) (grant ∷ [])
-ends_lock m e = subst (λ (xs : List ToClient). Ends (effect (joined m) lock (Waits 1 15 16 mode.RangeIN)) Acts (granted m) (grant ∷ xs)) (lock_calls m e)
+ends_lock : (m : Index) → map.entries m ≡ two → Ends (effect (joined m) lock (Waits 1 15 16 mode.RangeIN)) Calls (granted m) (grant ∷ [])
+ends_lock m e = subst (λ (xs : List ToClient). Ends (effect (joined m) lock (Waits 1 15 16 mode.RangeIN)) Calls (granted m) (grant ∷ xs)) (lock_calls m e)
     (serves (granted m) (grant ∷ []) (λ x. cc) refl (answers_lock m e))
 
 pub reads_lock : (m : Index) → map.entries m ≡ two → ServerStep (joined m) lock (granted m) (grant ∷ [])
-reads_lock m e = subst (λ k. Ends (effect (joined m) lock k) (kind_of k) (granted m) (grant ∷ [])) (sym (lock_case m e)) (ends_lock m e)
+reads_lock m e = subst (λ k. Ends (effect (joined m) lock k) (following k) (granted m) (grant ∷ [])) (sym (lock_case m e)) (ends_lock m e)
 
 -- The insert
 
 pub insert_case : (m : Index) → map.entries m ≡ two → case_of (granted m) insert ≡ Judges 1 (write.Insert 15 (5 ∷ [])) outcome.Applied
-unfolding max_clients standard_room
+unfolding max_clients
 insert_case m e = simp (e, map.get-entries)
 
 insert_outs : (m : Index) → map.entries m ≡ two → map.entries (map.insert m 15 (5 ∷ [])) ≡ three → (effect (granted m) insert (Judges 1 (write.Insert 15 (5 ∷ [])) outcome.Applied)).outs ≡ answer ∷ []
@@ -98,10 +98,10 @@ insert_ends m e f = simp (e, f, map.get-entries)
 insert_calls : (m : Index) → map.entries m ≡ two → map.entries (map.insert m 15 (5 ∷ [])) ≡ three → callbacks (inserted m) ≡ []
 insert_calls m e f = simp (e, f, map.get-entries)
 
-ends_insert : (m : Index) → map.entries m ≡ two → map.entries (map.insert m 15 (5 ∷ [])) ≡ three → Ends (effect (granted m) insert (Judges 1 (write.Insert 15 (5 ∷ [])) outcome.Applied)) Acts (inserted m) (answer ∷ [])
-ends_insert m e f = subst (λ (xs : List ToClient). Ends (effect (granted m) insert (Judges 1 (write.Insert 15 (5 ∷ [])) outcome.Applied)) Acts (inserted m) (xs ++ [])) (insert_outs m e f)
-    (subst (λ (xs : List ToClient). Ends (effect (granted m) insert (Judges 1 (write.Insert 15 (5 ∷ [])) outcome.Applied)) Acts (inserted m) ((effect (granted m) insert (Judges 1 (write.Insert 15 (5 ∷ [])) outcome.Applied)).outs ++ xs)) (insert_calls m e f)
+ends_insert : (m : Index) → map.entries m ≡ two → map.entries (map.insert m 15 (5 ∷ [])) ≡ three → Ends (effect (granted m) insert (Judges 1 (write.Insert 15 (5 ∷ [])) outcome.Applied)) Calls (inserted m) (answer ∷ [])
+ends_insert m e f = subst (λ (xs : List ToClient). Ends (effect (granted m) insert (Judges 1 (write.Insert 15 (5 ∷ [])) outcome.Applied)) Calls (inserted m) (xs ++ [])) (insert_outs m e f)
+    (subst (λ (xs : List ToClient). Ends (effect (granted m) insert (Judges 1 (write.Insert 15 (5 ∷ [])) outcome.Applied)) Calls (inserted m) ((effect (granted m) insert (Judges 1 (write.Insert 15 (5 ∷ [])) outcome.Applied)).outs ++ xs)) (insert_calls m e f)
     (serves (inserted m) [] (λ x. cc) refl (stops (inserted m) (insert_ends m e f))))
 
 pub reads_insert : (m : Index) → map.entries m ≡ two → map.entries (map.insert m 15 (5 ∷ [])) ≡ three → ServerStep (granted m) insert (inserted m) (answer ∷ [])
-reads_insert m e f = subst (λ k. Ends (effect (granted m) insert k) (kind_of k) (inserted m) (answer ∷ [])) (sym (insert_case m e)) (ends_insert m e f)
+reads_insert m e f = subst (λ k. Ends (effect (granted m) insert k) (following k) (inserted m) (answer ∷ [])) (sym (insert_case m e)) (ends_insert m e f)

@@ -1,7 +1,7 @@
 -- On from there: the server crashes and starts again, both clients report, it serves, and the only holder of a key and
 -- of the gaps at both of its sides deletes it, and receives Applied.
 use Rattle.krl_world.proofs.Names.{◌≡◌, ◌≤◌, ℕ, zero, suc, ◌∙◌, Bool, true, false, cond, Some, None, List, [], ◌∷◌, ◌++◌, inl, inr, refl, sym, ap, arith, nat_cmp, eq_by_cmp, nat_cmp_total, put}
-use Rattle.krl_world.proofs.Names.{nat_tests, Value, Holding, Pieces, ToServer, ToClient, PushBody, In, Index, is_slot, standard_room, max_clients, Server, Rebuilds, Waits, Judges, case_of, effect}
+use Rattle.krl_world.proofs.Names.{nat_tests, Value, Holding, Pieces, ToServer, ToClient, PushBody, In, Index, is_slot, STANDARD_ROOM, max_clients, Server, Rebuilds, Waits, Judges, case_of, effect}
 use Rattle.krl_world.proofs.Names.{Turn, next_turn, answer_first, callbacks, ServerStep, start, Client, locked, wrote, says_ack, accepted, AppliedWrite, Step, Up, Down, State, fresh, served}
 use Rattle.krl_world.proofs.Names.{with_client, durable_of, index_of, is_serving, opened, span, applies, Takes, Runs, IsReachable, answer_message}
 use Rattle.std.specs.FinMap as map
@@ -136,7 +136,7 @@ abbrev rest : List (ℕ × Value)
 rest = (20, 2 ∷ []) ∷ []
 
 delete_case : (i : Index) → map.entries i ≡ two → case_of (granted i) delete ≡ Judges 1 (write.Delete 10) outcome.Applied
-unfolding max_clients standard_room
+unfolding max_clients
 delete_case i e = simp (e, map.get-entries, adopted, is_slot)
 
 delete_outs : (i : Index) → map.entries i ≡ two → map.entries (map.remove i 10) ≡ rest → (effect (granted i) delete (Judges 1 (write.Delete 10) outcome.Applied)).outs ≡ answer ∷ []

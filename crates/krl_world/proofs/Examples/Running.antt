@@ -1,6 +1,6 @@
 -- A run, step by step: a client locks the gap below 10 and the entry there, and a scan of its cache gives the entry.
 use Rattle.krl_world.proofs.Names.{◌≡◌, ℕ, suc, ◌<◌, ◌≤◌, ◌∙◌, Bool, true, false, ◌||◌, cond, Some, None, List, [], ◌∷◌, length, refl, sym, ap, subst, arith, nat_eq, if◌then◌else◌, Ok, nat_tests}
-use Rattle.krl_world.proofs.Names.{nil_from_length, none-some, nat_cmp, eq_by_cmp, nat_cmp_total, put, contains, Pieces, Index, Value, IsDistinct, standard_room, max_room, reads_key, reads_gap, no_belief}
+use Rattle.krl_world.proofs.Names.{nil_from_length, none-some, nat_cmp, eq_by_cmp, nat_cmp_total, put, contains, Pieces, Index, Value, IsDistinct, STANDARD_ROOM, MAX_ROOM, reads_key, reads_gap, no_belief}
 use Rattle.krl_world.proofs.Names.{CoversAll, AreRows, Describes, Client, locked, finds_rows, says_report, says_ack, accepted, Step, Up, State, unused, opened, fresh, seated, served, with_client}
 use Rattle.krl_world.specs.Steps as steps
 use Rattle.krl_world.proofs.Reaching.{runs_reached}
@@ -103,10 +103,10 @@ abbrev pub run : List Step
 run = step.StartClient 0 ∷ step.Deliver 1 ∷ step.Deliver 2 ∷ step.Command 0 (command.Lock 5 6 mode.RangeSS) ∷ step.Deliver 4 ∷ step.Deliver 5 ∷ []
 
 kept : IsKept (unused two)
-unfolding standard_room max_room IsDistinct
+unfolding IsDistinct
 kept = record {
   keys = subst AreBelowEnd (sym index_entries) (refl, (refl, tt));
-  few = subst (λ (es : List (ℕ × Value)). length es ≤ standard_room) (sym index_entries) (omega arith);
+  few = subst (λ (es : List (ℕ × Value)). length es ≤ STANDARD_ROOM) (sym index_entries) (omega arith);
   room = (omega arith, omega arith);
   reach = (omega arith, omega arith);
   epoch = omega arith;

@@ -1,7 +1,7 @@
 -- What the server does in a short run: a client sends Hello, and locks the gap below 10 and the entry there.
 use Rattle.krl_modes.specs.declared.limits.TheConstants.{STANDARD_REACH}
-use Rattle.krl_world.proofs.Names.{◌≡◌, ℕ, Option, Some, None, List, [], ◌∷◌, ◌++◌, refl, sym, subst, Value, Holding, ToServer, ToClient, Index, slots, standard_room, max_clients, Server, Registers, Waits}
-use Rattle.krl_world.proofs.Names.{case_of, effect, Turn, turn_at, turn_among, next_turn, answer_first, Answered, stops, goes_on, callbacks_at, callbacks_among, callbacks, Acts, kind_of, Ends}
+use Rattle.krl_world.proofs.Names.{◌≡◌, ℕ, Option, Some, None, List, [], ◌∷◌, ◌++◌, refl, sym, subst, Value, Holding, ToServer, ToClient, Index, slots, STANDARD_ROOM, max_clients, Server, Registers, Waits}
+use Rattle.krl_world.proofs.Names.{case_of, effect, Turn, turn_at, turn_among, next_turn, answer_first, AnswersWaiters, stops, goes_on, callbacks_at, callbacks_among, callbacks, Calls, following, Ends}
 use Rattle.krl_world.proofs.Names.{serves, ServerStep, start}
 use Rattle.std.specs.FinMap as map
 use Rattle.krl_modes.specs.declared.mode.Mode.TheVariants as mode
@@ -32,7 +32,7 @@ grant = record { client = 0; incarnation = 1; body = told.Push 1 1 (push.Grant 1
 -- The server, with this index
 
 abbrev pub begun : Index → Server
-begun m = start (record { room = standard_room; reach = STANDARD_REACH; index = m; epoch = 0; register = [] })
+begun m = start (record { room = STANDARD_ROOM; reach = STANDARD_REACH; index = m; epoch = 0; register = [] })
 
 abbrev pub joined : Index → Server
 joined m = (effect (begun m) hello Registers).server
@@ -65,12 +65,12 @@ pub hello_case : (m : Index) → case_of (begun m) hello ≡ Registers
 unfolding max_clients
 hello_case m = refl
 
-ends_hello : (m : Index) → Ends (effect (begun m) hello Registers) Acts (joined m) (epoch ∷ [])
-ends_hello m = subst (λ (xs : List ToClient). Ends (effect (begun m) hello Registers) Acts (joined m) (epoch ∷ xs)) (no_calls (joined m) (λ n. refl) (slots m))
+ends_hello : (m : Index) → Ends (effect (begun m) hello Registers) Calls (joined m) (epoch ∷ [])
+ends_hello m = subst (λ (xs : List ToClient). Ends (effect (begun m) hello Registers) Calls (joined m) (epoch ∷ xs)) (no_calls (joined m) (λ n. refl) (slots m))
     (serves (joined m) [] (λ e. cc) refl (stops (joined m) (no_turn (joined m) (λ n. refl) (slots m))))
 
 pub reads_hello : (m : Index) → ServerStep (begun m) hello (joined m) (epoch ∷ [])
-reads_hello m = subst (λ k. Ends (effect (begun m) hello k) (kind_of k) (joined m) (epoch ∷ [])) (sym (hello_case m)) (ends_hello m)
+reads_hello m = subst (λ k. Ends (effect (begun m) hello k) (following k) (joined m) (epoch ∷ [])) (sym (hello_case m)) (ends_hello m)
 
 pub lock_case : (m : Index) → map.entries m ≡ two → case_of (joined m) lock ≡ Waits 1 5 6 mode.RangeSS
 unfolding max_clients
@@ -92,12 +92,12 @@ lock_calls : (m : Index) → map.entries m ≡ two → callbacks (granted m) ≡
 unfolding max_clients
 lock_calls m e = simp (e, map.get-entries)
 
-answers_lock : (m : Index) → map.entries m ≡ two → Answered (waiting m) (granted m) (grant ∷ [])
-answers_lock m e = subst (λ (xs : List ToClient). Answered (waiting m) (granted m) (xs ++ [])) (lock_outs m e) (goes_on (waiting m) (granted m) turn [] (lock_turn m e) (stops (granted m) (lock_ends m e)))
+answers_lock : (m : Index) → map.entries m ≡ two → AnswersWaiters (waiting m) (granted m) (grant ∷ [])
+answers_lock m e = subst (λ (xs : List ToClient). AnswersWaiters (waiting m) (granted m) (xs ++ [])) (lock_outs m e) (goes_on (waiting m) (granted m) turn [] (lock_turn m e) (stops (granted m) (lock_ends m e)))
 
-ends_lock : (m : Index) → map.entries m ≡ two → Ends (effect (joined m) lock (Waits 1 5 6 mode.RangeSS)) Acts (granted m) (grant ∷ [])
-ends_lock m e = subst (λ (xs : List ToClient). Ends (effect (joined m) lock (Waits 1 5 6 mode.RangeSS)) Acts (granted m) (grant ∷ xs)) (lock_calls m e)
+ends_lock : (m : Index) → map.entries m ≡ two → Ends (effect (joined m) lock (Waits 1 5 6 mode.RangeSS)) Calls (granted m) (grant ∷ [])
+ends_lock m e = subst (λ (xs : List ToClient). Ends (effect (joined m) lock (Waits 1 5 6 mode.RangeSS)) Calls (granted m) (grant ∷ xs)) (lock_calls m e)
     (serves (granted m) (grant ∷ []) (λ x. cc) refl (answers_lock m e))
 
 pub reads_lock : (m : Index) → map.entries m ≡ two → ServerStep (joined m) lock (granted m) (grant ∷ [])
-reads_lock m e = subst (λ k. Ends (effect (joined m) lock k) (kind_of k) (granted m) (grant ∷ [])) (sym (lock_case m e)) (ends_lock m e)
+reads_lock m e = subst (λ k. Ends (effect (joined m) lock k) (following k) (granted m) (grant ∷ [])) (sym (lock_case m e)) (ends_lock m e)

@@ -1,6 +1,6 @@
 -- The write that is noted is the one that the server applied: the step reports it.
 use Rattle.krl_world.proofs.Names.{◌≡◌, List, ◌++◌, refl, ap, ◌∙◌, ToServer, Server, Case, Ignored, Registers, Leaves, Tells, Alarms}
-use Rattle.krl_world.proofs.Names.{Rebuilds, Repeats, Acknowledges, Lowers, Waits, Judges, TakesLock, AnswersAgain, case_of, HasStepped, AppliedWrite, applies, applied_in, HasServed, Message, from_server}
+use Rattle.krl_world.proofs.Names.{Rebuilds, Repeats, Acknowledges, Lowers, Waits, Judges, SeizesLock, AnswersAgain, case_of, HasStepped, AppliedWrite, applies, applied_in, HasServed, Message, from_server}
 use Rattle.krl_server.specs.declared.out.ServerOut.{ServerOut}
 use Rattle.krl_server.specs.Changes.{change_of}
 
@@ -17,7 +17,7 @@ noted_is_applied m Acknowledges = refl
 noted_is_applied m (Lowers s keep) = refl
 noted_is_applied m (Waits req point hi g) = refl
 noted_is_applied m (Judges number op o) = refl
-noted_is_applied m (TakesLock number op) = refl
+noted_is_applied m (SeizesLock number op) = refl
 noted_is_applied m (AnswersAgain number op o) = refl
 
 -- a message is read: what was sent and what is noted, by what the step sends and reports

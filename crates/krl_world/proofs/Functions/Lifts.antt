@@ -1,7 +1,7 @@
 -- What a place or the server does is a step of the world.
 use Rattle.std.proofs.Common.{◌≡◌, ◌≢◌, ℕ, ◌≤◌, ◌<◌, cond, Some, None, Option, inl, inr, List, [], ◌++◌, length, set, refl, sym, ap, subst, ◌∙◌, ⊎_elim, eq-eqb, ne_eqb, append-nil}
 use Rattle.krl_world.proofs.Names.{lt-ltb, le-ltb, get_or-set_same, get_or-set_other, eq_cases, ToServer, Message, Step, Answer, Refused, State, ClientPlace, set_place, seated, from_clients, Steps}
-use Rattle.krl_world.proofs.Names.{TakesMemory, refusal_of, of_client, Fields, meaning, places_of, place_of, kept_nobody, IsRefused}
+use Rattle.krl_world.proofs.Names.{NeedsMemory, refusal_of, of_client, KeptWorld, meaning, places_of, place_of, kept_nobody, IsRefused}
 use Rattle.std.proofs.Math.Path.{fun_ext}
 use Rattle.std.specs.Prelude.{if◌then◌else◌, Ok, Err}
 use Rattle.krl_world.specs.declared.node.ClientPlace.{ClientPlace as KeptClientPlace}
@@ -19,11 +19,11 @@ unfolding Steps
 refuses w v s r e d = (e, inl d)
 
 -- the refusal that is due, or want of memory
-pub refuses_by : (w v : State) (s : Step) (r : Refused) (due : Option Refused) (mem : Type 0) → v ≡ w → refusal_of w s ≡ due → (mem → TakesMemory w s) → IsRefused due mem r → Steps w s (Err r) v
+pub refuses_by : (w v : State) (s : Step) (r : Refused) (due : Option Refused) (mem : Type 0) → v ≡ w → refusal_of w s ≡ due → (mem → NeedsMemory w s) → IsRefused due mem r → Steps w s (Err r) v
 unfolding Steps
 refuses_by w v s r due mem e f m x = (e, ⊎_elim (λ (h : due ≡ Some r). inl (f ∙ h)) (λ (h : (due ≡ None) × (r ≡ refused.OutOfMemory) × mem). inr (f ∙ h.0, h.1, m h.2)) x)
 
-pub lacks_memory : (w v : State) (s : Step) → v ≡ w → refusal_of w s ≡ None → TakesMemory w s → Steps w s (Err refused.OutOfMemory) v
+pub lacks_memory : (w v : State) (s : Step) → v ≡ w → refusal_of w s ≡ None → NeedsMemory w s → Steps w s (Err refused.OutOfMemory) v
 unfolding Steps
 lacks_memory w v s e d m = (e, inr (d, refl, m))
 
@@ -56,13 +56,13 @@ same_place places c = fun_ext (λ d. eq_cases d c
     (λ ne. place_other places c d (places c) ne))
 
 -- the world with another place, and more that was sent
-pub seated_by : (w : Fields) (c : ℕ) (x : KeptClientPlace) (sent : List Message) (y : ClientPlace) (ms : List ToServer) → c < length w.places → place_of x ≡ y → sent ≡ w.sent ++ from_clients ms → meaning (record w { places = set w.places c x; sent = sent }) ≡ seated (meaning w) c y ms
+pub seated_by : (w : KeptWorld) (c : ℕ) (x : KeptClientPlace) (sent : List Message) (y : ClientPlace) (ms : List ToServer) → c < length w.places → place_of x ≡ y → sent ≡ w.sent ++ from_clients ms → meaning (record w { places = set w.places c x; sent = sent }) ≡ seated (meaning w) c y ms
 seated_by w c x sent y ms lt e f = λ t. record (meaning w) { places = (places_set w.places c x lt ∙ ap (set_place (places_of w.places) c) e) t; sent = f t }
 
 -- and if nothing is sent
-pub seated_quietly : (w : Fields) (c : ℕ) (x : KeptClientPlace) (y : ClientPlace) → c < length w.places → place_of x ≡ y → meaning (record w { places = set w.places c x }) ≡ seated (meaning w) c y []
+pub seated_quietly : (w : KeptWorld) (c : ℕ) (x : KeptClientPlace) (y : ClientPlace) → c < length w.places → place_of x ≡ y → meaning (record w { places = set w.places c x }) ≡ seated (meaning w) c y []
 seated_quietly w c x y lt e = seated_by w c x w.sent y [] lt e (sym (append-nil w.sent))
 
 -- if nothing happened
-pub unchanged_by : (w : Fields) (c : ℕ) (x : KeptClientPlace) (sent : List Message) → c < length w.places → place_of x ≡ places_of w.places c → sent ≡ w.sent → meaning (record w { places = set w.places c x; sent = sent }) ≡ meaning w
+pub unchanged_by : (w : KeptWorld) (c : ℕ) (x : KeptClientPlace) (sent : List Message) → c < length w.places → place_of x ≡ places_of w.places c → sent ≡ w.sent → meaning (record w { places = set w.places c x; sent = sent }) ≡ meaning w
 unchanged_by w c x sent lt e f = λ t. record (meaning w) { places = (places_set w.places c x lt ∙ ap (set_place (places_of w.places) c) e ∙ same_place (places_of w.places) c) t; sent = f t }

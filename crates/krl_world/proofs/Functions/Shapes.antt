@@ -42,7 +42,7 @@ same_left w v e = subst (Left w) (sym e) as_it_was
 obeys_left : (w v : State) (c : ℕ) (k : Client) (what : Command) (answer : Answer) (r : Option Refused) → of_client c r ≡ None → Obeys w c k what answer v → Left w v
 obeys_left w v c k (command.Lock point hi m) answer r e d = place_left w v c _ _ (in_range c r _ e) d.1
 obeys_left w v c k (command.Write op) answer r e d = place_left w v c _ _ (in_range c r _ e) d.1
-obeys_left w v c k (command.Take op) answer r e d = place_left w v c _ _ (in_range c r _ e) d.1
+obeys_left w v c k (command.Seize op) answer r e d = place_left w v c _ _ (in_range c r _ e) d.1
 obeys_left w v c k (command.Scan lo hi) answer r e d = same_left w v d.1
 obeys_left w v c k (command.Lower lo hi keep) answer r e d = place_left w v c _ _ (in_range c r _ e) d.1
 obeys_left w v c k (command.Pin lo hi) answer r e d = place_left w v c _ _ (in_range c r _ e) d.3

@@ -2,7 +2,7 @@
 use Rattle.krl_world.proofs.Names.{◌≡◌, ℕ, zero, suc, ◌+◌, ◌-◌, ◌≤◌, ◌<◌, Bool, true, false, cond, Option, Some, None, List, [], ◌∷◌, ◌⊎◌, inl, inr, refl, sym, subst, arith, is_some, nat_lt, nat_le}
 use Rattle.krl_world.proofs.Names.{ltb-true, eqb_tells, and_parts, not-false, not, END, TOP, Value, WriteOp, Pieces, ToServer, ToClient, op_key, always_bounded, restarts_hold, scans_are_index}
 use Rattle.krl_world.proofs.Names.{case_of, ServerFollows, Belief, is_span, is_covered, CoversAll, AreRows, Describes, Client, outstanding, is_in, is_writing_in, free_pin, begun, is_pending}
-use Rattle.krl_world.proofs.Names.{finds_rows, misses, locked, says_lock, wrote, took, says_write, says_release, lowered, pinned, unpinned, says_bye, passed, Message, Step, Command, Answer, Refused}
+use Rattle.krl_world.proofs.Names.{finds_rows, misses, locked, says_lock, wrote, seized, says_write, says_release, belief_lowered, pinned, unpinned, says_bye, passed, Message, Step, Command, Answer, Refused}
 use Rattle.krl_world.proofs.Names.{ServerPlace, Up, Down, State, index_of, client_of, with_client, seated, served, span, message_at, command_refusal, if_runs, refusal_of, applies, ServerReads}
 use Rattle.krl_world.proofs.Names.{ClientReads, Delivers, ScanAnswers, Obeys, nudged, started, crashed, Takes, IsReachable, refused_by_client, CanGoOn}
 use Rattle.krl_server.proofs.Outputs.Ends.{step_ends}
@@ -38,7 +38,7 @@ server_on w m (Down d) = (w, refl)
 client_on : (w : State) (m : ToClient) (o : Option Client) → ((k : Client) → o ≡ Some k → (ps : Pieces) × Describes ps k.belief) → (v : State) × ClientReads w o m v
 client_on w m None h = (w, refl)
 client_on w m (Some k) h = let x = h k refl in
-    (with_client w m.client (Some (receiver.after k (receiver.case_of k m))) (receiver.sends x.0 k (receiver.case_of k m)), (x.0, x.1, refl))
+    (with_client w m.client (Some (receiver.after k (receiver.client_case_of k m))) (receiver.sends x.0 k (receiver.client_case_of k m)), (x.0, x.1, refl))
 
 delivers_on : (w : State) (o : Option Message) → AreDescribed w → cond (is_some o) None (Some refused.NoMessage) ≡ None → (v : State) × Delivers w o v
 delivers_on w None h e = absurd (cc)
@@ -97,12 +97,12 @@ some_id (Some id) e = (id, refl)
 obeys_on : (w : State) (c : ℕ) (k : Client) (what : Command) → client_of w c ≡ Some k → HaveRows w → command_refusal k what ≡ None → (answer : Answer) × (v : State) × Obeys w c k what answer v
 obeys_on w c k (command.Lock point hi m) up h e = (told.Done, with_client w c (Some (locked k point hi m)) (says_lock (locked k point hi m) point hi m ∷ []), (refl, refl))
 obeys_on w c k (command.Write op) up h e = (told.Done, with_client w c (Some (wrote k op)) (says_write (wrote k op) op ∷ []), (refl, refl))
-obeys_on w c k (command.Take op) up h e = (told.Done, with_client w c (Some (took k op)) (says_write (took k op) op ∷ []), (refl, refl))
+obeys_on w c k (command.Seize op) up h e = (told.Done, with_client w c (Some (seized k op)) (says_write (seized k op) op ∷ []), (refl, refl))
 obeys_on w c k (command.Scan lo hi) up h e =
     let is = not-false _ (passed _ _ _ e).0 in
     let x = scan_on k lo hi (index.range (index_of w) lo hi) is (h c lo hi k up is) in
     (x.0, w, (x.1, refl))
-obeys_on w c k (command.Lower lo hi keep) up h e = (told.Done, with_client w c (Some (lowered k (span lo hi) keep)) (says_release k (span lo hi) keep ∷ []), (refl, refl))
+obeys_on w c k (command.Lower lo hi keep) up h e = (told.Done, with_client w c (Some (belief_lowered k (span lo hi) keep)) (says_release k (span lo hi) keep ∷ []), (refl, refl))
 obeys_on w c k (command.Pin lo hi) up h e =
     let x = some_id (free_pin k) (passed _ _ _ (passed _ _ _ e).1).0 in
     (told.Pinned x.0, with_client w c (Some (pinned k (span lo hi) x.0)) [], (x.0, x.1, refl, refl))

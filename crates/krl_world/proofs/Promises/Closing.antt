@@ -1,8 +1,8 @@
 -- The end of a recovery: nobody waits until then, so the table of the server that serves from then on is what was
 -- rebuilt, which lies within the bound.
 use Rattle.krl_world.proofs.Names.{◌≡◌, ℕ, ◌∙◌, Bool, true, false, Option, Some, None, List, [], ◌∷◌, refl, sym, ap, subst, nat_eq, if◌then◌else◌, END, RangePart, range_of, key_of, Pieces}
-use Rattle.krl_world.proofs.Names.{ToServer, ToClient, In, Record, Index, slot_of, is_slot, Durable, record_of, left_by, Rows, Server, is_recovering, case_of, Done, effect, Answered, stops, goes_on}
-use Rattle.krl_world.proofs.Names.{Kind, kind_of, Ends, at_once, recovers, serves, ServerFollows, answered_up, Step, ServerPlace, Up, Down, State, opened, range_held, key_held, IsReachable}
+use Rattle.krl_world.proofs.Names.{ToServer, ToClient, In, Record, Index, slot_of, is_slot, Durable, record_of, left_by, Rows, Server, is_recovering, case_of, Done, effect, AnswersWaiters, stops, goes_on}
+use Rattle.krl_world.proofs.Names.{Following, following, Ends, at_once, recovers, serves, ServerFollows, answered_up, Step, ServerPlace, Up, Down, State, opened, range_held, key_held, IsReachable}
 use Rattle.krl_world.proofs.Names.{RecoveriesEnd, always_bounded, restarts_hold}
 use Rattle.std.specs.Prelude.{nat_lt}
 use Rattle.krl_modes.proofs.Basics.{not_both}
@@ -16,7 +16,7 @@ use Rattle.krl_table.specs.Points as table
 use Rattle.krl_server.proofs.Cased.{by_said}
 use Rattle.krl_server.proofs.Invariant.RowsSound.{adopted_queue}
 use Rattle.krl_world.specs.declared.message.Message.TheVariants as message
-use Rattle.krl_world.specs.Bounds.{Bound, table_of, first_bound, step_clears, cleared as cleared_bound, bound_at, bound_after, IsRangeWithin, IsKeyWithin, report_message, IsRecoveryWithin}
+use Rattle.krl_world.specs.Bounds.{Bound, table_of, first_bound, step_clears, bound_cleared as cleared_bound, bound_at, bound_after, IsRangeWithin, IsKeyWithin, report_message, IsRecoveryWithin}
 use Rattle.krl_world.proofs.Reaching.{by_reaching}
 use Rattle.krl_world.proofs.Refinement.Mirrors.{machine_of}
 use Rattle.krl_world.proofs.Refinement.Openings.{first_of}
@@ -47,9 +47,9 @@ still_nobody s m g h = by_said s m (λ k. NobodyWaits (effect s m k).server) (re
   acknowledges = λ r request b a. served_not s g a.served.serves;
   lowers = λ r request span keep a. served_not s g a.served.serves;
   waits = λ r request req point hi mode a new free near. served_not s g a.served.serves;
-  judges = λ r request number op takes o a under near new is. served_not s g a.served.serves;
-  takes = λ r request number op takes a under near new may. served_not s g a.served.serves;
-  answers_again = λ r request number op takes o a under some last is. served_not s g a.served.serves;
+  judges = λ r request number op seizes o a under near new is. served_not s g a.served.serves;
+  seizes = λ r request number op seizes a under near new may. served_not s g a.served.serves;
+  answers_again = λ r request number op seizes o a under some last is. served_not s g a.served.serves;
 })
 
 -- a server that recovers after a message recovered before
@@ -64,7 +64,7 @@ abbrev Quiet : ServerPlace → Type 0
 Quiet (Up s) = is_recovering s.missing ≡ true → NobodyWaits s
 Quiet (Down d) = Unit {0}
 
-ends_quiet : (done : Done) (kind : Kind) (t : Server) (outs : List ToClient) → (is_recovering done.server.missing ≡ true → NobodyWaits done.server) → Ends done kind t outs → is_recovering t.missing ≡ true → NobodyWaits t
+ends_quiet : (done : Done) (kind : Following) (t : Server) (outs : List ToClient) → (is_recovering done.server.missing ≡ true → NobodyWaits done.server) → Ends done kind t outs → is_recovering t.missing ≡ true → NobodyWaits t
 ends_quiet done kind t outs h (at_once i) g = h g
 ends_quiet done kind t outs h (recovers x) g = h g
 ends_quiet done kind t outs h (serves u answers n e a) g = absurd (not_both (is_recovering u.missing) g (answered_up done.server u answers a e))
@@ -73,7 +73,7 @@ way_quiet : (w v : State) (s : Step) → Quiet w.server → Way w v s → Quiet 
 way_quiet w v s h (stays e) = subst Quiet (sym e) h
 way_quiet w v s h (reads old new m outs e f at t) =
     let before : Quiet (Up old) = subst Quiet e h in
-    subst Quiet (sym f) (ends_quiet (effect old m (case_of old m)) (kind_of (case_of old m)) new outs
+    subst Quiet (sym f) (ends_quiet (effect old m (case_of old m)) (following (case_of old m)) new outs
     (λ g. let b = recovery_before old m g in still_nobody old m b (before b)) t)
 way_quiet w v s h (stops old e a f) = subst Quiet (sym f) tt
 way_quiet w v s h (begins d e f) = subst Quiet (sym f) (λ g n. refl)
@@ -87,11 +87,11 @@ reachable_quiet = by_reaching (λ w. Quiet w.server) (λ d h. first_quiet d) (λ
 
 -- The end
 
-answered_none : (s t : Server) (outs : List ToClient) → NobodyWaits s → Answered s t outs → t ≡ s
+answered_none : (s t : Server) (outs : List ToClient) → NobodyWaits s → AnswersWaiters s t outs → t ≡ s
 answered_none s t outs h (stops u e) = refl
 answered_none s t outs h (goes_on u v turn later e rest) = absurd (let none = no_turn s h _ in let bad : None ≡ Some turn = sym none ∙ e in cc)
 
-ends_there : (done : Done) (kind : Kind) (t : Server) (outs : List ToClient) → NobodyWaits done.server → Ends done kind t outs → t ≡ done.server
+ends_there : (done : Done) (kind : Following) (t : Server) (outs : List ToClient) → NobodyWaits done.server → Ends done kind t outs → t ≡ done.server
 ends_there done kind t outs h (at_once i) = refl
 ends_there done kind t outs h (recovers g) = refl
 ends_there done kind t outs h (serves u answers n e a) = answered_none done.server u answers h a
@@ -149,14 +149,14 @@ effect_within w b s m at g h = by_said s m (λ k. is_recovering (effect s m k).s
   tells = λ e. h.row;
   alarms = λ r epoch pieces from body now missing bad e. h.row;
   rebuilds = λ r epoch pieces from body now missing fine e.
-      h.taken m.client r pieces (record { missing = missing; known = from.known; sent = subst (λ x. In x w.sent) (is_report m r s.durable.epoch epoch pieces body now from.same) at });
+      h.adopted m.client r pieces (record { missing = missing; known = from.known; sent = subst (λ x. In x w.sent) (is_report m r s.durable.epoch epoch pieces body now from.same) at });
   repeats = λ r body served unacked. served_not s g served.serves;
   acknowledges = λ r request b a. served_not s g a.served.serves;
   lowers = λ r request span keep a. served_not s g a.served.serves;
   waits = λ r request req point hi mode a new free near. served_not s g a.served.serves;
-  judges = λ r request number op takes o a under near new is. served_not s g a.served.serves;
-  takes = λ r request number op takes a under near new may. served_not s g a.served.serves;
-  answers_again = λ r request number op takes o a under some last is. served_not s g a.served.serves;
+  judges = λ r request number op seizes o a under near new is. served_not s g a.served.serves;
+  seizes = λ r request number op seizes a under near new may. served_not s g a.served.serves;
+  answers_again = λ r request number op seizes o a under some last is. served_not s g a.served.serves;
 })
 
 -- Each step with which a recovery ends
@@ -173,7 +173,7 @@ end_within w v b s t step h up g within up' e (reads old new m outs a f at step'
     let j : new ≡ t = same_up new t (sym f ∙ up') in
     let nobody : NobodyWaits old = subst Quiet a (reachable_quiet w h) (subst (λ y. is_recovering y.missing ≡ true) (sym i) g) in
     let g' : is_recovering old.missing ≡ true = subst (λ y. is_recovering y.missing ≡ true) (sym i) g in
-    let there = ends_there (effect old m (case_of old m)) (kind_of (case_of old m)) new outs (still_nobody old m g' nobody) step' in
+    let there = ends_there (effect old m (case_of old m)) (following (case_of old m)) new outs (still_nobody old m g' nobody) step' in
     let ended : is_recovering (effect old m (case_of old m)).server.missing ≡ false = subst (λ y. is_recovering y.missing ≡ false) (sym j ∙ there) e in
     subst (λ y. AreRowsWithin y.durable.index y.rows b) (sym there ∙ j)
     (effect_within w b old m at g' (subst (IsRecoveryWithin w b) (sym i) within) ended)

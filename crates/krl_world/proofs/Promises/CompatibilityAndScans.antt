@@ -2,7 +2,7 @@
 use Rattle.krl_world.proofs.Names.{◌≡◌, ◌≢◌, ℕ, ◌≤◌, ◌<◌, ◌∙◌, Bool, true, false, ◌||◌, ◌&&◌, cond, Option, Some, None, List, ◌⊎◌, inl, inr, refl, sym, ap, subst, ⊎_elim, arith, nat_eq, leb-true}
 use Rattle.krl_world.proofs.Names.{eqb-true, eqb-false, and_parts, not-false, nat_cmp, find-where_key, is_sorted-where_key, END, TOP, RangePart, KeyPart, ranges_compatible, keys_compatible}
 use Rattle.krl_world.proofs.Names.{reads_key, reads_gap, Bounds, IsPointOf, contains, Value, Logged, ranges_agree_by_table, keys_agree_by_table, Index, Belief, is_covered, is_span, CoversAll}
-use Rattle.krl_world.proofs.Names.{AreRows, Client, is_writing_in, Answers, is_pending, finds_rows, misses, scan_refusal, ShowsClient, ShowsPlace, passed, ServerPlace}
+use Rattle.krl_world.proofs.Names.{AreRows, Client, is_writing_in, ScanGives, is_pending, finds_rows, misses, scan_refusal, ShowsClient, ShowsPlace, passed, ServerPlace}
 use Rattle.krl_world.proofs.Names.{Up, Down, State, durable_of, index_of, client_of, range_believed, key_believed, span, command_refusal, Takes, refused_by_client, IsCompatible}
 use Rattle.std.specs.Prelude.{if◌then◌else◌, nat_lt, nat_le}
 use Rattle.std.specs.declared.cmp.Ordering.TheVariants.{Equal}
@@ -118,7 +118,7 @@ value_is w of log c k s p false m scan h free covered at top e =
     let x = scan c p p (omega arith) (not_out k (of c) c s p h free at) (λ y a b. let one : p ≡ y = omega (arith, a, b) in subst (λ z. machine.IsCovered (of c) z) one (covers k (of c) c p h covered)) p (omega arith) (omega arith) in
     h.value p ne ∙ x ∙ index_is w.server p
 
-scan_rows : (w : State) (of : ℕ → Link) (log : List Logged) (c lo hi : ℕ) (k : Client) (rows : List (ℕ × Value)) (a : ScanAnswer) → Mirrors w of log → machine.ScanIsIndex (machine_of w.server of log) → client_of w c ≡ Some k → scan_refusal (span lo hi) ≡ None → Answers k (span lo hi) a → a ≡ scanned.Rows rows → rows ≡ index.range (index_of w) lo hi
+scan_rows : (w : State) (of : ℕ → Link) (log : List Logged) (c lo hi : ℕ) (k : Client) (rows : List (ℕ × Value)) (a : ScanAnswer) → Mirrors w of log → machine.ScanIsIndex (machine_of w.server of log) → client_of w c ≡ Some k → scan_refusal (span lo hi) ≡ None → ScanGives k (span lo hi) a → a ≡ scanned.Rows rows → rows ≡ index.range (index_of w) lo hi
 scan_rows w of log c lo hi k rows _ m scan up ok (is_pending change o i) e = absurd (cc)
 scan_rows w of log c lo hi k rows _ m scan up ok (misses p f h) e = absurd (cc)
 scan_rows w of log c lo hi k rows _ m scan up ok (finds_rows found f h) e =

@@ -1,14 +1,14 @@
 -- While a server recovers, what it has heard and may still hear lies within the bound of the run; and so does what it
 -- rebuilds.
 use Rattle.krl_world.proofs.Names.{◌≡◌, ℕ, ◌∙◌, true, false, Option, Some, None, List, refl, sym, subst, END, RangePart, KeyPart, AllByRecursion, Value, Pieces, RangeAtMost, KeyAtMost}
-use Rattle.krl_world.proofs.Names.{Link, takes_report, Logged, MayTake, Reachable, stepped, at_link, restarts_hold, Record, Index, Rows, column, Server, is_recovering, lists, unlist, report_of}
+use Rattle.krl_world.proofs.Names.{Link, takes_report, Logged, MaySeize, Reachable, stepped, at_link, restarts_hold, Record, Index, Rows, column, Server, is_recovering, lists, unlist, report_of}
 use Rattle.krl_world.proofs.Names.{machine_phase, view, IsRecord, Shows, IsWhole, Client, ShowsPlace, Up, State, client_of, range_believed, key_believed, Bound, table_with, IsRangeWithin, IsKeyWithin}
 use Rattle.krl_world.proofs.Names.{IsAwaited, IsRecoveryWithin}
 use Rattle.krl_machine.specs.Links as links
 use Rattle.krl_machine.specs.Tables as tables
 use Rattle.krl_machine.specs.Worlds as machine
 use Rattle.krl_machine.proofs.Steps.{put, put_changed}
-use Rattle.krl_table.specs.Reports.{reported_key, adopted, range_said}
+use Rattle.krl_table.specs.Reports.{greatest_key_at, adopted, joined_range_at}
 use Rattle.krl_server.specs.Soundness.{IsSound}
 use Rattle.krl_refinement.proofs.Server.Meaning.{range_is, key_is}
 use Rattle.krl_server.proofs.Points.{same_range, same_key}
@@ -85,7 +85,7 @@ links_taken s of c pieces b have h i on = at_put (λ d l. IsTaken s c pieces b (
     rows : Rows
     rows = adopted s.durable.index s.rows c pieces
 
-taken_within : (first : ℕ → Option Value) (w : State) (of : ℕ → Link) (log : List Logged) (b : Bound) (s : Server) (c inc : ℕ) (pieces : Pieces) → Mirrors w of log → HaveBound of b → Shows s of → IsSound s → Reachable first END (machine_of (Up s) of log) → MayTake (shared_of (Up s)) (of c) (report_of inc s.durable.epoch pieces) → AllByRecursion (λ x. IsWhole x.span) pieces.ranges → IsTakenWithin w b s c pieces
+taken_within : (first : ℕ → Option Value) (w : State) (of : ℕ → Link) (log : List Logged) (b : Bound) (s : Server) (c inc : ℕ) (pieces : Pieces) → Mirrors w of log → HaveBound of b → Shows s of → IsSound s → Reachable first END (machine_of (Up s) of log) → MaySeize (shared_of (Up s)) (of c) (report_of inc s.durable.epoch pieces) → AllByRecursion (λ x. IsWhole x.span) pieces.ranges → IsTakenWithin w b s c pieces
 unfolding taken_link
 taken_within first w of log b s c inc pieces m have h i reach may whole d p = (
   (range_within _ _ _ _ (sym (x.range p)) (x.top_range p) low.0, key_within _ _ _ _ (sym (x.key p)) (x.top_key p) low.1),
@@ -131,13 +131,13 @@ recovery_world first w of log b s m have up reach recovering = record {
   report_covers = λ c x k pieces awaited here own p.
       let a = place c k here in
       let y = r.covers c _ (may c x pieces awaited) (sym own ∙ sym (a.1.inc)) p in
-      (subst (λ o. IsRangeWithin (range_believed o p) (range_said pieces.ranges p)) (sym here) (range_within _ _ _ _ (a.1.range p) refl y.0), subst (λ o. IsKeyWithin (key_believed o p) (reported_key pieces.keys p)) (sym here) (key_within _ _ _ _ (a.1.key p) refl y.1));
+      (subst (λ o. IsRangeWithin (range_believed o p) (joined_range_at pieces.ranges p)) (sym here) (range_within _ _ _ _ (a.1.range p) refl y.0), subst (λ o. IsKeyWithin (key_believed o p) (greatest_key_at pieces.keys p)) (sym here) (key_within _ _ _ _ (a.1.key p) refl y.1));
   row = λ c p. let y = r.rebuilt c phase p in
       (range_within _ _ _ _ (sym ((shows.link c).new_range phase p)) (have c p).0 y.0, key_within _ _ _ _ (sym ((shows.link c).new_key phase p)) (have c p).1 y.1);
   row_covers = λ c missing p. let y = r.rebuilt_covers c phase ((shows.link c).missing ∙ missing) p in
       (believed_range c (w.places c).last_incarnation p (client_of w c) (of c) _ _ (m.places c) ((shows.link c).new_range phase p) y.0, believed_key c (w.places c).last_incarnation p (client_of w c) (of c) _ _ (m.places c) ((shows.link c).new_key phase p) y.1);
-  taken = λ c x pieces awaited d p. (as_taken c x pieces awaited d p).0;
-  taken_covers = λ c x pieces awaited d missing p. (as_taken c x pieces awaited d p).1 missing;
+  adopted = λ c x pieces awaited d p. (as_taken c x pieces awaited d p).0;
+  adopted_covers = λ c x pieces awaited d missing p. (as_taken c x pieces awaited d p).1 missing;
 }
   where
     r : machine.Restarts (machine_of (Up s) of log)
@@ -152,7 +152,7 @@ recovery_world first w of log b s m have up reach recovering = record {
     phase : machine_phase s.missing ≡ links.Recovering
     phase = recovering_phase s.missing recovering
 
-    may : (c : ℕ) (x : Record) (pieces : Pieces) → IsAwaited w s c x pieces → MayTake (shared_of (Up s)) (of c) (report_of x.incarnation s.durable.epoch pieces)
+    may : (c : ℕ) (x : Record) (pieces : Pieces) → IsAwaited w s c x pieces → MaySeize (shared_of (Up s)) (of c) (report_of x.incarnation s.durable.epoch pieces)
     may c x pieces a = record { sent = (m.from _ a.sent).0; recovering = phase; missing = (shows.link c).missing ∙ a.missing; inc = sym (registered_as _ x (of c) a.known (shows.link c).known); epoch = refl }
 
     as_taken : (c : ℕ) (x : Record) (pieces : Pieces) → IsAwaited w s c x pieces → IsTakenWithin w b s c pieces

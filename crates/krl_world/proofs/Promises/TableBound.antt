@@ -1,6 +1,6 @@
 -- While it serves, the bound of a run is the server's table.
 use Rattle.krl_world.proofs.Names.{◌≡◌, Bool, true, false, refl, subst, if◌then◌else◌, Durable, is_recovering, ServerPlace, Up, Down, State, opened, Bound, table_of}
-use Rattle.krl_world.proofs.Names.{first_bound, step_clears, cleared, bound_at, HasBound, BoundIsTable}
+use Rattle.krl_world.proofs.Names.{first_bound, step_clears, bound_cleared, bound_at, HasBound, BoundIsTable}
 use Rattle.krl_world.specs.Bounds.{at_first, after_step, as_before}
 
 abbrev IsItsTable : ServerPlace → Bound → Type 0
@@ -21,7 +21,7 @@ first_is d e = refl
 
 bound_is : (w : State) (b : Bound) → HasBound w b → IsItsTable w.server b
 bound_is w b (at_first d h) = first_is d
-bound_is w b (after_step u v c s answer h t) = after_is v.server (cleared (step_clears u s) c)
+bound_is w b (after_step u v c s answer h t) = after_is v.server (bound_cleared (step_clears u s) c)
 bound_is w b (as_before u c d l h e fits) = tt
 
 pub bound_is_table : BoundIsTable

@@ -1,7 +1,7 @@
 -- A server that serves serves on, as long as it does not crash.
 use Rattle.krl_world.proofs.Names.{◌≡◌, ◌≢◌, ℕ, ◌∙◌, Bool, true, false, List, [], ◌∷◌, inl, inr, refl, sym, ap, subst, if◌then◌else◌, Durable, ToServer, ToClient, In, Server, is_recovering, unlist}
-use Rattle.krl_world.proofs.Names.{Case, Ignored, Registers, Leaves, Tells, Alarms, Rebuilds, Repeats, Acknowledges, Lowers, Waits, Judges, TakesLock, takes, AnswersAgain, case_of, Done, acknowledged, writes, effect}
-use Rattle.krl_world.proofs.Names.{Kind, kind_of, Ends, at_once, recovers, serves, ServerStep, pushes_missing, answered_up, Step, Up, Down, State, is_serving, opened, CanOpen, Runs, ServesOn}
+use Rattle.krl_world.proofs.Names.{Case, Ignored, Registers, Leaves, Tells, Alarms, Rebuilds, Repeats, Acknowledges, Lowers, Waits, Judges, SeizesLock, seizes, AnswersAgain, case_of, Done, acknowledged, writes, effect}
+use Rattle.krl_world.proofs.Names.{Following, following, Ends, at_once, recovers, serves, ServerStep, pushes_missing, answered_up, Step, Up, Down, State, is_serving, opened, CanOpen, Runs, ServesOn}
 use Rattle.krl_messages.specs.declared.outcome.Outcome.TheVariants as outcome
 use Rattle.krl_steps.specs.declared.step.Step.TheVariants as step
 use Rattle.krl_world.proofs.Refinement.ServerMoves.{Way, stays, reads, stops, begins, way}
@@ -25,18 +25,18 @@ effect_serves s m (Lowers span keep) e = e
 effect_serves s m (Waits req point hi g) e = e
 effect_serves s m (Judges number op o) e =
     pushes_missing (writes (acknowledged s m.client) m.client op o) m.client _ ∙ e
-effect_serves s m (TakesLock number op) e =
-    pushes_missing (writes (acknowledged (takes s m.client op) m.client) m.client op outcome.Applied) m.client _ ∙ e
+effect_serves s m (SeizesLock number op) e =
+    pushes_missing (writes (acknowledged (seizes s m.client op) m.client) m.client op outcome.Applied) m.client _ ∙ e
 effect_serves s m (AnswersAgain number op o) e = pushes_missing (acknowledged s m.client) m.client _ ∙ e
 
-ends_serve : (done : Done) (kind : Kind) (t : Server) (outs : List ToClient) → is_recovering done.server.missing ≡ false → Ends done kind t outs → is_recovering t.missing ≡ false
+ends_serve : (done : Done) (kind : Following) (t : Server) (outs : List ToClient) → is_recovering done.server.missing ≡ false → Ends done kind t outs → is_recovering t.missing ≡ false
 ends_serve done kind t outs e (at_once i) = e
 ends_serve done kind t outs e (recovers g) = e
 ends_serve done kind t outs e (serves u answers n g a) = answered_up done.server u answers a e
 
 step_serves : (s t : Server) (m : ToServer) (outs : List ToClient) → is_recovering s.missing ≡ false → ServerStep s m t outs → is_recovering t.missing ≡ false
 step_serves s t m outs e h =
-    ends_serve (effect s m (case_of s m)) (kind_of (case_of s m)) t outs
+    ends_serve (effect s m (case_of s m)) (following (case_of s m)) t outs
     (ap is_recovering (effect_serves s m (case_of s m) (none_missing s.missing e))) h
 
 -- One step

@@ -113,7 +113,7 @@ or_applied outcome.Full n = absurd (n refl)
 
 module _ (w : State) (of : ℕ → Link) (log : List Logged) (m : Mirrors w of log) (h : machine.WritesOnce (first_of w.opening) (machine_of w.server of log)) where
   as_asked : (x : AppliedWrite) (op : WriteOp) (d : Message) → In x w.writes → In d w.sent → AsksFor x.client x.incarnation x.number op d → x.op ≡ op
-  as_asked x op _ i j (asks epoch seen takes) = let r = of_log log x (subst (λ xs. In x xs) m.writes i) in let s = r.same in
+  as_asked x op _ i j (asks epoch seen seizes) = let r = of_log log x (subst (λ xs. In x xs) m.writes i) in let s = r.same in
       let at = m.from _ j in
       let at' = subst (λ c. In (record { head = record { inc = x.incarnation; epoch = epoch; seen = seen }; number = x.number; op = op_of op }) (of c).writes) (ap (λ (d : AppliedWrite). d.client) s) at.1 in
       let e : op_of op ≡ r.entry.wrote.op = h.same r.entry r.at _ at' (ap (λ (d : AppliedWrite). d.incarnation) s) (ap (λ (d : AppliedWrite). d.number) s) in

@@ -1,9 +1,9 @@
 -- A callback has the epoch of the server that sends it.
 use Rattle.krl_world.proofs.Names.{ℕ, zero, suc, ◌≤◌, Bool, true, false, Option, Some, None, List, [], ◌∷◌, ◌++◌, inl, inr, sym, subst, ⊎_elim, arith, nat_eq, if◌then◌else◌, END, cap, ToServer}
 use Rattle.krl_world.proofs.Names.{ToClient, PushBody, WriteOp, Outcome, Record, slot_of, span_of, slots, record_of, op_key, In, in_both, max_clients, Server, is_recovering, lists, Case, Ignored}
-use Rattle.krl_world.proofs.Names.{Registers, Leaves, Tells, Alarms, Rebuilds, Repeats, Acknowledges, Lowers, Waits, Judges, TakesLock, takes, AnswersAgain, case_of, Done, callback_to, with_rows, holding, holdings}
-use Rattle.krl_world.proofs.Names.{acknowledged, writes, answers, pushes, effect, Turn, tells_absent, grants, answer_first, Answered, stops, goes_on, is_compatible, callbacks_from, callbacks_for}
-use Rattle.krl_world.proofs.Names.{callbacks_at, callbacks_among, callbacks_of, callbacks_of_among, Kind, Idle, Quiet, Acts, kind_of, calls_of, Ends, at_once, recovers, serves, ServerStep}
+use Rattle.krl_world.proofs.Names.{Registers, Leaves, Tells, Alarms, Rebuilds, Repeats, Acknowledges, Lowers, Waits, Judges, SeizesLock, seizes, AnswersAgain, case_of, Done, callback_to, with_rows, holding, holdings}
+use Rattle.krl_world.proofs.Names.{acknowledged, writes, tells_outcome, pushes, effect, Turn, tells_absent, grants, answer_first, AnswersWaiters, stops, goes_on, is_compatible, callbacks_from, callbacks_for}
+use Rattle.krl_world.proofs.Names.{callbacks_at, callbacks_among, callbacks_of, callbacks_of_among, Following, Nothing, Answers, Calls, following, callbacks_after, Ends, at_once, recovers, serves, ServerStep}
 use Rattle.krl_world.proofs.Names.{nudge_served, nudge_known, nudge}
 use Rattle.std.specs.Prelude.{nat_lt}
 use Rattle.krl_messages.specs.declared.to_client.ToClientBody.{ToClientBody}
@@ -13,8 +13,8 @@ use Rattle.krl_messages.specs.declared.outcome.Outcome.TheVariants as outcome
 use Rattle.krl_queue.specs.declared.waiter.Waiter.{Waiter}
 use Rattle.krl_machine.specs.Worlds as machine
 use Rattle.krl_machine.specs.Worlds.{Step, at_link, raises, applies, crash, start, finish, Steps, none, more}
-use Rattle.krl_table.specs.Calls.{wanted, dropped}
-use Rattle.krl_table.specs.Grants.{taken, granted}
+use Rattle.krl_table.specs.Calls.{wanted, front_dropped}
+use Rattle.krl_table.specs.Grants.{reached_slots, granted}
 use Rattle.krl_table.specs.Replies.{asks_absent}
 
 -- the epoch of a callback, otherwise 0
@@ -46,7 +46,7 @@ outs_by n false x y a b = b
 pushes_called : (n : ℕ) (s : Server) (c : ℕ) (b : PushBody) → AreCalled n (pushes s c b).outs
 pushes_called n s c b = outs_by n (nat_lt (s.sessions c).last_push END) _ _ (one_call n _ (omega arith)) (no_calls n)
 
-write_called : (n : ℕ) (s : Server) (c number : ℕ) (op : WriteOp) (o : Outcome) → AreCalled n (answers s c number op o).outs
+write_called : (n : ℕ) (s : Server) (c number : ℕ) (op : WriteOp) (o : Outcome) → AreCalled n (tells_outcome s c number op o).outs
 write_called n s c number op o = pushes_called n s c (push.Answer number o (holding s (slot_of s.durable.index (op_key op)) c))
 
 effect_called : (n : ℕ) (s : Server) (m : ToServer) (k : Case) → AreCalled n (effect s m k).outs
@@ -62,16 +62,16 @@ effect_called n s m (Lowers span keep) = no_calls n
 effect_called n s m (Waits req point hi g) = no_calls n
 effect_called n s m (Judges number op o) =
     write_called n (writes (acknowledged s m.client) m.client op o) m.client number op o
-effect_called n s m (TakesLock number op) =
-    write_called n (writes (acknowledged (takes s m.client op) m.client) m.client op outcome.Applied) m.client number op outcome.Applied
+effect_called n s m (SeizesLock number op) =
+    write_called n (writes (acknowledged (seizes s m.client op) m.client) m.client op outcome.Applied) m.client number op outcome.Applied
 effect_called n s m (AnswersAgain number op o) = write_called n (acknowledged s m.client) m.client number op o
 
 turn_called : (n : ℕ) (s : Server) (t : Turn) → AreCalled n (answer_first s t).outs
 turn_called n s t = outs_by n (asks_absent s.durable.index t.waiter) (tells_absent s t) (grants s t)
-    (pushes_called n (with_rows s (dropped s.rows t.slot)) t.waiter.client (push.Absent t.waiter.req t.waiter.point))
-    (pushes_called n (with_rows s (granted s.durable.reach s.durable.index s.rows t.slot)) t.waiter.client (push.Grant t.waiter.req (holdings (with_rows s (granted s.durable.reach s.durable.index s.rows t.slot)) t.waiter.client (taken s.durable.reach s.durable.index s.rows t.slot))))
+    (pushes_called n (with_rows s (front_dropped s.rows t.slot)) t.waiter.client (push.Absent t.waiter.req t.waiter.point))
+    (pushes_called n (with_rows s (granted s.durable.reach s.durable.index s.rows t.slot)) t.waiter.client (push.Grant t.waiter.req (holdings (with_rows s (granted s.durable.reach s.durable.index s.rows t.slot)) t.waiter.client (reached_slots s.durable.reach s.durable.index s.rows t.slot))))
 
-answers_called : (n : ℕ) (s t : Server) (outs : List ToClient) → Answered s t outs → AreCalled n outs
+answers_called : (n : ℕ) (s t : Server) (outs : List ToClient) → AnswersWaiters s t outs → AreCalled n outs
 answers_called n s _ _ (stops s' e) = no_calls n
 answers_called n s t _ (goes_on s' t' turn outs e rest) = both_called n (answer_first s' turn).outs outs (turn_called n s' turn) (answers_called n (answer_first s' turn).server t' outs rest)
 
@@ -97,10 +97,10 @@ module _ (s : Server) where
   among_called [] = no_calls s.durable.epoch
   among_called (n ∷ ns) = both_called s.durable.epoch (callbacks_at s n (s.rows n).queue) (callbacks_among s ns) (at_called n (s.rows n).queue) (among_called ns)
 
-  calls_called : (k : Kind) → AreCalled s.durable.epoch (calls_of k s)
-  calls_called Idle = no_calls s.durable.epoch
-  calls_called Quiet = no_calls s.durable.epoch
-  calls_called Acts = among_called (slots s.durable.index)
+  calls_called : (k : Following) → AreCalled s.durable.epoch (callbacks_after k s)
+  calls_called Nothing = no_calls s.durable.epoch
+  calls_called Answers = no_calls s.durable.epoch
+  calls_called Calls = among_called (slots s.durable.index)
 
   of_called : (c n : ℕ) (us : List Waiter) → AreCalled s.durable.epoch (callbacks_of c s n us)
   of_called c n [] = no_calls s.durable.epoch
@@ -123,15 +123,15 @@ module _ (s : Server) where
   pub nudge_called : (c : ℕ) → AreCalled s.durable.epoch (nudge s c)
   nudge_called c = known_called c (record_of s.durable.register c)
 
-ends_called : (done : Done) (kind : Kind) (t : Server) (outs : List ToClient) → ((n : ℕ) → AreCalled n done.outs) → Ends done kind t outs → AreCalled t.durable.epoch outs
+ends_called : (done : Done) (kind : Following) (t : Server) (outs : List ToClient) → ((n : ℕ) → AreCalled n done.outs) → Ends done kind t outs → AreCalled t.durable.epoch outs
 ends_called done kind _ _ h (at_once k) = h done.server.durable.epoch
 ends_called done kind _ _ h (recovers g) = h done.server.durable.epoch
-ends_called done kind _ _ h (serves t said acts up rest) = both_called t.durable.epoch done.outs (said ++ calls_of kind t) (h t.durable.epoch)
-    (both_called t.durable.epoch said (calls_of kind t) (answers_called t.durable.epoch done.server t said rest) (calls_called t kind))
+ends_called done kind _ _ h (serves t said acts up rest) = both_called t.durable.epoch done.outs (said ++ callbacks_after kind t) (h t.durable.epoch)
+    (both_called t.durable.epoch said (callbacks_after kind t) (answers_called t.durable.epoch done.server t said rest) (calls_called t kind))
 
 -- a step
 pub step_called : (s t : Server) (m : ToServer) (outs : List ToClient) → ServerStep s m t outs → AreCalled t.durable.epoch outs
-step_called s t m outs h = ends_called (effect s m (case_of s m)) (kind_of (case_of s m)) t outs (λ n. effect_called n s m (case_of s m)) h
+step_called s t m outs h = ends_called (effect s m (case_of s m)) (following (case_of s m)) t outs (λ n. effect_called n s m (case_of s m)) h
 
 -- The durable epoch only rises
 

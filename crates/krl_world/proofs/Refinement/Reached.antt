@@ -1,7 +1,7 @@
 -- Each world that a run reaches shows in a machine's world that can be reached, and the run's bound is the machine's.
 use Rattle.krl_world.proofs.Names.{◌≡◌, ℕ, ◌≤◌, ◌∙◌, Bool, true, false, List, [], refl, sym, ap, subst, if◌then◌else◌, END, RangePart, KeyPart, Durable, Link, Logged, Reachable, steps_reachable}
 use Rattle.krl_world.proofs.Names.{Server, is_recovering, start, Shows, BoundStays, ServerFollows, Step, Answer, ServerPlace, Up, Down, State, durable_of, index_of, is_serving, opened}
-use Rattle.krl_world.proofs.Names.{CanOpen, Takes, IsReachable, Bound, table_of, first_bound, step_clears, cleared, bound_at, bound_after, HasBound}
+use Rattle.krl_world.proofs.Names.{CanOpen, Takes, IsReachable, Bound, table_of, first_bound, step_clears, bound_cleared, bound_at, bound_after, HasBound}
 use Rattle.krl_modes.specs.declared.part.RangePart.TheVariants as range
 use Rattle.krl_modes.specs.declared.part.KeyPart.TheVariants as key
 use Rattle.krl_durable.specs.declared.limits.Limits.{Limits}
@@ -43,23 +43,23 @@ key_kept true a b k e f = f
 key_kept false a b k e f = f ∙ e
 
 -- if it does not, they stay, except for clients that were cleared
-kept_bound : (of to : ℕ → Link) (gone : ℕ → Bool) (b : Bound) → HaveBound of b → ((c : ℕ) → BoundStays (gone c) (of c) (to c)) → HaveBound to (cleared gone b)
+kept_bound : (of to : ℕ → Link) (gone : ℕ → Bool) (b : Bound) → HaveBound of b → ((c : ℕ) → BoundStays (gone c) (of c) (to c)) → HaveBound to (bound_cleared gone b)
 kept_bound of to gone b h stays c p = (range_kept (gone c) ((of c).top_range p) (b.range_at c p) ((to c).top_range p) (h c p).0 ((stays c).range p), key_kept (gone c) ((of c).top_key p) (b.key_at c p) ((to c).top_key p) (h c p).1 ((stays c).key p))
 
-bound_on : (n : ServerPlace) (of to : ℕ → Link) (gone : ℕ → Bool) (b : Bound) → HaveBound of b → ServerShows n to → (is_serving n ≡ false → (c : ℕ) → BoundStays (gone c) (of c) (to c)) → HaveBound to (bound_at n (cleared gone b))
+bound_on : (n : ServerPlace) (of to : ℕ → Link) (gone : ℕ → Bool) (b : Bound) → HaveBound of b → ServerShows n to → (is_serving n ≡ false → (c : ℕ) → BoundStays (gone c) (of c) (to c)) → HaveBound to (bound_at n (bound_cleared gone b))
 bound_on (Down d) of to gone b h shows stays = kept_bound of to gone b h (stays refl)
 bound_on (Up s) of to gone b h shows stays = by_test (is_recovering s.missing) refl stays
   where
-    by_test : (t : Bool) → is_recovering s.missing ≡ t → ((if t then false else true) ≡ false → (c : ℕ) → BoundStays (gone c) (of c) (to c)) → HaveBound to (if t then cleared gone b else table_of s)
+    by_test : (t : Bool) → is_recovering s.missing ≡ t → ((if t then false else true) ≡ false → (c : ℕ) → BoundStays (gone c) (of c) (to c)) → HaveBound to (if t then bound_cleared gone b else table_of s)
     by_test true e stay = kept_bound of to gone b h (stay refl)
     by_test false e stay = table_bound s to shows.0 e
 
 -- the index of the bound
-index_on : (n : ServerPlace) (b : Bound) (gone : ℕ → Bool) → (is_serving n ≡ false → b.index ≡ (durable_of n).index) → (bound_at n (cleared gone b)).index ≡ (durable_of n).index
+index_on : (n : ServerPlace) (b : Bound) (gone : ℕ → Bool) → (is_serving n ≡ false → b.index ≡ (durable_of n).index) → (bound_at n (bound_cleared gone b)).index ≡ (durable_of n).index
 index_on (Down d) b gone h = h refl
 index_on (Up s) b gone h = by_test (is_recovering s.missing) h
   where
-    by_test : (t : Bool) → ((if t then false else true) ≡ false → b.index ≡ s.durable.index) → (if t then cleared gone b else table_of s).index ≡ s.durable.index
+    by_test : (t : Bool) → ((if t then false else true) ≡ false → b.index ≡ s.durable.index) → (if t then bound_cleared gone b else table_of s).index ≡ s.durable.index
     by_test true x = x refl
     by_test false x = refl
 

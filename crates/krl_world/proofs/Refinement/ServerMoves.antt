@@ -31,7 +31,7 @@ deliver_way w v s (Some (message.ToClient m)) at d = client_way w v s m (client_
 obey_way : (w v : State) (s : Step) (c : ℕ) (k : Client) (what : Command) (answer : Answer) → Obeys w c k what answer v → Way w v s
 obey_way w v s c k (command.Lock point hi m) answer d = same w v _ s refl d.1
 obey_way w v s c k (command.Write op) answer d = same w v _ s refl d.1
-obey_way w v s c k (command.Take op) answer d = same w v _ s refl d.1
+obey_way w v s c k (command.Seize op) answer d = same w v _ s refl d.1
 obey_way w v s c k (command.Scan lo hi) answer d = same w v _ s refl d.1
 obey_way w v s c k (command.Lower lo hi keep) answer d = same w v _ s refl d.1
 obey_way w v s c k (command.Pin lo hi) answer d = same w v _ s refl d.3

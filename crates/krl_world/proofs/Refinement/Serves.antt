@@ -1,7 +1,7 @@
 -- Each step at the server's side is steps of the machine, by what that side owes.
 use Rattle.krl_world.proofs.Names.{arith, ◌≡◌, ℕ, ◌∙◌, Bool, true, false, Option, Some, None, List, [], ◌∷◌, ◌++◌, refl, sym, ap, subst, ⊎_elim, nat_eq, if◌then◌else◌, ◌&&◌, END, Value, ToServer}
 use Rattle.krl_world.proofs.Names.{ToClient, Outcome, WriteOp, In, in_both, Durable, Link, Server, is_recovering, Case, Ignored, Registers, Leaves, Tells, Alarms, Rebuilds, Repeats, Acknowledges}
-use Rattle.krl_world.proofs.Names.{Lowers, Waits, Judges, TakesLock, AnswersAgain, case_of, clears, ServerStep, nudge, start, can_start, op_of, WasSent, logged, Client, Grows, ShowsClient, ShowsPlace}
+use Rattle.krl_world.proofs.Names.{Lowers, Waits, Judges, SeizesLock, AnswersAgain, case_of, clears, ServerStep, nudge, start, can_start, op_of, WasSent, logged, Client, Grows, ShowsClient, ShowsPlace}
 use Rattle.krl_world.proofs.Names.{AppliedWrite, ServerPlace, Up, Down, State, durable_of, is_serving, from_server, served, applies, ServerFollows, stands_stays, sent_stays}
 use Rattle.krl_messages.specs.declared.outcome.Outcome.TheVariants as outcome
 use Rattle.krl_messages.specs.declared.write_op.WriteOp.TheVariants as write
@@ -51,7 +51,7 @@ case_log m Acknowledges log = nil_right (oldest_first log)
 case_log m (Lowers s keep) log = nil_right (oldest_first log)
 case_log m (Waits req point hi g) log = nil_right (oldest_first log)
 case_log m (Judges number x o) log = judged_log m number x o log
-case_log m (TakesLock number x) log = judged_log m number x outcome.Applied log
+case_log m (SeizesLock number x) log = judged_log m number x outcome.Applied log
 case_log m (AnswersAgain number x o) log = nil_right (oldest_first log)
 
 -- Steps

@@ -1,6 +1,6 @@
 -- While nobody serves, the index stands still.
 use Rattle.krl_world.proofs.Names.{◌≡◌, ℕ, ◌∙◌, Bool, true, false, Option, Some, None, List, ◌⊎◌, inl, inr, refl, sym, ap, subst, ⊎_elim, if◌then◌else◌, END, ToServer, ToClient, PushBody, Record}
-use Rattle.krl_world.proofs.Names.{slot_of, Durable, record_of, left_by, op_key, Server, is_recovering, Case, case_of, Done, holding, acknowledged, takes, writes, pushes, effect, Kind, Idle, kind_of, Ends}
+use Rattle.krl_world.proofs.Names.{slot_of, Durable, record_of, left_by, op_key, Server, is_recovering, Case, case_of, Done, holding, acknowledged, seizes, writes, pushes, effect, Following, Nothing, following, Ends}
 use Rattle.krl_world.proofs.Names.{at_once, recovers, serves, ServerStep, pushes_missing, answered_up, Step, ServerPlace, Up, Down, State, durable_of, index_of, is_serving}
 use Rattle.std.specs.Prelude.{nat_lt}
 use Rattle.krl_modes.proofs.Basics.{not_both}
@@ -23,7 +23,7 @@ left_index d c (Some r) = refl
 
 -- the index stays if a step ends with its effect: nobody serves after it, or it has not acted
 abbrev Stays : Server → ToServer → Case → Type 0
-Stays s m k = (is_recovering (effect s m k).server.missing ≡ true) ⊎ (kind_of k ≡ Idle) → (effect s m k).server.durable.index ≡ s.durable.index
+Stays s m k = (is_recovering (effect s m k).server.missing ≡ true) ⊎ (following k ≡ Nothing) → (effect s m k).server.durable.index ≡ s.durable.index
 
 case_stays : (s : Server) (m : ToServer) → Stays s m (case_of s m)
 case_stays s m = by_case s m (Stays s m) (record {
@@ -40,19 +40,19 @@ case_stays s m = by_case s m (Stays s m) (record {
   judges = λ r number op o a b c d f e. ⊎_elim
       (λ (g : _). let t = writes (acknowledged s m.client) m.client op o in absurd (not_both (is_recovering s.missing) (ap is_recovering (sym (pushes_missing t m.client (push.Answer number o (holding t (slot_of t.durable.index (op_key op)) m.client)))) ∙ g) a.serves))
       (λ (i : _). absurd (cc)) e;
-  takes = λ r number op a b c d f e. ⊎_elim
-      (λ (g : _). let t = writes (acknowledged (takes s m.client op) m.client) m.client op outcome.Applied in absurd (not_both (is_recovering s.missing) (ap is_recovering (sym (pushes_missing t m.client (push.Answer number outcome.Applied (holding t (slot_of t.durable.index (op_key op)) m.client)))) ∙ g) a.serves))
+  seizes = λ r number op a b c d f e. ⊎_elim
+      (λ (g : _). let t = writes (acknowledged (seizes s m.client op) m.client) m.client op outcome.Applied in absurd (not_both (is_recovering s.missing) (ap is_recovering (sym (pushes_missing t m.client (push.Answer number outcome.Applied (holding t (slot_of t.durable.index (op_key op)) m.client)))) ∙ g) a.serves))
       (λ (i : _). absurd (cc)) e;
   answers_again = λ r number op o a b c d f e. let t = acknowledged s m.client in pushes_index t m.client (push.Answer number o (holding t (slot_of t.durable.index (op_key op)) m.client));
 })
 
-ends_index : (s : Server) (done : Done) (kind : Kind) (t : Server) (outs : List ToClient) → ((is_recovering done.server.missing ≡ true) ⊎ (kind ≡ Idle) → done.server.durable.index ≡ s.durable.index) → Ends done kind t outs → is_recovering t.missing ≡ true → t.durable.index ≡ s.durable.index
+ends_index : (s : Server) (done : Done) (kind : Following) (t : Server) (outs : List ToClient) → ((is_recovering done.server.missing ≡ true) ⊎ (kind ≡ Nothing) → done.server.durable.index ≡ s.durable.index) → Ends done kind t outs → is_recovering t.missing ≡ true → t.durable.index ≡ s.durable.index
 ends_index s done kind _ _ h (at_once k) e = h (inr k)
 ends_index s done kind _ _ h (recovers g) e = h (inl g)
 ends_index s done kind _ _ h (serves t said acts up rest) e = absurd (not_both (is_recovering t.missing) e (answered_up done.server t said rest up))
 
 step_index : (s t : Server) (m : ToServer) (outs : List ToClient) → ServerStep s m t outs → is_recovering t.missing ≡ true → t.durable.index ≡ s.durable.index
-step_index s t m outs h e = ends_index s (effect s m (case_of s m)) (kind_of (case_of s m)) t outs (case_stays s m) h e
+step_index s t m outs h e = ends_index s (effect s m (case_of s m)) (following (case_of s m)) t outs (case_stays s m) h e
 
 -- Steps of the world
 

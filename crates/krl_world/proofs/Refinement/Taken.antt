@@ -50,7 +50,7 @@ client_goes w v of log c k' ms h g e = subst (λ x. Goes w.server x (λ d. false
 obeys_goes : (w v : State) (of : ℕ → Link) (log : List Logged) (c : ℕ) (k : Client) (what : Command) (answer : Answer) → Mirrors w of log → client_of w c ≡ Some k → command_refusal k what ≡ None → Obeys w c k what answer v → Goes w.server v (λ d. false) of log
 obeys_goes w v of log c k (command.Lock point hi m) answer h i e d = client_goes w v of log c _ _ h (commands_show.lock k point hi m e (shared_of w.server) (of c) c (w.places c).last_incarnation (place_at w of log c (Some k) h i)) d.1
 obeys_goes w v of log c k (command.Write op) answer h i e d = client_goes w v of log c _ _ h (commands_show.write k op e (shared_of w.server) (of c) c (w.places c).last_incarnation (place_at w of log c (Some k) h i)) d.1
-obeys_goes w v of log c k (command.Take op) answer h i e d = client_goes w v of log c _ _ h (commands_show.take k op e (shared_of w.server) (of c) c (w.places c).last_incarnation (place_at w of log c (Some k) h i)) d.1
+obeys_goes w v of log c k (command.Seize op) answer h i e d = client_goes w v of log c _ _ h (commands_show.seize k op e (shared_of w.server) (of c) c (w.places c).last_incarnation (place_at w of log c (Some k) h i)) d.1
 obeys_goes w v of log c k (command.Scan lo hi) answer h i e d = subst (λ x. Goes w.server x (λ d. false) of log) (sym d.1) (rests w (λ d. false) of log (λ d. refl) h)
 obeys_goes w v of log c k (command.Lower lo hi keep) answer h i e d = client_goes w v of log c _ _ h (commands_show.lower k (span lo hi) keep e (shared_of w.server) (of c) c (w.places c).last_incarnation (place_at w of log c (Some k) h i)) d.1
 obeys_goes w v of log c k (command.Pin lo hi) answer h i e d = client_goes w v of log c _ _ h (commands_show.pin k (span lo hi) d.0 (shared_of w.server) (of c) c (w.places c).last_incarnation (place_at w of log c (Some k) h i)) d.3

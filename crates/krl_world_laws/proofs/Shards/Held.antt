@@ -6,7 +6,7 @@ use Rattle.std.proofs.lemmas.Bool.Decides.{nat_tests}
 use Rattle.krl_messages.specs.declared.to_server.ToServer.{ToServer}
 use Rattle.krl_messages.specs.declared.to_client.ToClient.{ToClient}
 use Rattle.krl_client.specs.Clients.{Client, begun}
-use Rattle.krl_client.specs.Commands.{locked, wrote, took, says_lock, says_write, says_release, says_bye}
+use Rattle.krl_client.specs.Commands.{locked, wrote, seized, says_lock, says_write, says_release, says_bye}
 use Rattle.krl_client.specs.Messages as receiver
 use Rattle.krl_client.specs.Ticks.{tick, says_hello}
 use Rattle.krl_world.specs.declared.message.Message.{Message}
@@ -43,7 +43,7 @@ server_reads v w c (Up s) m h = sym (ap (λ y. client_of y c) h.3)
 server_reads v w c (Down d) m h = same_world v w c h
 
 client_reads : (v w : State) (c : ℕ) (k : Option Client) (m : ToClient) → m.client ≢ c → ClientReads v k m w → IsStill v w c
-client_reads v w c (Some k) m ne h = other_place v w c m.client _ (receiver.sends h.0 k (receiver.case_of k m)) ne h.2
+client_reads v w c (Some k) m ne h = other_place v w c m.client _ (receiver.sends h.0 k (receiver.client_case_of k m)) ne h.2
 client_reads v w c None m ne h = same_world v w c h
 
 delivers : (v w : State) (c : ℕ) (m : Option Message) → IsNotTo c m → Delivers v m w → IsStill v w c
@@ -54,7 +54,7 @@ delivers v w c None ne h = absurd h
 obeys : (v w : State) (c d : ℕ) (k : Client) (what : Command) (answer : Answer) → IsOthersCommand c d what → Obeys v d k what answer w → IsStill v w c
 obeys v w c d k (command.Lock point hi m) answer ne h = other_place v w c d _ (says_lock (locked k point hi m) point hi m ∷ []) ne h.1
 obeys v w c d k (command.Write op) answer ne h = other_place v w c d _ (says_write (wrote k op) op ∷ []) ne h.1
-obeys v w c d k (command.Take op) answer ne h = other_place v w c d _ (says_write (took k op) op ∷ []) ne h.1
+obeys v w c d k (command.Seize op) answer ne h = other_place v w c d _ (says_write (seized k op) op ∷ []) ne h.1
 obeys v w c d k (command.Scan lo hi) answer ne h = same_world v w c h.1
 obeys v w c d k (command.Lower lo hi keep) answer ne h = other_place v w c d _ (says_release k (span lo hi) keep ∷ []) ne h.1
 obeys v w c d k (command.Pin lo hi) answer ne h = other_place v w c d _ [] ne h.3

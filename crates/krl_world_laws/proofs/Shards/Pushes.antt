@@ -14,7 +14,7 @@ use Rattle.krl_messages.specs.declared.to_client.PushBody.{PushBody}
 use Rattle.krl_messages.specs.declared.to_client.PushBody.TheVariants as push
 use Rattle.krl_messages.specs.declared.write_op.WriteOp.{WriteOp}
 use Rattle.krl_cache.specs.Beliefs.{Belief, is_covered, AreRows}
-use Rattle.krl_client.specs.Clients.{Client, begun}
+use Rattle.krl_client.specs.Clients.{Client, begun, has_joined, outstanding, is_writing_in}
 use Rattle.krl_refinement.proofs.Client.Basics.{passed}
 use Rattle.krl_refinement.specs.Client.Shows.{ShowsClient, ShowsPlace}
 use Rattle.krl_steps.specs.declared.step.Step.{Step}
@@ -32,10 +32,10 @@ use Rattle.krl_client.specs.declared.scan_answer.ScanAnswer.{ScanAnswer}
 use Rattle.krl_client.specs.declared.scan_answer.ScanAnswer.TheVariants as scanned
 use Rattle.krl_messages.specs.Writes.{op_key}
 use Rattle.krl_client.specs.declared.refused.CommandRefused.TheVariants as refused
-use Rattle.krl_client.specs.Clients.{has_joined, outstanding, is_in, is_writing_in}
-use Rattle.krl_client.specs.Commands.{Answers, is_pending, finds_rows, misses, locked, wrote, took, lowered, says_lock, says_write, says_release, says_bye, scan_refusal, write_refusal, take_refusal}
+use Rattle.krl_client.specs.Splits.{is_in}
+use Rattle.krl_client.specs.Commands.{ScanGives, is_pending, finds_rows, misses, locked, wrote, seized, belief_lowered, says_lock, says_write, says_release, says_bye, scan_refusal, write_refusal, seize_refusal}
 use Rattle.krl_client.specs.Messages as receiver
-use Rattle.krl_client.specs.Messages.{Case, Ignores, AcksAgain, Adopts, Accepts, Lowers, case_of}
+use Rattle.krl_client.specs.Messages.{ClientCase, Ignores, AcksAgain, Adopts, Accepts, Lowers, client_case_of}
 use Rattle.krl_client.specs.Ticks.{tick, says_hello}
 use Rattle.krl_refinement.proofs.Server.Whole.{all_follow}
 use Rattle.krl_steps.specs.declared.step.Step.TheVariants as step
@@ -188,8 +188,8 @@ no_entry w c k h up =
 
 -- Steps
 
-lowers : (k : Client) (s : Bounds) (keep : Mode) → NoEntry k → AllKnown (Some k) (Some (lowered k s keep))
-lowers k s keep none = one k (lowered k s keep) (λ p h.
+lowers : (k : Client) (s : Bounds) (keep : Mode) → NoEntry k → AllKnown (Some k) (Some (belief_lowered k s keep))
+lowers k s keep none = one k (belief_lowered k s keep) (λ p h.
     let x = lowered_at keep (k.belief.key_at p) (k.belief.range_at p) (k.belief.value_at p) (none p) (contains s p) h in
     record { covered = x.0; value = x.1; writes = λ op i. i })
 
@@ -203,7 +203,7 @@ counted k (push.Grant req hs) = (refl, refl, omega arith)
 counted k (push.Absent req point) = (refl, refl, omega arith)
 counted k (push.Answer number outcome h) = (refl, refl, omega arith)
 
-hears : (k : Client) (x : Case) → NoEntry k → (HasAccepted (Some k) (Some (receiver.after k x)) → ⊥) → AllKnown (Some k) (Some (receiver.after k x))
+hears : (k : Client) (x : ClientCase) → NoEntry k → (HasAccepted (Some k) (Some (receiver.after k x)) → ⊥) → AllKnown (Some k) (Some (receiver.after k x))
 hears k Ignores none calm = all_same (Some k)
 hears k AcksAgain none calm = all_same (Some k)
 hears k (Adopts epoch) none calm = changes k (receiver.joined k epoch) refl (λ op i. i)
@@ -221,9 +221,9 @@ Calm v w c = HasAccepted (client_of v c) (client_of w c) → ⊥
 client_reads : (v w : State) (c : ℕ) (o : Option Client) (m : ToClient) → NoEntries v → client_of v m.client ≡ o → Calm v w c → ClientReads v o m w → AllKnown (client_of v c) (client_of w c)
 client_reads v w c None m none up calm h = still v w c (ap (λ x. client_of x c) (sym h))
 client_reads v w c (Some k) m none up calm h =
-    becomes v w c m.client _ k _ (receiver.sends h.0 k (case_of k m)) h.2 up (λ i. hears k (case_of k m) (none m.client k up) (λ a. calm (subst (λ n. HasAccepted (client_of v n) (client_of w n)) (sym i) (subst (λ x. HasAccepted x (client_of w m.client)) (sym up) (subst (λ x. HasAccepted (Some k) x) (sym (seat i)) a)))))
+    becomes v w c m.client _ k _ (receiver.sends h.0 k (client_case_of k m)) h.2 up (λ i. hears k (client_case_of k m) (none m.client k up) (λ a. calm (subst (λ n. HasAccepted (client_of v n) (client_of w n)) (sym i) (subst (λ x. HasAccepted x (client_of w m.client)) (sym up) (subst (λ x. HasAccepted (Some k) x) (sym (seat i)) a)))))
   where
-    seat : c ≡ m.client → client_of w m.client ≡ Some (receiver.after k (case_of k m))
+    seat : c ≡ m.client → client_of w m.client ≡ Some (receiver.after k (client_case_of k m))
     seat i = ap (λ (y : State). client_of y m.client) h.2 ∙ ap (λ (x : ClientPlace). x.client) (at_set v.places m.client _)
 
 delivers : (v w : State) (c : ℕ) (o : Option Message) → NoEntries v → Calm v w c → Delivers v o w → AllKnown (client_of v c) (client_of w c)
@@ -240,7 +240,7 @@ writes_first k op ok x e =
     let bad : false ≡ true = sym third.0 ∙ ap (λ o. is_some o) e in
     absurd (cc)
 
-takes_first : (k : Client) (op : WriteOp) → take_refusal k op ≡ None → (x : WriteOp) → outstanding k.written ≡ Some x → outstanding (took k op).written ≡ Some x
+takes_first : (k : Client) (op : WriteOp) → seize_refusal k op ≡ None → (x : WriteOp) → outstanding k.written ≡ Some x → outstanding (seized k op).written ≡ Some x
 takes_first k op ok x e =
     let first = passed (nat_le END (op_key op)) refused.BadPoint _ ok in
     let second = passed (not (has_joined k)) refused.NotJoined _ first.1 in
@@ -251,7 +251,7 @@ takes_first k op ok x e =
 obeys : (v w : State) (c d : ℕ) (k : Client) (what : Command) (answer : Answer) → NoEntry k → client_of v d ≡ Some k → command_refusal k what ≡ None → Obeys v d k what answer w → AllKnown (client_of v c) (client_of w c)
 obeys v w c d k (command.Lock point hi m) answer none up ok h = becomes v w c d _ k _ (says_lock (locked k point hi m) point hi m ∷ []) h.1 up (λ i. changes k (locked k point hi m) refl (λ op x. x))
 obeys v w c d k (command.Write op) answer none up ok h = becomes v w c d _ k _ (says_write (wrote k op) op ∷ []) h.1 up (λ i. changes k (wrote k op) refl (writes_first k op ok))
-obeys v w c d k (command.Take op) answer none up ok h = becomes v w c d _ k _ (says_write (took k op) op ∷ []) h.1 up (λ i. changes k (took k op) refl (takes_first k op ok))
+obeys v w c d k (command.Seize op) answer none up ok h = becomes v w c d _ k _ (says_write (seized k op) op ∷ []) h.1 up (λ i. changes k (seized k op) refl (takes_first k op ok))
 obeys v w c d k (command.Scan lo hi) answer none up ok h = still v w c (ap (λ x. client_of x c) (sym h.1))
 obeys v w c d k (command.Lower lo hi keep) answer none up ok h = becomes v w c d _ k _ (says_release k (span lo hi) keep ∷ []) h.1 up (λ i. lowers k (span lo hi) keep none)
 obeys v w c d k (command.Pin lo hi) answer none up ok h = becomes v w c d _ k _ [] h.3 up (λ i. changes k _ refl (λ op x. x))
@@ -329,7 +329,7 @@ module _ (s : System) (f : Follows s) (k : Remembers s) where
 
 -- Scans
 
-found : (k : Client) (s : Bounds) (rows : Rows) (a : ScanAnswer) → Answers k s a → a ≡ scanned.Rows rows → (is_writing_in k s ≡ false) × CoversAll k.belief s × AreRows k.belief s rows
+found : (k : Client) (s : Bounds) (rows : Rows) (a : ScanAnswer) → ScanGives k s a → a ≡ scanned.Rows rows → (is_writing_in k s ≡ false) × CoversAll k.belief s × AreRows k.belief s rows
 found k s rows _ (is_pending change o i) e = absurd (cc)
 found k s rows _ (misses p f h) e = absurd (cc)
 found k s rows _ (finds_rows some f h) e = let r : some ≡ rows = cc in (f, h.0, subst (AreRows k.belief s) r h.1)

@@ -16,8 +16,9 @@ use Rattle.krl_messages.specs.Values.{Value}
 use Rattle.krl_messages.specs.declared.write_op.WriteOp.{WriteOp}
 use Rattle.krl_durable.proofs.Slots.{is_true}
 use Rattle.krl_cache.specs.Beliefs.{Belief, AreRows}
-use Rattle.krl_client.specs.Clients.{Client, is_in, outstanding}
-use Rattle.krl_client.specs.Commands.{Answers, is_pending, finds_rows, misses, scan_refusal}
+use Rattle.krl_client.specs.Clients.{Client, outstanding}
+use Rattle.krl_client.specs.Splits.{is_in}
+use Rattle.krl_client.specs.Commands.{ScanGives, is_pending, finds_rows, misses, scan_refusal}
 use Rattle.krl_client.specs.declared.scan_answer.ScanAnswer.{ScanAnswer}
 use Rattle.krl_client.specs.declared.scan_answer.ScanAnswer.TheVariants as scanned
 use Rattle.krl_messages.specs.Writes.{op_key}
@@ -61,12 +62,12 @@ not_writing : (s t : Bounds) (change : Option WriteOp) → s.lo ≤ t.lo → t.h
 not_writing s t None low high e = refl
 not_writing s t (Some change) low high e = out s t (op_key change) low high e
 
-part_answers : (k : Client) (s t : Bounds) (rows : Rows) (a : ScanAnswer) → s.lo ≤ t.lo → t.hi ≤ s.hi → Answers k s a → a ≡ scanned.Rows rows → Answers k t (scanned.Rows (part t rows))
+part_answers : (k : Client) (s t : Bounds) (rows : Rows) (a : ScanAnswer) → s.lo ≤ t.lo → t.hi ≤ s.hi → ScanGives k s a → a ≡ scanned.Rows rows → ScanGives k t (scanned.Rows (part t rows))
 part_answers k s t rows _ low high (is_pending change o i) e = absurd (cc)
 part_answers k s t rows _ low high (misses p f h) e = absurd (cc)
 part_answers k s t rows _ low high (finds_rows found f h) e =
     let same : found ≡ rows = cc in
-    subst (λ xs. Answers k t (scanned.Rows (part t xs))) same
+    subst (λ xs. ScanGives k t (scanned.Rows (part t xs))) same
     (finds_rows (part t found) (not_writing s t (outstanding k.written) low high f) (λ p at. h.0 p (omega (arith, at), omega (arith, at)), part_rows k.belief s t found low high h.1))
 
 part_scan : (w : State) (lo hi : ℕ) (rows : Rows) → hi ≤ 11 → scan_refusal (span lo hi) ≡ None → AnswersScan w 0 0 11 rows → AnswersScan w 0 lo hi (part (span lo hi) rows)

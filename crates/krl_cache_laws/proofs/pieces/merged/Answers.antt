@@ -1,7 +1,7 @@
 use Rattle.std.proofs.Common.{◌≡◌, ◌+◌, ◌∷◌, ◌++◌, drop, sym, ap, subst, ◌∙◌}
 use Rattle.std.proofs.lemmas.List.{drop_more}
 use Rattle.krl_modes.specs.declared.point.TheConstants.{TOP}
-use Rattle.krl_cache.specs.Kept.{range_reported_at}
+use Rattle.krl_cache.specs.Kept.{first_range_at}
 use Rattle.krl_cache.specs.Entries.{StandWithin}
 use Rattle.krl_cache_laws.proofs.pieces.merged.Goals as goal
 
@@ -20,6 +20,6 @@ loop-piece-preserved c =
     let adds = c.in_ok-add_behind.ensures in
     record {
       stand = adds.stand (drop (i + 1) xs) stand;
-      said = λ p. adds.said (drop (i + 1) xs) stand p ∙ subst (λ l. range_reported_at (list ++ l) p ≡ range_reported_at xs p) next (c.loop-piece.invariant.said p);
+      said = λ p. adds.said (drop (i + 1) xs) stand p ∙ subst (λ l. first_range_at (list ++ l) p ≡ first_range_at xs p) next (c.loop-piece.invariant.said p);
       merged = adds.merged c.loop-piece.invariant.merged;
     }

@@ -1,7 +1,7 @@
 use Rattle.std.proofs.Common.{◌≡◌, ℕ, sym, subst, arith}
 use Rattle.krl_modes.specs.declared.point.TheConstants.{TOP}
 use Rattle.krl_modes.specs.declared.part.RangePart.TheVariants as range
-use Rattle.krl_cache.specs.Kept.{range_reported_at}
+use Rattle.krl_cache.specs.Kept.{first_range_at}
 use Rattle.krl_cache_laws.proofs.Clipped.{found_over, found_said, found_none}
 use Rattle.krl_cache_laws.proofs.pieces.part_from.Goals as goal
 
@@ -17,5 +17,5 @@ returns-in-None c =
     let xs = c.args.pieces.now in
     record {
       more = omega arith;
-      holds = λ q l u. let same : c.args.p ≡ q = omega arith in subst (λ (n : ℕ). range_reported_at xs n ≡ range.N) same (found_none xs c.args.p (sym c.in-None.ensures));
+      holds = λ q l u. let same : c.args.p ≡ q = omega arith in subst (λ (n : ℕ). first_range_at xs n ≡ range.N) same (found_none xs c.args.p (sym c.in-None.ensures));
     }

@@ -1,5 +1,5 @@
 use Rattle.std.proofs.Common.{◌≡◌, drop}
-use Rattle.krl_messages.specs.Several.{have_values}
+use Rattle.krl_messages.specs.Holdings.{have_values}
 use Rattle.krl_messages.proofs.holdings.all_have_values.Given as goal
 
 abbrev pub invariant-loop-holding : goal.invariant-loop-holding

@@ -2,7 +2,7 @@ use Rattle.krl_world.proofs.Names.{◌≡◌, ◌≤◌, ◌++◌, arith, Some, 
 use Rattle.krl_world.specs.declared.message.Message.TheVariants as sent_message
 use Rattle.std.proofs.lemmas.Option.{get_or_from_slice_get}
 use Rattle.krl_client.specs.Fields.{meaning}
-use Rattle.krl_client.specs.Messages.{case_of}
+use Rattle.krl_client.specs.Messages.{client_case_of}
 use Rattle.krl_world.specs.States.{from_clients}
 use Rattle.krl_world.proofs.Functions.ThreeMessages.{few_said}
 use Rattle.krl_world.proofs.client_steps.read_sent.Goals as goal
@@ -11,7 +11,7 @@ pub send_to_server-requires : goal.send_to_server-requires
 send_to_server-requires c =
     let f = c.in_ok-messages.ensures.follows in
     let k = meaning c.args.client.now in
-    let few : length c.in_ok-messages.messages.items ≤ 3 = few_said f.pieces k (case_of k c.in-ToClient.message) c.in_ok-messages.messages.items f.says in
+    let few : length c.in_ok-messages.messages.items ≤ 3 = few_said f.pieces k (client_case_of k c.in-ToClient.message) c.in_ok-messages.messages.items f.says in
     omega (arith, c.in_ok-reserve.ensures.ok)
 
 pub returns-clause-ok : goal.returns-clause-ok

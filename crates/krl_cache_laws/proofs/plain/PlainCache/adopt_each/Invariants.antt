@@ -1,5 +1,5 @@
 use Rattle.std.proofs.Common.{◌≡◌, true, drop}
-use Rattle.krl_messages.specs.Several.{have_values}
+use Rattle.krl_messages.specs.Holdings.{have_values}
 use Rattle.krl_cache.specs.Laws.{IsBelief}
 use Rattle.krl_cache.specs.Beliefs.{adopt_all}
 use Rattle.krl_cache_laws.specs.Lists.{lists_believe}

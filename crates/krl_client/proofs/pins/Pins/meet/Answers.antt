@@ -1,6 +1,7 @@
 use Rattle.std.proofs.Common.{◌≡◌, ℕ, true, Option, sym, ap, ◌∙◌, arith}
 use Rattle.krl_modes.specs.Spans.{Bounds}
-use Rattle.krl_client.specs.Clients.{pin_meets, meets_one}
+use Rattle.krl_client.specs.Clients.{meets_one}
+use Rattle.krl_client.specs.Splits.{pin_meets}
 use Rattle.krl_client.specs.Fields.{pins_of}
 use Rattle.krl_client.proofs.Pinned.{meets_found}
 use Rattle.krl_client.proofs.pins.Pins.meet.Goals as goal

@@ -1,4 +1,4 @@
-use Rattle.krl_modes.specs.Limits.{standard_room}
+use Rattle.krl_modes.specs.declared.limits.TheConstants.{STANDARD_ROOM}
 use Rattle.krl_nodes.proofs.Names.{◌≡◌, ◌≤◌, ℕ, List, [], ◌∷◌, ◌++◌, length, refl, sym, ap, ◌∙◌, subst, opening, Value, Mail, Holds, first_view}
 use Rattle.krl_durable.specs.InitialEntries.{AreGood}
 use Rattle.krl_durable.specs.Remade.{fresh}
@@ -11,7 +11,7 @@ pub new-requires-3 : goal.new-requires-3
 new-requires-3 c =
     let es = c.args.entries.items in
     let d = c.in_ok-durable.durable in
-    let h = subst (λ (xs : List (ℕ × Value)). (length xs ≤ standard_room) × AreGood xs (length xs) × (d ≡ fresh xs)) c.as_slice.ensures.value c.in_ok-durable.ensures in
+    let h = subst (λ (xs : List (ℕ × Value)). (length xs ≤ STANDARD_ROOM) × AreGood xs (length xs) × (d ≡ fresh xs)) c.as_slice.ensures.value c.in_ok-durable.ensures in
     let can = begun es d h.2 c.epoch.ensures.kept in
     let items : c.push.new.self.items ≡ new_mail es ∷ [] = c.in_ok-push.ensures.items ∙ ap (λ (l : List Mail). l ++ c.in_ok-post.post ∷ []) c.in_ok-slots.ensures.items ∙ ap (λ (m : Mail). m ∷ []) (c.in_ok-post.ensures ∙ ap new_mail c.from.ensures) in
     let about : c.of-about.result.value ≡ record { entries = es; desk = kept.Up c.in-Ok.server } = c.of-about.ensures ∙ (λ i. record { entries = c.from.ensures i; desk = kept.Up c.in-Ok.server }) in
@@ -22,7 +22,7 @@ pub invariant_of-node : goal.invariant_of-node
 invariant_of-node c =
     let es = c.args.entries.items in
     let d = c.in_ok-durable.durable in
-    let h = subst (λ (xs : List (ℕ × Value)). (length xs ≤ standard_room) × AreGood xs (length xs) × (d ≡ fresh xs)) c.as_slice.ensures.value c.in_ok-durable.ensures in
+    let h = subst (λ (xs : List (ℕ × Value)). (length xs ≤ STANDARD_ROOM) × AreGood xs (length xs) × (d ≡ fresh xs)) c.as_slice.ensures.value c.in_ok-durable.ensures in
     let can = begun es d h.2 c.epoch.ensures.kept in
     let about : c.of-about.result.value ≡ record { entries = es; desk = kept.Up c.in-Ok.server } = c.of-about.ensures ∙ (λ i. record { entries = c.from.ensures i; desk = kept.Up c.in-Ok.server }) in
     let is = c.in-Ok-new.ensures.ok.4 ∙ (λ i. (first_view (about i).entries (about i).desk, [])) in
@@ -32,7 +32,7 @@ pub returns : goal.returns
 returns c =
     let es = c.args.entries.items in
     let d = c.in_ok-durable.durable in
-    let h = subst (λ (xs : List (ℕ × Value)). (length xs ≤ standard_room) × AreGood xs (length xs) × (d ≡ fresh xs)) c.as_slice.ensures.value c.in_ok-durable.ensures in
+    let h = subst (λ (xs : List (ℕ × Value)). (length xs ≤ STANDARD_ROOM) × AreGood xs (length xs) × (d ≡ fresh xs)) c.as_slice.ensures.value c.in_ok-durable.ensures in
     let can = begun es d h.2 c.epoch.ensures.kept in
     let about : c.of-about.result.value ≡ record { entries = es; desk = kept.Up c.in-Ok.server } = c.of-about.ensures ∙ (λ i. record { entries = c.from.ensures i; desk = kept.Up c.in-Ok.server }) in
     let is = c.in-Ok-new.ensures.ok.4 ∙ (λ i. (first_view (about i).entries (about i).desk, [])) in (

@@ -1,4 +1,4 @@
-use Rattle.krl_server.proofs.Names.{◌≡◌, false, [], subst, State, is_recovering, Answered, meaning}
+use Rattle.krl_server.proofs.Names.{◌≡◌, false, [], subst, State, is_recovering, AnswersWaiters, meaning}
 use Rattle.krl_server.proofs.Outputs.Numbers.{all_end}
 use Rattle.krl_server.proofs.Functions.NudgeMessages.{few_nudges}
 use Rattle.krl_server.proofs.server.Server.nudge.Goals as goal
@@ -8,5 +8,5 @@ returns-clause-few c = few_nudges (meaning c.self.inside.state) c.args.client c.
 
 pub returns-clause-nobody : goal.returns-clause-nobody
 returns-clause-nobody c =
-    subst (λ (st : State). is_recovering (meaning st).missing ≡ false → Answered (meaning st) (meaning st) []) c.self.view_is
+    subst (λ (st : State). is_recovering (meaning st).missing ≡ false → AnswersWaiters (meaning st) (meaning st) []) c.self.view_is
     (all_end.nobody_left (meaning c.self.inside.state) c.self.invariant.server.settled)

@@ -1,4 +1,4 @@
-use Rattle.krl_server.proofs.Names.{◌<◌, sym, ap, subst, ◌∙◌, Waiter, rows_of, meaning, meant, acknowledged, answers, as_list, IsPerformed, Judges, WaitsNowhere}
+use Rattle.krl_server.proofs.Names.{◌<◌, sym, ap, subst, ◌∙◌, Waiter, rows_of, meaning, meant, acknowledged, tells_outcome, as_list, IsPerformed, Judges, WaitsNowhere}
 use Rattle.krl_server.specs.declared.case.Performed.{Performed}
 use Rattle.krl_server.proofs.Functions.Facts.{facts_of, taking_facts, waits_nowhere, performed_repeat, performed_write, performed_taking, changed_taking, performed_again}
 use Rattle.krl_server.proofs.state.State.perform.Goals as goal
@@ -43,22 +43,22 @@ pub answer_write-requires-clause-key : goal.answer_write-requires-clause-key
 answer_write-requires-clause-key c = (facts_of (meaning c.args.self.now) c.args.message.now c.args.case.now _ c.requires.case c.in-Judges.is).key
 
 pub write_with_lock-outcome-requires-clause-client : goal.write_with_lock-outcome-requires-clause-client
-write_with_lock-outcome-requires-clause-client c = (taking_facts (meaning c.args.self.now) c.args.message.now c.args.case.now c.in-TakesLock.number c.in-TakesLock.op c.requires.case c.in-TakesLock.is).client
+write_with_lock-outcome-requires-clause-client c = (taking_facts (meaning c.args.self.now) c.args.message.now c.args.case.now c.in-SeizesLock.number c.in-SeizesLock.op c.requires.case c.in-SeizesLock.is).client
 
 pub write_with_lock-outcome-requires-clause-key : goal.write_with_lock-outcome-requires-clause-key
-write_with_lock-outcome-requires-clause-key c = (taking_facts (meaning c.args.self.now) c.args.message.now c.args.case.now c.in-TakesLock.number c.in-TakesLock.op c.requires.case c.in-TakesLock.is).key
+write_with_lock-outcome-requires-clause-key c = (taking_facts (meaning c.args.self.now) c.args.message.now c.args.case.now c.in-SeizesLock.number c.in-SeizesLock.op c.requires.case c.in-SeizesLock.is).key
 
 pub write_with_lock-outcome-requires-clause-unspent : goal.write_with_lock-outcome-requires-clause-unspent
-write_with_lock-outcome-requires-clause-unspent c = (taking_facts (meaning c.args.self.now) c.args.message.now c.args.case.now c.in-TakesLock.number c.in-TakesLock.op c.requires.case c.in-TakesLock.is).unspent
+write_with_lock-outcome-requires-clause-unspent c = (taking_facts (meaning c.args.self.now) c.args.message.now c.args.case.now c.in-SeizesLock.number c.in-SeizesLock.op c.requires.case c.in-SeizesLock.is).unspent
 
-pub acknowledge-requires-in-TakesLock-clause-client : goal.acknowledge-requires-in-TakesLock-clause-client
-acknowledge-requires-in-TakesLock-clause-client c = (taking_facts (meaning c.args.self.now) c.args.message.now c.args.case.now c.in-TakesLock.number c.in-TakesLock.op c.requires.case c.in-TakesLock.is).client
+pub acknowledge-requires-in-SeizesLock-clause-client : goal.acknowledge-requires-in-SeizesLock-clause-client
+acknowledge-requires-in-SeizesLock-clause-client c = (taking_facts (meaning c.args.self.now) c.args.message.now c.args.case.now c.in-SeizesLock.number c.in-SeizesLock.op c.requires.case c.in-SeizesLock.is).client
 
-pub answer_write-requires-in-TakesLock-clause-client : goal.answer_write-requires-in-TakesLock-clause-client
-answer_write-requires-in-TakesLock-clause-client c = (taking_facts (meaning c.args.self.now) c.args.message.now c.args.case.now c.in-TakesLock.number c.in-TakesLock.op c.requires.case c.in-TakesLock.is).client
+pub answer_write-requires-in-SeizesLock-clause-client : goal.answer_write-requires-in-SeizesLock-clause-client
+answer_write-requires-in-SeizesLock-clause-client c = (taking_facts (meaning c.args.self.now) c.args.message.now c.args.case.now c.in-SeizesLock.number c.in-SeizesLock.op c.requires.case c.in-SeizesLock.is).client
 
-pub answer_write-requires-in-TakesLock-clause-key : goal.answer_write-requires-in-TakesLock-clause-key
-answer_write-requires-in-TakesLock-clause-key c = (taking_facts (meaning c.args.self.now) c.args.message.now c.args.case.now c.in-TakesLock.number c.in-TakesLock.op c.requires.case c.in-TakesLock.is).key
+pub answer_write-requires-in-SeizesLock-clause-key : goal.answer_write-requires-in-SeizesLock-clause-key
+answer_write-requires-in-SeizesLock-clause-key c = (taking_facts (meaning c.args.self.now) c.args.message.now c.args.case.now c.in-SeizesLock.number c.in-SeizesLock.op c.requires.case c.in-SeizesLock.is).key
 
 pub acknowledge-requires-in-AnswersAgain-clause-client : goal.acknowledge-requires-in-AnswersAgain-clause-client
 acknowledge-requires-in-AnswersAgain-clause-client c = (facts_of (meaning c.args.self.now) c.args.message.now c.args.case.now _ c.requires.case c.in-AnswersAgain.is).client
@@ -91,43 +91,43 @@ returns-in-Judges-clause-performed c =
     let o = c.write-outcome.result in
     let is = c.acknowledge-in-Judges.ensures.acknowledged
     ∙ ap (λ x. acknowledged x own) c.write-outcome.ensures.writes in
-    let outs = (answers (meaning c.acknowledge-in-Judges.new.self) own number op o).outs in
+    let outs = (tells_outcome (meaning c.acknowledge-in-Judges.new.self) own number op o).outs in
     record {
       outs = outs;
       performed = subst (λ left. IsPerformed s c.args.message.now (meaning c.answer_write.new.self) left outs) (sym (ap (λ (d : Performed). d.after) c.changing-in-Judges.ensures))
           (performed_write s c.args.message.now (meaning c.answer_write.new.self) number op o outs
           (ap (λ x. Judges number op x) c.write-outcome.ensures.outcome ∙ (sym (ap (λ f. meant s own c.args.message.now.body f) c.in-Judges.is) ∙ c.requires.case))
-          (c.answer_write.ensures.server ∙ ap (λ x. (answers x own number op o).server) is)
-          (ap (λ x. (answers x own number op o).outs) is));
+          (c.answer_write.ensures.server ∙ ap (λ x. (tells_outcome x own number op o).server) is)
+          (ap (λ x. (tells_outcome x own number op o).outs) is));
       sends = c.answer_write.ensures.sent;
     }
 
-pub returns-in-TakesLock-clause-performed : goal.returns-in-TakesLock-clause-performed
-returns-in-TakesLock-clause-performed c =
+pub returns-in-SeizesLock-clause-performed : goal.returns-in-SeizesLock-clause-performed
+returns-in-SeizesLock-clause-performed c =
     let s = meaning c.args.self.now in
     let own = c.args.message.now.client in
-    let number = c.in-TakesLock.number in
-    let op = c.in-TakesLock.op in
+    let number = c.in-SeizesLock.number in
+    let op = c.in-SeizesLock.op in
     let o = c.write_with_lock-outcome.result in
-    let is = c.acknowledge-in-TakesLock.ensures.acknowledged in
-    let outs = (answers (meaning c.acknowledge-in-TakesLock.new.self) own number op o).outs in
+    let is = c.acknowledge-in-SeizesLock.ensures.acknowledged in
+    let outs = (tells_outcome (meaning c.acknowledge-in-SeizesLock.new.self) own number op o).outs in
     record {
       outs = outs;
-      performed = subst (λ left. IsPerformed s c.args.message.now (meaning c.answer_write-in-TakesLock.new.self) left outs) (sym (ap (λ (d : Performed). d.after) c.changing-in-TakesLock.ensures))
-          (performed_taking s c.args.message.now (meaning c.answer_write-in-TakesLock.new.self) number op o (meaning c.write_with_lock-outcome.new.self) outs
-          (sym (ap (λ f. meant s own c.args.message.now.body f) c.in-TakesLock.is) ∙ c.requires.case)
+      performed = subst (λ left. IsPerformed s c.args.message.now (meaning c.answer_write-in-SeizesLock.new.self) left outs) (sym (ap (λ (d : Performed). d.after) c.changing-in-SeizesLock.ensures))
+          (performed_taking s c.args.message.now (meaning c.answer_write-in-SeizesLock.new.self) number op o (meaning c.write_with_lock-outcome.new.self) outs
+          (sym (ap (λ f. meant s own c.args.message.now.body f) c.in-SeizesLock.is) ∙ c.requires.case)
           c.write_with_lock-outcome.ensures.outcome c.write_with_lock-outcome.ensures.writes
-          (c.answer_write-in-TakesLock.ensures.server ∙ ap (λ x. (answers x own number op o).server) is)
-          (ap (λ x. (answers x own number op o).outs) is));
-      sends = c.answer_write-in-TakesLock.ensures.sent;
+          (c.answer_write-in-SeizesLock.ensures.server ∙ ap (λ x. (tells_outcome x own number op o).server) is)
+          (ap (λ x. (tells_outcome x own number op o).outs) is));
+      sends = c.answer_write-in-SeizesLock.ensures.sent;
     }
 
-pub returns-in-TakesLock-clause-change : goal.returns-in-TakesLock-clause-change
-returns-in-TakesLock-clause-change c =
+pub returns-in-SeizesLock-clause-change : goal.returns-in-SeizesLock-clause-change
+returns-in-SeizesLock-clause-change c =
     let s = meaning c.args.self.now in
-    ap (λ (d : Performed). d.change) c.changing-in-TakesLock.ensures
-    ∙ changed_taking s c.args.message.now c.in-TakesLock.number c.in-TakesLock.op c.write_with_lock-outcome.result
-    (sym (ap (λ f. meant s c.args.message.now.client c.args.message.now.body f) c.in-TakesLock.is) ∙ c.requires.case) c.write_with_lock-outcome.ensures.outcome
+    ap (λ (d : Performed). d.change) c.changing-in-SeizesLock.ensures
+    ∙ changed_taking s c.args.message.now c.in-SeizesLock.number c.in-SeizesLock.op c.write_with_lock-outcome.result
+    (sym (ap (λ f. meant s c.args.message.now.client c.args.message.now.body f) c.in-SeizesLock.is) ∙ c.requires.case) c.write_with_lock-outcome.ensures.outcome
 
 pub returns-in-AnswersAgain-clause-performed : goal.returns-in-AnswersAgain-clause-performed
 returns-in-AnswersAgain-clause-performed c =
@@ -136,13 +136,13 @@ returns-in-AnswersAgain-clause-performed c =
     let number = c.in-AnswersAgain.number in
     let op = c.in-AnswersAgain.op in
     let o = c.in-AnswersAgain.outcome in
-    let outs = (answers (meaning c.acknowledge-in-AnswersAgain.new.self) own number op o).outs in
+    let outs = (tells_outcome (meaning c.acknowledge-in-AnswersAgain.new.self) own number op o).outs in
     record {
       outs = outs;
       performed = subst (λ left. IsPerformed s c.args.message.now (meaning c.answer_write-in-AnswersAgain.new.self) left outs) (sym (ap (λ (d : Performed). d.after) c.unchanging-in-AnswersAgain.ensures))
           (performed_again s c.args.message.now (meaning c.answer_write-in-AnswersAgain.new.self) number op o outs
           (sym (ap (λ f. meant s own c.args.message.now.body f) c.in-AnswersAgain.is) ∙ c.requires.case)
-          (c.answer_write-in-AnswersAgain.ensures.server ∙ ap (λ x. (answers x own number op o).server) c.acknowledge-in-AnswersAgain.ensures.acknowledged)
-          (ap (λ x. (answers x own number op o).outs) c.acknowledge-in-AnswersAgain.ensures.acknowledged));
+          (c.answer_write-in-AnswersAgain.ensures.server ∙ ap (λ x. (tells_outcome x own number op o).server) c.acknowledge-in-AnswersAgain.ensures.acknowledged)
+          (ap (λ x. (tells_outcome x own number op o).outs) c.acknowledge-in-AnswersAgain.ensures.acknowledged));
       sends = c.answer_write-in-AnswersAgain.ensures.sent;
     }

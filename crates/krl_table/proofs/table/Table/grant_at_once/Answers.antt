@@ -1,8 +1,8 @@
 use Rattle.krl_table.proofs.Names.{◌≡◌, ◌-◌, ◌++◌, ◌∷◌, [], Bool, true, false, ◌&&◌, length, refl, sym, ap, subst, ◌∙◌, arith, fun_ext, slot_of, IsSlotOf, Rows, raised_on, is_wanted_compatible}
-use Rattle.krl_table.proofs.Names.{nobody_waits, taken_after, rows_of}
+use Rattle.krl_table.proofs.Names.{nobody_waits, reached_after, rows_of}
 use Rattle.krl_table.proofs.Calls.Answering.{lacks_is}
 use Rattle.krl_table.proofs.Calls.Raises.{one_noted, unwrapped}
-use Rattle.krl_table.proofs.Calls.AtOnce.{at_once_is, at_once_granted, at_once_taken}
+use Rattle.krl_table.proofs.Calls.AtOnce.{at_once_is, at_once_granted, at_once_reached}
 use Rattle.krl_table.proofs.table.Table.grant_at_once.Goals as goal
 
 first_of_two : (a b : Bool) → (a && b) ≡ true → a ≡ true
@@ -26,25 +26,25 @@ returns-clause-granted c n =
     let free = first_of_two (nobody_waits (rows k).queue) (is_wanted_compatible rows k w) (sym c.is_free_for.ensures
     ∙ is_free) in
     let j = c.args.durable.now.reach in
-    let many = one_noted j c.new-taken.result.items c.push.new.self.items _ c.new-taken.ensures c.push.ensures.items in
+    let many = one_noted j c.new-reached.result.items c.push.new.self.items _ c.new-reached.ensures c.push.ensures.items in
     ap (λ (r : Rows). r n) (c.go_on.ensures.rows
-    ∙ ap (λ i. raised_on (rows_of c.raise.new.self.map) (taken_after m (rows_of c.raise.new.self.map) k w i) w) many
-    ∙ ap (λ (r : Rows). raised_on r (taken_after m r k w (j - 1)) w) (fun_ext c.raise.ensures.raised)
+    ∙ ap (λ i. raised_on (rows_of c.raise.new.self.map) (reached_after m (rows_of c.raise.new.self.map) k w i) w) many
+    ∙ ap (λ (r : Rows). raised_on r (reached_after m r k w (j - 1)) w) (fun_ext c.raise.ensures.raised)
     ∙ sym (at_once_granted m rows w k at free j))
 
-pub returns-clause-taken : goal.returns-clause-taken
-returns-clause-taken c =
+pub returns-clause-reached : goal.returns-clause-reached
+returns-clause-reached c =
     let m = c.args.durable.now.index in let rows = rows_of c.args.self.now.map in let w = c.args.waiter.now in let k = c.slot_of-slot.result in
     let is_free : c.is_free_for.result ≡ true = grind (arith, c.if-not-is_free_for.false) in
     let at : slot_of m w.point ≡ k = ap (slot_of m) (sym c.get.ensures.number) ∙ sym c.slot_of-slot.ensures.slot in
     let free = first_of_two (nobody_waits (rows k).queue) (is_wanted_compatible rows k w) (sym c.is_free_for.ensures
     ∙ is_free) in
     let j = c.args.durable.now.reach in
-    let many = one_noted j c.new-taken.result.items c.push.new.self.items _ c.new-taken.ensures c.push.ensures.items in
+    let many = one_noted j c.new-reached.result.items c.push.new.self.items _ c.new-reached.ensures c.push.ensures.items in
     let point = unwrapped c.new.result c.unwrap.result k c.unwrap.ensures c.new.ensures.point in
-    c.go_on.ensures.taken
-    ∙ ap (λ l. l ++ taken_after m (rows_of c.raise.new.self.map) k w (j - length c.push.new.self.items)) (c.push.ensures.items ∙ ap (λ l. l ++ c.unwrap.result ∷ []) c.new-taken.ensures)
-    ∙ ap (λ i. i ∷ taken_after m (rows_of c.raise.new.self.map) k w (j - length c.push.new.self.items)) point
-    ∙ ap (λ i. k ∷ taken_after m (rows_of c.raise.new.self.map) k w i) many
-    ∙ ap (λ (r : Rows). k ∷ taken_after m r k w (j - 1)) (fun_ext c.raise.ensures.raised)
-    ∙ sym (at_once_taken m rows w k at free j)
+    c.go_on.ensures.reached
+    ∙ ap (λ l. l ++ reached_after m (rows_of c.raise.new.self.map) k w (j - length c.push.new.self.items)) (c.push.ensures.items ∙ ap (λ l. l ++ c.unwrap.result ∷ []) c.new-reached.ensures)
+    ∙ ap (λ i. i ∷ reached_after m (rows_of c.raise.new.self.map) k w (j - length c.push.new.self.items)) point
+    ∙ ap (λ i. k ∷ reached_after m (rows_of c.raise.new.self.map) k w i) many
+    ∙ ap (λ (r : Rows). k ∷ reached_after m r k w (j - 1)) (fun_ext c.raise.ensures.raised)
+    ∙ sym (at_once_reached m rows w k at free j)

@@ -1,4 +1,4 @@
-//! A write that takes the lock that it needs, if that is free.
+//! A write that seizes the lock that it needs, if that is free.
 ghost use Rattle.std.specs.Prelude.{◌≡◌, ◌<◌, true, IsSomeAnd, if◌then◌else◌};
 ghost use Rattle.krl_modes.specs.declared.point.TheConstants.{END};
 ghost use Rattle.krl_modes.specs.declared.limits.TheConstants.{MAX_CLIENTS};
@@ -9,8 +9,8 @@ ghost use Rattle.krl_server.specs.StateMeaning.{meaning};
 ghost use Rattle.krl_server.specs.FoundCases.{IsFormed};
 ghost use Rattle.krl_server.specs.Soundness.{IsSound};
 ghost use Rattle.krl_server.specs.Cases.{judged};
-ghost use Rattle.krl_server.specs.Effects.{takes, writes};
-ghost use Rattle.krl_server.specs.Takes.{least_mode, lock_for, may_take};
+ghost use Rattle.krl_server.specs.Effects.{seizes, writes};
+ghost use Rattle.krl_server.specs.Seizing.{least_mode, lock_for, may_seize};
 
 use crate::state::State;
 use krl_messages::{Outcome, WriteOp};
@@ -47,30 +47,30 @@ fn lock_for(client: u64, op: WriteOp) -> Waiter
 
 impl State {
     /// Whether the write is applied once the client has the lock that it needs, and that is free.
-    fn may_take(&self, client: u64, op: WriteOp) -> bool
+    fn may_seize(&self, client: u64, op: WriteOp) -> bool
         requires client { client < MAX_CLIENTS }
         requires key { op_key op < END }
-        ensures { result ≡ may_take (meaning self.now) client op }
+        ensures { result ≡ may_seize (meaning self.now) client op }
     {
         // Copies: the prover takes a value that is handed on as moved.
-        let (taken, judged, keyed, locked) = (*&op, *&op, *&op, *&op);
-        if !taken.takes_lock() {
+        let (sought, judged, keyed, locked) = (*&op, *&op, *&op, *&op);
+        if !sought.can_seize() {
             return false;
         }
         let Outcome::Applied = self.durable.judge(judged, true) else {
             return false;
         };
         let slot = self.durable.slot_of(keyed.key());
-        self.table.can_take(slot, &lock_for(client, locked))
+        self.table.is_open_to(slot, &lock_for(client, locked))
     }
 
     /// Gives the client the lock that its write needs, which is free. It takes no memory.
-    fn take(&mut self, client: u64, op: WriteOp)
+    fn seize(&mut self, client: u64, op: WriteOp)
         requires formed { IsFormed self.old }
         requires client { client < MAX_CLIENTS }
         requires key { op_key op < END }
-        requires free { may_take (meaning self.old) client op ≡ true }
-        ensures takes { meaning self.new ≡ takes (meaning self.old) client op }
+        requires free { may_seize (meaning self.old) client op ≡ true }
+        ensures seizes { meaning self.new ≡ seizes (meaning self.old) client op }
         ensures formed { IsFormed self.new }
     {
         // Copies: the prover takes a value that is handed on as moved.
@@ -89,17 +89,17 @@ impl State {
         requires key { op_key op < END }
         requires unspent { IsSomeAnd (record_of self.old.durable.register client)
             (λ r. r.last < END) }
-        ensures outcome { result ≡ (if may_take (meaning self.old) client op
+        ensures outcome { result ≡ (if may_seize (meaning self.old) client op
             then Applied else judged (meaning self.old) client op) }
-        ensures writes { meaning self.new ≡ (if may_take (meaning self.old) client op
-            then writes (takes (meaning self.old) client op) client op Applied
+        ensures writes { meaning self.new ≡ (if may_seize (meaning self.old) client op
+            then writes (seizes (meaning self.old) client op) client op Applied
             else writes (meaning self.old) client op (judged (meaning self.old) client op)) }
         ensures formed { IsFormed self.new }
     {
         // Copies: the prover takes a value that is handed on as moved.
-        let (asked, taken) = (*&op, *&op);
-        if self.may_take(client, asked) {
-            self.take(client, taken);
+        let (asked, sought) = (*&op, *&op);
+        if self.may_seize(client, asked) {
+            self.seize(client, sought);
         }
         self.write(client, op)
     }

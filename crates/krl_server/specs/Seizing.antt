@@ -1,15 +1,14 @@
--- A write that takes the lock that it needs, if that is free.
+-- A write that seizes the lock that it needs, if that is free.
 use Rattle.std.specs.Prelude.{ℕ, suc, Bool, true, ◌&&◌}
 use Rattle.krl_modes.specs.declared.mode.Mode.{Mode}
 use Rattle.krl_modes.specs.declared.mode.Mode.TheVariants as mode
 use Rattle.krl_messages.specs.declared.write_op.WriteOp.{WriteOp}
 use Rattle.krl_messages.specs.declared.write_op.WriteOp.TheVariants as write
-use Rattle.krl_messages.specs.Outcomes.{is_applied}
-use Rattle.krl_messages.specs.Writes.{op_key, takes_lock}
+use Rattle.krl_messages.specs.Writes.{op_key, can_seize, is_applied}
 use Rattle.krl_queue.specs.declared.waiter.Waiter.{Waiter}
 use Rattle.krl_durable.specs.Index.{slot_of}
 use Rattle.krl_durable.specs.Writes.{judge}
-use Rattle.krl_table.specs.Grants.{can_take}
+use Rattle.krl_table.specs.Grants.{is_open_to}
 use Rattle.krl_server.specs.Servers.{Server}
 
 -- the least mode that lets the write be applied
@@ -22,9 +21,8 @@ least_mode (write.Delete k) = mode.RangeXX
 abbrev pub lock_for : ℕ → WriteOp → Waiter
 lock_for c op = record { client = c; req = 0; point = op_key op; hi = suc (op_key op); mode = least_mode op }
 
--- the client's write is applied once it has the lock, and the lock is free: nobody waits on the slot, and what the
--- client wants there is compatible with what all others hold
-abbrev pub may_take : Server → ℕ → WriteOp → Bool
-may_take s c op =
-    takes_lock op && (is_applied (judge s.durable.room s.durable.index op true)
-    && can_take s.rows (slot_of s.durable.index (op_key op)) (lock_for c op))
+-- the client's write is applied once it has the lock, and the slot is open to it
+abbrev pub may_seize : Server → ℕ → WriteOp → Bool
+may_seize s c op =
+    can_seize op && (is_applied (judge s.durable.room s.durable.index op true)
+    && is_open_to s.rows (slot_of s.durable.index (op_key op)) (lock_for c op))
