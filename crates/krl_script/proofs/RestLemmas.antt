@@ -1,9 +1,10 @@
 -- Steps of good rounds, one after another.
-use Rattle.std.proofs.Common.{◌≡◌, ℕ, ◌+◌, ◌-◌, ◌≤◌, true, List, [], ◌∷◌, ◌++◌, map, length, Result, Ok, Err, IfOk, refl, subst, sym, ap, ◌∙◌, arith, add-one}
+use Rattle.std.proofs.Common.{◌≡◌, ℕ, ◌+◌, ◌-◌, ◌≤◌, true, false, List, [], ◌∷◌, ◌++◌, map, length, Result, Ok, Err, IfOk, refl, subst, sym, ap, ◌∙◌, arith, add-one}
 use Rattle.std.proofs.lemmas.List.Folds.{list_all-append}
 use Rattle.krl_steps.specs.declared.step.Step.{Step}
 use Rattle.krl_steps.specs.declared.answer.Answer.{Answer}
 use Rattle.krl_steps.specs.declared.refused.Refused.{Refused}
+use Rattle.krl_steps.specs.declared.refused.Refused.TheVariants as refused
 use Rattle.krl_world.specs.States.{State}
 use Rattle.krl_world.specs.Steps.{Steps, RunsWith}
 use Rattle.std.proofs.lemmas.List.{map-append}
@@ -32,6 +33,31 @@ goes_on u v w h k = record {
   all = list_all-append is_of_round h.steps k.steps ∙ rw (h.all, k.all) refl;
   runs = runs_join u v w h.steps k.steps h.outcomes k.outcomes h.runs k.runs;
 }
+
+-- only a refusal for want of memory had none
+lacked : (r : Result Answer Refused) → had_memory r ≡ false → r ≡ Err refused.OutOfMemory
+lacked (Ok a) e = absurd (cc)
+lacked (Err refused.OutOfMemory) e = refl
+lacked (Err refused.BadPoint) e = absurd (cc)
+lacked (Err refused.BadSpan) e = absurd (cc)
+lacked (Err refused.NotJoined) e = absurd (cc)
+lacked (Err refused.Busy) e = absurd (cc)
+lacked (Err refused.NotHeld) e = absurd (cc)
+lacked (Err refused.Pinned) e = absurd (cc)
+lacked (Err refused.Writing) e = absurd (cc)
+lacked (Err refused.TooManyPins) e = absurd (cc)
+lacked (Err refused.Spent) e = absurd (cc)
+lacked (Err refused.BadClient) e = absurd (cc)
+lacked (Err refused.Down) e = absurd (cc)
+lacked (Err refused.Running) e = absurd (cc)
+lacked (Err refused.NoMessage) e = absurd (cc)
+lacked (Err refused.BadKey) e = absurd (cc)
+lacked (Err refused.Twice) e = absurd (cc)
+lacked (Err refused.Full) e = absurd (cc)
+lacked (Err (refused.StillRegistered c)) e = absurd (cc)
+
+pub lacks_once : (w w' : State) (s : Step) (r : Result Answer Refused) → Steps w s r w' → had_memory r ≡ false → Steps w s (Err refused.OutOfMemory) w'
+lacks_once w w' s r h e = subst (λ (x : Result Answer Refused). Steps w s x w') (lacked r e) h
 
 --- Steps that are known
 

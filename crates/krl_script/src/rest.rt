@@ -1,11 +1,12 @@
 //! Good rounds after a run, until nobody waits.
 ghost use Rattle.std.specs.Prelude.{◌≡◌, ◌++◌, ◌∷◌, [], ◌-◌, ℕ, true, length, is_none};
-ghost use Rattle.std.specs.Prelude.{IfOk, OnOk, IsErrOf};
+ghost use Rattle.std.specs.Prelude.{IfOk, OnOk, OnErr, IsErrOf, Err};
+ghost use Rattle.krl_steps.specs.declared.refused.Refused.TheVariants.{OutOfMemory};
 ghost use Rattle.std.specs.List.{flat_map};
 ghost use Rattle.krl_world.specs.States.{client_of};
 ghost use Rattle.krl_world.specs.Fields.{meaning};
 ghost use Rattle.krl_world.specs.Promises.{IsCompatible};
-ghost use Rattle.krl_world.specs.Steps.{IsReachable};
+ghost use Rattle.krl_world.specs.Steps.{IsReachable, Steps};
 ghost use Rattle.krl_text.specs.Transfers.{IsSteady};
 ghost use Rattle.krl_script.specs.RandomRuns.{WroteLineOf};
 ghost use Rattle.krl_script.specs.Rests.{is_of_round, GoesByRounds, IsWhole};
@@ -128,11 +129,14 @@ fn had_memory(outcome: &Result<Answer, Refused>) -> bool
     }
 }
 
-// Takes a step. One that is refused, except for want of memory, has nothing to do.
+// Takes a step. One that is refused, except for want of memory, has nothing to do: only want of
+// memory is an error.
 fn take(world: &mut World, step: Step) -> Result<(), AllocError>
     ensures goes { is_of_round step ≡ true → GoesByRounds (meaning world.old) (meaning world.new) }
     ensures whole { IsWhole (meaning world.new) }
     ensures leads { OnOk result (Leads (meaning world.old) (step ∷ []) (meaning world.new)) }
+    ensures lacked { OnErr result
+        (Steps (meaning world.old) step (Err OutOfMemory) (meaning world.new)) }
 {
     let outcome = world.step(step);
     if had_memory(&outcome) {
