@@ -1,2 +1,3 @@
 mod Sent
 mod RunRows
+mod Goings

@@ -7,6 +7,7 @@ use Rattle.krl_nodes.specs.Picks.{drawn_picks}
 use Rattle.krl_nodes.specs.Nodes.{SeatedServer, SeatedClient, ServerTurns, ClientTurns, ServerTurnsBy, ClientTurnsBy}
 use Rattle.krl_nodes_demo.specs.declared.delivery.Delivery.{Delivery}
 use Rattle.krl_nodes.specs.declared.orders.ServerOrder.TheVariants as server_order
+use Rattle.krl_nodes.specs.declared.orders.ClientOrder.{ClientOrder}
 use Rattle.krl_nodes.specs.declared.orders.ClientOrder.TheVariants as client_order
 use Rattle.krl_nodes_demo.specs.declared.run.PolicySeeds.{PolicySeeds}
 use Rattle.krl_nodes.specs.declared.orders.Turn.{Turn}
@@ -71,18 +72,42 @@ nudged is_second = if is_second then 2 else 1
 abbrev pub ServerNudges : Bool → SeatedServer → SeatedServer → Type 0
 ServerNudges is_second n n' = (r : Result Turn Refused) × ServerTurns (server_order.Nudge (nudged is_second)) n r n'
 
--- the server nudges this client, and next time the other one; what may be lost is asked once
+-- that a letter may be lost is asked once
+abbrev pub asked : Delivery → Delivery
+asked d = record { policy = d.policy; seed = d.seed; may_lack = false }
+
+-- the server nudges this client, and next time the other one
 pub record NudgesByTurns (is_second : Bool) (d : Delivery) (n : SeatedServer) (is_second' : Bool) (d' : Delivery)
     (n' : SeatedServer) : Type 0 where
   pub nudges : ServerNudges is_second n n'
   pub other : is_second' ≡ not is_second
-  pub asked : d' ≡ record { policy = d.policy; seed = d.seed; may_lack = false }
+  pub asked : d' ≡ asked d
 
 -- the server nudges a client if a letter may be lost; otherwise it reads one
 abbrev pub ServesOnce : Bool → Delivery → SeatedServer → Bool → Delivery → SeatedServer → Type 0
 ServesOnce is_second d n is_second' d' n' = MatchBool d.may_lack
     (NudgesByTurns is_second d n is_second' d' n')
     ((is_second' ≡ is_second) × ServerReadsBy d n d' n')
+
+-- the server serves, any number of times: it comes by its letters as its delivery has it, and by none otherwise
+pub data Serves (d : Delivery) (n : SeatedServer) : Bool → Delivery → SeatedServer → Type 0 where
+  begins : Serves d n false d n
+  goes_on : (is_second next : Bool) (d1 d2 : Delivery) (n1 n2 : SeatedServer) → Serves d n is_second d1 n1 →
+      ServesOnce is_second d1 n1 next d2 n2 → Serves d n next d2 n2
+
+-- the order is for a letter
+abbrev pub is_for_letter : ClientOrder → Bool
+is_for_letter client_order.Letter = true
+is_for_letter other = false
+
+-- what a client does, turn by turn: it reads a letter only as its delivery has it
+pub data Goes (d : Delivery) (n : SeatedClient) : Delivery → SeatedClient → Type 0 where
+  begins : Goes d n d n
+  asks : (d1 : Delivery) (n1 : SeatedClient) → Goes d n d1 n1 → Goes d n (asked d1) n1
+  reads : (d1 d2 : Delivery) (n1 n2 : SeatedClient) (found_none : Bool) → Goes d n d1 n1 →
+      ClientReadsBy d1 n1 found_none d2 n2 → Goes d n d2 n2
+  obeys : (d1 : Delivery) (n1 n2 : SeatedClient) (order : ClientOrder) (answer : Result Turn Refused) →
+      Goes d n d1 n1 → is_for_letter order ≡ false → ClientTurns order n1 answer n2 → Goes d n d1 n2
 
 -- the client sends again what is not answered
 abbrev pub ClientTicks : SeatedClient → SeatedClient → Type 0

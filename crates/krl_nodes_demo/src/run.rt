@@ -1,8 +1,8 @@
 //! A server and two clients, each on a thread of its own.
-ghost use Rattle.std.specs.Prelude.{◌≡◌, ◌≤◌, false, None, Some, IfOk, IfSome};
+ghost use Rattle.std.specs.Prelude.{◌≡◌, ◌≤◌, Bool, false, None, Some, IfOk, IfSome};
 ghost use Rattle.krl_modes.specs.declared.point.TheConstants.{END};
 ghost use Rattle.krl_nodes.specs.Nodes.{IsSameServer, IsSameClient};
-ghost use Rattle.krl_nodes_demo.specs.Deliveries.{delivery_of, seeds_of};
+ghost use Rattle.krl_nodes_demo.specs.Deliveries.{delivery_of, seeds_of, Serves, Goes};
 ghost use Rattle.krl_nodes_demo.specs.RunRows.{IsFound, max_turns, seeds};
 ghost use Rattle.krl_nodes_demo.specs.declared.work.TheConstants.{MAX_TURNS};
 
@@ -83,7 +83,8 @@ pub(crate) struct Reader {
 impl Work<Office> for Serving {
     ghost ready = { λ s office. s.node.office ≡ office };
 
-    ghost done = { λ s t. IsSameServer s.node t.node × (t.delivery.seed ≡ s.delivery.seed) };
+    ghost done = { λ s t. IsSameServer s.node t.node × (t.delivery.seed ≡ s.delivery.seed)
+        × ((next : Bool) × Serves s.delivery s.node next t.delivery t.node) };
 
     fn work<R: Wait, G: Gate>(
         self,
@@ -101,7 +102,8 @@ impl Work<Office> for Serving {
 impl Work<Office> for Writer {
     ghost ready = { λ w office. w.node.office ≡ office };
 
-    ghost done = { λ w v. IsSameClient w.node v.node × (v.delivery.seed ≡ w.delivery.seed) };
+    ghost done = { λ w v. IsSameClient w.node v.node × (v.delivery.seed ≡ w.delivery.seed)
+        × Goes w.delivery w.node v.delivery v.node };
 
     fn work<R: Wait, G: Gate>(
         self,
@@ -129,7 +131,7 @@ impl Work<Office> for Reader {
     ghost ready = { λ r office. r.node.office ≡ office };
 
     ghost done = { λ r s. IsSameClient r.node s.node × (s.delivery.seed ≡ r.delivery.seed)
-        × IfSome s.rows (IsFound r.node.opening) };
+        × Goes r.delivery r.node s.delivery s.node × IfSome s.rows (IsFound r.node.opening) };
 
     fn work<R: Wait, G: Gate>(
         self,

@@ -1,7 +1,8 @@
 //! What each node of `run_nodes` does.
-ghost use Rattle.std.specs.Prelude.{◌≡◌, suc, MatchBool, IfOk, IfSome};
+ghost use Rattle.std.specs.Prelude.{◌≡◌, suc, Bool, false, MatchBool, IfOk, IfSome};
 ghost use Rattle.krl_nodes.specs.Nodes.{IsSameServer, IsSameClient};
 ghost use Rattle.krl_nodes_demo.specs.Deliveries.{ServesOnce, ServerNudges, ClientTicks, nudged};
+ghost use Rattle.krl_nodes_demo.specs.Deliveries.{Serves, Goes, is_for_letter};
 ghost use Rattle.krl_nodes_demo.specs.RunRows.{HasKey, IsFound};
 
 use crate::delivery::Delivery;
@@ -67,7 +68,10 @@ impl Writing {
         }
     }
 
-    fn order(self) -> ClientOrder {
+    // What it asks for next: no letter. At the end it asks for nothing more.
+    fn order(self) -> ClientOrder
+        ensures { is_for_letter result ≡ false }
+    {
         match self {
             Writing::Start => ClientOrder::Start,
             Writing::Lock => ClientOrder::Command(Command::Lock {
@@ -85,7 +89,7 @@ impl Writing {
                 keep: Mode::N,
             }),
             Writing::Leave => ClientOrder::Command(Command::Leave),
-            Writing::End => ClientOrder::Letter,
+            Writing::End => ClientOrder::Tick,
         }
     }
 
@@ -101,7 +105,10 @@ impl Writing {
 }
 
 impl Reading {
-    fn order(self) -> ClientOrder {
+    // What it asks for next: no letter. While it scans it asks for nothing more.
+    fn order(self) -> ClientOrder
+        ensures { is_for_letter result ≡ false }
+    {
         match self {
             Reading::Start => ClientOrder::Start,
             Reading::First => ClientOrder::Command(Command::Lock {
@@ -114,7 +121,7 @@ impl Reading {
                 hi: 17,
                 mode: Mode::RangeSS,
             }),
-            Reading::Scan => ClientOrder::Letter,
+            Reading::Scan => ClientOrder::Tick,
         }
     }
 
@@ -182,6 +189,7 @@ pub(crate) fn serve<R: Wait, G: Gate>(
     requires { node.office ≡ office.now }
     ensures same { IsSameServer node result }
     ensures seed { delivery.new.seed ≡ delivery.old.seed }
+    ensures serves { (next : Bool) × Serves delivery.old node next delivery.new result }
 {
     let mut is_second = false;
     for _ in rt.forever() {
@@ -215,6 +223,7 @@ pub(crate) fn insert<R: Wait, G: Gate>(
     requires { node.office ≡ office.now }
     ensures same { IsSameClient node result.0 }
     ensures seed { delivery.new.seed ≡ delivery.old.seed }
+    ensures goes { Goes delivery.old node delivery.new result.0 }
 {
     let mut stage = Writing::Start;
     let mut is_read = false;
@@ -288,6 +297,7 @@ pub(crate) fn read<R: Wait, G: Gate>(
     requires { node.office ≡ office.now }
     ensures node { IsSameClient node result.0 }
     ensures seed { delivery.new.seed ≡ delivery.old.seed }
+    ensures goes { Goes delivery.old node delivery.new result.0 }
     ensures found { IfSome result.1 (IsFound node.opening) }
 {
     let mut stage = Reading::Start;
