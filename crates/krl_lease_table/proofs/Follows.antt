@@ -1,14 +1,13 @@
 -- Each step of a system is at most one of the machine of leases, so what that promises holds of it.
-use Rattle.std.proofs.Common.{◌≡◌, ◌<◌, ◌≤◌, ◌⊎◌, inl, inr, ℕ, Bool, true, false, List, [], ◌∷◌, ◌++◌, Option, Some, None, Result, Ok, Err, refl, sym, ◌∙◌, ap, subst, arith, ltb-true, leb-true, eq-eqb, eqb-true, ◌+◌}
-use Rattle.std.specs.Prelude.{nat_lt, nat_le, ◌==◌, not, ◌&&◌, ◌||◌, is_some, max, min, if◌then◌else◌}
-use Rattle.std.proofs.lemmas.Bool.{eqb-false, and_parts, and_left, and_right, and_from, and_cases, or_cases, or_parts, cases_eq, false≢true, leb-false, lt-leb, ne_eqb, not-true, not-false, not_from_false}
+use Rattle.std.proofs.Common.{◌≡◌, ◌<◌, ◌≤◌, ◌⊎◌, inl, inr, ℕ, Bool, true, false, List, [], ◌∷◌, ◌++◌, Some, None, Ok, Err, refl, sym, ◌∙◌, ap, subst, arith, ltb-true, eq-eqb, eqb-true, ◌+◌}
+use Rattle.std.specs.Prelude.{nat_lt, nat_le, ◌==◌, not, ◌&&◌, is_some, max, if◌then◌else◌}
+use Rattle.std.proofs.lemmas.Bool.{eqb-false, and_parts, and_left, and_right, and_from, and_cases, or_parts, cases_eq, false≢true, leb-false, lt-leb, ne_eqb, not-true, not-false, not_from_false}
 use Rattle.krl_leases.specs.declared.length.TheConstants.{FOR_EVER}
-use Rattle.krl_leases.specs.declared.length.Terms.{Terms}
 use Rattle.krl_leases.specs.declared.until.Until.{Until}
 use Rattle.krl_leases.specs.declared.kept.Kept.{Kept}
-use Rattle.krl_leases.specs.Lengths.{stretched, end_of}
+use Rattle.krl_leases.specs.Lengths.{end_of}
 use Rattle.krl_leases.specs.Servers as servers
-use Rattle.krl_leases.specs.Clocks.{Clocks, Limits, Agree, MayGrant}
+use Rattle.krl_leases.specs.Clocks.{Clocks, Limits, Agree}
 use Rattle.krl_leases.specs.Machine as machine
 use Rattle.krl_leases.specs.Machine.{Server, State, Event, Unknown, Registered, Evicted, In}
 use Rattle.krl_leases.specs.Laws.{Answers}

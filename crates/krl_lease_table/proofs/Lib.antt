@@ -1,3 +1,4 @@
+pub mod FlatRows
 pub mod Facts
 pub mod Follows
 pub mod Starting

@@ -1,19 +1,15 @@
 -- The row of a server that has just started has what the store has.
-use Rattle.std.proofs.Common.{◌≡◌, ◌<◌, ℕ, Bool, true, false, refl, sym, ◌∙◌, ap, subst}
+use Rattle.std.proofs.Common.{◌≡◌, ℕ, Bool, true, false, refl, ◌∙◌, ap}
 use Rattle.std.specs.Prelude.{◌||◌, ◌==◌, max, if◌then◌else◌}
 use Rattle.std.proofs.lemmas.Bool.{or_parts}
 use Rattle.krl_leases.specs.declared.length.Terms.{Terms}
 use Rattle.krl_leases.specs.declared.until.Until.{Until}
 use Rattle.krl_leases.specs.declared.kept.Kept.{Kept}
-use Rattle.krl_leases.specs.Clocks.{Clocks}
-use Rattle.krl_leases.specs.Machine as machine
-use Rattle.krl_leases.specs.Machine.{State, Unknown, Registered}
+use Rattle.krl_leases.specs.Machine.{Registered}
 use Rattle.krl_leases.specs.Servers as servers
-use Rattle.krl_lease_table.specs.declared.standing.Standing.{Standing}
-use Rattle.krl_lease_table.specs.declared.standing.Standing.TheVariants.{Absent, Present, Ended}
+use Rattle.krl_lease_table.specs.declared.standing.Standing.TheVariants.{Absent, Present}
 use Rattle.krl_lease_table.specs.Rows as rows
 use Rattle.krl_lease_table.specs.Tables as tables
-use Rattle.krl_lease_table.specs.Systems.{Starts}
 use Rattle.krl_lease_table.specs.Laws.{StartsAsStored}
 
 differ : {A : Type 0} (until : Until) → Absent ≡ Present until → A

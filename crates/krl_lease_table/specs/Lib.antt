@@ -1,5 +1,6 @@
 pub mod Standings
 pub mod Rows
 pub mod Tables
+pub mod Flat
 pub mod Systems
 pub mod Laws

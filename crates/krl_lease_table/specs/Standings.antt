@@ -1,7 +1,6 @@
 -- Whether an incarnation may answer, and until when.
 use Rattle.std.specs.Prelude.{ℕ, Bool, true, false, Option, Some, None, if◌then◌else◌}
 use Rattle.krl_leases.specs.declared.length.Terms.{Terms}
-use Rattle.krl_leases.specs.declared.until.Until.{Until}
 use Rattle.krl_leases.specs.Servers as servers
 use Rattle.krl_lease_table.specs.declared.standing.End.{End}
 use Rattle.krl_lease_table.specs.declared.standing.End.TheVariants.{At, Never}

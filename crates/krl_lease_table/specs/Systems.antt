@@ -1,6 +1,6 @@
 -- One incarnation of a client with its connection, as in the machine of leases, and the row that a server's lease table
 -- has of the client's number. Only what the table answers happens at the server.
-use Rattle.std.specs.Prelude.{◌≡◌, ◌⊎◌, ◌<◌, ℕ, Bool, true, false, not, ◌&&◌, ◌||◌, ◌==◌, List, [], ◌∷◌, Option, Some, None, Result, Ok, Err, if◌then◌else◌}
+use Rattle.std.specs.Prelude.{◌≡◌, ◌⊎◌, ◌<◌, ℕ, Bool, true, false, not, ◌&&◌, ◌||◌, ◌==◌, List, [], ◌∷◌, Some, Result, Ok, Err, if◌then◌else◌}
 use Rattle.krl_leases.specs.declared.until.Until.{Until}
 use Rattle.krl_leases.specs.Clocks.{Clocks, Limits}
 use Rattle.krl_leases.specs.Machine as machine

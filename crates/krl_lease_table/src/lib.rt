@@ -3,6 +3,7 @@
 #![tactic(auto)]
 
 mod each;
+mod flat;
 mod laws;
 mod refused;
 mod row;
@@ -10,6 +11,7 @@ mod sign;
 mod standing;
 mod table;
 
+pub use flat::FlatRow;
 pub use laws::{evicted_answer_nothing, starts_as_stored};
 pub use refused::Refused;
 pub use row::Row;

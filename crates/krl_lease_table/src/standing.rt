@@ -27,7 +27,7 @@ pub enum Standing {
 
 impl Standing {
     /// Whether it may answer.
-    pub(crate) fn may_answer(self) -> bool
+    pub fn may_answer(self) -> bool
         ensures { result ≡ standings.may_answer self }
     {
         matches!(self, Standing::Present(_))

@@ -1,64 +1,96 @@
 //! The leases of a server's clients.
 ghost use Rattle.std.specs.Prelude.{◌≡◌};
-ghost use Rattle.krl_lease_table.specs.Rows as rows;
+ghost use Rattle.krl_lease_table.specs.Flat.{table_of};
 ghost use Rattle.krl_lease_table.specs.Tables as tables;
 
 use crate::each::{blank_rows, open_rows, revise_rows};
+use crate::flat::FlatRow;
 use crate::refused::Refused;
 use crate::row::Row;
 use crate::sign::{Grant, Heard, Sign};
-use krl_leases::{FOR_EVER, Kept, Terms, Until};
+use krl_leases::{FOR_EVER, Terms, Until};
 use krl_modes::MAX_CLIENTS;
 
-/// What a server's host knows of its clients' leases: a row for each client number.
+/// What a server's host knows of its clients' leases: a row for each client number. It has numbers
+/// and flags only, so that a host in C can keep it. Any numbers make a table.
+#[repr(C)]
 #[derive(Clone, Copy)]
 pub struct LeaseTable {
-    terms: Terms,
+    /// What the server grants.
+    length: u64,
     /// No lease that ends and may still run is longer.
     longest: u64,
     /// From when on no lease of an older server runs, unless it does not end.
-    old_end: Until,
+    old_end: u64,
     /// How many commits have begun, and how many of them have been made.
     begun: u64,
     made: u64,
-    /// The server has begun.
-    is_open: bool,
-    rows: [Row; MAX_CLIENTS],
+    drift: u32,
+    /// 0 until the server has begun.
+    is_open: u32,
+    rows: [FlatRow; MAX_CLIENTS],
 }
 
 impl LeaseTable {
     /// That of a server with these terms that is about to start. The store's longest lease is
     /// `longest`, and nothing is known of its clients.
     pub fn new(terms: Terms, longest: u64) -> LeaseTable
-        ensures { result ≡ tables.started terms longest }
+        ensures { table_of result ≡ tables.started terms longest }
     {
         let kept = Row::blank().kept(longest).start(terms);
         LeaseTable {
-            terms,
+            length: terms.length,
             longest: kept.longest,
-            old_end: Until { moment: FOR_EVER },
+            old_end: FOR_EVER,
             begun: 0,
             made: 0,
-            is_open: false,
+            drift: terms.drift,
+            is_open: 0,
             rows: blank_rows(),
+        }
+    }
+
+    // What the server grants.
+    fn terms(&self) -> Terms
+        ensures { result ≡ (table_of self.now).terms }
+    {
+        Terms {
+            length: self.length,
+            drift: self.drift,
+        }
+    }
+
+    // Whether the server has begun.
+    fn is_open(&self) -> bool
+        ensures { result ≡ (table_of self.now).is_open }
+    {
+        self.is_open != 0
+    }
+
+    // From when on no lease of an older server runs, unless it does not end.
+    fn old_end(&self) -> Until
+        ensures { result ≡ (table_of self.now).old_end }
+    {
+        Until {
+            moment: self.old_end,
         }
     }
 
     // The row of a client.
     fn row(&self, client: u64) -> Result<Row, Refused>
-        ensures { result ≡ tables.row_of self.now client }
+        ensures { result ≡ tables.row_of (table_of self.now) client }
     {
         match self.rows.get(client as usize) {
-            Some(row) => Ok(*row),
+            Some(row) => Ok(row.row()),
             None => Err(Refused::BadClient),
         }
     }
 
     // The row of a client, if the server has begun.
     fn open_row(&self, client: u64) -> Result<Row, Refused>
-        ensures { result ≡ tables.open_row self.now client }
+        ensures { result ≡ tables.open_row (table_of self.now) client }
     {
-        if !self.is_open {
+        if !self.is_open() {
             return Err(Refused::NotOpen);
         }
         self.row(client)
@@ -66,10 +98,10 @@ impl LeaseTable {
 
     // The client's row, if it is one's.
     fn set(&mut self, client: u64, row: Row)
-        ensures { self.new ≡ tables.with_row self.old client row }
+        ensures { table_of self.new ≡ tables.with_row (table_of self.old) client row }
     {
         if client < MAX_CLIENTS as u64 {
-            self.rows[client as usize] = row;
+            self.rows[client as usize] = FlatRow::of(row);
         }
     }
 
@@ -86,9 +118,9 @@ impl LeaseTable {
         has_left: bool,
         is_unleased: bool,
     ) -> Result<(), Refused>
-        ensures answer { result ≡ tables.answer (tables.first_row self.old client) tables.nothing }
-        ensures left { self.new ≡ tables.changed self.old client (tables.first_row self.old client)
-            (λ row. tables.store_row self.old.terms incarnation has_left is_unleased) }
+        ensures answer { result ≡ tables.store_answer (table_of self.old) client }
+        ensures left { table_of self.new ≡ tables.with_stored (table_of self.old) client incarnation
+            has_left is_unleased }
     {
         if self.begun > 0 {
             return Err(Refused::Begun);
@@ -97,37 +129,30 @@ impl LeaseTable {
             Err(refused) => Err(refused),
             Ok(_) => {
                 let row = Row::stored(incarnation, has_left, is_unleased);
-                let kept = row.kept(self.longest).start(self.terms);
+                let kept = row.kept(self.longest).start(self.terms());
                 self.set(client, row.with_kept(kept));
                 Ok(())
             }
         }
     }
 
-    /// What the store has to have of a client.
-    ///
-    /// # Errors
-    ///
-    /// `BadClient`.
-    pub fn kept(&self, client: u64) -> Result<Kept, Refused>
-        ensures { result ≡ tables.answer (tables.row_of self.now client)
-            (λ row. rows.kept_of self.now.longest row) }
+    /// No lease that ends and may still run is longer. The store has to have this number, and of
+    /// each client whether a lease that does not end may run, as `shows` returns it.
+    pub fn longest(&self) -> u64
+        ensures { result ≡ (table_of self.now).longest }
     {
-        match self.row(client) {
-            Err(refused) => Err(refused),
-            Ok(row) => Ok(row.kept(self.longest)),
-        }
+        self.longest
     }
 
-    /// A commit begins, which has what `kept` returns of each client, and whatever else was to be
+    /// A commit begins, which has what the store has to have of leases, and whatever else was to be
     /// stored before. Returns its number.
     ///
     /// # Errors
     ///
     /// `Spent` after 2^64 - 1 of them.
     pub fn commit(&mut self) -> Result<u64, Refused>
-        ensures answer { result ≡ tables.next_commit self.old }
-        ensures left { self.new ≡ tables.committing self.old }
+        ensures answer { result ≡ tables.next_commit (table_of self.old) }
+        ensures left { table_of self.new ≡ tables.committing (table_of self.old) }
     {
         if self.begun == u64::MAX {
             return Err(Refused::Spent);
@@ -143,8 +168,8 @@ impl LeaseTable {
     ///
     /// `NoCommit` if none of this number has begun.
     pub fn committed(&mut self, commit: u64) -> Result<(), Refused>
-        ensures answer { result ≡ tables.commit_answer self.old commit }
-        ensures left { self.new ≡ tables.committed self.old commit }
+        ensures answer { result ≡ tables.commit_answer (table_of self.old) commit }
+        ensures left { table_of self.new ≡ tables.committed (table_of self.old) commit }
     {
         if self.begun < commit {
             return Err(Refused::NoCommit);
@@ -159,18 +184,19 @@ impl LeaseTable {
     ///
     /// `NotOpen` if no commit has been made, `Begun` if the server has begun.
     pub fn open(&mut self, now: u64) -> Result<(), Refused>
-        ensures answer { result ≡ tables.open_answer self.old }
-        ensures left { self.new ≡ tables.opened self.old now }
+        ensures answer { result ≡ tables.open_answer (table_of self.old) }
+        ensures left { table_of self.new ≡ tables.opened (table_of self.old) now }
     {
-        if self.is_open {
+        if self.is_open() {
             return Err(Refused::Begun);
         }
         if self.made == 0 {
             return Err(Refused::NotOpen);
         }
-        self.old_end = Row::blank().kept(self.longest).old_end(self.terms, now);
-        open_rows(&mut self.rows, self.longest, self.terms, now);
-        self.is_open = true;
+        let terms = self.terms();
+        self.old_end = Row::blank().kept(self.longest).old_end(terms, now).moment;
+        open_rows(&mut self.rows, self.longest, terms, now);
+        self.is_open = 1;
         Ok(())
     }
 
@@ -180,15 +206,13 @@ impl LeaseTable {
     ///
     /// `NotOpen`, `BadClient`.
     pub fn sign(&mut self, client: u64, sign: Sign, now: u64) -> Result<Heard, Refused>
-        ensures answer { result ≡ tables.answer (tables.open_row self.old client)
-            (λ row. tables.heard row sign) }
-        ensures left { self.new ≡ tables.changed self.old client (tables.open_row self.old client)
-            (λ row. rows.signed self.old.terms row sign self.old.begun now) }
+        ensures answer { result ≡ tables.sign_answer (table_of self.old) client sign }
+        ensures left { table_of self.new ≡ tables.signed (table_of self.old) client sign now }
     {
         match self.open_row(client) {
             Err(refused) => Err(refused),
             Ok(row) => {
-                self.set(client, row.signed(self.terms, sign, self.begun, now));
+                self.set(client, row.signed(self.terms(), sign, self.begun, now));
                 Ok(heard(row, sign))
             }
         }
@@ -200,16 +224,14 @@ impl LeaseTable {
     ///
     /// `NotOpen`, `BadClient`.
     pub fn take_terms(&mut self, client: u64) -> Result<Option<Grant>, Refused>
-        ensures answer { result ≡ tables.answer (tables.open_row self.old client)
-            (λ row. rows.grant self.old.terms row self.old.made) }
-        ensures left { self.new ≡ tables.changed self.old client (tables.open_row self.old client)
-            (λ row. rows.granted row self.old.made) }
+        ensures answer { result ≡ tables.terms_answer (table_of self.old) client }
+        ensures left { table_of self.new ≡ tables.granted (table_of self.old) client }
     {
         match self.open_row(client) {
             Err(refused) => Err(refused),
             Ok(row) => {
                 self.set(client, row.granted(self.made));
-                Ok(row.grant(self.terms, self.made))
+                Ok(row.grant(self.terms(), self.made))
             }
         }
     }
@@ -222,23 +244,22 @@ impl LeaseTable {
     ///
     /// `NotOpen`, `BadClient`.
     pub fn admit(&mut self, client: u64, incarnation: u64, now: u64) -> Result<bool, Refused>
-        ensures answer { result ≡ tables.answer (tables.open_row self.old client)
-            (λ row. rows.admits self.old.terms row incarnation now) }
-        ensures left { self.new ≡ tables.changed self.old client (tables.open_row self.old client)
-            (λ row. rows.admitted self.old.terms row incarnation now) }
+        ensures answer { result ≡ tables.admit_answer (table_of self.old) client incarnation now }
+        ensures left { table_of self.new ≡ tables.admitted (table_of self.old) client
+            incarnation now }
     {
         match self.open_row(client) {
             Err(refused) => Err(refused),
             Ok(row) => {
-                self.set(client, row.admitted(self.terms, incarnation, now));
-                Ok(row.admits(self.terms, incarnation, now))
+                self.set(client, row.admitted(self.terms(), incarnation, now));
+                Ok(row.admits(self.terms(), incarnation, now))
             }
         }
     }
 
     // The row of a client of which a greater incarnation may be registered.
     fn free_row(&self, client: u64, incarnation: u64) -> Result<Row, Refused>
-        ensures { result ≡ tables.free_row self.now client incarnation }
+        ensures { result ≡ tables.free_row (table_of self.now) client incarnation }
     {
         match self.open_row(client) {
             Err(refused) => Err(refused),
@@ -248,23 +269,21 @@ impl LeaseTable {
         }
     }
 
-    /// The server has registered an incarnation. What `kept` returns of the client has to be stored
-    /// with that or before it.
+    /// The server has registered an incarnation. What the store has to have of leases has to be
+    /// stored with that or before it.
     ///
     /// # Errors
     ///
     /// `NotOpen`, `BadClient`, `NotGreater`, `StillAnswers`, in this order.
     pub fn register(&mut self, client: u64, incarnation: u64, now: u64) -> Result<(), Refused>
-        ensures answer { result
-            ≡ tables.answer (tables.free_row self.old client incarnation) tables.nothing }
-        ensures left { self.new
-            ≡ tables.changed self.old client (tables.free_row self.old client incarnation)
-            (λ row. rows.registered self.old.terms row incarnation now) }
+        ensures answer { result ≡ tables.register_answer (table_of self.old) client incarnation }
+        ensures left { table_of self.new ≡ tables.registered (table_of self.old) client
+            incarnation now }
     {
         match self.free_row(client, incarnation) {
             Err(refused) => Err(refused),
             Ok(row) => {
-                self.set(client, row.registered(self.terms, incarnation, now));
+                self.set(client, row.registered(self.terms(), incarnation, now));
                 Ok(())
             }
         }
@@ -276,9 +295,8 @@ impl LeaseTable {
     ///
     /// `NotOpen`, `BadClient`.
     pub fn leave(&mut self, client: u64) -> Result<(), Refused>
-        ensures answer { result ≡ tables.answer (tables.open_row self.old client) tables.nothing }
-        ensures left { self.new ≡ tables.changed self.old client (tables.open_row self.old client)
-            rows.left }
+        ensures answer { result ≡ tables.leave_answer (table_of self.old) client }
+        ensures left { table_of self.new ≡ tables.left (table_of self.old) client }
     {
         match self.open_row(client) {
             Err(refused) => Err(refused),
@@ -296,10 +314,8 @@ impl LeaseTable {
     ///
     /// `NotOpen`, `BadClient`.
     pub fn evict(&mut self, client: u64, now: u64) -> Result<Option<u64>, Refused>
-        ensures answer { result ≡ tables.answer (tables.open_row self.old client)
-            (λ row. rows.successor row now) }
-        ensures left { self.new ≡ tables.changed self.old client (tables.open_row self.old client)
-            (λ row. rows.evicting row now) }
+        ensures answer { result ≡ tables.evict_answer (table_of self.old) client now }
+        ensures left { table_of self.new ≡ tables.evicting (table_of self.old) client now }
     {
         match self.open_row(client) {
             Err(refused) => Err(refused),
@@ -317,11 +333,8 @@ impl LeaseTable {
     ///
     /// `NotOpen`, `BadClient`, `NotGreater`, `StillAnswers`, in this order.
     pub fn succeed(&mut self, client: u64, successor: u64) -> Result<(), Refused>
-        ensures answer { result
-            ≡ tables.answer (tables.free_row self.old client successor) tables.nothing }
-        ensures left { self.new
-            ≡ tables.changed self.old client (tables.free_row self.old client successor)
-            (λ row. rows.evicted row successor) }
+        ensures answer { result ≡ tables.register_answer (table_of self.old) client successor }
+        ensures left { table_of self.new ≡ tables.evicted (table_of self.old) client successor }
     {
         match self.free_row(client, successor) {
             Err(refused) => Err(refused),
@@ -332,21 +345,22 @@ impl LeaseTable {
         }
     }
 
-    /// What `kept` returns may become less: once no older server's lease runs, the longest is what
-    /// this one grants. It may be stored later.
+    /// What the store has to have may become less: once no older server's lease runs, the longest
+    /// is what this one grants. It may be stored later.
     ///
     /// # Errors
     ///
     /// `NotOpen`.
     pub fn revise(&mut self, now: u64) -> Result<(), Refused>
-        ensures answer { result ≡ tables.revise_answer self.old }
-        ensures left { self.new ≡ tables.revised self.old now }
+        ensures answer { result ≡ tables.revise_answer (table_of self.old) }
+        ensures left { table_of self.new ≡ tables.revised (table_of self.old) now }
     {
-        if !self.is_open {
+        if !self.is_open() {
             return Err(Refused::NotOpen);
         }
-        let kept = Row::blank().revised(self.longest, self.terms, self.old_end, now);
-        revise_rows(&mut self.rows, self.longest, self.terms, self.old_end, now);
+        let (terms, old_end) = (self.terms(), self.old_end());
+        let kept = Row::blank().revised(self.longest, terms, old_end, now);
+        revise_rows(&mut self.rows, self.longest, terms, old_end, now);
         self.longest = kept.longest;
         Ok(())
     }
@@ -357,7 +371,7 @@ impl LeaseTable {
     ///
     /// `BadClient`.
     pub fn shows(&self, client: u64) -> Result<Row, Refused>
-        ensures { result ≡ tables.row_of self.now client }
+        ensures { result ≡ tables.row_of (table_of self.now) client }
     {
         self.row(client)
     }

@@ -1,6 +1,6 @@
 //! What a server's host knows of its clients' leases.
 use krl_lease_table::{End, Grant, Heard, LeaseTable, Older, Refused, Sign};
-use krl_leases::{FOR_EVER, Kept, Terms};
+use krl_leases::{FOR_EVER, Terms};
 
 const SECOND: u64 = 1_000_000_000;
 
@@ -98,21 +98,17 @@ fn a_server_that_starts_waits_for_the_longest_lease(rt: HostRuntime) {
     );
 }
 
-fn longest(table: &mut LeaseTable, now: u64) -> Result<Kept, Refused> {
-    table.revise(now)?;
-    table.kept(3)
-}
-
-fn kept_twice() -> Result<[u64; 2], Refused> {
+fn longest_twice() -> Result<[u64; 2], Refused> {
     let mut table = table()?;
-    let before = longest(&mut table, 72 * SECOND - 1)?;
-    let after = longest(&mut table, 72 * SECOND)?;
-    Ok([before.longest, after.longest])
+    table.revise(72 * SECOND - 1)?;
+    let before = table.longest();
+    table.revise(72 * SECOND)?;
+    Ok([before, table.longest()])
 }
 
 #[test]
 fn what_is_stored_becomes_less_once_no_older_lease_runs(rt: HostRuntime) {
-    assert_eq!(rt; kept_twice(), Ok([60 * SECOND, 10 * SECOND]));
+    assert_eq!(rt; longest_twice(), Ok([60 * SECOND, 10 * SECOND]));
 }
 
 fn terms_in_turn() -> Result<[Option<Grant>; 4], Refused> {

@@ -1,7 +1,10 @@
 use Rattle.std.proofs.Common.{◌≡◌, map, ◌++◌, take, drop}
+use Rattle.krl_lease_table.specs.Flat.{row_of}
 use Rattle.krl_lease_table.specs.Tables as tables
 use Rattle.krl_lease_table.proofs.each.revise_rows.Given as goal
 
 abbrev pub invariant-loop-i : goal.invariant-loop-i
 invariant-loop-i l =
-    l.each ≡ map (tables.revised_row l.longest l.terms l.old_end l.now) (take l.i l.initial.each) ++ drop l.i l.initial.each
+    map row_of l.each
+    ≡ map (tables.revised_row l.longest l.terms l.old_end l.now) (take l.i (map row_of l.initial.each))
+    ++ drop l.i (map row_of l.initial.each)
