@@ -204,56 +204,119 @@ static void lease_runs_from_the_sign(void) {
     want(lease.end == 3000 && lease.length == 2000 && lease.stamp == 1000, "terms that renew");
 }
 
-/* The server's side of such a lease, with a drift of 25 percent. */
-static void evicts_behind_the_lease(void) {
-    const krl_terms terms = {1000, 25}, endless = {KRL_FOR_EVER, 25};
-    uint64_t until = krl_until_register(&terms, 7000);
-    want(until == 8250, "a client that registers");
-    want(!krl_until_has_come(until, 8249) && krl_until_has_come(until, 8250), "when it may be evicted");
-    want(krl_until_sign(until, &terms, 0, 7100) == 8350 && krl_until_sign(9000, &terms, 0, 7100) == 9000, "a sign");
-    want(krl_until_sign(until, &terms, 2000, 7100) == 9600, "a sign of a longer lease");
-    want(krl_until_register(&endless, 7000) == KRL_FOR_EVER, "no leases");
-    want(!krl_until_has_come(KRL_FOR_EVER, KRL_FOR_EVER), "what never comes");
-    want(krl_until_sign(KRL_FOR_EVER, &terms, 1000, 7100) == 8350, "who answered for ever, and no more");
+static const krl_terms terms = {1000, 25};
+
+/* A table over a store in which the longest lease is 3,000. Incarnation 7 of clients 5 and 6 is registered, and 6 may
+ * have a lease without end; that of client 4 has left. */
+static krl_lease_table table_of(const krl_terms *granted) {
+    const krl_stored_lease stored[] = {{7, 1, 0}, {7, 0, 0}, {7, 0, 2}};
+    krl_lease_table table = krl_lease_table_new(granted, 3000);
+    for (uint64_t i = 0; i < 3; i++)
+        want(krl_lease_table_store_has(&table, 4 + i, &stored[i]).code == KRL_DONE, "what is stored");
+    return table;
 }
 
-static bool hears(uint64_t until, uint64_t incarnation, uint64_t over, uint32_t is_vouched) {
-    const krl_take_over asks = {5, incarnation, over, is_vouched};
-    return krl_until_hears(until, &asks, 7000);
+/* Makes a commit. */
+static void commit(krl_lease_table *table) {
+    krl_reply begun = krl_lease_table_commit(table);
+    want(begun.code == KRL_DONE && krl_lease_table_committed(table, begun.detail).code == KRL_DONE, "a commit");
 }
 
-/* Incarnation 5 is registered, and it is 7,000. */
+/* That of a server which begins at 7,000. */
+static krl_lease_table begun_table(void) {
+    krl_lease_table table = table_of(&terms);
+    commit(&table);
+    want(krl_lease_table_open(&table, 7000).code == KRL_DONE, "a server that begins");
+    return table;
+}
+
+static uint32_t sign(krl_lease_table *table, uint64_t client, krl_sign sent, uint64_t now) {
+    return krl_lease_table_sign(table, client, &sent, now).code;
+}
+
+static void begins_after_its_first_commit(void) {
+    const krl_stored_lease stored = {7, 0, 0};
+    krl_lease_table table = table_of(&terms);
+    want(krl_lease_table_open(&table, 7000).code == KRL_CLOSED, "no commit has begun");
+    want(krl_lease_table_leave(&table, 64).code == KRL_CLOSED, "a call before the server begins");
+    want(krl_lease_table_committed(&table, 1).code == KRL_NOT_TOLD, "a commit that has not begun");
+    krl_reply first = krl_lease_table_commit(&table);
+    want(first.code == KRL_DONE && first.detail == 1, "the first commit");
+    want(krl_lease_table_store_has(&table, 5, &stored).code == KRL_OPEN_ALREADY, "too late to be stored");
+    want(krl_lease_table_open(&table, 7000).code == KRL_CLOSED, "no commit is made");
+    want(krl_lease_table_committed(&table, 1).code == KRL_DONE, "it is made");
+    want(krl_lease_table_open(&table, 7000).code == KRL_DONE, "the start");
+    want(krl_lease_table_open(&table, 7000).code == KRL_OPEN_ALREADY, "a second start");
+    want(krl_lease_table_leave(&table, 64).code == KRL_BAD_CLIENT, "no client");
+    krl_lease_shown nobody = krl_lease_table_shows(&table, 64);
+    want(nobody.reply.code == KRL_BAD_CLIENT && nobody.longest == 0, "nobody's lease");
+}
+
+static void evicts_after_the_lease(void) {
+    krl_lease_table table = begun_table();
+    want(krl_lease_table_evict(&table, 5, 10749).detail == 0, "before its end");
+    want(krl_lease_table_evict(&table, 5, 10750).detail == 8, "at its end");
+    want(krl_lease_table_evict(&table, 5, 0).detail == 8, "until it has left");
+    want(sign(&table, 5, (krl_sign){.incarnation = 7}, 10750) == KRL_GONE, "a sign of one that is evicted");
+    want(krl_lease_table_register(&table, 5, 7, 10750).code == KRL_BAD_INCARNATION, "the same again");
+    want(krl_lease_table_succeed(&table, 5, 8).code == KRL_DONE, "the host's own incarnation");
+    want(!krl_lease_table_shows(&table, 5).is_present && !krl_lease_table_shows(&table, 5).is_unleased, "nobody's");
+    want(krl_lease_table_leave(&table, 5).code == KRL_DONE, "the Bye");
+    want(krl_lease_table_evict(&table, 5, KRL_FOR_EVER).detail == 0, "one that has left");
+    want(krl_lease_table_evict(&table, 6, KRL_FOR_EVER).detail == 0, "one that may answer for ever");
+    want(sign(&table, 6, (krl_sign){.incarnation = 7, .length = 2000}, 7100) == KRL_DONE, "its sign");
+    want(krl_lease_table_shows(&table, 6).end == 9600, "and no more");
+}
+
+static void grants_after_a_commit(void) {
+    krl_lease_table table = begun_table();
+    krl_reply earlier = krl_lease_table_commit(&table);
+    want(sign(&table, 9, (krl_sign){.incarnation = 1, .stamp = 42}, 7100) == KRL_DONE, "a sign");
+    want(krl_lease_table_committed(&table, earlier.detail).code == KRL_DONE, "a commit from before it");
+    want(!krl_lease_table_take_terms(&table, 9).is_there, "too early");
+    commit(&table);
+    krl_grant grant = krl_lease_table_take_terms(&table, 9);
+    want(grant.is_there && grant.incarnation == 1 && grant.stamp == 42 && grant.length == 1000, "the terms");
+    want(!krl_lease_table_take_terms(&table, 9).is_there, "they are there once");
+    want(krl_lease_table_take_terms(&table, 64).reply.code == KRL_BAD_CLIENT, "nobody's terms");
+}
+
+/* Whether incarnation 8 of this client may send Hello, whose host knows this. */
+static bool admits(uint64_t client, uint64_t over, uint32_t is_vouched, uint64_t now) {
+    krl_lease_table table = begun_table();
+    sign(&table, client, (krl_sign){.incarnation = 8, .over = over, .is_vouched = is_vouched}, 7000);
+    uint32_t code = krl_lease_table_admit(&table, client, 8, now).code;
+    want(code == KRL_DONE || code == KRL_STILL_ANSWERS, "a Hello");
+    want((krl_lease_table_register(&table, client, 8, now).code == KRL_DONE) == (code == KRL_DONE), "its registration");
+    return code == KRL_DONE;
+}
+
 static void hears_a_greater_incarnation(void) {
-    want(hears(8000, 5, 0, 0) && hears(8000, 4, 0, 0), "no greater one");
-    want(!hears(8000, 6, 0, 0) && !hears(8000, 6, 0, 1) && hears(7000, 6, 0, 0), "a greater one");
-    want(hears(8000, 6, 5, 0) && !hears(8000, 7, 6, 0), "who has the lock file of the registered one");
-    want(!hears(KRL_FOR_EVER, 6, 0, 0) && hears(KRL_FOR_EVER, 6, 0, 2), "an operator's word");
-}
-
-static bool keeps(krl_kept_lease kept, uint64_t longest, uint32_t is_unleased) {
-    return kept.longest == longest && kept.is_unleased == is_unleased;
+    want(admits(4, 0, 0, 7000), "the one before has left");
+    want(!admits(5, 0, 0, 10749) && !admits(5, 0, 2, 10749) && admits(5, 0, 0, 10750), "the end of its lease");
+    want(admits(5, 7, 0, 7000) && !admits(5, 6, 0, 7000), "who has the lock file of the registered one");
+    want(!admits(6, 0, 0, KRL_FOR_EVER) && admits(6, 0, 2, 7000), "an operator's word");
 }
 
 /* What servers keep that run one after another. */
 static void outlives_a_server(void) {
-    const krl_terms terms = {1000, 25}, endless = {KRL_FOR_EVER, 0};
-    const krl_kept_lease none = {0, 0}, longer = {3000, 0}, unleased = {0, 2};
-    want(keeps(krl_kept_start(&none, &terms), 1000, 0) && keeps(krl_kept_start(&longer, &terms), 3000, 0), "a start");
-    want(keeps(krl_kept_start(&longer, &endless), 3000, 1), "a start without leases");
-    want(keeps(krl_kept_register(&unleased, &terms), 0, 0) && keeps(krl_kept_register(&longer, &endless), 3000, 1),
-         "what is kept of a client that registers");
-    want(krl_kept_old_end(&longer, &terms, 7000) == 10750, "the end of older leases");
-    want(krl_kept_until(&longer, &terms, 7000) == 10750 && krl_kept_until(&unleased, &terms, 7000) == KRL_FOR_EVER,
-         "a client of an older server");
-    want(keeps(krl_kept_revise(&longer, &terms, 10750, 0, 10749), 3000, 0), "while older leases run");
-    want(keeps(krl_kept_revise(&longer, &terms, 10750, 0, 10750), 1000, 0), "once they have ended");
-    want(keeps(krl_kept_revise(&unleased, &terms, 0, KRL_FOR_EVER, 1), 1000, 1), "who may answer for ever");
-    want(keeps(krl_kept_revise(&unleased, &terms, 0, 8350, 1), 1000, 0), "who answers for ever no more");
+    const krl_terms endless = {KRL_FOR_EVER, 25};
+    krl_lease_table table = begun_table(), other = table_of(&endless);
+    want(krl_lease_table_shows(&table, 5).end == 10750, "a client of an older server");
+    want(!krl_lease_table_shows(&table, 5).is_unleased && krl_lease_table_shows(&table, 6).is_unleased == 1, "stored");
+    want(krl_lease_table_shows(&table, 9).is_unleased == 1, "a client of which nothing is stored");
+    want(krl_lease_table_shows(&other, 5).is_unleased == 1, "a start without leases");
+    want(krl_lease_table_revise(&table, 10749).code == KRL_DONE, "while older leases run");
+    want(krl_lease_table_shows(&table, 5).longest == 3000, "they may run for so long");
+    want(krl_lease_table_revise(&table, 10750).code == KRL_DONE, "once they have ended");
+    want(krl_lease_table_shows(&table, 5).longest == 1000, "this server's run for so long");
 }
 
 static void give_leases(void) {
     lease_runs_from_the_sign();
-    evicts_behind_the_lease();
+    begins_after_its_first_commit();
+    evicts_after_the_lease();
+    grants_after_a_commit();
     hears_a_greater_incarnation();
     outlives_a_server();
 }

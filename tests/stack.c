@@ -42,16 +42,27 @@ static void client_status(void) { krl_client_status(&client); }
 static void server_nudge(void) { krl_server_nudge(&server, 0); }
 static void server_held(void) { krl_server_held(&server, 0); }
 static void server_next_held(void) { krl_server_next_held(&server, 0, 0); }
-static void leases(void) {
+static krl_lease_table table;
+static void lease_table_new(void) {
     const krl_terms terms = {1000, 25};
-    const krl_take_over asks = {1, 2, 0, 0};
-    krl_kept_lease kept = {0, 0};
+    table = krl_lease_table_new(&terms, 1000);
+}
+static void leases(void) {
+    const krl_stored_lease stored = {1, 0, 0};
+    const krl_sign sign = {.incarnation = 1};
     krl_lease lease = krl_lease_new();
     krl_lease_take_terms(&lease, 1, 1000, 1);
-    uint64_t until = krl_until_sign(krl_until_register(&terms, 1), &terms, lease.length, 2);
-    krl_until_hears(until, &asks, 3);
-    kept = krl_kept_register(&kept, &terms);
-    krl_kept_revise(&kept, &terms, krl_kept_old_end(&kept, &terms, 1), krl_kept_until(&kept, &terms, 1), 3);
+    krl_lease_table_store_has(&table, 0, &stored);
+    krl_lease_table_committed(&table, krl_lease_table_commit(&table).detail);
+    krl_lease_table_open(&table, 1);
+    krl_lease_table_sign(&table, 0, &sign, 2);
+    krl_lease_table_take_terms(&table, 0);
+    krl_lease_table_admit(&table, 0, 2, 5000);
+    krl_lease_table_register(&table, 0, 2, 5000);
+    krl_lease_table_succeed(&table, 0, krl_lease_table_evict(&table, 0, KRL_FOR_EVER - 1).detail);
+    krl_lease_table_leave(&table, 0);
+    krl_lease_table_revise(&table, 9000);
+    krl_lease_table_shows(&table, 0);
 }
 static void shard_of(void) { krl_shard_of(bounds, BOUNDS, KRL_END); }
 static void all_parts(void) { krl_parts(bounds, BOUNDS, 0, KRL_TOP, parts, KRL_SHARDS); }
@@ -121,8 +132,9 @@ int main(void) {
     }
     void (*const calls[])(void) = {server_open, client_open, client_lock, client_scan, client_put, client_delete,
                                    client_take_put, client_take_insert, client_tick, server_nudge, server_held,
-                                   server_next_held, client_status, reader_scan, reader_status, leases, shard_of,
-                                   all_parts, client_lower, client_forget, client_leave, client_close, server_close};
+                                   server_next_held, client_status, reader_scan, reader_status, lease_table_new,
+                                   leases, shard_of, all_parts, client_lower, client_forget, client_leave,
+                                   client_close, server_close};
     for (size_t i = 0; i < sizeof calls / sizeof calls[0]; i++) {
         measure(calls[i]);
         settle();

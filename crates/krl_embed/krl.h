@@ -219,9 +219,8 @@ void krl_close(krl_handle *handle);
  * whatever was lost or delayed, and however long anything stood still. `docs/LEASES.md` states what the two hosts
  * have to do for that, and what they need of their clocks.
  *
- * These calls need no handle, take no memory, read no clock and cannot fail. `now` is what the host's clock shows: a
- * client's calls are given the client's clock, and a server's calls the server's. Two clocks may differ by any
- * amount.
+ * These calls need no handle, take no memory and read no clock. `now` is what the host's clock shows: a client's calls
+ * are given the client's clock, and a server's calls the server's. Two clocks may differ by any amount.
  */
 
 /* The lease of an incarnation that has no terms yet. It sends no Hello before it has taken terms, so it holds
@@ -236,42 +235,70 @@ void krl_lease_take_terms(krl_lease *lease, uint64_t stamp, uint64_t length, uin
 /* Whether rows that were read from the cache may be handed over. `now` has to be read after the rows. */
 bool krl_lease_holds(const krl_lease *lease, uint64_t now);
 
-/* Until when a client may answer, by the server's clock. The server evicts it only at that moment or later. It is
- * KRL_FOR_EVER if that may never be. */
-
-/* That of a client which registers. */
-uint64_t krl_until_register(const krl_terms *terms, uint64_t now);
-
-/* That of a client whose sign has come. `until` is the client's before. The sign states that the client lives by a
- * lease of the length `said`. `now` has to be read after the sign, and the result has to stand before the server
- * answers by its terms. */
-uint64_t krl_until_sign(uint64_t until, const krl_terms *terms, uint64_t said, uint64_t now);
-
-/* Whether the moment has come: the server may evict the client. */
-bool krl_until_has_come(uint64_t until, uint64_t now);
-
-/* Whether the Hello of another incarnation may be handed to the server. `until` is that of the registered one. It may:
- * if it is no greater one; if the registered one is known to be over; if its moment has come; or if it may answer for
- * ever, and an operator vouches that it is over. A host drops the Hello otherwise, and takes it when it is sent again.
+/* A table of leases.
+ *
+ * What a server's host has to decide about the leases of its clients: until when each may answer, whose Hello the
+ * server may have, whom it evicts, what it stores first, and when it grants a lease. Whichever of these calls a host
+ * makes, an incarnation that was evicted answers nothing any more.
+ *
+ * The host keeps the table, in 4,656 bytes of its own, and gives it to one call at a time. `client` is a client's
+ * number, and `now` what the server's clock shows, read after what the call reports. The calls after
+ * `krl_lease_table_open` are refused by KRL_CLOSED before the server has begun, and then by KRL_BAD_CLIENT.
  */
-bool krl_until_hears(uint64_t until, const krl_take_over *asks, uint64_t now);
 
-/* What a server has to store before it sends anything. `kept` was stored before. */
-krl_kept_lease krl_kept_start(const krl_kept_lease *kept, const krl_terms *terms);
+/* The table of a server that is about to start, by these terms. In its store the longest lease is `longest`, and
+ * nothing is known of its clients: each may have a lease that does not end. */
+krl_lease_table krl_lease_table_new(const krl_terms *terms, uint64_t longest);
 
-/* What it has to store before it answers a client that registers. */
-krl_kept_lease krl_kept_register(const krl_kept_lease *kept, const krl_terms *terms);
+/* Takes in what the store has of a client. Refused, in this order, by KRL_OPEN_ALREADY after the first commit has
+ * begun, KRL_BAD_CLIENT. */
+krl_reply krl_lease_table_store_has(krl_lease_table *table, uint64_t client, const krl_stored_lease *stored);
 
-/* From when on no lease of an older server runs any more, apart from those that do not end. `now` is read after the
- * start. */
-uint64_t krl_kept_old_end(const krl_kept_lease *kept, const krl_terms *terms, uint64_t now);
+/* What the table knows of a client, and what the store has to have of leases. Refused by KRL_BAD_CLIENT. */
+krl_lease_shown krl_lease_table_shows(const krl_lease_table *table, uint64_t client);
 
-/* Until when a client may answer that is registered as a server starts. `now` is read after the start. */
-uint64_t krl_kept_until(const krl_kept_lease *kept, const krl_terms *terms, uint64_t now);
+/* A commit begins: with it the store gets what `krl_lease_table_shows` answers now, if it has something else. The
+ * detail is its number, from 1. Refused by KRL_SPENT. */
+krl_reply krl_lease_table_commit(krl_lease_table *table);
 
-/* What may be stored from now on. `old_end` is what `krl_kept_old_end` answered, and `until` is the client's. */
-krl_kept_lease krl_kept_revise(const krl_kept_lease *kept, const krl_terms *terms, uint64_t old_end, uint64_t until,
-                               uint64_t now);
+/* The commit of this number has been made, and all before it: so the store was still this server's after it had begun.
+ * Refused by KRL_NOT_TOLD if none of this number has begun. */
+krl_reply krl_lease_table_committed(krl_lease_table *table, uint64_t commit);
+
+/* The server begins. `now` is read after its first commit has been made. Refused, in this order, by KRL_OPEN_ALREADY,
+ * and by KRL_CLOSED if no commit has been made. */
+krl_reply krl_lease_table_open(krl_lease_table *table, uint64_t now);
+
+/* Takes a client's sign. KRL_DONE: terms may leave after the commit that begins next. KRL_GONE: the incarnation answers
+ * nothing any more, whatever it sends, and its host is to learn that. */
+krl_reply krl_lease_table_sign(krl_lease_table *table, uint64_t client, const krl_sign *sign, uint64_t now);
+
+/* The terms that may leave to a client, on the connection on which the sign came. They are there once. */
+krl_grant krl_lease_table_take_terms(krl_lease_table *table, uint64_t client);
+
+/* Whether a Hello of this incarnation may be given to the server now: KRL_DONE. If it is greater than the registered
+ * one, that answers nothing from then on. KRL_STILL_ANSWERS: the host drops the Hello, and asks when it is sent again.
+ */
+krl_reply krl_lease_table_admit(krl_lease_table *table, uint64_t client, uint64_t incarnation, uint64_t now);
+
+/* The server has registered an incarnation of a client. Also refused, in this order, by KRL_BAD_INCARNATION if it is
+ * not greater than the registered one, and by KRL_STILL_ANSWERS if that may still answer: its Hello was not admitted.
+ * What the store has to have is stored with the registration or before it. */
+krl_reply krl_lease_table_register(krl_lease_table *table, uint64_t client, uint64_t incarnation, uint64_t now);
+
+/* The client has left: the server has judged its Bye. */
+krl_reply krl_lease_table_leave(krl_lease_table *table, uint64_t client);
+
+/* Whether the client is to be evicted. The detail is the incarnation by whose Hello and Bye, or 0. If there is one, the
+ * client answers nothing from then on, and each later call answers one too, until the client has left. */
+krl_reply krl_lease_table_evict(krl_lease_table *table, uint64_t client, uint64_t now);
+
+/* The server has registered that incarnation, which the host has made. Refused as `krl_lease_table_register`. */
+krl_reply krl_lease_table_succeed(krl_lease_table *table, uint64_t client, uint64_t incarnation);
+
+/* What the store has to have may become less: once no lease of an older server runs, the longest is what this one
+ * grants. It may be stored later. */
+krl_reply krl_lease_table_revise(krl_lease_table *table, uint64_t now);
 
 /* Without a handle: read a message to the server or to a client and write its spelling, which is the same bytes
  * again. The detail is their count. Refused by KRL_BAD_MESSAGE, KRL_TOO_SHORT, KRL_OUT_OF_MEMORY. For tests of a

@@ -57,15 +57,15 @@ enum krl_code {
     KRL_UNSAID = 1,
     /* Memory was refused. */
     KRL_OUT_OF_MEMORY = 2,
-    /* The handle is closed. */
+    /* The handle is closed, or the server of a table of leases has not begun. */
     KRL_CLOSED = 3,
-    /* The handle is open already. */
+    /* The handle is open already, or the server of a table of leases has begun. */
     KRL_OPEN_ALREADY = 4,
     /* The handle keeps a server, not a client. */
     KRL_NO_CLIENT = 5,
     /* The handle keeps a client, not a server. */
     KRL_NO_SERVER = 6,
-    /* The client has left. */
+    /* The client has left, or its incarnation answers nothing any more. */
     KRL_GONE = 7,
     /* The bytes are no message; the detail is the reason, a `krl_fault`. */
     KRL_BAD_MESSAGE = 8,
@@ -80,7 +80,7 @@ enum krl_code {
     KRL_ALARM = 12,
     /* A client's number of 64 or more. */
     KRL_BAD_CLIENT = 13,
-    /* No number is left: for an incarnation, an epoch, a request or a write. */
+    /* No number is left: for an incarnation, an epoch, a request, a write or a commit. */
     KRL_SPENT = 14,
     /* A record that no client can have, or whose client has one before it; the detail is the place of the first. */
     KRL_BAD_RECORD = 15,
@@ -110,7 +110,7 @@ enum krl_code {
     KRL_WRITING = 27,
     /* The client has eight pins. */
     KRL_TOO_MANY_PINS = 28,
-    /* An incarnation of 0, which no server hears. */
+    /* An incarnation of 0, which no server hears, or one that is not greater than the registered one. */
     KRL_BAD_INCARNATION = 29,
     /* Bounds that make no shards: there are more than 63, or one is not above the one before it, or is 0 or above
      * KRL_END. */
@@ -120,10 +120,13 @@ enum krl_code {
     /* Messages wait, and each of them rests on a note that is not confirmed. The detail is how many notes were
      * reported. Nothing was taken. */
     KRL_UNKEPT = 32,
-    /* More notes were confirmed than were reported. The detail is how many were reported. Nothing has changed. */
+    /* More notes were confirmed than were reported, and the detail is how many were reported; or a commit that has not
+     * begun. Nothing has changed. */
     KRL_NOT_TOLD = 33,
     /* Grants of no slot, or of more than KRL_MAX_REACH. */
-    KRL_BAD_REACH = 34
+    KRL_BAD_REACH = 34,
+    /* The incarnation that is registered may still answer. */
+    KRL_STILL_ANSWERS = 35
 };
 
 /* What is wrong with bytes that are no message: the first fault from the left. */
@@ -388,28 +391,89 @@ typedef struct krl_terms {
     uint32_t drift;
 } krl_terms;
 
-/* What a server keeps of one client's lease, for the servers after it. */
-typedef struct krl_kept_lease {
-    /* No lease that ends and may still run is longer. */
-    uint64_t longest;
-    /* 0 if each lease that the client may have ends. Any other number: it may have one that does not end. The library
-     * answers 0 or 1. */
-    uint32_t is_unleased;
-} krl_kept_lease;
-
-/* A Hello of another incarnation than the registered one. */
-typedef struct krl_take_over {
-    /* The incarnation that is registered and has not left. */
-    uint64_t registered;
-    /* The one that sends Hello. */
+/* A client's sign, as its server's host takes it. */
+typedef struct krl_sign {
     uint64_t incarnation;
+    /* When it was sent, by the client's clock. The terms return it as it is. */
+    uint64_t stamp;
+    /* The length of the lease by which the client lives: 0 before its first terms, and KRL_FOR_EVER if its lease does
+     * not end. */
+    uint64_t length;
     /* The incarnation of which its host knows that it answers no more, since no process of it is left. 0 if it knows
      * of none. */
     uint64_t over;
-    /* 0 if nobody vouches for anything. Any other number: an operator vouches that the registered incarnation answers
-     * no more. */
+    /* 0 if nobody vouches for anything. Any other number: an operator vouches that no older incarnation answers any
+     * more. */
     uint32_t is_vouched;
-} krl_take_over;
+} krl_sign;
+
+/* What a store has of a client, as a server starts. */
+typedef struct krl_stored_lease {
+    /* The incarnation that was registered last, or 0. */
+    uint64_t incarnation;
+    /* 0 if it has not left. */
+    uint32_t has_left;
+    /* 0 if each lease that the client may have ends. Any other number: it may have one that does not end, as each
+     * client of a store has that keeps nothing of leases. */
+    uint32_t is_unleased;
+} krl_stored_lease;
+
+/* The terms that may leave to a client. All else is 0 unless the code is KRL_DONE and there are some. */
+typedef struct krl_grant {
+    krl_reply reply;
+    uint64_t incarnation;
+    /* That of the sign which they answer. */
+    uint64_t stamp;
+    /* The length of the lease from that moment on. */
+    uint64_t length;
+    /* 1 if there are terms. */
+    uint32_t is_there;
+} krl_grant;
+
+/* What a table of leases shows of a client. All else is 0 unless the code is KRL_DONE. */
+typedef struct krl_lease_shown {
+    krl_reply reply;
+    /* The incarnation that was registered last, or 0. */
+    uint64_t registered;
+    /* If that may answer, until when, by the server's clock. KRL_FOR_EVER: its lease does not end. */
+    uint64_t end;
+    /* The greatest incarnation of which a sign has come since the server started, or 0. */
+    uint64_t signer;
+    /* What the store has to have: no lease that ends and may still run is longer than this. It is the same for all
+     * clients. */
+    uint64_t longest;
+    /* 1 if the registered incarnation may answer. */
+    uint32_t is_present;
+    /* What the store has to have: 1 if the client may have a lease that does not end. */
+    uint32_t is_unleased;
+} krl_lease_shown;
+
+/* What a table of leases has of a client. Only the library reads and writes it. */
+typedef struct krl_lease_row {
+    uint64_t registered;
+    uint64_t end;
+    uint64_t signer;
+    uint64_t over;
+    uint64_t asked;
+    uint64_t stamp;
+    uint64_t commits;
+    uint32_t standing;
+    uint32_t older;
+    uint32_t is_asked;
+    uint32_t is_unleased;
+} krl_lease_row;
+
+/* A table of leases. Only the library reads and writes it; it may be copied, and needs no call at its end. */
+typedef struct krl_lease_table {
+    uint64_t length;
+    uint64_t longest;
+    uint64_t old_end;
+    uint64_t begun;
+    uint64_t made;
+    uint32_t drift;
+    uint32_t is_open;
+    krl_lease_row rows[KRL_CLIENTS];
+} krl_lease_table;
 
 /* What one shard has of a span: the points from `lo` on below `hi`. */
 typedef struct krl_part {

@@ -36,25 +36,19 @@ typedef struct client {
     bool is_cut_off;
 } client;
 
-/* What the server's host keeps of a client number. */
-typedef struct known {
-    /* The incarnation that was registered last, or 0. */
-    uint64_t registered;
-    /* It has not left. */
-    bool is_present;
-    /* From when on it answers nothing, by the server's clock. */
-    uint64_t until;
-    /* The incarnation that signed last. */
-    uint64_t signer;
-    krl_kept_lease kept;
-} known;
+/* What a store keeps of a client's leases. */
+typedef struct kept_lease {
+    uint64_t longest;
+    uint32_t is_unleased;
+} kept_lease;
 
 static const krl_terms no_leases = { .length = KRL_FOR_EVER, .drift = DRIFT };
 static const krl_terms leases = { .length = LEASE * MILLISECOND, .drift = DRIFT };
 
 static krl_handle server;
 static krl_terms terms;
-static known known_clients[CLIENTS];
+static krl_lease_table table;
+static kept_lease kept_leases[CLIENTS];
 static client clients[CLIENTS];
 static unsigned long delivered;
 static uint64_t elapsed;
@@ -98,60 +92,63 @@ static void confirm_note(void)
 }
 
 /* What a server has to keep would go to the disk here, before any message leaves: this of a client's lease, */
-static void keep_lease(uint64_t number, krl_kept_lease kept)
+static void keep_lease(uint64_t number)
 {
-    krl_kept_lease *before = &known_clients[number].kept;
-    if (before->longest == kept.longest && before->is_unleased == kept.is_unleased)
+    krl_lease_shown shown = krl_lease_table_shows(&table, number);
+    kept_lease *before = &kept_leases[number];
+    if (before->longest == shown.longest && before->is_unleased == shown.is_unleased)
         return;
-    *before = kept;
-    printf("keep: client %" PRIu64 " may have leases of %" PRIu64 " ms%s\n", number, kept.longest / MILLISECOND,
-           kept.is_unleased ? ", and one without end" : "");
+    *before = (kept_lease){ shown.longest, shown.is_unleased };
+    printf("keep: client %" PRIu64 " may have leases of %" PRIu64 " ms%s\n", number, shown.longest / MILLISECOND,
+           shown.is_unleased ? ", and one without end" : "");
 }
 
 /* and this of a step. What is kept of a lease comes before the registration that rests on it. */
 static void keep(const krl_change *change)
 {
     static const char *const names[] = { "nothing", "registered", "left", "judged" };
-    known *of = &known_clients[change->client];
     if (change->kind == KRL_UNCHANGED)
         return;
-    if (change->kind == KRL_REGISTERED) {
-        /* The host of an incarnation that never signed knows nothing of leases. */
-        const krl_terms *granted = of->signer == change->number ? &terms : &no_leases;
-        keep_lease(change->client, krl_kept_register(&of->kept, granted));
-        of->until = krl_until_register(granted, server_clock());
-        of->registered = change->number;
-    }
-    if (change->kind != KRL_JUDGED)
-        of->is_present = change->kind == KRL_REGISTERED;
+    if (change->kind == KRL_LEFT)
+        expect("leave", krl_lease_table_leave(&table, change->client));
+    keep_lease(change->client);
     printf("keep: client %" PRIu64 " %s\n", change->client, names[change->kind]);
     confirm_note();
 }
 
-static void step_server(const uint8_t *message, size_t length)
+/* A commit of all that is to be kept: it is made at once. */
+static void commit(void)
+{
+    krl_reply begun = krl_lease_table_commit(&table);
+    expect("commit", begun);
+    expect("committed", krl_lease_table_committed(&table, begun.detail));
+}
+
+/* What the server makes of a message, and has to keep. */
+static krl_change step_server(const uint8_t *message, size_t length)
 {
     krl_stepped stepped = krl_server_step(&server, message, length);
     expect("server_step", stepped.reply);
-    keep(&stepped.change);
+    return stepped.change;
 }
 
 /* Whether the server may have the message. A Hello that has to wait for the end of an older lease is dropped. */
 static bool hears(const uint8_t *message)
 {
-    const known *of = &known_clients[number_at(message + KRL_CLIENT_AT)];
-    if (message[KIND_AT] != HELLO || !of->is_present)
+    if (message[KIND_AT] != HELLO)
         return true;
-    krl_take_over asks = { .registered = of->registered };
-    asks.incarnation = number_at(message + KRL_INCARNATION_AT);
-    /* Without leases, starting a client vouches that the one before is over. */
-    asks.is_vouched = terms.length == KRL_FOR_EVER;
-    return krl_until_hears(of->until, &asks, server_clock());
+    uint64_t number = number_at(message + KRL_CLIENT_AT), incarnation = number_at(message + KRL_INCARNATION_AT);
+    return krl_lease_table_admit(&table, number, incarnation, server_clock()).code == KRL_DONE;
 }
 
 static void to_server(const uint8_t *message, size_t length)
 {
-    if (hears(message))
-        step_server(message, length);
+    if (!hears(message))
+        return;
+    krl_change change = step_server(message, length);
+    if (change.kind == KRL_REGISTERED)
+        expect("register", krl_lease_table_register(&table, change.client, change.number, server_clock()));
+    keep(&change);
 }
 
 static void to_client(const uint8_t *message, size_t length)
@@ -166,29 +163,21 @@ static void to_nobody(const uint8_t *message, size_t length)
     (void)message, (void)length;
 }
 
-/* Takes a client's sign, whose lease has so far this length. Returns the length that the server grants, or 0 to an
- * incarnation that has ended. */
-static uint64_t hear_sign(int number, uint64_t incarnation, uint64_t length)
-{
-    known *of = &known_clients[number];
-    bool is_registered = of->is_present && of->registered == incarnation;
-    if (incarnation <= of->registered && !is_registered)
-        return 0;
-    of->signer = incarnation;
-    if (is_registered)
-        of->until = krl_until_sign(of->until, &terms, length, server_clock());
-    return terms.length;
-}
-
-/* Sends a sign, and takes the terms that answer it. Returns whether there were some. */
+/* Takes a client's sign, and answers it by terms after a commit. Returns whether there are some. */
 static bool say_sign(int number)
 {
     client *of = &clients[number];
-    uint64_t stamp = client_clock(number);
-    uint64_t length = hear_sign(number, of->incarnation, of->lease.length);
-    if (length != 0)
-        krl_lease_take_terms(&of->lease, stamp, length, client_clock(number));
-    return length != 0;
+    krl_sign sign = { .incarnation = of->incarnation, .stamp = client_clock(number), .length = of->lease.length };
+    krl_reply heard = krl_lease_table_sign(&table, (uint64_t)number, &sign, server_clock());
+    if (heard.code == KRL_GONE)
+        return false;
+    expect("sign", heard);
+    commit();
+    krl_grant grant = krl_lease_table_take_terms(&table, (uint64_t)number);
+    expect("take_terms", grant.reply);
+    if (grant.is_there)
+        krl_lease_take_terms(&of->lease, grant.stamp, grant.length, client_clock(number));
+    return grant.is_there;
 }
 
 static bool holds_lease(int number)
@@ -196,18 +185,19 @@ static bool holds_lease(int number)
     return krl_lease_holds(&clients[number].lease, client_clock(number));
 }
 
-/* Evicts a client: the next incarnation sends Hello, and Bye. */
-static void evict(uint64_t number)
+/* Evicts a client: the next incarnation sends Hello, and Bye. It is the host's own. */
+static void evict(uint64_t number, uint64_t successor)
 {
-    uint64_t numbers[] = { number, known_clients[number].registered + 1 };
+    uint64_t numbers[] = { number, successor };
     uint8_t message[SHORTEST] = { VERSION };
     for (int i = 0; i < 16; i++)
         message[KRL_CLIENT_AT + i] = (uint8_t)(numbers[i / 8] >> 8 * (i % 8));
-    /* That incarnation answers nothing, so its lease may end. */
-    known_clients[number].signer = numbers[1];
     for (uint8_t kind = HELLO; kind <= BYE; kind++) {
         message[KIND_AT] = kind;
-        step_server(message, sizeof message);
+        krl_change change = step_server(message, sizeof message);
+        if (change.kind == KRL_REGISTERED)
+            expect("succeed", krl_lease_table_succeed(&table, number, successor));
+        keep(&change);
     }
 }
 
@@ -215,9 +205,10 @@ static void evict(uint64_t number)
 static void evict_silent(void)
 {
     for (uint64_t number = 0; number < CLIENTS; number++) {
-        const known *of = &known_clients[number];
-        if (of->is_present && krl_until_has_come(of->until, server_clock()))
-            evict(number);
+        krl_reply successor = krl_lease_table_evict(&table, number, server_clock());
+        expect("evict", successor);
+        if (successor.detail != 0)
+            evict(number, successor.detail);
     }
 }
 
@@ -376,13 +367,16 @@ static void start(void)
     const krl_row entries[] = { row(10, "ten"), row(20, "twenty") };
     krl_reply opened = krl_server_open(&server, KRL_DEFAULT_ROOM, KRL_DEFAULT_REACH, 0, entries, 2, NULL, 0);
     expect("server_open", opened);
+    table = krl_lease_table_new(&terms, 0);
     for (uint64_t number = 0; number < CLIENTS; number++) {
         /* If nothing was kept of leases, a client may have one without end. */
-        known_clients[number].kept.is_unleased = true;
-        keep_lease(number, krl_kept_start(&known_clients[number].kept, &terms));
+        kept_leases[number].is_unleased = 1;
+        keep_lease(number);
     }
     printf("keep: epoch %" PRIu64 "\n", opened.detail);
     confirm_note();
+    commit();
+    expect("open", krl_lease_table_open(&table, server_clock()));
     for (int number = 0; number < CLIENTS; number++)
         join(number);
     settle();

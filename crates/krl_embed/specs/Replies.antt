@@ -11,7 +11,8 @@ all_codes =
     ∷ code.Gone ∷ code.BadMessage ∷ code.TooShort ∷ code.Miss ∷ code.Pending ∷ code.Alarm ∷ code.BadClient ∷ code.Spent
     ∷ code.BadRecord ∷ code.BadValue ∷ code.BadKey ∷ code.Twice ∷ code.Full ∷ code.BadMode ∷ code.BadPoint
     ∷ code.BadSpan ∷ code.NotJoined ∷ code.Busy ∷ code.NotHeld ∷ code.Pinned ∷ code.Writing ∷ code.TooManyPins
-    ∷ code.BadIncarnation ∷ code.BadShards ∷ code.BadRoom ∷ code.Unkept ∷ code.NotTold ∷ code.BadReach ∷ []
+    ∷ code.BadIncarnation ∷ code.BadShards ∷ code.BadRoom ∷ code.Unkept ∷ code.NotTold ∷ code.BadReach
+    ∷ code.StillAnswers ∷ []
 
 -- the code of a number, if it is one's
 unfoldable pub code_at : ℕ → Option Code

@@ -77,6 +77,8 @@ pub enum Code {
     NotTold,
     /// A grant that takes no slot, or more than 128.
     BadReach,
+    /// The registered incarnation of the client may still answer.
+    StillAnswers,
 }
 
 impl From<AllocError> for Code {

@@ -13,6 +13,8 @@ mod exports;
 mod frames;
 mod handle;
 mod laws;
+mod lease_rows;
+mod lease_table;
 mod leases;
 mod lent;
 mod notes;

@@ -1,225 +1,225 @@
-//! When a server evicts a client, by the clock of the server's machine. The rule is the library's;
-//! which clients there are, and what is known of each, is kept here.
+//! The leases of a server's clients. The library's table decides; what is here is what the store has
+//! of it, and on which connection each sign came.
 use crate::lease::boot_clock::Moment;
-use crate::lease::terms::{Answer, FOR_EVER, Grant, LeaseLeft, Leases, Older, Sign};
+use crate::lease::terms::{FOR_EVER, Grant, LeaseLeft, Leases, Older, Sign};
 use crate::model::change::Record;
-use crate::model::client_number::{ClientNumber, PerClient};
+use crate::model::client_number::ClientNumber;
+use crate::model::client_set::ClientSet;
+use crate::model::code::Code;
 use crate::model::lease_record::LeaseRecord;
 use crate::proved::ffi;
+use crate::proved::handle::{code, done};
+use std::mem;
 use std::time::Duration;
-
-const CLIENTS: usize = ClientNumber::COUNT as usize;
-
-/// A client that is registered and has not left.
-#[derive(Clone, Copy, Debug)]
-struct Present {
-    incarnation: u64,
-    /// From when on it answers nothing, by the server's clock; or `FOR_EVER`.
-    until: u64,
-}
-
-/// What is known of a client number.
-#[derive(Clone, Copy, Debug, Default)]
-struct Known {
-    /// The incarnation that was registered last, or 0.
-    registered: u64,
-    present: Option<Present>,
-    /// The greatest incarnation of which a sign came, and what its host knows of those before.
-    signed: Option<(u64, Older)>,
-}
 
 /// The leases of a server's clients.
 #[derive(Debug)]
 pub(crate) struct LeaseTable {
-    terms: ffi::Terms,
-    record: LeaseRecord,
-    /// From when on no lease of an older server runs, apart from those that do not end.
-    old_end: u64,
-    known: PerClient<Known>,
+    table: ffi::LeaseTable,
+    /// The signs that are to be answered, in their order, each with its connection.
+    asked: Vec<(u64, Sign)>,
 }
 
 impl LeaseTable {
-    /// That of a server that starts. `record` is what it has stored, by [`LeaseRecord::at_start`],
-    /// and `now` is read after that.
-    pub fn start(
-        record: LeaseRecord,
+    /// That of a server that is about to start over a store that has this.
+    pub fn over(
+        kept: LeaseRecord,
+        clients: &[Record],
+        leases: Option<Leases>,
+    ) -> Result<LeaseTable, Code> {
+        let mut table = ffi::krl_lease_table_new(&Leases::terms(leases), kept.longest);
+        for client in ClientNumber::all() {
+            let record = clients.iter().find(|record| record.client == client);
+            let stored = ffi::StoredLease {
+                incarnation: record.map_or(0, |record| record.incarnation),
+                has_left: record.is_none_or(|record| record.left).into(),
+                is_unleased: kept.unleased.has(client).into(),
+            };
+            done(ffi::krl_lease_table_store_has(&mut table, client.into(), &stored))?;
+        }
+        Ok(LeaseTable { table, asked: Vec::new() })
+    }
+
+    /// A commit begins. Before anything rests on it, the store has what [`LeaseTable::record`]
+    /// returns now. Returns the commit's number.
+    pub fn commit(&mut self) -> Result<u64, Code> {
+        done(ffi::krl_lease_table_commit(&mut self.table))
+    }
+
+    /// The store has made this commit: it was still this server's after that had begun.
+    pub fn committed(&mut self, commit: u64) -> Result<(), Code> {
+        done(ffi::krl_lease_table_committed(&mut self.table, commit)).map(drop)
+    }
+
+    /// The server begins. Its first commit is made, and the clock is read after that.
+    pub fn open(&mut self, now: Moment) -> Result<(), Code> {
+        done(ffi::krl_lease_table_open(&mut self.table, now.nanoseconds())).map(drop)
+    }
+
+    /// The same with its first commit made and the server begun.
+    #[cfg(test)]
+    pub fn opened(
+        kept: LeaseRecord,
         clients: &[Record],
         leases: Option<Leases>,
         now: Moment,
     ) -> LeaseTable {
-        let (terms, now) = (Leases::terms(leases), now.nanoseconds());
-        let mut known = [Known::default(); CLIENTS];
-        for &Record { client, incarnation, left, .. } in clients {
-            let place = usize::from(client) % CLIENTS;
-            let until = ffi::krl_kept_until(&record.of_client(client), &terms, now);
-            let present = (!left).then_some(Present { incarnation, until });
-            known[place] = Known { registered: incarnation, present, signed: None };
-        }
-        let old_end = ffi::krl_kept_old_end(&record.of_client(0), &terms, now);
-        LeaseTable { terms, record, old_end, known }
-    }
-
-    /// The incarnation of the client that was registered last, or 0.
-    pub fn registered(&self, client: u8) -> u64 {
-        self.known.get(usize::from(client)).map_or(0, |known| known.registered)
+        let mut table = LeaseTable::over(kept, clients, leases).unwrap();
+        let first = table.commit().unwrap();
+        table.committed(first).unwrap();
+        table.open(now).unwrap();
+        table
     }
 
     /// What the store has, or is to have.
     pub fn record(&self) -> LeaseRecord {
-        self.record
+        let unleased = ClientNumber::all().filter(|client| self.shown(*client).is_unleased != 0);
+        LeaseRecord { longest: self.shown(0).longest, unleased: unleased.collect() }
     }
 
-    /// Takes a sign, and returns what to answer. `now` is read after the sign. The answer leaves
-    /// only if the store is still this server's after that: a server that another one has replaced
-    /// grants nothing.
-    pub fn sign(&mut self, sign: Sign, now: Moment) -> Option<Answer> {
-        let Sign { client, incarnation, stamp, length, older } = sign;
-        let known = self.known.get_mut(usize::from(client))?;
-        if known.has_ended(incarnation) {
-            return Some(Answer::Ended { incarnation });
-        }
-        known.note(incarnation, older);
-        if let Some(present) = known.present.as_mut().filter(|it| it.incarnation == incarnation) {
-            let now = now.nanoseconds();
-            present.until = ffi::krl_until_sign(present.until, &self.terms, length, now);
-        }
-        Some(Answer::Granted(Grant { incarnation, stamp, length: self.terms.length }))
+    /// The incarnation of the client that was registered last, or 0.
+    pub fn registered(&self, client: u8) -> u64 {
+        self.shown(client).registered
     }
 
-    /// A client registers. The record has to be stored with that, before the client is answered.
+    fn shown(&self, client: u8) -> ffi::LeaseShown {
+        ffi::krl_lease_table_shows(&self.table, client.into())
+    }
+
+    /// Takes a sign, which came on this connection. The clock is read after it. Its terms leave
+    /// after the commit that begins next.
     ///
-    /// A client of which no sign came has a host that knows nothing of leases: it answers forever,
-    /// and only an operator evicts it.
-    pub fn register(&mut self, client: u8, incarnation: u64, now: Moment) -> LeaseRecord {
-        let place = usize::from(client) % CLIENTS;
-        let terms = self.terms_of(place, incarnation);
-        let until = ffi::krl_until_register(&terms, now.nanoseconds());
-        let kept = ffi::krl_kept_register(&self.record.of_client(client), &terms);
-        self.known[place].registered = incarnation;
-        self.known[place].present = Some(Present { incarnation, until });
-        self.record = self.record.with_client(client, kept);
-        self.record
+    /// # Errors
+    ///
+    /// `Gone` if its incarnation answers nothing any more, and `BadClient`.
+    pub fn sign(&mut self, connection: u64, sign: Sign, now: Moment) -> Result<(), Code> {
+        let (over, is_vouched) = word_of(sign.older);
+        let raw = ffi::RawSign {
+            incarnation: sign.incarnation,
+            stamp: sign.stamp.nanoseconds(),
+            length: sign.length,
+            over,
+            is_vouched: is_vouched.into(),
+        };
+        let table = &mut self.table;
+        done(ffi::krl_lease_table_sign(table, sign.client.into(), &raw, now.nanoseconds()))?;
+        self.asked.push((connection, sign));
+        Ok(())
     }
 
-    fn terms_of(&self, client: usize, incarnation: u64) -> ffi::Terms {
-        let has_signed = self.known[client].older_than(incarnation).is_some();
-        if has_signed { self.terms } else { Leases::terms(None) }
+    /// Whether signs wait for their terms.
+    pub fn owes_terms(&self) -> bool {
+        !self.asked.is_empty()
     }
 
-    /// This server's host is about to evict the client: it hands a Hello of this greater
-    /// incarnation to the library, and its Bye. That incarnation answers nothing, so its lease may
-    /// end.
-    pub fn evict(&mut self, client: u8, successor: u64) {
-        if let Some(known) = self.known.get_mut(usize::from(client)) {
-            known.note(successor, Older::Unknown);
+    /// The terms that may leave now, each with the connection on which its sign came: another one
+    /// would bring them to a process that did not ask. Signs that get none now count as lost.
+    pub fn take_terms(&mut self) -> Vec<(u64, Grant)> {
+        let asked = mem::take(&mut self.asked);
+        let clients: ClientSet = asked.iter().map(|(_, sign)| sign.client).collect();
+        let granted = clients.iter().filter_map(|client| self.grant(client));
+        granted.filter_map(|(client, grant)| Some((asker(&asked, client, grant)?, grant))).collect()
+    }
+
+    fn grant(&mut self, client: u8) -> Option<(u8, Grant)> {
+        let raw = ffi::krl_lease_table_take_terms(&mut self.table, client.into());
+        let ffi::RawGrant { incarnation, stamp, length, is_there, .. } = raw;
+        let grant = Grant { incarnation, stamp: Moment::of_nanoseconds(stamp), length };
+        (is_there != 0).then_some((client, grant))
+    }
+
+    /// Whether a Hello of this incarnation may be handed to the library. If so, an older one
+    /// answers nothing from now on. One that has to wait is dropped: it is sent again.
+    pub fn admit(&mut self, client: u8, incarnation: u64, now: Moment) -> Result<bool, Code> {
+        let (table, now) = (&mut self.table, now.nanoseconds());
+        match code(ffi::krl_lease_table_admit(table, client.into(), incarnation, now)) {
+            // The library takes no such number.
+            Code::Done | Code::BadClient => Ok(true),
+            Code::StillAnswers => Ok(false),
+            refused => Err(refused),
         }
-    }
-
-    /// A client has left, or was evicted.
-    pub fn leave(&mut self, client: u8) {
-        if let Some(known) = self.known.get_mut(usize::from(client)) {
-            known.present = None;
-        }
-    }
-
-    /// Whether a Hello of this incarnation may be handed to the library. One that has to wait is
-    /// dropped: it is sent again.
-    pub fn accepts_hello(&self, client: u8, incarnation: u64, now: Moment) -> bool {
-        let Some(known) = self.known.get(usize::from(client)) else { return true };
-        known.present.is_none_or(|Present { incarnation: registered, until }| {
-            let (over, is_vouched) = self.word_for(known.older_than(incarnation));
-            let asks = ffi::TakeOver { registered, incarnation, over, is_vouched };
-            ffi::krl_until_hears(until, &asks, now.nanoseconds())
-        })
     }
 
     /// Whether this incarnation would replace another one, of which nothing but its start shows
     /// that it is over: no sign of this one has come.
     pub fn replaces_unsigned(&self, client: u8, incarnation: u64) -> bool {
-        let Some(known) = self.known.get(usize::from(client)) else { return false };
-        let replaces = known.present.is_some_and(|it| it.incarnation < incarnation);
-        replaces && known.older_than(incarnation).is_none()
+        let ffi::LeaseShown { registered, signer, is_present, .. } = self.shown(client);
+        is_present != 0 && registered < incarnation && signer != incarnation
     }
 
-    /// Which older incarnation is known to be over, or 0, and whether an operator vouches for all.
+    /// A client has registered. What [`LeaseTable::record`] returns then has to be stored with that,
+    /// before the client is answered.
     ///
-    /// If the server has no leases, or the host has signed nothing, the rule is that of a host
-    /// without leases: starting a client vouches that the one before is over.
-    fn word_for(&self, older: Option<Older>) -> (u64, u32) {
-        match older {
-            _ if self.terms.length == FOR_EVER => (0, 1),
-            Some(Older::Unknown) => (0, 0),
-            Some(Older::IsOver(incarnation)) => (incarnation, 0),
-            Some(Older::Vouched) | None => (0, 1),
-        }
+    /// A client of which no sign came has a host that knows nothing of leases: it answers forever,
+    /// and only an operator evicts it.
+    pub fn register(&mut self, client: u8, incarnation: u64, now: Moment) -> Result<(), Code> {
+        let (table, now) = (&mut self.table, now.nanoseconds());
+        done(ffi::krl_lease_table_register(table, client.into(), incarnation, now)).map(drop)
     }
 
-    /// The clients that may be evicted, each with its incarnation.
-    pub fn to_evict(&self, now: Moment) -> Vec<(u8, u64)> {
-        let clients = (0u8..).zip(&self.known);
-        let present = clients.filter_map(|(client, known)| Some((client, known.present?)));
-        present
-            .filter(|(_, it)| ffi::krl_until_has_come(it.until, now.nanoseconds()))
-            .map(|(client, it)| (client, it.incarnation))
-            .collect()
+    /// The incarnation by whose Hello and Bye the client is to be evicted, if it is. It answers
+    /// nothing from then on.
+    pub fn evict(&mut self, client: u8, now: Moment) -> Result<Option<u64>, Code> {
+        let (table, now) = (&mut self.table, now.nanoseconds());
+        let successor = done(ffi::krl_lease_table_evict(table, client.into(), now))?;
+        Ok((successor != 0).then_some(successor))
     }
 
-    /// What is to be stored again, if anything is. Late is soon enough.
-    pub fn revise(&mut self, now: Moment) -> Option<LeaseRecord> {
-        let (terms, old_end, now) = (self.terms, self.old_end, now.nanoseconds());
-        let untils = self.known.map(|known| known.present.map_or(FOR_EVER, |it| it.until));
-        let revised = self.record.each(|client, kept| {
-            let until = untils[usize::from(client)];
-            ffi::krl_kept_revise(&kept, &terms, old_end, until, now)
-        });
-        if revised == self.record {
-            return None;
-        }
-        self.record = revised;
-        Some(revised)
+    /// The server has registered the incarnation that evicts a client: it answers nothing.
+    pub fn succeed(&mut self, client: u8, successor: u64) -> Result<(), Code> {
+        let table = &mut self.table;
+        done(ffi::krl_lease_table_succeed(table, client.into(), successor)).map(drop)
     }
 
-    /// The clients that are registered and have not left, by number, each with what is left of its
+    /// A client has left, or was evicted.
+    pub fn leave(&mut self, client: u8) -> Result<(), Code> {
+        done(ffi::krl_lease_table_leave(&mut self.table, client.into())).map(drop)
+    }
+
+    /// Less may have to be stored from now on. Late is soon enough.
+    pub fn revise(&mut self, now: Moment) -> Result<(), Code> {
+        done(ffi::krl_lease_table_revise(&mut self.table, now.nanoseconds())).map(drop)
+    }
+
+    /// The clients that are registered and may answer, each with the end of its lease.
+    fn present(&self) -> impl Iterator<Item = (u8, u64)> {
+        let shown = ClientNumber::all().map(|client| (client, self.shown(client)));
+        shown.filter(|(_, it)| it.is_present != 0).map(|(client, it)| (client, it.end))
+    }
+
+    /// The clients that are registered and may answer, by number, each with what is left of its
     /// lease.
     pub fn left(&self, now: Moment) -> Vec<(u8, LeaseLeft)> {
-        let clients = (0u8..).zip(&self.known);
-        let present = clients.filter_map(|(client, known)| Some((client, known.present?)));
-        present.map(|(client, it)| (client, left_until(it.until, now))).collect()
+        self.present().map(|(client, end)| (client, left_until(end, now))).collect()
     }
 
     /// The clients that may answer forever, and that only an operator evicts.
     pub fn unleased(&self) -> Vec<u8> {
-        let clients = (0u8..).zip(&self.known);
-        let present = clients.filter_map(|(client, known)| Some((client, known.present?)));
-        present.filter(|(_, it)| it.until == FOR_EVER).map(|(client, _)| client).collect()
+        self.present().filter(|(_, end)| *end == FOR_EVER).map(|(client, _)| client).collect()
     }
 }
 
-fn left_until(until: u64, now: Moment) -> LeaseLeft {
-    match until {
+/// The connection on which the sign came that these terms answer.
+fn asker(asked: &[(u64, Sign)], client: u8, grant: Grant) -> Option<u64> {
+    let is_it = |sign: &Sign| {
+        (sign.client, sign.incarnation, sign.stamp) == (client, grant.incarnation, grant.stamp)
+    };
+    asked.iter().rev().find(|(_, sign)| is_it(sign)).map(|(connection, _)| *connection)
+}
+
+/// Which older incarnation is known to be over, or 0, and whether an operator vouches for all.
+fn word_of(older: Older) -> (u64, bool) {
+    match older {
+        Older::Unknown => (0, false),
+        Older::IsOver(incarnation) => (incarnation, false),
+        Older::Vouched => (0, true),
+    }
+}
+
+fn left_until(end: u64, now: Moment) -> LeaseLeft {
+    match end {
         FOR_EVER => LeaseLeft::Unending,
-        _ => LeaseLeft::Ends(Duration::from_nanos(until.saturating_sub(now.nanoseconds()))),
-    }
-}
-
-impl Known {
-    /// Whether this incarnation no longer answers anything, whatever it sends.
-    fn has_ended(&self, incarnation: u64) -> bool {
-        let is_present = self.present.is_some_and(|it| it.incarnation == incarnation);
-        incarnation <= self.registered && !is_present
-    }
-
-    /// The host of this incarnation knows of leases. A sign of an older one that comes late, or
-    /// again, takes nothing away.
-    fn note(&mut self, incarnation: u64, older: Older) {
-        if self.signed.is_none_or(|(signed, _)| signed <= incarnation) {
-            self.signed = Some((incarnation, older));
-        }
-    }
-
-    /// What the host of this incarnation knows of older ones, if a sign of it came.
-    fn older_than(&self, incarnation: u64) -> Option<Older> {
-        self.signed.filter(|(signed, _)| *signed == incarnation).map(|(_, older)| older)
+        _ => LeaseLeft::Ends(Duration::from_nanos(end.saturating_sub(now.nanoseconds()))),
     }
 }
 

@@ -40,8 +40,8 @@ codes! {
     Done = 0, "it is done";
     ReplyLost = 1, "it is done, but memory for its answer was refused";
     OutOfMemory = 2, "memory was refused";
-    Closed = 3, "the handle is closed";
-    OpenAlready = 4, "the handle is open already";
+    Closed = 3, "the handle is closed, or the server has not begun";
+    OpenAlready = 4, "the handle is open already, or the server has begun";
     NoClient = 5, "the handle keeps a server";
     NoServer = 6, "the handle keeps a client";
     Gone = 7, "the client has left";
@@ -51,7 +51,7 @@ codes! {
     Pending = 11, "a write to a key of the range is not answered yet";
     Alarm = 12, "a report contradicts what the server knows";
     BadClient = 13, "a client's number is 64 or more";
-    Spent = 14, "no number is left for an incarnation, an epoch, a request or a write";
+    Spent = 14, "no number is left for an incarnation, an epoch, a request, a write or a commit";
     BadRecord = 15, "a record that none can have, or a second one of its client";
     BadValue = 16, "a value has more than 32 bytes";
     BadKey = 17, "a key is 2^63 - 1 or more";
@@ -66,10 +66,11 @@ codes! {
     Pinned = 26, "the range meets a pin";
     Writing = 27, "a write is not answered yet";
     TooManyPins = 28, "the client has eight pins";
-    BadIncarnation = 29, "a client's incarnation is 0";
+    BadIncarnation = 29, "a client's incarnation is 0, or not greater than the registered one";
     BadShards = 30, "bounds that make no shards";
     BadRoom = 31, "room for no row, or for more than 1,048,576";
     Unkept = 32, "a note that has to be kept is not confirmed";
-    NotReported = 33, "more notes were confirmed than were reported";
+    NotReported = 33, "more notes were confirmed than were reported, or a commit that has not begun";
     BadReach = 34, "grants of no slot, or of more than 128";
+    StillAnswers = 35, "the registered incarnation may still answer";
 }

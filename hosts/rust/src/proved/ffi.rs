@@ -131,19 +131,50 @@ pub struct Terms {
 }
 
 #[repr(C)]
-#[derive(Clone, Copy, Debug, PartialEq, Eq)]
-pub struct KeptLease {
-    pub longest: u64,
+#[derive(Clone, Copy, Debug)]
+pub struct RawSign {
+    pub incarnation: u64,
+    pub stamp: u64,
+    pub length: u64,
+    pub over: u64,
+    pub is_vouched: u32,
+}
+
+#[repr(C)]
+#[derive(Clone, Copy, Debug)]
+pub struct StoredLease {
+    pub incarnation: u64,
+    pub has_left: u32,
     pub is_unleased: u32,
 }
 
 #[repr(C)]
 #[derive(Clone, Copy, Debug)]
-pub struct TakeOver {
-    pub registered: u64,
+pub struct RawGrant {
+    pub reply: Reply,
     pub incarnation: u64,
-    pub over: u64,
-    pub is_vouched: u32,
+    pub stamp: u64,
+    pub length: u64,
+    pub is_there: u32,
+}
+
+#[repr(C)]
+#[derive(Clone, Copy, Debug)]
+pub struct LeaseShown {
+    pub reply: Reply,
+    pub registered: u64,
+    pub end: u64,
+    pub signer: u64,
+    pub longest: u64,
+    pub is_present: u32,
+    pub is_unleased: u32,
+}
+
+/// Only the library reads and writes it.
+#[repr(C)]
+#[derive(Clone, Copy, Debug)]
+pub struct LeaseTable {
+    words: [u64; 582],
 }
 
 #[repr(C)]
@@ -223,21 +254,43 @@ unsafe extern "C" {
     pub safe fn krl_lease_new() -> Lease;
     pub safe fn krl_lease_take_terms(lease: &mut Lease, stamp: u64, length: u64, now: u64);
     pub safe fn krl_lease_holds(lease: &Lease, now: u64) -> bool;
-    pub safe fn krl_until_register(terms: &Terms, now: u64) -> u64;
-    pub safe fn krl_until_sign(until: u64, terms: &Terms, sign: u64, now: u64) -> u64;
-    pub safe fn krl_until_has_come(until: u64, now: u64) -> bool;
-    pub safe fn krl_until_hears(until: u64, asks: &TakeOver, now: u64) -> bool;
-    pub safe fn krl_kept_start(kept: &KeptLease, terms: &Terms) -> KeptLease;
-    pub safe fn krl_kept_register(kept: &KeptLease, terms: &Terms) -> KeptLease;
-    pub safe fn krl_kept_old_end(kept: &KeptLease, terms: &Terms, now: u64) -> u64;
-    pub safe fn krl_kept_until(kept: &KeptLease, terms: &Terms, now: u64) -> u64;
-    pub safe fn krl_kept_revise(
-        kept: &KeptLease,
-        terms: &Terms,
-        old_end: u64,
-        until: u64,
+    pub safe fn krl_lease_table_new(terms: &Terms, longest: u64) -> LeaseTable;
+    pub safe fn krl_lease_table_store_has(
+        table: &mut LeaseTable,
+        client: u64,
+        stored: &StoredLease,
+    ) -> Reply;
+    pub safe fn krl_lease_table_shows(table: &LeaseTable, client: u64) -> LeaseShown;
+    pub safe fn krl_lease_table_commit(table: &mut LeaseTable) -> Reply;
+    pub safe fn krl_lease_table_committed(table: &mut LeaseTable, commit: u64) -> Reply;
+    pub safe fn krl_lease_table_open(table: &mut LeaseTable, now: u64) -> Reply;
+    pub safe fn krl_lease_table_sign(
+        table: &mut LeaseTable,
+        client: u64,
+        sign: &RawSign,
         now: u64,
-    ) -> KeptLease;
+    ) -> Reply;
+    pub safe fn krl_lease_table_take_terms(table: &mut LeaseTable, client: u64) -> RawGrant;
+    pub safe fn krl_lease_table_admit(
+        table: &mut LeaseTable,
+        client: u64,
+        incarnation: u64,
+        now: u64,
+    ) -> Reply;
+    pub safe fn krl_lease_table_register(
+        table: &mut LeaseTable,
+        client: u64,
+        incarnation: u64,
+        now: u64,
+    ) -> Reply;
+    pub safe fn krl_lease_table_leave(table: &mut LeaseTable, client: u64) -> Reply;
+    pub safe fn krl_lease_table_evict(table: &mut LeaseTable, client: u64, now: u64) -> Reply;
+    pub safe fn krl_lease_table_succeed(
+        table: &mut LeaseTable,
+        client: u64,
+        incarnation: u64,
+    ) -> Reply;
+    pub safe fn krl_lease_table_revise(table: &mut LeaseTable, now: u64) -> Reply;
 
     pub fn krl_shard_of(bounds: *const u64, bounds_length: usize, point: u64) -> Reply;
     pub fn krl_parts(
@@ -300,9 +353,19 @@ mod tests {
         assert_eq!([size_of::<Lease>(), offset_of!(Lease, end)], [24, 0]);
         assert_eq!([offset_of!(Lease, length), offset_of!(Lease, stamp)], [8, 16]);
         assert_eq!([size_of::<Terms>(), offset_of!(Terms, drift)], [16, 8]);
-        assert_eq!([size_of::<KeptLease>(), offset_of!(KeptLease, is_unleased)], [16, 8]);
-        assert_eq!([size_of::<TakeOver>(), offset_of!(TakeOver, over)], [32, 16]);
-        assert_eq!([offset_of!(TakeOver, incarnation), offset_of!(TakeOver, is_vouched)], [8, 24]);
+        assert_eq!([size_of::<RawSign>(), offset_of!(RawSign, stamp)], [40, 8]);
+        assert_eq!([offset_of!(RawSign, length), offset_of!(RawSign, over)], [16, 24]);
+        assert_eq!(offset_of!(RawSign, is_vouched), 32);
+        assert_eq!([size_of::<StoredLease>(), offset_of!(StoredLease, has_left)], [16, 8]);
+        assert_eq!(offset_of!(StoredLease, is_unleased), 12);
+        assert_eq!([size_of::<RawGrant>(), offset_of!(RawGrant, incarnation)], [48, 16]);
+        assert_eq!([offset_of!(RawGrant, stamp), offset_of!(RawGrant, length)], [24, 32]);
+        assert_eq!(offset_of!(RawGrant, is_there), 40);
+        assert_eq!([size_of::<LeaseShown>(), offset_of!(LeaseShown, registered)], [56, 16]);
+        assert_eq!([offset_of!(LeaseShown, end), offset_of!(LeaseShown, signer)], [24, 32]);
+        assert_eq!([offset_of!(LeaseShown, longest), offset_of!(LeaseShown, is_present)], [40, 48]);
+        assert_eq!(offset_of!(LeaseShown, is_unleased), 52);
+        assert_eq!(size_of::<LeaseTable>(), 4656);
         assert_eq!([size_of::<RawPart>(), offset_of!(RawPart, lo)], [24, 8]);
         assert_eq!(offset_of!(RawPart, hi), 16);
     }

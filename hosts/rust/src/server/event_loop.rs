@@ -176,7 +176,7 @@ impl EventLoop {
 
     /// How long to wait for the next turn if nothing comes.
     pub fn longest_wait(&self) -> Duration {
-        if self.until.is_some() || self.gathered.is_due() {
+        if self.until.is_some() || self.is_due() {
             return Duration::ZERO;
         }
         let longest = if self.is_stale {

@@ -51,8 +51,11 @@ impl Decided {
         let room = at_start.room;
         let (mut server, epoch) =
             ServerHandle::open(&snapshot, room, reach).map_err(ServeError::Refused)?;
-        let record = snapshot.leases.at_start(leases);
+        let mut leases = LeaseTable::over(snapshot.leases, &snapshot.records, leases)
+            .map_err(ServeError::Refused)?;
+        let record = leases.record();
         let revised = (record != snapshot.leases).then_some(Change::Leased(record));
+        let first = leases.commit().map_err(ServeError::Refused)?;
         // The epoch, what is known of leases and the room are kept before anything is sent.
         let changes = [Change::Started { epoch }].into_iter().chain(revised);
         let changes: Vec<Change> = changes.chain(at_start.change(&snapshot)).collect();
@@ -61,13 +64,13 @@ impl Decided {
         // No older server grants anything after that commit, and the clock is read after it.
         let now = clocks();
         let boot = now.boot().map_err(ServeError::Clock)?;
-        let table = LeaseTable::start(record, &snapshot.records, leases, boot);
+        leases.committed(first).map_err(ServeError::Refused)?;
+        leases.open(boot).map_err(ServeError::Refused)?;
         let history = store.history()?;
         let connections = Connections::new(max_connections, room, now);
         let (rows, records) = (snapshot.rows.len(), &snapshot.records);
         let log = EventLog::started(epoch, address, rows, records);
         EventLog::has_room(rows, room, at_start.greatest);
-        let leases = table;
         let started = Started { server, epoch, history, leases, connections, timings, log };
         let events = EventLoop::new(started);
         let events = events.of_shard(shard).of_table(rows, room, reach);

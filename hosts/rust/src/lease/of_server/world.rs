@@ -2,7 +2,7 @@
 //! only just have to. Nobody who was evicted may answer.
 use super::*;
 use crate::lease::of_client::{End, Lease, Piggyback};
-use crate::lease::terms::DRIFT;
+use crate::lease::terms::{Answer, DRIFT};
 use std::sync::Arc;
 
 const CLIENT: u8 = 3;
@@ -124,14 +124,23 @@ impl World {
         serving.signs.extend(self.lease.sign_due(now, Piggyback::OnMessages));
     }
 
-    /// A sign comes, in any order and any number of times.
+    /// A sign comes, in any order and any number of times, and then a commit is made.
     fn receive_sign(&mut self) {
         let (now, is_cut) = (self.server_clock(), self.is_cut);
         let can_receive = |it: &&mut Serving| !is_cut && !it.signs.is_empty();
         let Some(serving) = self.serving.as_mut().filter(can_receive) else { return };
         let place = self.dice.below(serving.signs.len() as u64);
         let sign = serving.signs[usize::try_from(place).unwrap()];
-        serving.answers.extend(serving.table.sign(sign, now));
+        match serving.table.sign(0, sign, now) {
+            Err(Code::Gone) => {
+                serving.answers.push(Answer::Ended { incarnation: sign.incarnation });
+            }
+            heard => heard.unwrap(),
+        }
+        let commit = serving.table.commit().unwrap();
+        serving.table.committed(commit).unwrap();
+        let granted = serving.table.take_terms().into_iter();
+        serving.answers.extend(granted.map(|(_, grant)| Answer::Granted(grant)));
     }
 
     fn take(&mut self) {
@@ -161,8 +170,9 @@ impl World {
         let Some(serving) = self.serving.as_mut().filter(|it| it.sends_hello && is_new) else {
             return;
         };
-        if serving.table.accepts_hello(CLIENT, incarnation, now) {
-            self.stored = serving.table.register(CLIENT, incarnation, now);
+        if serving.table.admit(CLIENT, incarnation, now).unwrap() {
+            serving.table.register(CLIENT, incarnation, now).unwrap();
+            self.stored = serving.table.record();
             self.record = Some(Record { client: CLIENT, incarnation, last: None, left: false });
         }
     }
@@ -180,10 +190,11 @@ impl World {
             return;
         }
         let leases = self.draw_leases();
-        self.stored = self.stored.at_start(leases);
         let records: Vec<_> = self.record.into_iter().collect();
+        let table = LeaseTable::opened(self.stored, &records, leases, self.server_clock());
+        self.stored = table.record();
         self.serving = Some(Serving {
-            table: LeaseTable::start(self.stored, &records, leases, self.server_clock()),
+            table,
             signs: Vec::new(),
             answers: Vec::new(),
             is_connected: false,
@@ -194,25 +205,24 @@ impl World {
 
     fn revise(&mut self) {
         let now = self.server_clock();
-        let revised = self.serving.as_mut().and_then(|serving| serving.table.revise(now));
-        self.stored = revised.unwrap_or(self.stored);
+        let Some(serving) = &mut self.serving else { return };
+        serving.table.revise(now).unwrap();
+        self.stored = serving.table.record();
     }
 
     fn evict(&mut self) {
         let now = self.server_clock();
         let Some(serving) = &mut self.serving else { return };
-        for (client, incarnation) in serving.table.to_evict(now) {
-            let successor = incarnation + 1;
-            serving.table.evict(client, successor);
-            self.stored = serving.table.register(client, successor, now);
-            serving.table.leave(client);
-            let left = Record { client, incarnation: successor, last: None, left: true };
-            self.record = Some(left);
-            self.counts.evicted += 1;
-            // Its process may continue. If it has begun again, its older lease has ended.
-            if self.lease.incarnation() == incarnation {
-                self.evicted.push(self.lease.end());
-            }
+        let Some(successor) = serving.table.evict(CLIENT, now).unwrap() else { return };
+        serving.table.succeed(CLIENT, successor).unwrap();
+        serving.table.leave(CLIENT).unwrap();
+        self.stored = serving.table.record();
+        self.record =
+            Some(Record { client: CLIENT, incarnation: successor, last: None, left: true });
+        self.counts.evicted += 1;
+        // Its process may continue. If it has begun again, its older lease has ended.
+        if self.lease.incarnation() + 1 == successor {
+            self.evicted.push(self.lease.end());
         }
     }
 

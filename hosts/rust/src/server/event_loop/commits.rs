@@ -14,18 +14,8 @@ use std::time::{Duration, Instant};
 #[derive(Debug, Default)]
 pub(super) struct Gathered {
     pub changes: Vec<Change>,
-    /// Signs were answered.
-    pub owes_terms: bool,
     /// The connections whose clients have seen what the store lacks.
     pub doubts: Vec<Doubt>,
-}
-
-impl Gathered {
-    /// Whether there is something to commit, or the store has to be asked whether it is still this
-    /// server's.
-    pub(super) fn is_due(&self) -> bool {
-        !self.changes.is_empty() || self.owes_terms || !self.doubts.is_empty()
-    }
 }
 
 /// A commit that the store has to make before the loop judges anything more.
@@ -34,6 +24,8 @@ impl Gathered {
 pub(crate) struct Commit {
     changes: Vec<Change>,
     doubts: Vec<Doubt>,
+    /// By which number the table of leases knows it.
+    number: u64,
     began: Instant,
 }
 
@@ -51,6 +43,13 @@ impl EventLoop {
         self.group.patience(&self.gathered.changes)
     }
 
+    /// Whether there is something to commit, or the store has to be asked whether it is still this
+    /// server's.
+    pub(super) fn is_due(&self) -> bool {
+        let Gathered { changes, doubts } = &self.gathered;
+        !changes.is_empty() || self.leases.owes_terms() || !doubts.is_empty()
+    }
+
     /// Begins a commit, unless nothing has to be committed: then the host frames may leave. If a
     /// commit fails, nothing leaves that waits for it.
     ///
@@ -58,20 +57,22 @@ impl EventLoop {
     /// before terms leave, before a store is called an older one, and now and then. A server after
     /// which another one has started would find that at its next commit, and its clients might wait
     /// for it until then.
-    pub fn take_commit(&mut self, now: Now) -> Option<Commit> {
+    pub fn take_commit(&mut self, now: Now) -> Result<Option<Commit>, ServeError> {
         let since_asked = now.monotonic.saturating_duration_since(self.asked_store);
-        if !(self.gathered.is_due() || since_asked >= ASKS_STORE) {
+        if !(self.is_due() || since_asked >= ASKS_STORE) {
             self.connections.committed();
-            return None;
+            return Ok(None);
         }
-        let Gathered { changes, doubts, .. } = std::mem::take(&mut self.gathered);
-        Some(Commit { changes, doubts, began: now.monotonic })
+        let number = self.leases.commit().map_err(ServeError::Refused)?;
+        let Gathered { changes, doubts } = std::mem::take(&mut self.gathered);
+        Ok(Some(Commit { changes, doubts, number, began: now.monotonic }))
     }
 
     /// The store has made this commit. What rests on it may leave.
     pub fn committed(&mut self, commit: Commit, now: Now) -> Result<(), ServeError> {
-        let Commit { changes, doubts, began } = commit;
+        let Commit { changes, doubts, number, began } = commit;
         self.server.confirm(&changes).map_err(ServeError::Refused)?;
+        self.leases.committed(number).map_err(ServeError::Refused)?;
         self.asked_store = began;
         // A peer that does not take what leaves now has not stood still during the commit.
         self.connections.set_now(now);
@@ -89,6 +90,7 @@ impl EventLoop {
         for doubt in &doubts {
             self.alarm_older_store(doubt, now);
         }
+        self.send_terms();
         self.connections.committed();
         Ok(())
     }

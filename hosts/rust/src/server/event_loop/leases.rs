@@ -2,8 +2,10 @@
 use super::EventLoop;
 use crate::lease::boot_clock::Moment;
 use crate::lease::clocks::Now;
-use crate::lease::terms::Sign;
+use crate::lease::of_server::LeaseTable;
+use crate::lease::terms::{Answer, Sign};
 use crate::model::change::Change;
+use crate::model::client_number::ClientNumber;
 use crate::model::code::Code;
 use crate::model::refusal::Refusal;
 use crate::server::ahead;
@@ -11,7 +13,7 @@ use crate::server::error::ServeError;
 use crate::wire::message::{self, Head, Kind};
 
 impl EventLoop {
-    /// Takes a sign, which has come by now. The answer leaves after the commit that begins next, by
+    /// Takes a sign, which has come by now. Its terms leave after the commit that begins next, by
     /// which the store has answered that it is still this server's. The host of an incarnation that
     /// has ended learns why.
     pub(super) fn receive_sign(
@@ -21,14 +23,28 @@ impl EventLoop {
         now: Now,
     ) -> Result<(), ServeError> {
         self.status.signs += 1;
-        let Some(answer) = self.leases.sign(sign, boot(now)?) else { return Ok(()) };
-        let (client, registered) = (sign.client, self.leases.registered(sign.client));
-        if registered > sign.incarnation {
-            self.connections.refuse(connection, Refusal::Incarnation { client, registered });
+        let (client, incarnation) = (sign.client, sign.incarnation);
+        match self.leases.sign(connection, sign, boot(now)?) {
+            Ok(()) | Err(Code::BadClient) => Ok(()),
+            Err(Code::Gone) => {
+                let registered = self.leases.registered(client);
+                if registered > incarnation {
+                    let refusal = Refusal::Incarnation { client, registered };
+                    self.connections.refuse(connection, refusal);
+                }
+                let ended = Answer::Ended { incarnation };
+                self.connections.send_after_commit(connection, &ended.frame());
+                Ok(())
+            }
+            Err(code) => Err(ServeError::Refused(code)),
         }
-        self.connections.send_after_commit(connection, &answer.frame());
-        self.gathered.owes_terms = true;
-        Ok(())
+    }
+
+    /// Sends the terms that may leave since a commit has been made.
+    pub(super) fn send_terms(&mut self) {
+        for (connection, grant) in self.leases.take_terms() {
+            self.connections.send_after_commit(connection, &Answer::Granted(grant).frame());
+        }
     }
 
     /// Whether the library may have the message. A Hello that has to wait for an older incarnation, or
@@ -49,12 +65,17 @@ impl EventLoop {
             self.connections.refuse(connection, Refusal::FarAhead { client, latest });
             return Ok(false);
         }
-        let has_ended = self.leases.accepts_hello(client, incarnation, boot(now)?);
-        let is_accepted = has_ended && !self.replaces_active_one(connection, client, incarnation);
+        // The table comes last: once it has admitted one, the older one answers nothing.
+        let is_accepted = !self.replaces_active_one(connection, client, incarnation)
+            && self.admits(client, incarnation, now)?;
         if !is_accepted {
             self.connections.refuse(connection, Refusal::LeaseRuns { client, registered });
         }
         Ok(is_accepted)
+    }
+
+    fn admits(&mut self, client: u8, incarnation: u64, now: Now) -> Result<bool, ServeError> {
+        self.leases.admit(client, incarnation, boot(now)?).map_err(ServeError::Refused)
     }
 
     /// Whether this incarnation, of which no sign has come, would replace one that still sends.
@@ -74,47 +95,70 @@ impl EventLoop {
     pub(super) fn keep(&mut self, change: Change, now: Now) -> Result<(), ServeError> {
         match change {
             Change::Registered { client, incarnation } => {
-                let before = self.leases.record();
-                let record = self.leases.register(client, incarnation, boot(now)?);
-                if record != before {
-                    self.gathered.changes.push(Change::Leased(record));
-                }
+                let now = boot(now)?;
+                self.change_leases(|leases| leases.register(client, incarnation, now))?;
             }
-            Change::Left { client } => self.leases.leave(client),
+            Change::Left { client } => self.leases.leave(client).map_err(ServeError::Refused)?,
             _ => {}
         }
         self.gathered.changes.push(change);
         Ok(())
     }
 
-    /// Evicts each client whose lease has ended, and stores less of leases if less is enough now.
-    pub(super) fn evict_silent(&mut self, now: Now) -> Result<(), ServeError> {
-        for (client, incarnation) in self.leases.to_evict(boot(now)?) {
-            self.evict(client, incarnation, now)?;
+    /// Changes the table, and stores what it has to have stored, if that is something else then.
+    fn change_leases(
+        &mut self,
+        change: impl FnOnce(&mut LeaseTable) -> Result<(), Code>,
+    ) -> Result<(), ServeError> {
+        let before = self.leases.record();
+        change(&mut self.leases).map_err(ServeError::Refused)?;
+        let record = self.leases.record();
+        if record != before {
+            self.gathered.changes.push(Change::Leased(record));
         }
-        let revised = self.leases.revise(boot(now)?);
-        self.gathered.changes.extend(revised.map(Change::Leased));
         Ok(())
     }
 
+    /// Evicts each client whose lease has ended, and stores less of leases if less is enough now.
+    pub(super) fn evict_silent(&mut self, now: Now) -> Result<(), ServeError> {
+        for client in ClientNumber::all() {
+            let successor = self.leases.evict(client, boot(now)?).map_err(ServeError::Refused)?;
+            successor.map_or(Ok(()), |successor| self.evict(client, successor))?;
+        }
+        let now = boot(now)?;
+        self.change_leases(|leases| leases.revise(now))
+    }
+
     /// Gives the library what an operator would send: a Hello of the next incarnation, and its Bye.
-    fn evict(&mut self, client: u8, incarnation: u64, now: Now) -> Result<(), ServeError> {
-        let Some(successor) = incarnation.checked_add(1) else { return Ok(()) };
-        self.leases.evict(client, successor);
+    fn evict(&mut self, client: u8, successor: u64) -> Result<(), ServeError> {
         self.log.evicts(client, successor);
         for message in message::eviction(client, successor) {
             match self.server.step(&message) {
                 Ok(None) => {}
-                Ok(Some(change)) => {
-                    self.status.evicted += u64::from(matches!(change, Change::Left { .. }));
-                    self.keep(change, now)?;
-                }
+                Ok(Some(change)) => self.keep_eviction(change)?,
                 // A later nudge comes back to it. There is none greater than the greatest
                 // incarnation, which a stranger may take: it can't be evicted.
                 Err(Code::OutOfMemory | Code::BadMessage) => return Ok(()),
                 Err(code) => return Err(ServeError::Refused(code)),
             }
         }
+        Ok(())
+    }
+
+    /// Takes a change that an eviction has made into those of the next commit. The incarnation that
+    /// registers is this host's, and not a client's.
+    fn keep_eviction(&mut self, change: Change) -> Result<(), ServeError> {
+        match change {
+            Change::Registered { client, incarnation } => {
+                self.change_leases(|leases| leases.succeed(client, incarnation))?;
+            }
+            Change::Left { client } => {
+                self.leases.leave(client).map_err(ServeError::Refused)?;
+                self.status.evicted += 1;
+            }
+            _ => {}
+        }
+        self.gathered.changes.push(change);
         Ok(())
     }
 }

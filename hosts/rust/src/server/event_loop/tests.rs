@@ -96,7 +96,7 @@ fn event_loop_over<S: Store>(
     let log = EventLog::started(epoch, &Address::Unix("nowhere".into()), 0, &[]);
     let now = Moment::now().unwrap();
     let terms = Leases::of(Duration::from_millis(LEASE)).unwrap().with_drift(0).unwrap();
-    let leases = LeaseTable::start(KEPT, &[], Some(terms), now);
+    let leases = LeaseTable::opened(KEPT, &[], Some(terms), now);
     let timings = Arc::new(Timings::new());
     let history = None;
     let started = Started { server, epoch, history, leases, connections, timings, log };
@@ -157,6 +157,7 @@ fn an_active_client_is_not_replaced_by_one_without_signs() {
     let head = Message::read(&hello).head();
     let now = serving.events.connections.now();
     assert!(!serving.events.accepts_hello(other_connection, head, now).unwrap());
+    assert_eq!(serving.events.leases.unleased(), [50], "it may answer as before");
     peer.shutdown(std::net::Shutdown::Both).unwrap();
     while !serving.events.connections.clients().is_empty() {
         assert!(serving.turn().unwrap());

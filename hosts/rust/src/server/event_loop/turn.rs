@@ -74,7 +74,7 @@ impl Turn {
         if events.nudge(self.began)? {
             events.count_held(|| around.now().monotonic);
         }
-        match events.take_commit(around.now()) {
+        match events.take_commit(around.now())? {
             Some(commit) => Ok(Step::Commit(commit)),
             None => self.send(events, around),
         }

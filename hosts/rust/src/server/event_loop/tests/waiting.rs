@@ -82,7 +82,7 @@ impl World {
 
     /// The clients take what the server sends. Returns whether it has sent anything.
     fn deliver_to_clients(&mut self) -> bool {
-        if let Some(commit) = self.events.take_commit(self.now) {
+        if let Some(commit) = self.events.take_commit(self.now).unwrap() {
             self.events.committed(commit, self.now).unwrap();
         }
         self.events.send(self.now).unwrap();
