@@ -178,6 +178,24 @@ static void keep_waiting(krl_handle *other, krl_handle *server) {
     want(krl_server_held(server, 64).code == KRL_BAD_CLIENT, "a number that is no client's");
 }
 
+/* The entries are 10, 15, 20 and 30. */
+static void read_rows(krl_handle *client, krl_handle *server) {
+    krl_row rows[4] = {{0}};
+    krl_handle closed = {0};
+    krl_page page = krl_server_rows(server, 11, 30, rows, 4);
+    want(page.reply.code == KRL_DONE && page.reply.detail == 2 && page.next == 30, "the rows of a range");
+    want(rows[0].key == 15 && rows[1].key == 20 && rows[2].key == 0, "which rows they are");
+    want(krl_confirm(server, page.after).code == KRL_DONE, "the notes on which they rest");
+    want(krl_confirm(server, page.after + 1).code == KRL_NOT_TOLD, "they are all that were reported");
+    page = krl_server_rows(server, 0, KRL_TOP, rows, 3);
+    want(page.reply.detail == 3 && page.next == 30 && rows[2].key == 20, "as many as there is room for");
+    page = krl_server_rows(server, 0, 9, rows, 0);
+    want(page.reply.code == KRL_DONE && page.reply.detail == 0 && page.next == 9, "a range without rows");
+    want(krl_server_rows(client, 0, 9, rows, 4).reply.code == KRL_NO_SERVER, "the rows of a client");
+    page = krl_server_rows(&closed, 0, 9, rows, 4);
+    want(page.reply.code == KRL_CLOSED && page.next == 0 && page.after == 0, "the rows of nobody");
+}
+
 /* Client 3 holds RangeX-X from 11 to 15. It gives back a part of that at 15, and nothing of any other point. */
 static void give_back_a_part(krl_handle *client) {
     krl_reply reply;
@@ -391,6 +409,7 @@ int main(int count, char **words) {
     want(reply.detail == 3 && rows[1].key == 15 && rows[1].length == 3 && !memcmp(rows[1].bytes, "abc", 4), "the scan");
     want(krl_client_scan(&client, 0, 21, rows, 2).code == KRL_TOO_SHORT, "a room that is too short");
     keep_waiting(&other, &server);
+    read_rows(&client, &server);
     give_back_a_part(&client);
     AGAIN(reply, krl_client_leave(&client));
     want(krl_client_tick(&client).code == KRL_GONE, "a client that has left");

@@ -42,6 +42,7 @@ static void client_status(void) { krl_client_status(&client); }
 static void server_nudge(void) { krl_server_nudge(&server, 0); }
 static void server_held(void) { krl_server_held(&server, 0); }
 static void server_next_held(void) { krl_server_next_held(&server, 0, 0); }
+static void server_rows(void) { krl_server_rows(&server, 0, KRL_TOP, rows, ROWS); }
 static krl_lease_table table;
 static void lease_table_new(void) {
     const krl_terms terms = {1000, 25};
@@ -132,9 +133,9 @@ int main(void) {
     }
     void (*const calls[])(void) = {server_open, client_open, client_lock, client_scan, client_put, client_delete,
                                    client_take_put, client_take_insert, client_tick, server_nudge, server_held,
-                                   server_next_held, client_status, reader_scan, reader_status, lease_table_new,
-                                   leases, shard_of, all_parts, client_lower, client_forget, client_leave,
-                                   client_close, server_close};
+                                   server_next_held, server_rows, client_status, reader_scan, reader_status,
+                                   lease_table_new, leases, shard_of, all_parts, client_lower, client_forget,
+                                   client_leave, client_close, server_close};
     for (size_t i = 0; i < sizeof calls / sizeof calls[0]; i++) {
         measure(calls[i]);
         settle();

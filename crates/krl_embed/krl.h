@@ -190,6 +190,13 @@ krl_reply krl_server_held(krl_handle *handle, uint64_t client);
  * slots from `from` on, as far as that one, at which anybody holds or waits. */
 krl_held_slot krl_server_next_held(krl_handle *handle, uint64_t client, uint64_t from);
 
+/* The entries of the server's index with keys from `lo` on below `hi`, in key order, as many as there is room for. They
+ * go into `rows`, and the detail is their count. **Nobody may see them before the host has confirmed the notes on which
+ * they rest**, `after` of them, and a store that several servers may open has then to have taken a transaction that
+ * began after the host was asked for them. The call takes no memory, changes nothing, and refuses no range: one that
+ * ends where it begins, or before that, has no entries. */
+krl_page krl_server_rows(krl_handle *handle, uint64_t lo, uint64_t hi, krl_row *rows, size_t room);
+
 /* Either. */
 
 /* A handle counts its notes, which the host has to keep on its disk. The first note is the opening: a client's

@@ -371,6 +371,15 @@ typedef struct krl_held_slot {
     uint32_t holds;
 } krl_held_slot;
 
+/* Entries of a server's index. All else is 0 unless the code is KRL_DONE. */
+typedef struct krl_page {
+    krl_reply reply;
+    /* The key at which the entries of the range begin that are left out, or the end of the range if none is. */
+    uint64_t next;
+    /* They rest on this many notes of the handle, from the first one on. */
+    uint64_t after;
+} krl_page;
+
 /* Leases. Moments and lengths are in nanoseconds. */
 
 /* The lease of one incarnation of a client, by the client's clock. */

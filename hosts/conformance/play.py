@@ -51,7 +51,7 @@ HOST_KINDS = {
 }
 SERVER_HELLO = bytes([0, HOST_KINDS["Hello"]])
 """How the Hello of a server begins, in each version."""
-VERSION = 3
+VERSION = 4
 """The version of the stream, which each Hello names from version 2 on."""
 MARKS = (0, 24, 40)
 """How many bytes a mark has in the Hello of a client."""

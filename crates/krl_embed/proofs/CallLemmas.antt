@@ -1,6 +1,6 @@
 -- Each call on the server of a host is one of its moves, or none.
 use Rattle.std.proofs.Common.{◌≡◌, ◌∙◌, ℕ, zero, suc, ◌+◌, ◌-◌, ◌≤◌, ◌<◌, ◌⊎◌, inl, inr, List, [], ◌∷◌, ◌++◌, length, map, Bool, true, false, Option, Some, None, Result, Ok, Err, ap, refl, sym, subst, arith, nat_le, ⊎_elim, leb-true, length-append}
-use Rattle.std.specs.Prelude.{take, drop, min, max}
+use Rattle.std.specs.Prelude.{take, drop, min, max, ◌^◌}
 use Rattle.std.proofs.lemmas.List.{append-nil, append_assoc, length-drop, length-map, take_all, drop_all, take-append-le, drop-append-le}
 use Rattle.krl_messages.specs.declared.to_server.ToServer.{ToServer}
 use Rattle.krl_messages.specs.declared.to_client.ToClient.{ToClient}
@@ -9,6 +9,7 @@ use Rattle.krl_messages.proofs.Members.{in_both, in_right}
 use Rattle.krl_wire.specs.declared.fault.Fault.{Fault}
 use Rattle.krl_wire.specs.Reading as reading
 use Rattle.krl_durable.specs.declared.limits.Limits.{Limits}
+use Rattle.krl_durable.specs.Index.{range}
 use Rattle.krl_durable.specs.Registers.{Durable}
 use Rattle.krl_durable.specs.declared.change.Change.{Change}
 use Rattle.krl_durable.specs.declared.change.Change.TheVariants as change
@@ -26,18 +27,20 @@ use Rattle.krl_embed.specs.declared.endpoint.Endpoint.{Endpoint}
 use Rattle.krl_embed.specs.declared.endpoint.Role.{Role}
 use Rattle.krl_embed.specs.declared.endpoint.Role.TheVariants as role
 use Rattle.krl_embed.specs.declared.notes.Notes.{Notes}
+use Rattle.krl_embed.specs.declared.page.Page.{Page}
 use Rattle.krl_embed.specs.declared.records.RecordRow.{RecordRow}
 use Rattle.krl_embed.specs.declared.reply.Reply.{Reply}
 use Rattle.krl_embed.specs.declared.rows.Row.{Row}
 use Rattle.krl_embed.specs.declared.server_calls.Stepped.{Stepped}
 use Rattle.krl_embed.specs.Replies.{code_of}
 use Rattle.krl_embed.specs.Changes.{unchanged, change_row}
-use Rattle.krl_embed.specs.Endpoints.{IsCode}
+use Rattle.krl_embed.specs.Endpoints.{IsCode, OfServer}
 use Rattle.krl_embed.specs.Frames.{told_frame, told_frames}
 use Rattle.krl_embed.specs.Notes.{counted, one_more, confirmed_to, ConfirmsIf, ConfirmsNotes, ready, ready_of, is_held, TakesAs, TakesUnless, Takes}
 use Rattle.krl_embed.specs.Opening.{parts, OpensClosed, IsStartedRole}
+use Rattle.krl_embed.specs.Pages.{Fills, IsUnfilled, ShowsPage, rests_on}
 use Rattle.krl_embed.specs.Servers.{OnServer, OnServerRole, IsUnchanged, HasActed, Acts, IsRefused, Hears, HearsRead, Nudges, NudgesAs}
-use Rattle.krl_embed.specs.Calls.{IsServer, messages_of, Parts, AreMarks, IsHost, Judged, Gives, CallsAreMoves}
+use Rattle.krl_embed.specs.Calls.{IsServer, messages_of, Parts, AreMarks, IsHost, Judged, Gives, Reads, CallsAreMoves}
 
 -- Frames of messages, one after another
 
@@ -376,5 +379,20 @@ starts l epoch entries records e r d = record {
   );
 }
 
+-- A read
+
+reads_role : (lo hi : ℕ) (e : Endpoint) (h : Host) (was now : List Row) (r : Page) → IsHost e h → r.after ≡ rests_on e.notes (code_of r.reply) → (a : Role) → IsServer a h.memory → OfServer (IsUnfilled was now) (ShowsPage lo hi was now) a r → Reads lo hi was now h r
+reads_role lo hi e h was now r is after (role.Server s) server d = record {
+  rows = subst (λ (t : Server). Fills (range t.durable.index lo hi) hi was now (r.reply.detail, r.next)) server d.1;
+  after = after ∙ ap (λ (c : Option Code). rests_on e.notes c) d.0
+      ∙ ap (λ (n : ℕ). min (n + length e.notes.marks) (2 ^ 64 - 1)) is.confirmed
+      ∙ ap (λ (n : ℕ). min (h.kept + n) (2 ^ 64 - 1)) is.unconfirmed;
+}
+reads_role lo hi e h was now r is after (role.Client k) server d = absurd server
+reads_role lo hi e h was now r is after (role.Left bye) server d = absurd server
+
+reads : (lo hi : ℕ) (e : Endpoint) (h : Host) (was now : List Row) (r : Page) → IsHost e h → OfServer (IsUnfilled was now) (ShowsPage lo hi was now) e.role r → r.after ≡ rests_on e.notes (code_of r.reply) → Reads lo hi was now h r
+reads lo hi e h was now r is d after = reads_role lo hi e h was now r is after e.role is.server d
+
 pub calls_are_moves : CallsAreMoves
-calls_are_moves = record { starts = starts; judges = judges; nudges = nudges; keeps = keeps; releases = releases }
+calls_are_moves = record { starts = starts; judges = judges; nudges = nudges; keeps = keeps; releases = releases; reads = reads }

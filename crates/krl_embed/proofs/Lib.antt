@@ -9,5 +9,7 @@ pub mod KeptLemmas
 pub mod Crosses
 pub mod Shared
 pub mod Loans
+pub mod PageLemmas
+pub mod FilledLemmas
 mod CallLemmas
 mod ClientCallLemmas

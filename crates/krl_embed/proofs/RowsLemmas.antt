@@ -10,13 +10,13 @@ use Rattle.krl_embed.specs.Rows.{row_of}
 
 -- one more is copied in front of the old rows
 pub copied_one : (found : List (ℕ × Value)) (was now : List Row) (i : ℕ) (e : ℕ × Value) (x : Row)
-    → i < length found → length found ≤ length was → e ≡ get_or found i e → x ≡ row_of e
+    → i < length found → i < length was → e ≡ get_or found i e → x ≡ row_of e
     → now ≡ map row_of (take i found) ++ drop i was
     → set now i x ≡ map row_of (take (i + 1) found) ++ drop (i + 1) was
 copied_one found was now i e x lt room is row seen =
     let front : List Row = map row_of (take i found) in
     let long : length front ≡ i = length-map (take i found) row_of ∙ length-take-le i found (omega (arith, lt)) in
-    let split : drop i was ≡ get_or was i x ∷ drop (i + 1) was = drop-cons was i x (omega (arith, lt, room))
+    let split : drop i was ≡ get_or was i x ∷ drop (i + 1) was = drop-cons was i x room
     ∙ ap (λ (k : ℕ). get_or was i x ∷ drop k was) (sym (add-one i)) in
     let at : set (front ++ get_or was i x ∷ drop (i + 1) was) i x ≡ front ++ x ∷ drop (i + 1) was =
     subst (λ (n : ℕ). set (front ++ get_or was i x ∷ drop (i + 1) was) n x ≡ front ++ x ∷ drop (i + 1) was) long

@@ -1,5 +1,5 @@
 -- The calls on a server, as what its host does in a world of hosts.
-use Rattle.std.specs.Prelude.{◌≡◌, ℕ, suc, ◌+◌, ◌≤◌, ◌<◌, ◌⊎◌, List, [], ◌∷◌, ◌++◌, length, drop, map, Some, Ok}
+use Rattle.std.specs.Prelude.{◌≡◌, ℕ, suc, ◌+◌, ◌-◌, ◌^◌, min, ◌≤◌, ◌<◌, ◌⊎◌, List, [], ◌∷◌, ◌++◌, length, drop, map, Some, Ok}
 use Rattle.krl_messages.specs.declared.to_server.ToServer.{ToServer}
 use Rattle.krl_messages.specs.declared.to_client.ToClient.{ToClient}
 use Rattle.krl_messages.specs.Members.{In}
@@ -13,15 +13,19 @@ use Rattle.krl_hosts.specs.Hosts.{Started, Said, Host, stepped, notes_of, AreAmo
 use Rattle.krl_embed.specs.declared.endpoint.Endpoint.{Endpoint}
 use Rattle.krl_embed.specs.declared.endpoint.Role.{Role}
 use Rattle.krl_embed.specs.declared.endpoint.Role.TheVariants as role
+use Rattle.krl_embed.specs.declared.page.Page.{Page}
 use Rattle.krl_embed.specs.declared.records.RecordRow.{RecordRow}
 use Rattle.krl_embed.specs.declared.reply.Reply.{Reply}
 use Rattle.krl_embed.specs.declared.rows.Row.{Row}
 use Rattle.krl_embed.specs.declared.server_calls.Stepped.{Stepped}
-use Rattle.krl_embed.specs.Endpoints.{IsCode}
+use Rattle.krl_embed.specs.Endpoints.{IsCode, OfServer}
 use Rattle.krl_embed.specs.Frames.{told_frames}
 use Rattle.krl_embed.specs.Notes.{counted, ConfirmsNotes, Takes}
 use Rattle.krl_durable.specs.declared.limits.Limits.{Limits}
+use Rattle.krl_durable.specs.Index.{range}
 use Rattle.krl_embed.specs.Opening.{parts, OpensClosed}
+use Rattle.krl_embed.specs.Pages.{Fills, IsUnfilled, ShowsPage, rests_on}
+use Rattle.krl_embed.specs.Replies.{code_of}
 use Rattle.krl_embed.specs.Servers.{OnServer, IsUnchanged, Hears, Nudges}
 
 abbrev pub IsServer : Role → Server → Type 0
@@ -75,6 +79,11 @@ pub record Gives (h : Host) (f : Endpoint) (was now : List ℕ) : Type 0 where
   pub bytes : IsGiven given was now
   pub after : IsHost f (record h { unsent = rest })
 
+-- the entries of the host's server in a range, as many as there is room for; they rest on all notes, kept or not
+pub record Reads (lo hi : ℕ) (was now : List Row) (h : Host) (r : Page) : Type 0 where
+  pub rows : Fills (range h.memory.durable.index lo hi) hi was now (r.reply.detail, r.next)
+  pub after : r.after ≡ min (h.kept + length h.unkept) (2 ^ 64 - 1)
+
 -- Each call on the server of a host is one of its moves, or none.
 pub record CallsAreMoves : Type 0 where
   pub starts : (l : Limits) (epoch : ℕ) (entries : List Row) (records : List RecordRow) (e : Endpoint) (r : Reply) →
@@ -91,3 +100,6 @@ pub record CallsAreMoves : Type 0 where
       (n : ℕ) × (n ≤ length h.unkept) × IsHost f (record h { kept = h.kept + n; unkept = drop n h.unkept })
   pub releases : (e f : Endpoint) (h : Host) (was now : List ℕ) (r : Reply) → IsHost e h → Takes was now e f r →
       (IsHost f h × (now ≡ was)) ⊎ Gives h f was now
+  pub reads : (lo hi : ℕ) (e : Endpoint) (h : Host) (was now : List Row) (r : Page) → IsHost e h →
+      OfServer (IsUnfilled was now) (ShowsPage lo hi was now) e.role r →
+      r.after ≡ rests_on e.notes (code_of r.reply) → Reads lo hi was now h r

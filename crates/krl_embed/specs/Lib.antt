@@ -13,6 +13,7 @@ pub mod Shown
 pub mod Kept
 pub mod Respelling
 pub mod Waits
+pub mod Pages
 pub mod Leases
 pub mod Shards
 pub mod Calls

@@ -20,6 +20,7 @@ mod lent;
 mod notes;
 mod opening;
 mod owned;
+mod page;
 mod reader;
 mod records;
 mod reply;

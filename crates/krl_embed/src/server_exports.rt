@@ -7,6 +7,8 @@ ghost use Rattle.krl_embed.specs.Servers as calls;
 ghost use Rattle.krl_embed.specs.Servers.{OnServer, IsUnchanged};
 ghost use Rattle.krl_embed.specs.Waits as waits;
 ghost use Rattle.krl_embed.specs.Notes.{notes_of, counted_in};
+ghost use Rattle.krl_embed.specs.Pages as pages;
+ghost use Rattle.krl_embed.specs.Replies.{code_of};
 
 use crate::code::Code;
 use crate::endpoint::{Endpoint, Role};
@@ -14,6 +16,7 @@ use crate::frames::Frames;
 use crate::handle::{Handle, put, take};
 use crate::notes::Notes;
 use crate::opening::{limits_of, start};
+use crate::page::{Page, read_page};
 use crate::records::RecordRow;
 use crate::reply::Reply;
 use crate::rows::Row;
@@ -223,4 +226,30 @@ pub extern "C" fn krl_server_next_held(
     let held = server_shows::next_held(&endpoint, client, from);
     put(handle, endpoint);
     held
+}
+
+/// The entries of the server's index from lo on below hi, as many as there is room for. They may be
+/// shown once the notes on which they rest are on the disk.
+#[unsafe(no_mangle)]
+pub extern "C" fn krl_server_rows(
+    alloc: Global,
+    handle: &mut Handle,
+    lo: u64,
+    hi: u64,
+    rows: &mut [Row],
+) -> Page
+    ensures unchanged { handle.new.owned.value ≡ handle.old.owned.value }
+    ensures answer { Shows (pages.IsUnfilled rows.old rows.new)
+        (OfServer (pages.IsUnfilled rows.old rows.new)
+        (pages.ShowsPage lo hi rows.old rows.new))
+        handle.old.owned.value result }
+    ensures after { result.after
+        ≡ pages.rests_on_handle handle.old.owned.value (code_of result.reply) }
+{
+    let Some(endpoint) = take(alloc, handle) else {
+        return Page::blank(Code::Closed);
+    };
+    let page = read_page(&endpoint, lo, hi, rows);
+    put(handle, endpoint);
+    page
 }

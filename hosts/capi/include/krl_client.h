@@ -209,6 +209,9 @@ typedef struct krlc_client krlc_client;
 /* A pinned range of a client. */
 typedef struct krlc_pin krlc_pin;
 
+/* What reads without being a client. */
+typedef struct krlc_reader krlc_reader;
+
 /* Room for the rows of one answer, which is used again by the next. */
 typedef struct krlc_rows krlc_rows;
 
@@ -401,6 +404,13 @@ KRLC_NODISCARD uint32_t krlc_tenure(krlc_client *client, uint64_t lo, uint64_t h
 KRLC_NODISCARD uint32_t krlc_read(krlc_client *client, uint64_t lo, uint64_t hi, krlc_rows *rows, uint64_t timeout_ms,
                                   krlc_error *error);
 
+/* Reads the rows as the server's store has them, over a connection of its own, and keeps nothing: it takes no lock, and
+ * no write waits for this client because of it. More than 128 rows, and the parts of several shards, are read one part
+ * after another, each at a moment of its own. It does not wait for a write of this client whose outcome is unknown.
+ * Threads that make this call take turns. Errors: those of `krlc_read`. */
+KRLC_NODISCARD uint32_t krlc_read_once(krlc_client *client, uint64_t lo, uint64_t hi, krlc_rows *rows,
+                                       uint64_t timeout_ms, krlc_error *error);
+
 /* Reads one row, as `krlc_read` does: KRLC_OK, and then `row` receives it; or KRLC_ABSENT if there is none. Errors:
  * KRLC_BAD_KEY, and those of `krlc_read`. */
 KRLC_NODISCARD uint32_t krlc_get(krlc_client *client, uint64_t key, krlc_row *row, uint64_t timeout_ms,
@@ -495,6 +505,29 @@ KRLC_NODISCARD uint32_t krlc_pin_write_all(krlc_pin *pin, krlc_write *writes, si
 /* Ends a pin: other clients get the range that they wait for. A null pointer and a freed pin change nothing. If the
  * client was freed before, its last pin may wait a second for servers that do not answer. */
 void krlc_pin_free(krlc_pin *pin);
+
+/* Readers. A reader is no client: it has no number, no lock file and no lease, and keeps nothing. Each call asks the
+ * server, and waits for the timeout of the reader's options at most. A server takes 1,024 readers next to its clients.
+ * Threads that call one reader take turns. A reader is its own process', as a client is. */
+
+/* Connects a reader by `servers` or `map`, `timeout_ms` and the options for TLS; with a map to the shards of the keys
+ * from `lo` on below `hi`. It is freed by `krlc_reader_free`. Errors: KRLC_MISUSE, also if an option is set that only
+ * clients have; KRLC_BAD_ADDRESS, KRLC_BAD_MAP, KRLC_BAD_TLS, KRLC_BAD_RANGE, KRLC_TIMED_OUT, KRLC_NOTHING_LISTENS,
+ * KRLC_UNSERVED, KRLC_TURNED_AWAY, KRLC_OTHER_SHARD. Then `reader` is null. */
+KRLC_NODISCARD uint32_t krlc_reader_connect(const krlc_options *options, krlc_reader **reader, krlc_error *error);
+
+/* Reads the rows as the server's store has them, as `krlc_read_once` does. Errors: KRLC_BAD_RANGE, KRLC_TIMED_OUT,
+ * KRLC_UNSERVED, KRLC_TURNED_AWAY, KRLC_OTHER_SHARD; KRLC_STORE_WENT_BACK, if the store lacks what an earlier call of
+ * this reader may have returned. */
+KRLC_NODISCARD uint32_t krlc_reader_read(krlc_reader *reader, uint64_t lo, uint64_t hi, krlc_rows *rows,
+                                         krlc_error *error);
+
+/* Reads one row in the same way: KRLC_OK, and then `row` receives it; or KRLC_ABSENT if there is none. Errors:
+ * KRLC_BAD_KEY, and those of `krlc_reader_read`. */
+KRLC_NODISCARD uint32_t krlc_reader_get(krlc_reader *reader, uint64_t key, krlc_row *row, krlc_error *error);
+
+/* Frees a reader. A null pointer and a freed reader change nothing. */
+void krlc_reader_free(krlc_reader *reader);
 
 /* Rows. */
 

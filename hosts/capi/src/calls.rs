@@ -25,10 +25,12 @@ macro_rules! row_call {
 
 mod host;
 mod pins;
+mod readers;
 mod room;
 
 pub use host::*;
 pub use pins::*;
+pub use readers::*;
 use room::emptied;
 pub use room::*;
 

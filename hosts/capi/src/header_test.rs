@@ -19,10 +19,11 @@ use std::fmt::Write as _;
 const HEADER: &str = include_str!("../include/krl_client.h");
 const HOST_HEADER: &str = include_str!("../include/krl_host.h");
 
-const SOURCES: [&str; 4] = [
+const SOURCES: [&str; 5] = [
     include_str!("calls.rs"),
     include_str!("calls/host.rs"),
     include_str!("calls/pins.rs"),
+    include_str!("calls/readers.rs"),
     include_str!("calls/room.rs"),
 ];
 
@@ -32,7 +33,7 @@ fn headers() -> String {
 }
 
 /// What each type of a call is in C.
-const TYPES: [(&str, &str); 26] = [
+const TYPES: [(&str, &str); 28] = [
     ("bool", "bool"),
     ("u32", "uint32_t"),
     ("u64", "uint64_t"),
@@ -48,6 +49,8 @@ const TYPES: [(&str, &str); 26] = [
     ("*mut *mut Client", "krlc_client **"),
     ("*mut Pin", "krlc_pin *"),
     ("*mut *mut Pin", "krlc_pin **"),
+    ("*mut Reader", "krlc_reader *"),
+    ("*mut *mut Reader", "krlc_reader **"),
     ("*mut Rows", "krlc_rows *"),
     ("*const Rows", "const krlc_rows *"),
     ("*mut Row", "krlc_row *"),

@@ -2,7 +2,7 @@
 use crate::code::Code;
 use crate::fault::Fault;
 use crate::options::TlsTexts;
-use krl::{ClientBuilder, Servers};
+use krl::{ClientBuilder, Reader, Servers};
 
 /// Nothing.
 #[derive(Debug)]
@@ -23,6 +23,11 @@ impl Tls {
     #[allow(clippy::unused_self, reason = "as with the feature")]
     pub fn show_by(&self, builder: ClientBuilder) -> ClientBuilder {
         builder
+    }
+
+    #[allow(clippy::unused_self, reason = "as with the feature")]
+    pub fn show_as(&self, reader: Reader) -> Reader {
+        reader
     }
 
     #[allow(clippy::unused_self, reason = "as with the feature")]

@@ -4,7 +4,7 @@ use crate::code::Code;
 use crate::fault::Fault;
 use crate::input::range;
 use crate::tls::Tls;
-use krl::{Client, ClientBuilder, END, JoinError, Place, ShardMap, evict};
+use krl::{Client, ClientBuilder, END, JoinError, Place, Reader, ShardMap, evict};
 use krl_ffi::text;
 use std::ffi::c_char;
 use std::ops::Range;
@@ -171,6 +171,22 @@ impl Wish<'_> {
             }
             Place::Map(_) => Err(Fault::misuse("a client is evicted at one server, not a map")),
         }
+    }
+
+    /// A reader that is connected to the servers of the keys.
+    pub fn reader(self) -> Result<Reader, Fault> {
+        if !matches!(self.number, Number::Any) || self.wait_if_in_use.is_some() {
+            return Err(Fault::misuse(
+                "a reader has no number: `number`, `numbers`, `lock_file` and `wait_if_in_use_ms` \
+                 are for clients",
+            ));
+        }
+        let mut reader = self.tls.show_as(Reader::new(self.place));
+        if let Some(timeout) = self.timeout {
+            reader = reader.with_timeout(timeout);
+        }
+        reader.connect(self.keys)?;
+        Ok(reader)
     }
 
     /// Joins.

@@ -2,7 +2,7 @@
 use crate::code::Code;
 use crate::fault::Fault;
 use crate::options::TlsTexts;
-use krl::{ClientBuilder, Servers, TableName, TlsConfig, TlsError};
+use krl::{ClientBuilder, Reader, Servers, TableName, TlsConfig, TlsError};
 use std::error::Error;
 
 /// What was read of the files, if there are some.
@@ -38,6 +38,14 @@ impl Tls {
         match &self.0 {
             Some(config) => builder.tls(config.clone()),
             None => builder,
+        }
+    }
+
+    /// The same reader, which shows this.
+    pub fn show_as(&self, reader: Reader) -> Reader {
+        match &self.0 {
+            Some(config) => reader.with_tls(config.clone()),
+            None => reader,
         }
     }
 

@@ -32,7 +32,8 @@ digits.
 
 The client's number: one process at a time is the client of a number, from 0
 to 63. Without --number the first free one from 63 down to 56 is taken, so
-eight commands run at once. Lock files in $XDG_STATE_HOME/krl, or
+eight commands run at once; but a get and a scan of up to 128 rows take none,
+so any number of them do. Lock files in $XDG_STATE_HOME/krl, or
 ~/.local/state/krl, show which are free for this user on this machine. If the
 server reports that another user or machine has a number, the next one is tried
 after a second: give --number, or KRL_NUMBER, to each, such as 40-47.
@@ -150,9 +151,9 @@ pub struct Options {
     #[arg(long, global = true, env = "KRL_TABLE", value_name = "NAME")]
     pub table: Option<TableName>,
     /// The client's number, 0 to 63; or a range, such as 40-47, or auto for all numbers: the
-    /// greatest free one is taken
-    #[arg(long, global = true, env = "KRL_NUMBER", value_name = "NUMBER", default_value = "56-63")]
-    pub number: Numbers,
+    /// greatest free one is taken. By default 56-63, but none for a get or a short scan
+    #[arg(long, global = true, env = "KRL_NUMBER", value_name = "NUMBER")]
+    number: Option<Numbers>,
     /// The lock file, in place of one in the user's folder. It needs a --number that is a single
     /// number
     #[arg(long, global = true, env = "KRL_LOCK_FILE", value_name = "FILE")]
@@ -182,6 +183,16 @@ pub struct Options {
 }
 
 impl Options {
+    /// The numbers among which a client takes one.
+    pub fn numbers(&self) -> Numbers {
+        self.number.clone().unwrap_or(Numbers::BY_DEFAULT)
+    }
+
+    /// Whether the words name the client of the command, so that it is no reader.
+    pub fn name_a_client(&self) -> bool {
+        self.number.is_some() || self.lock_file.is_some()
+    }
+
     /// What is shown to the servers by TLS.
     pub fn tls(&self) -> Result<Option<TlsConfig>, Failure> {
         let (Some(authority), Some(certificate), Some(key)) =

@@ -15,7 +15,7 @@ use std::ops::Range;
 use std::sync::Arc;
 use std::thread;
 use std::time::{Duration, Instant};
-use workload::{Measured, Span, Worker, random_value};
+use workload::{Measured, ReadingWorker, Span, Worker, random_value};
 
 /// Makes the rows, measures, deletes the rows, and prints what was measured.
 pub fn run(options: &Options, words: &BenchWords, signals: &Signals) -> Result<u8, Failure> {
@@ -54,7 +54,7 @@ fn keys_of(words: &BenchWords) -> Result<Range<u64>, Failure> {
 
 /// Each client needs a number of its own.
 fn refuse_clients(options: &Options, words: &BenchWords) -> Result<(), Failure> {
-    let numbers = &options.number.0;
+    let numbers = options.numbers().0;
     let count = numbers.clone().count();
     if usize::from(words.clients) <= count {
         return Ok(());
@@ -148,11 +148,13 @@ fn measure(
         .flat_map(|client| (0..words.threads).map(move |_| client))
         .map(|client| Worker::new(Arc::clone(client), keys, words))
         .collect();
+    let readers = readers(sessions, keys, words)?;
     let mut all = Measured::default();
     thread::scope(|scope| {
         let run = |mut worker: Worker| scope.spawn(move || worker.run(span, signals));
-        let threads: Vec<_> = workers?.into_iter().map(run).collect();
-        for thread in threads {
+        let read = |mut reader: ReadingWorker| scope.spawn(move || reader.run(span, signals));
+        let threads = workers?.into_iter().map(run).chain(readers.into_iter().map(read));
+        for thread in threads.collect::<Vec<_>>() {
             let measured = thread
                 .join()
                 .map_err(|_| Failure::Refused("a thread of the benchmark panicked".into()))?;
@@ -161,4 +163,15 @@ fn measure(
         Ok::<(), Failure>(())
     })?;
     Ok((all, span.measured_from.elapsed()))
+}
+
+/// The readers, which are at the place of the clients.
+fn readers(
+    sessions: &[Session],
+    keys: &Range<u64>,
+    words: &BenchWords,
+) -> Result<Vec<ReadingWorker>, Failure> {
+    let Some(Session { client, place, .. }) = sessions.first() else { return Ok(Vec::new()) };
+    let reader = || ReadingWorker::new(place.reader(client.timeout()), keys, words);
+    (0..words.readers).map(|_| reader()).collect()
 }

@@ -18,7 +18,10 @@ impl Context<'_> {
     /// Runs a command, and returns the exit status if nothing failed.
     pub fn run(&self, command: &ClientCommand) -> Result<u8, Failure> {
         match command {
-            ClientCommand::Get { key } => self.get(words::key(key)?)?,
+            ClientCommand::Get { key } => {
+                let key = words::key(key)?;
+                print_row(self.printer, key, &self.session.client.read(key..=key)?)?;
+            }
             ClientCommand::Scan { range } => {
                 self.printer.rows(&self.session.client.read(range.range()?)?)?;
             }
@@ -41,12 +44,6 @@ impl Context<'_> {
         Ok(0)
     }
 
-    fn get(&self, key: u64) -> Result<(), Failure> {
-        let rows = self.session.client.read(key..=key)?;
-        self.printer.rows(&rows)?;
-        if rows.is_empty() { Err(no_row(key)) } else { Ok(()) }
-    }
-
     fn write(
         &self,
         write: fn(&Client, u64, Value) -> Result<Outcome, Error>,
@@ -57,10 +54,17 @@ impl Context<'_> {
     }
 
     fn judged(&self, outcome: Result<Outcome, Error>, key: u64) -> Result<(), Failure> {
-        let outcome = outcome.map_err(|refused| Failure::of_write(refused, key))?;
+        let number = self.session.client.number();
+        let outcome = outcome.map_err(|refused| Failure::of_write(refused, key, number))?;
         self.printer.outcome(outcome)?;
         applied(self.session, outcome, key)
     }
+}
+
+/// Prints what a key has. Fails if it has no row.
+pub fn print_row(printer: Printer, key: u64, rows: &[Row]) -> Result<(), Failure> {
+    printer.rows(rows)?;
+    if rows.is_empty() { Err(no_row(key)) } else { Ok(()) }
 }
 
 /// Fails unless the write of this key was applied.

@@ -14,7 +14,8 @@ pub fn delete(context: &Context<'_>, keys: Range<u64>) -> Result<(), Failure> {
     let mut deleted = 0;
     for row in &rows {
         let outcome = client.delete(row.key);
-        let outcome = outcome.map_err(|refused| Failure::of_write(refused, row.key));
+        let outcome =
+            outcome.map_err(|refused| Failure::of_write(refused, row.key, client.number()));
         let is_deleted = outcome.and_then(|outcome| match outcome {
             Outcome::Absent => Ok(false),
             outcome => applied(context.session, outcome, row.key).map(|()| true),

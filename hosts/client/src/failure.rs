@@ -137,12 +137,12 @@ impl From<BadValue> for Failure {
 }
 
 impl Failure {
-    /// A write of this key that was not answered by an outcome.
-    pub fn of_write(refused: Error, key: u64) -> Failure {
+    /// A write of this key by the client of this number that was not answered by an outcome.
+    pub fn of_write(refused: Error, key: u64, number: u8) -> Failure {
         let is_unknown = refused.is_unknown_outcome();
         match Failure::from(refused) {
             Failure::NoAnswer(why) if is_unknown => Failure::NoAnswer(format!(
-                "{why}; the write may have been applied: read the key {key}"
+                "{why}; the write may have been applied: read the key {key} by --number {number}"
             )),
             failure => failure,
         }
@@ -170,9 +170,6 @@ impl Failure {
     /// A client that did not join under this number.
     pub fn of_join(error: JoinErrorKind, number: u8, server: &krl::Servers) -> Failure {
         match error {
-            JoinErrorKind::NoAnswer { fault: Some(fault), .. } => {
-                Failure::NoAnswer(format!("the server at {server} can't be reached: {fault}"))
-            }
             JoinErrorKind::NoAnswer { fault: None, .. } => Failure::NoAnswer(format!(
                 "the server at {server} did not answer in time: it may wait for clients that it \
                  misses after a restart, which its status page shows, or know a later client of \
@@ -184,17 +181,39 @@ impl Failure {
                 "number {number} is in use: give another one by --number, or wait if its process \
                  is gone. The server reports: {why}"
             )),
-            JoinErrorKind::Unserved(why) => Failure::NoAnswer(why.to_string()),
-            away @ JoinErrorKind::NothingListens { .. } => Failure::NoAnswer(away.to_string()),
-            no_server @ JoinErrorKind::NoServer { .. } => Failure::NotJoined(no_server.to_string()),
             JoinErrorKind::LockFile { error: LockFileError::Taken, .. } => {
                 Failure::NotJoined(format!(
                     "another process is the client of number {number}: give this one another --number"
                 ))
             }
             error => {
-                Failure::NotJoined(format!("the client of number {number} can't join: {error}"))
+                let what_failed = format!("the client of number {number} can't join");
+                Failure::of_connecting(error, server, &what_failed)
             }
+        }
+    }
+
+    /// A reader that is not connected.
+    pub fn of_reader(error: JoinErrorKind, server: &krl::Servers) -> Failure {
+        match error {
+            JoinErrorKind::Refused(refused) => Failure::of_call(refused),
+            JoinErrorKind::NoAnswer { fault: None, .. } => {
+                Failure::NoAnswer(format!("the server at {server} did not answer in time"))
+            }
+            error => Failure::of_connecting(error, server, "the table can't be read"),
+        }
+    }
+
+    /// What is reported of a client and of a reader alike. Other errors are reported after this.
+    fn of_connecting(error: JoinErrorKind, server: &krl::Servers, what_failed: &str) -> Failure {
+        match error {
+            JoinErrorKind::NoAnswer { fault: Some(fault), .. } => {
+                Failure::NoAnswer(format!("the server at {server} can't be reached: {fault}"))
+            }
+            JoinErrorKind::Unserved(why) => Failure::NoAnswer(why.to_string()),
+            away @ JoinErrorKind::NothingListens { .. } => Failure::NoAnswer(away.to_string()),
+            no_server @ JoinErrorKind::NoServer { .. } => Failure::NotJoined(no_server.to_string()),
+            error => Failure::NotJoined(format!("{what_failed}: {error}")),
         }
     }
 }
@@ -219,6 +238,15 @@ mod tests {
         assert_eq!((refused.status(), refused.to_string()), (3, full.to_string()));
         assert_eq!(Failure::of_call(ErrorKind::Unserved(full)).status(), 3);
         assert_eq!(Failure::of_join(JoinErrorKind::BadNumber, 64, &server).status(), 4);
+        let turned_away = JoinErrorKind::TurnedAway("no right".into());
+        let unread = Failure::of_reader(turned_away, &server);
+        assert_eq!(unread.status(), 4);
+        assert_eq!(
+            unread.to_string(),
+            "the table can't be read: the connection was turned away: no right"
+        );
+        let went_back = JoinErrorKind::Refused(ErrorKind::StoreWentBack);
+        assert_eq!(Failure::of_reader(went_back, &server).status(), 3);
         let address = "127.0.0.1:1".parse().unwrap();
         let no_server = Failure::of_join(JoinErrorKind::NoServer { address }, 1, &server);
         assert_eq!(no_server.status(), 4);
@@ -250,9 +278,10 @@ mod tests {
             (ErrorKind::OutOfMemory, 1),
         ] {
             assert_eq!(Failure::of_call(refused).status(), status, "{refused:?}");
-            let written = Failure::of_write(refused.into(), 15);
+            let written = Failure::of_write(refused.into(), 15, 3);
             assert_eq!(written.status(), status, "{refused:?}");
-            let is_told = written.to_string().ends_with("may have been applied: read the key 15");
+            let told = "may have been applied: read the key 15 by --number 3";
+            let is_told = written.to_string().ends_with(told);
             assert_eq!(is_told, Error::from(refused).is_unknown_outcome(), "{written}");
         }
     }

@@ -101,7 +101,8 @@ fn write(session: &Session, row: &Row, existing: Existing) -> Result<bool, Failu
         Existing::Replace => session.client.set(row.key, row.value),
         Existing::Refuse | Existing::Keep => session.client.insert(row.key, row.value),
     };
-    let outcome = outcome.map_err(|refused| Failure::of_write(refused, row.key))?;
+    let number = session.client.number();
+    let outcome = outcome.map_err(|refused| Failure::of_write(refused, row.key, number))?;
     match outcome {
         Outcome::Exists if existing == Existing::Keep => Ok(false),
         Outcome::Exists => applied(session, outcome, row.key)

@@ -12,6 +12,7 @@ mod output;
 mod pinging;
 mod place;
 mod prompt;
+mod reading;
 mod session;
 mod signals;
 mod suggestion;
@@ -60,6 +61,7 @@ fn run(arguments: &Arguments) -> Result<u8, Failure> {
         Some(Command::Bench(words)) => return bench::run(options, words, &signals),
         Some(Command::Import(words)) => return importing::import(options, words, &signals),
         Some(Command::Completion { shell }) => return print_completion(*shell),
+        Some(Command::Client(command)) if reading::run(options, command)? => return Ok(0),
         Some(Command::Client(_)) | None => {}
     }
     let session = Session::join(options, &keys_of(arguments.command.as_ref())?)?;

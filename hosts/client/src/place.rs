@@ -1,10 +1,11 @@
 //! Where a table is: at one server, or at the servers of a map.
 use crate::arguments::Options;
 use crate::failure::Failure;
-use krl::{ClientBuilder, END, Servers, Shard, ShardMap, TlsConfig};
+use krl::{ClientBuilder, END, Reader, Servers, Shard, ShardMap, TlsConfig};
 use krl_cli::sentence;
 use std::fmt;
 use std::ops::Range;
+use std::time::Duration;
 
 /// Where a table is, and what a client of it is given.
 #[derive(Clone, Debug)]
@@ -44,6 +45,15 @@ impl Place {
         match &self.tls {
             Some(config) => builder.tls(config.clone()),
             None => builder,
+        }
+    }
+
+    /// A reader of the table, each of whose calls waits at most this long.
+    pub fn reader(&self, timeout: Duration) -> Reader {
+        let reader = Reader::new(self.at.clone()).with_timeout(timeout);
+        match &self.tls {
+            Some(config) => reader.with_tls(config.clone()),
+            None => reader,
         }
     }
 

@@ -24,14 +24,8 @@ impl Session {
     /// Joins by the greatest number of the options that is free.
     /// It joins only the shards that have some of these keys.
     pub fn join(options: &Options, keys: &Range<u64>) -> Result<Session, Failure> {
-        let waits_for = || {
-            let (timeout, server) = (humantime::format_duration(options.timeout), &options.server);
-            match &options.map {
-                None => format!("waiting for the server at {server}, for up to {timeout}"),
-                Some(map) => format!("waiting for the servers of {}", map.display()),
-            }
-        };
-        let mut sessions = with_note_if_long(waits_for, || Session::join_some(options, keys, 1))?;
+        let join = || Session::join_some(options, keys, 1);
+        let mut sessions = with_note_if_long(|| waits_for(options), join)?;
         sessions.pop().ok_or_else(|| none_is_free(options))
     }
 
@@ -43,7 +37,7 @@ impl Session {
         count: usize,
     ) -> Result<Vec<Session>, Failure> {
         let (place, files) = (Place::of(options, keys.clone())?, LockFiles::of(options)?);
-        let mut numbers: VecDeque<u8> = options.number.0.clone().rev().collect();
+        let mut numbers: VecDeque<u8> = options.numbers().0.rev().collect();
         let mut sessions = Vec::new();
         while sessions.len() < count {
             let session = Session::join_first(options, &place, &files, &numbers)?;
@@ -97,11 +91,20 @@ impl Session {
     }
 }
 
+/// What a user at a terminal reads of a program that waits for its server.
+pub fn waits_for(options: &Options) -> String {
+    let (timeout, server) = (humantime::format_duration(options.timeout), &options.server);
+    match &options.map {
+        None => format!("waiting for the server at {server}, for up to {timeout}"),
+        Some(map) => format!("waiting for the servers of {}", map.display()),
+    }
+}
+
 fn not_joined(options: &Options, place: &Place, files: &LockFiles, error: JoinError) -> Failure {
     let JoinError { kind, number, shard, .. } = error;
     let is_taken = matches!(kind, JoinErrorKind::LockFile { error: LockFileError::Taken, .. });
     let number = match number {
-        Some(number) if !is_taken || options.number.only().is_some() => number,
+        Some(number) if !is_taken || options.numbers().only().is_some() => number,
         _ => return none_is_free(options),
     };
     let needs_new_file = matches!(kind, JoinErrorKind::Unserved(Refusal::FarAhead { .. }));
@@ -115,7 +118,7 @@ fn not_joined(options: &Options, place: &Place, files: &LockFiles, error: JoinEr
 }
 
 fn none_is_free(options: &Options) -> Failure {
-    let numbers = &options.number.0;
+    let numbers = options.numbers().0;
     Failure::NotJoined(format!(
         "too few of the client numbers {} to {} are free: other processes of this user have them; \
          give others by --number",
@@ -133,7 +136,7 @@ enum LockFiles {
 
 impl LockFiles {
     fn of(options: &Options) -> Result<LockFiles, Failure> {
-        match (&options.lock_file, options.number.only()) {
+        match (&options.lock_file, options.numbers().only()) {
             (Some(_), _) if options.map.is_some() => {
                 let why = "a lock file is of one server: --lock-file does not go with --map";
                 Err(Failure::Usage(why.into()))

@@ -53,6 +53,9 @@ fn point(word: &str) -> Option<u64> {
 pub struct Numbers(pub RangeInclusive<u8>);
 
 impl Numbers {
+    /// Those of commands that are given none.
+    pub const BY_DEFAULT: Numbers = Numbers(56..=63);
+
     /// The number, if there is no choice.
     pub fn only(&self) -> Option<u8> {
         (self.0.start() == self.0.end()).then_some(*self.0.start())

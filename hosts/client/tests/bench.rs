@@ -26,9 +26,9 @@ const WORDS: [&str; 13] = [
 #[test]
 fn a_benchmark_prints_calls_rates_and_quantiles() {
     let world = World::new("bench");
-    let words = [&WORDS[..], &["--skew", "zipf:0.9", "--json"]].concat();
+    let words = [&WORDS[..], &["--skew", "zipf:0.9", "--readers", "3", "--json"]].concat();
     let report: serde_json::Value = serde_json::from_str(&world.prints(&words)).unwrap();
-    for kind in ["cached_scans", "reads_that_asked", "writes"] {
+    for kind in ["cached_scans", "reads_that_asked", "writes", "reads_by_readers"] {
         let times = &report[kind];
         assert!(times["calls"].as_u64().unwrap() > 0, "{report}");
         assert!(times["per_second"].as_f64().unwrap() > 0.0, "{report}");
@@ -37,6 +37,8 @@ fn a_benchmark_prints_calls_rates_and_quantiles() {
         assert!(quantiles[0] > 0.0 && quantiles.is_sorted(), "{report}");
     }
     assert_eq!((&report["clients"], &report["failed"]), (&2.into(), &0.into()), "{report}");
+    let fewest = report["fewest_reads_of_a_reader"].as_u64().unwrap();
+    assert!(3 * fewest <= report["reads_by_readers"]["calls"].as_u64().unwrap(), "{report}");
     assert_eq!(
         (&report["skew"], &report["value_size"]),
         (&"zipf:0.9".into(), &8.into()),
@@ -50,8 +52,9 @@ fn a_benchmark_prints_a_table() {
     let world = World::new("table");
     let report = world.prints(&[&WORDS[..], &["--rows", "5"]].concat());
     let heads: Vec<&str> = report.lines().map(|line| line.split("  ").next().unwrap()).collect();
-    assert!(heads[0].starts_with("clients 2, threads of each 2, "), "{report}");
-    assert_eq!(heads[2..], ["cached scans", "reads that asked", "writes", "failed"], "{report}");
+    assert!(heads[0].starts_with("clients 2, threads of each 2, readers 0, "), "{report}");
+    let kinds = ["cached scans", "reads that asked", "writes", "reads by readers", "failed"];
+    assert_eq!(heads[2..], kinds, "{report}");
 }
 
 #[test]

@@ -37,12 +37,35 @@ fn rows_are_made_read_changed_and_deleted() {
 fn a_client_that_has_ended_holds_nothing() {
     let world = World::new("leaves");
     world.prints(&["insert", "15", "one"]);
-    world.prints(&["scan", "0", "END"]);
+    world.prints(&["--number", "63", "scan", "0", "END"]);
     let client = world.client(1);
     let begun = Instant::now();
     assert_eq!(client.put(15, Value::from(2)), Ok(Outcome::Applied));
     assert!(begun.elapsed() < Duration::from_secs(5), "nobody had to be waited for");
     assert!(world.server.status().holdings.iter().all(|it| it.client != 63 || it.slots == 0));
+}
+
+/// There is no folder for lock files.
+#[test]
+fn a_get_and_a_short_scan_take_no_number() {
+    let world = World::new("no-number");
+    let client = world.client(1);
+    for key in 0..200 {
+        assert_eq!(client.insert(key, Value::from(key)), Ok(Outcome::Applied));
+    }
+    let run = |words: &[&str]| -> Ended {
+        let words = [&["--timeout", "60s"], words].concat();
+        world.command(&words).env("XDG_STATE_HOME", "/dev/null").output().unwrap().into()
+    };
+    assert_eq!(run(&["get", "7"]), ended(0, "7=u64:7\n", ""));
+    assert_eq!(run(&["get", "200"]), ended(1, "", "krl-client: there is no row of key 200\n"));
+    assert_eq!(run(&["scan", "72.."]).out.lines().count(), 128);
+    for needs_a_client in [&["scan", "71.."][..], &["--number", "62", "get", "7"]] {
+        let ended = run(needs_a_client);
+        assert_eq!((ended.status, ended.out.as_str()), (4, ""), "{ended:?}");
+    }
+    assert_eq!(world.prints(&["scan", ".."]).lines().count(), 200);
+    client.leave().unwrap();
 }
 
 #[test]
@@ -216,7 +239,7 @@ fn a_client_that_cannot_join_is_status_4() {
     let ended = world.run(&words);
     assert_eq!(ended.status, 4, "{ended:?}");
     assert!(ended.errors.contains("no lock file of this client number"), "{ended:?}");
-    let blocked = world.command(&["get", "1"]).env("XDG_STATE_HOME", &file).output().unwrap();
+    let blocked = world.command(&["delete", "1"]).env("XDG_STATE_HOME", &file).output().unwrap();
     let blocked = Ended::from(blocked);
     assert_eq!(blocked.status, 4, "{blocked:?}");
     assert!(blocked.errors.contains("can't be made"), "{blocked:?}");

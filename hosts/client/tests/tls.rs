@@ -44,7 +44,7 @@ impl Certified {
     fn new(name: &str) -> Certified {
         let folder = World::folder_of(name);
         let script = concat!(env!("CARGO_MANIFEST_DIR"), "/../packaging/certificates");
-        let holders = ["server", "client-3", "client-4", "operator"];
+        let holders = ["server", "client-3", "client-4", "operator", "reader"];
         let made = Command::new(script).arg(&folder).args(holders).output().unwrap();
         assert!(made.status.success(), "{made:?}");
         let access = Access::new().tls(Shown::of(&folder, "server").config());
@@ -119,6 +119,23 @@ fn an_operator_has_no_right_to_rows() {
         assert_eq!((status, out.as_str()), (4, ""), "{errors}");
         assert!(errors.contains("gives no right to the client"), "{errors}");
     }
+}
+
+#[test]
+fn a_reader_reads_by_its_certificate_and_does_no_more() {
+    let certified = Certified::new("tls-reader");
+    assert_eq!(certified.prints(&["insert", "15", "one"]), "applied\n");
+    let run = |shown: &Shown, words: &[&str]| {
+        certified.world.run(&[&shown.words()[..], &["--timeout", "60s"], words].concat())
+    };
+    let reader = Shown::of(&certified.world.folder, "reader");
+    let got = run(&reader, &["get", "15"]);
+    assert_eq!((got.status, got.out.as_str()), (0, "15=one\n"), "{got:?}");
+    let put = run(&reader, &["--number", "3", "put", "15", "two"]);
+    assert_eq!((put.status, put.out.as_str()), (4, ""), "{put:?}");
+    let denied = run(&certified.operator, &["get", "15"]);
+    assert_eq!((denied.status, denied.out.as_str()), (4, ""), "{denied:?}");
+    assert!(denied.errors.contains("names no client and no reader"), "{denied:?}");
 }
 
 #[test]

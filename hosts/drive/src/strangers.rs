@@ -13,7 +13,7 @@ const SOON: Duration = Duration::from_secs(5);
 const MAX_MEMORY: u64 = 64 << 20;
 
 /// The Hello of a client's host.
-pub const HOST_HELLO: [u8; 11] = [3, 0, 0, 0, 0, 0, 0, 0, 0, 0, 3];
+pub const HOST_HELLO: [u8; 11] = [3, 0, 0, 0, 0, 0, 0, 0, 0, 0, 4];
 
 /// A Hello of client 50, incarnation 1, in its frame.
 const HELLO: [u8; 26] =

@@ -5,8 +5,8 @@ It is the client of ``libkrl_client``, whose calls this package makes: there is 
 cached tables of PostgreSQL."""
 
 from ._library import END as END, TOP as TOP, Row as Row
-from .client import Client as Client, Pin as Pin, Status as Status, Tls as Tls, Write as Write
-from .client import Delete as Delete, Insert as Insert, Put as Put, Set as Set
+from .client import Client as Client, Pin as Pin, Reader as Reader, Status as Status, Tls as Tls
+from .client import Delete as Delete, Insert as Insert, Put as Put, Set as Set, Write as Write
 from .client import connect as connect, evict as evict, join as join, join_map as join_map
 from .errors import *
 

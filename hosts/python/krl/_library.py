@@ -45,6 +45,7 @@ _AT_ONCE = """version:i is_unknown_outcome:?i number:ip joined:np status_at:ipnp
     cached_row:ipqp pin_holds:ip rows_new:p rows_get:ppp rows_free:-p"""
 _WAITING = """join:ippp evict:ipp leave:ipqp free:-p keep_all:ipp reload_tls:ipp read:ipqqpqp
     forget:ipqqqp wait_for_change:ipqqsnqp write_all:ippnqp pin_write_all:ippnqp pin_held:ipqqpqp
+    read_once:ipqqpqp reader_connect:ippp reader_read:ipqqpp reader_free:-p
     pin_free:-p pin_for_read:ipqqppqp pin_for_update:ipqqppqp pin_for_write:ipqqppqp"""
 _OPTIONS = """size:n servers:s map:s lock_file:s number:i numbers:q timeout_ms:q wait_if_in_use_ms:q
     tls_authority:s tls_certificate:s tls_key:s table:s lo:q hi:q"""
@@ -200,7 +201,7 @@ def call(name: str, *words: Any) -> int:
     del words
     if code <= ANSWERS:
         return code
-    if name not in ("join", "evict") and code != BAD_TLS:
+    if name not in ("join", "evict", "reader_connect") and code != BAD_TLS:
         raise refused(code, failure)
     kind = JOIN_ERRORS.get(code, JoinError)
     raise kind(failure.text.decode()) from (refused(code, failure) if kind is JoinError else None)

@@ -73,6 +73,7 @@ class Client(_Calls):
         self.pin_for_update = _awaited(client.pin_for_update, Pin)
         self.pin_for_write = _awaited(client.pin_for_write, Pin)
         self._client, self._read = client, _awaited(client.read)
+        self.read_once = _awaited(client.read_once)
 
     async def read(self, start: int = 0, stop: int = TOP, timeout: Seconds = None) -> list[Row]:
         """``krl.Client.read``. What the cache has is read at once."""

@@ -179,6 +179,13 @@ class Client(_Writer):
         rows = self.read(*_range_of(key), timeout)
         return rows[0].value if rows else None
 
+    def read_once(self, start: int = 0, stop: int = TOP, timeout: Seconds = None) -> list[Row]:
+        """The rows as the server's store has them. The client takes no lock, and keeps nothing of
+        them: no write waits for it later. More than 128 rows, and those of several shards, are read
+        in parts, each at a moment of its own."""
+        self._call("read_once", timeout, *_range(start, stop), found := Rows())
+        return found.taken()
+
     def cached(self, start: int = 0, stop: int = TOP) -> list[Row] | None:
         """The rows if the cache has the whole range, otherwise ``None``: it waits for nobody."""
         _range(start, stop)
@@ -285,6 +292,28 @@ class Client(_Writer):
         with suppress(*() if error[0] is None else (Refused,)):
             if self._handle.value is not None:
                 self.leave()
+
+
+class Reader:
+    """Reads a table, at ``servers`` or at the servers of a ``map`` of shards, without being one of
+    its clients: it has no number and no lock file, and keeps nothing. Each call asks the server.
+    Threads that use one reader take turns."""
+
+    def __init__(self, servers: str = "", timeout: float = 15.0, *, map: PathLike = "",
+                 tls: Tls | None = None) -> None:
+        options = _options(0, tls, timeout, servers=servers, map=map)
+        self._handle = Handle("reader_free")
+        call("reader_connect", ctypes.byref(options), ctypes.byref(self._handle))
+
+    def read(self, start: int = 0, stop: int = TOP) -> list[Row]:
+        """The rows with keys from ``start`` on below ``stop``, as ``Client.read_once`` has them."""
+        call("reader_read", self._handle, *_range(start, stop), found := Rows())
+        return found.taken()
+
+    def get(self, key: int) -> bytes | None:
+        """The value of the row of this key, or ``None`` if there is none."""
+        rows = self.read(*_range_of(key))
+        return rows[0].value if rows else None
 
 
 # At exit, finalizers run after the functions that a program registers with `atexit` from here on.

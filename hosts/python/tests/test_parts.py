@@ -61,7 +61,7 @@ class HeaderTest(unittest.TestCase):
         # as one of several, reads one row as a range, and has no tenures.
         writes = {"insert", "put", "set", "delete"}
         without = {"cached_into", "code_name", "get", "set_timeout", "tenure", *writes}
-        without |= {f"pin_{write}" for write in writes}
+        without |= {"reader_get", *(f"pin_{write}" for write in writes)}
         self.assertEqual(declared.keys() - named, without)
 
     def test_structs_are_those_of_the_header(self) -> None:

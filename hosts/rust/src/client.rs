@@ -15,10 +15,12 @@ pub(crate) mod joining;
 pub(crate) mod link;
 pub(crate) mod lock_file;
 pub(crate) mod lock_folder;
+mod not_joined;
 pub(crate) mod numbers;
 pub(crate) mod pin;
 mod pinned;
 pub(crate) mod place;
+pub(crate) mod reader;
 mod refused_connects;
 pub(crate) mod scratch;
 pub(crate) mod session;
@@ -204,6 +206,23 @@ impl Client {
             return Err(ErrorKind::BadKey.into());
         }
         Ok(self.read(key..=key)?.first().map(|row| row.value))
+    }
+
+    /// The rows of the range, as the server's store has them at a moment of the call. The client asks
+    /// the server by a connection of its own, takes no lock, and keeps nothing: so no write has to
+    /// wait for it later. That pays for rows that others write more often than this client reads
+    /// them. More than 128 rows, and the parts of several shards, are read one part after another,
+    /// each at a moment of its own. Threads that make this call take turns.
+    ///
+    /// A write of this client whose outcome is not known may be in the rows or not: unlike
+    /// [`Client::read`] it waits for none.
+    ///
+    /// # Errors
+    ///
+    /// `BadRange` as of [`Client::read`]; `TimedOut` or `Unserved`; `TurnedAway` or `OtherShard`;
+    /// `StoreWentBack`.
+    pub fn read_once(&self, keys: impl RangeBounds<u64>) -> Result<Vec<Row>, Error> {
+        self.joined.read_once(&keys_of(&keys)?, self.calls().end)
     }
 
     /// The rows of the range if the cache covers it, otherwise `None`. It sends nothing, and waits

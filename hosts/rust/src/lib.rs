@@ -78,6 +78,7 @@ pub use client::lock_file::LockFileError;
 pub use client::lock_folder::lock_folder;
 pub use client::pin::Pin;
 pub use client::place::Place;
+pub use client::reader::Reader;
 pub use client::status::ShardStatus;
 pub use lease::terms::{BadLeases, LeaseLeft, Leases};
 pub use model::batch::{BatchError, Fate, Mutation};

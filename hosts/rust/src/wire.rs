@@ -5,4 +5,5 @@ pub(crate) mod incoming;
 pub(crate) mod lease_frame;
 pub(crate) mod message;
 mod numbers;
+pub(crate) mod read_frame;
 pub(crate) mod shard_frame;

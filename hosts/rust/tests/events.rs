@@ -86,7 +86,7 @@ fn a_server_reports_each_event_once() {
     assert_eq!(client.insert(1, Value::from(1)), Ok(Outcome::Applied));
     // A Hello of an older incarnation, again and again, and a string that is not a message.
     let mut stranger = TcpStream::connect(server.address().to_string()).unwrap();
-    let host_hello = [3, 0, 0, 0, 0, 0, 0, 0, 0, 0, 3];
+    let host_hello = [3, 0, 0, 0, 0, 0, 0, 0, 0, 0, 4];
     stranger.write_all(&host_hello).unwrap();
     let hello = [&[18, 0, 0, 0, 0, 0, 0, 0, 1, 0, 3][..], &[0; 7], &[1], &[0; 7]].concat();
     for _ in 0..50 {

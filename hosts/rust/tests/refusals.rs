@@ -70,7 +70,7 @@ fn of_version(version: u8) -> Vec<u8> {
 #[test]
 fn a_message_of_another_version() {
     let server = server(MemoryStore::default());
-    assert_eq!(answer_to(&server, &[of_version(2)]), refused(0, [3, 0]));
+    assert_eq!(answer_to(&server, &[of_version(2)]), refused(0, [4, 0]));
     let no_message = [1, 0, 0, 0, 0, 0, 0, 0, 1].to_vec();
     assert_eq!(answer_to(&server, &[no_message]), [], "its version is the right one");
 }
@@ -89,7 +89,7 @@ fn a_host_of_another_version() {
         let mut peer = Peer::new(&server);
         peer.send(&[hello, &frame(HELLO, 3, 1, &[])].concat());
         let begun = Instant::now();
-        assert_eq!(peer.receive(LONG), refused(0, [3, 0]), "{hello:?}");
+        assert_eq!(peer.receive(LONG), refused(0, [4, 0]), "{hello:?}");
         assert!(begun.elapsed() < LONG, "the connection ends");
     }
     assert_eq!(server.status().taken, 0, "the library takes nothing");
@@ -155,7 +155,7 @@ fn a_peer_whose_host_sends_no_hello_is_of_another_version() {
     let server = server(store(&[3, 7]));
     let mut peer = Peer::new(&server);
     peer.send(&frame(HELLO, 3, 16, &[]));
-    assert_eq!(peer.receive(SHORT), refused(0, [3, 0]));
+    assert_eq!(peer.receive(SHORT), refused(0, [4, 0]));
     assert_eq!(server.status().taken, 0);
 }
 

@@ -2,8 +2,8 @@
 mod peer;
 
 use krl::{
-    Address, Client, ErrorKind, Listener, MemoryStore, Outcome, Row, Server, SqliteStore, Unsent,
-    Value,
+    Address, Client, ErrorKind, Listener, MemoryStore, Outcome, Reader, Row, Server, SqliteStore,
+    Unsent, Value,
 };
 use peer::{HELLO, Peer, frame};
 use std::path::PathBuf;
@@ -214,6 +214,26 @@ fn a_snapshot_of_the_files_of_a_running_server() {
     notices(&place, &client);
 }
 
+/// The reader learns once that the store lacks what it has read, and then reads what is there.
+#[test]
+fn a_reader_learns_that_the_store_went_back() {
+    let place = Place::new("reader");
+    place.serve().stop().unwrap();
+    place.copy();
+    let server = place.serve();
+    let client = place.join(place.address(), 2);
+    let mut reader = Reader::new(place.address()).with_timeout(Duration::from_secs(60));
+    assert_eq!(client.insert(1, Value::from(2)), Ok(Outcome::Applied));
+    assert_eq!(reader.read(..), Ok(vec![row(1, 2)]));
+    client.leave().unwrap();
+    server.stop().unwrap();
+    place.bring_back();
+    let server = place.serve();
+    assert_eq!(reader.read(..), Err(ErrorKind::StoreWentBack.into()));
+    assert_eq!(reader.read(..), Ok(vec![]));
+    server.stop().unwrap();
+}
+
 #[test]
 fn a_server_that_starts_again_raises_no_alarm() {
     let place = Place::new("again");
@@ -284,7 +304,7 @@ fn a_client_that_leaves_a_store_that_went_back() {
 
 /// The Hello of a host that has seen this much, and the frame that the store lacks it.
 fn host_hello(start: u128, commits: u64) -> Vec<u8> {
-    let body = [&[0, 0][..], &start.to_le_bytes(), &commits.to_le_bytes(), &[3]].concat();
+    let body = [&[0, 0][..], &start.to_le_bytes(), &commits.to_le_bytes(), &[4]].concat();
     [&(body.len() as u64).to_le_bytes()[..], &body].concat()
 }
 
@@ -313,7 +333,7 @@ fn nothing_is_taken_of_a_connection_whose_host_has_seen_another_store() {
     let listener = std::net::TcpListener::bind("127.0.0.1:0").unwrap();
     let store = SqliteStore::open(place.folder.join("table.db")).unwrap();
     let server = Server::start(listener, store).unwrap();
-    let body = [&[0, 0][..], &[5; 16], &1u64.to_le_bytes(), &[7; 16], &[3]].concat();
+    let body = [&[0, 0][..], &[5; 16], &1u64.to_le_bytes(), &[7; 16], &[4]].concat();
     let seen = [&(body.len() as u64).to_le_bytes()[..], &body].concat();
     let mut peer = Peer::new(&server);
     peer.send(&[seen, frame(HELLO, 3, 1, &[])].concat());

@@ -204,8 +204,8 @@ fn a_server_sleeps_while_nothing_comes() {
 
 #[test]
 fn a_server_that_stops_answers_what_has_come() {
-    const HOST_HELLO: [u8; 11] = [3, 0, 0, 0, 0, 0, 0, 0, 0, 0, 3];
-    const HOST_ANSWER: [u8; 12] = [4, 0, 0, 0, 0, 0, 0, 0, 0, 16, 1, 3];
+    const HOST_HELLO: [u8; 11] = [3, 0, 0, 0, 0, 0, 0, 0, 0, 0, 4];
+    const HOST_ANSWER: [u8; 12] = [4, 0, 0, 0, 0, 0, 0, 0, 0, 16, 1, 4];
     const HELLO: [u8; 26] =
         [18, 0, 0, 0, 0, 0, 0, 0, 1, 0, 50, 0, 0, 0, 0, 0, 0, 0, 1, 0, 0, 0, 0, 0, 0, 0];
     for _ in 0..20 {

@@ -97,7 +97,7 @@ fn a_server_that_takes_nothing_holds_no_call_beyond_its_timeout() {
     let (mut stream, _) = listener.accept().unwrap();
     let mut received = Vec::new();
     stream.read_to_end(&mut received).unwrap();
-    let (hello, sign) = ([3, 0, 0, 0, 0, 0, 0, 0, 0, 0, 3], [42, 0, 0, 0, 0, 0, 0, 0, 0, 1, 5]);
+    let (hello, sign) = ([3, 0, 0, 0, 0, 0, 0, 0, 0, 0, 4], [42, 0, 0, 0, 0, 0, 0, 0, 0, 1, 5]);
     assert!(received.len() >= 61 && received.len() % 61 == 0, "{received:?}");
     for greeting in received.chunks(61) {
         assert_eq!((&greeting[..11], &greeting[11..22]), (&hello[..], &sign[..]));

@@ -176,7 +176,7 @@ fn tls_of_another_kind_and_what_is_no_tls_are_refused() {
     let setup = Setup::new("kind");
     let server = serve(&setup);
     let at = at(&server);
-    let host_hello = [3, 0, 0, 0, 0, 0, 0, 0, 0, 0, 3];
+    let host_hello = [3, 0, 0, 0, 0, 0, 0, 0, 0, 0, 4];
     let hello = [18, 0, 0, 0, 0, 0, 0, 0, 1, 0, 3, 0, 0, 0, 0, 0, 0, 0, 1, 0, 0, 0, 0, 0, 0, 0];
     let hello = [&host_hello[..], &hello].concat();
     assert!(received_by_tls(credulous(&setup, None), at, &hello).is_empty(), "no certificate");

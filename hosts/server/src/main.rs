@@ -14,6 +14,7 @@ mod log;
 mod long_waits;
 mod new_store;
 mod next_map;
+mod open_files;
 mod origin;
 mod others;
 mod output;

@@ -8,7 +8,7 @@ use crate::owner::Owner;
 use crate::pages::Table;
 use crate::role::Role;
 use crate::settings::{BadSetting, Settings, StatusAddress, StorePlace};
-use crate::{long_waits, reload, stand_by, status_port, watchdog};
+use crate::{long_waits, open_files, reload, stand_by, status_port, watchdog};
 use krl::operate::RateLimit;
 use krl::{Access, Listener, ServeError, Server, SqliteStore, Store, StoreError};
 use krl_postgres::{PostgresAddress, PostgresStore};
@@ -68,6 +68,7 @@ fn exit_status(error: &(dyn Error + 'static)) -> ExitCode {
 }
 
 fn run(settings: &Settings) -> Result<(), Box<dyn Error>> {
+    open_files::allow();
     let (signal, role) = (Signal::catch()?, Role::default());
     let tls = settings.access.tls()?;
     let access = settings.access.access(tls.as_ref());

@@ -117,6 +117,37 @@ static void reads(krlc_client *client, krlc_rows *rows) {
     EXPECT(KRLC_OK, krlc_cached(client, 15, 151, rows));
 }
 
+/* Without a lock, by the client and by a reader, which has no number. */
+static void reads_once(const world *world, krlc_client *client, krlc_rows *rows) {
+    uint64_t keys[] = {15, 17, 150};
+    const char *values[] = {"five", "", "last"};
+    krlc_row row = {0};
+    EXPECT(KRLC_OK, krlc_forget(client, 10, 200, 0, &error));
+    EXPECT(KRLC_OK, krlc_read_once(client, 10, 200, rows, 0, &error));
+    WANT(are(rows, 3, keys, values));
+    EXPECT(KRLC_MISS, krlc_cached(client, 15, 16, rows));
+    EXPECT(KRLC_BAD_RANGE, krlc_read_once(client, 20, 10, rows, 0, &error));
+    texts texts;
+    krlc_reader *reader = NULL;
+    krlc_options options = options_of(world, 0, &texts);
+    EXPECT(KRLC_MISUSE, krlc_reader_connect(&options, &reader, &error));
+    WANT(reader == NULL);
+    options.lock_file = NULL;
+    EXPECT(KRLC_OK, krlc_reader_connect(&options, &reader, &error));
+    EXPECT(KRLC_OK, krlc_reader_read(reader, 10, 200, rows, &error));
+    WANT(are(rows, 3, keys, values));
+    EXPECT(KRLC_BAD_RANGE, krlc_reader_read(reader, 20, 10, rows, &error));
+    WANT(are(rows, 0, keys, values));
+    EXPECT(KRLC_OK, krlc_reader_get(reader, 15, &row, &error));
+    WANT(row.key == 15 && row.length == 4 && memcmp(row.bytes, "five", 4) == 0);
+    EXPECT(KRLC_ABSENT, krlc_reader_get(reader, 16, &row, &error));
+    EXPECT(KRLC_BAD_KEY, krlc_reader_get(reader, KRLC_END, &row, &error));
+    WANT(row.key == 15);
+    krlc_reader_free(reader);
+    krlc_reader_free(reader);
+    EXPECT(KRLC_MISUSE, krlc_reader_read(reader, 10, 20, rows, &error));
+}
+
 static void changes(krlc_client *client, krlc_client *other, krlc_rows *rows) {
     size_t count = 0;
     EXPECT(KRLC_OK, krlc_read(client, 10, 200, rows, 0, &error));
@@ -245,6 +276,7 @@ int main(int argument_count, char **arguments) {
     writes(client, rows);
     several(client, rows);
     reads(client, rows);
+    reads_once(&world, client, rows);
     changes(client, other, rows);
     tenures(client, other, rows);
     pins(client, rows);

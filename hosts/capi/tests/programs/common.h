@@ -41,14 +41,19 @@ static inline world world_of(int count, char **words) {
     return (world){words[1], words[2], words[3]};
 }
 
-static inline krlc_client *join(const world *world, uint32_t number) {
+/* Room for the texts of options. */
+typedef struct texts {
     char lock_file[512], authority[512], certificate[512], key[512];
-    snprintf(lock_file, sizeof lock_file, "%s/own-%u.lock", world->folder, number);
-    snprintf(authority, sizeof authority, "%s/authority.crt", world->folder);
-    snprintf(certificate, sizeof certificate, "%s/client-%u.crt", world->folder, number);
-    snprintf(key, sizeof key, "%s/client-%u.key", world->folder, number);
+} texts;
+
+/* The options of a client of this number. */
+static inline krlc_options options_of(const world *world, uint32_t number, texts *texts) {
+    snprintf(texts->lock_file, sizeof texts->lock_file, "%s/own-%u.lock", world->folder, number);
+    snprintf(texts->authority, sizeof texts->authority, "%s/authority.crt", world->folder);
+    snprintf(texts->certificate, sizeof texts->certificate, "%s/client-%u.crt", world->folder, number);
+    snprintf(texts->key, sizeof texts->key, "%s/client-%u.key", world->folder, number);
     krlc_options options = {.size = sizeof options, .number = number, .timeout_ms = LONG_MS};
-    options.lock_file = lock_file;
+    options.lock_file = texts->lock_file;
     if (strcmp(world->kind, "map") == 0) {
         options.map = world->place;
         options.lock_file = world->folder;
@@ -56,10 +61,16 @@ static inline krlc_client *join(const world *world, uint32_t number) {
         options.servers = world->place;
     }
     if (strcmp(world->kind, "tls") == 0) {
-        options.tls_authority = authority;
-        options.tls_certificate = certificate;
-        options.tls_key = key;
+        options.tls_authority = texts->authority;
+        options.tls_certificate = texts->certificate;
+        options.tls_key = texts->key;
     }
+    return options;
+}
+
+static inline krlc_client *join(const world *world, uint32_t number) {
+    texts texts;
+    krlc_options options = options_of(world, number, &texts);
     krlc_client *client = NULL;
     krlc_error error = {0};
     uint32_t code = krlc_join(&options, &client, &error);

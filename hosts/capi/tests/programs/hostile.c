@@ -29,6 +29,10 @@ static void null_pointers(krlc_client *client, krlc_rows *rows) {
     EXPECT(KRLC_MISUSE, krlc_tenure(NULL, 1, 2, &tenure));
     EXPECT(KRLC_MISUSE, krlc_read(NULL, 1, 2, rows, 0, NULL));
     EXPECT(KRLC_MISUSE, krlc_get(NULL, 1, &row, 0, &error));
+    EXPECT(KRLC_MISUSE, krlc_read_once(NULL, 1, 2, rows, 0, &error));
+    EXPECT(KRLC_MISUSE, krlc_reader_connect(NULL, NULL, &error));
+    EXPECT(KRLC_MISUSE, krlc_reader_read(NULL, 1, 2, rows, &error));
+    EXPECT(KRLC_MISUSE, krlc_reader_get(NULL, 1, &row, &error));
     EXPECT(KRLC_MISUSE, krlc_wait_for_change(NULL, 1, 2, NULL, 0, 1, &error));
     EXPECT(KRLC_MISUSE, krlc_forget(NULL, 1, 2, 0, &error));
     EXPECT(KRLC_MISUSE, krlc_insert(NULL, 1, "", 0, 0, &error));
@@ -49,6 +53,7 @@ static void null_pointers(krlc_client *client, krlc_rows *rows) {
     WANT(krlc_rows_get(NULL, &count) == NULL && count == 0 && krlc_rows_get(NULL, NULL) == NULL);
     krlc_free(NULL);
     krlc_pin_free(NULL);
+    krlc_reader_free(NULL);
     krlc_rows_free(NULL);
 }
 

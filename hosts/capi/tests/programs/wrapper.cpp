@@ -1,5 +1,5 @@
-/* krl.hpp: what each class does, that handles move, and that errors are thrown. */
-#include <krl.hpp>
+/* krl.hpp and krl_reader.hpp: what each class does, that handles move, and that errors are thrown. */
+#include <krl_reader.hpp>
 
 #include <cstdlib>
 #include <iostream>
@@ -69,6 +69,24 @@ void reads_and_writes(krl::client &client, krl::client &other) {
     want(client.set(17, "again") == krl::outcome::applied, "a set of a row");
     want(client.get(17) == "again" && !client.get(18), "one row, and none");
     want(client.erase(17) == krl::outcome::applied, "an erase of what was set");
+}
+
+void reads_once(char **words, krl::client &client) {
+    client.forget(0, krl::end_of_ranges);
+    want(krl::read_once(client, 10, 20)[0].value == "other", "a read that is not kept");
+    krl::rows rows;
+    want(!client.cached(15, 16, rows), "nothing of it is kept");
+    krl::options options;
+    options.servers = words[2];
+    options.timeout = 60s;
+    krl::reader reader(options);
+    want(reader.read(10, 20).size() == 1 && reader.get(15) == "other" && !reader.get(16), "the rows of a reader");
+    krl::reader moved = std::move(reader);
+    want(moved.get(15) == "other", "a reader that was moved");
+    throws(KRLC_MISUSE, [&] { (void)reader.get(15); });
+    throws(KRLC_BAD_RANGE, [&] { (void)moved.read(20, 10); });
+    options.number = 3;
+    throws(KRLC_MISUSE, [&] { krl::reader numbered(options); });
 }
 
 void several(krl::client &client) {
@@ -165,6 +183,7 @@ int main(int count, char **words) {
     want(count == 4, "three words");
     krl::client client = join(words, 0), other = join(words, 1);
     reads_and_writes(client, other);
+    reads_once(words, client);
     several(client);
     changes(client, other);
     pins(client);

@@ -20,6 +20,14 @@ pub struct BenchWords {
         value_parser = clap::value_parser!(u16).range(1..=256)
     )]
     pub threads: u16,
+    /// Readers next to the clients, without a number and a cache: each asks the server for every read
+    #[arg(
+        long,
+        value_name = "N",
+        default_value_t = 0,
+        value_parser = clap::value_parser!(u16).range(0..=1024)
+    )]
+    pub readers: u16,
     /// How long the clients work before it measures, in seconds
     #[arg(
         long,
@@ -61,8 +69,8 @@ pub struct BenchWords {
         value_parser = clap::value_parser!(u64).range(1..=65_536)
     )]
     pub rows: u64,
-    /// At most this many calls a second, of all threads together; by default as many as they can
-    /// make
+    /// At most this many calls a second, of all threads of clients together; by default as many as
+    /// they can make
     #[arg(
         long,
         value_name = "N",

@@ -25,20 +25,22 @@ pub fn print(
 }
 
 /// The kinds of calls, each with its name as text and in JSON.
-fn kinds(measured: &Measured) -> [(&'static str, &'static str, &Histogram); 3] {
+fn kinds(measured: &Measured) -> [(&'static str, &'static str, &Histogram); 4] {
     [
         ("cached scans", "cached_scans", &measured.cached),
         ("reads that asked", "reads_that_asked", &measured.asked),
         ("writes", "writes", &measured.writes),
+        ("reads by readers", "reads_by_readers", &measured.by_readers),
     ]
 }
 
 fn text(words: &BenchWords, measured: &Measured, took: Duration) -> String {
     let mut text = format!(
-        "clients {}, threads of each {}, {:.1} s after {} s; {} % reads of {} rows, keys {}, {}, \
+        "clients {}, threads of each {}, readers {}, {:.1} s after {} s; {} % reads of {} rows, keys {}, {}, \
          values of {} bytes\n",
         words.clients,
         words.threads,
+        words.readers,
         took.as_secs_f64(),
         words.warm_up,
         words.mix.reads,
@@ -61,6 +63,9 @@ fn text(words: &BenchWords, measured: &Measured, took: Duration) -> String {
         let rate = format!("{:.1}", rate(times.count(), took));
         line(name, [times.count().to_string(), rate, p50, p99, p999, max]);
     }
+    if let Some(fewest) = measured.fewest_of_a_reader {
+        let _ = writeln!(text, "{:<18}{fewest:>10}", "fewest of a reader");
+    }
     let _ = writeln!(text, "{:<18}{:>10}", "failed", measured.failed);
     text
 }
@@ -69,6 +74,8 @@ fn json(words: &BenchWords, measured: &Measured, took: Duration) -> Json {
     let mut all = json!({
         "clients": words.clients,
         "threads": words.threads,
+        "readers": words.readers,
+        "fewest_reads_of_a_reader": measured.fewest_of_a_reader,
         "warm_up_seconds": words.warm_up,
         "seconds": took.as_secs_f64(),
         "reads_percent": words.mix.reads,

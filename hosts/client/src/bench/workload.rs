@@ -3,7 +3,7 @@ use crate::arguments::{BenchWords, Mix, Skew};
 use crate::bench::histogram::Histogram;
 use crate::failure::Failure;
 use crate::signals::Taken;
-use krl::{Client, MAX_VALUE_BYTES, Outcome, Row, Value};
+use krl::{Client, MAX_VALUE_BYTES, Outcome, Reader, Row, Value};
 use rand::Rng;
 use rand::SeedableRng;
 use rand::distributions::{Distribution, WeightedIndex};
@@ -22,6 +22,10 @@ pub struct Measured {
     pub asked: Histogram,
     /// Writes that were applied.
     pub writes: Histogram,
+    /// Reads of readers.
+    pub by_readers: Histogram,
+    /// How many of them the reader made that made the fewest.
+    pub fewest_of_a_reader: Option<u64>,
     /// Calls that got no answer, also those of the warm-up.
     pub failed: u64,
 }
@@ -59,6 +63,9 @@ impl Measured {
         self.cached.add(&other.cached);
         self.asked.add(&other.asked);
         self.writes.add(&other.writes);
+        self.by_readers.add(&other.by_readers);
+        let fewest = self.fewest_of_a_reader.into_iter().chain(other.fewest_of_a_reader);
+        self.fewest_of_a_reader = fewest.min();
         self.failed += other.failed;
     }
 }
@@ -115,6 +122,51 @@ impl Pace {
         self.next = now + self.every;
         None
     }
+}
+
+/// A thread that only reads, without a client.
+pub struct ReadingWorker {
+    reader: Reader,
+    keys: Range<u64>,
+    places: Places,
+    /// Rows of each read.
+    rows: u64,
+    random: StdRng,
+}
+
+impl ReadingWorker {
+    pub fn new(
+        reader: Reader,
+        keys: &Range<u64>,
+        words: &BenchWords,
+    ) -> Result<ReadingWorker, Failure> {
+        let places = Places::of(words.skew, words.keys)?;
+        let (keys, random) = (keys.clone(), StdRng::from_entropy());
+        Ok(ReadingWorker { reader, keys, places, rows: words.rows, random })
+    }
+
+    /// Reads until the time, or until a signal.
+    pub fn run(&mut self, span: Span, signals: &Taken<'_>) -> Measured {
+        let mut measured = Measured::default();
+        loop {
+            let begun = Instant::now();
+            if begun >= span.end || signals.is_ended() {
+                measured.fewest_of_a_reader = Some(measured.by_readers.count());
+                return measured;
+            }
+            let place = self.places.next(&mut self.random);
+            match self.reader.read(keys_from(&self.keys, place, self.rows)) {
+                Ok(_) => measured.by_readers.record_if(span.counts(begun), begun.elapsed()),
+                Err(_) => measured.failed += 1,
+            }
+        }
+    }
+}
+
+/// So many keys from this place on, or the last ones.
+fn keys_from(keys: &Range<u64>, place: u64, rows: u64) -> Range<u64> {
+    let lo = (keys.start + place).min(keys.end - rows);
+    lo..lo + rows
 }
 
 /// A thread of a client.
@@ -178,8 +230,7 @@ impl Worker {
 
     /// Reads rows from this place on, as many as are asked for.
     fn read(&mut self, place: u64, counted: bool) {
-        let lo = (self.keys.start + place).min(self.keys.end - self.rows);
-        let keys = lo..lo + self.rows;
+        let keys = keys_from(&self.keys, place, self.rows);
         let begun = Instant::now();
         if self.client.cached_into(keys.clone(), &mut self.room).is_ok_and(|is_cached| is_cached) {
             self.measured.cached.record_if(counted, begun.elapsed());

@@ -1,6 +1,7 @@
 //! Who is at the other end of a connection, and what it may send.
 use crate::model::client_number::ClientNumber;
 use crate::model::client_set::ClientSet;
+use crate::wire::host_frame::FromClient;
 use crate::wire::incoming::Incoming;
 use crate::wire::message::Message;
 use std::fmt;
@@ -8,6 +9,7 @@ use std::str::FromStr;
 
 /// What the names of a certificate begin with.
 const CLIENT: &str = "krl:client:";
+const READER: &str = "krl:reader";
 const OPERATOR: &str = "krl:operator";
 const SERVER: &str = "krl:server";
 
@@ -15,13 +17,15 @@ const SERVER: &str = "krl:server";
 const CONNECTIONS_PER_CLIENT: usize = 4;
 
 /// Who is at the other end of a connection: the clients for which it may speak, and whether it may
-/// evict clients and see the status.
+/// evict clients and see the status, or read without speaking for a client.
 ///
-/// As text: the clients' numbers and `operator`, with commas between them, such as `3,4,operator`.
+/// As text: the clients' numbers, `operator` and `reader`, with commas between them, such as
+/// `3,4,operator`.
 #[derive(Clone, Copy, Debug, Default, PartialEq, Eq)]
 pub struct Identity {
     clients: ClientSet,
     is_operator: bool,
+    is_reader: bool,
 }
 
 /// A text that is not an identity.
@@ -42,13 +46,14 @@ pub struct BadTableName;
 pub(crate) enum Role {
     Client(u8),
     Operator,
+    Reader,
     Server,
 }
 
 impl Identity {
     /// It may send everything.
     pub(crate) fn everybody() -> Identity {
-        Identity { clients: ClientSet::of_bits(u64::MAX), is_operator: true }
+        Identity { clients: ClientSet::of_bits(u64::MAX), is_operator: true, is_reader: true }
     }
 
     /// It may send nothing.
@@ -67,6 +72,7 @@ impl Identity {
             match role {
                 Role::Client(number) => found.clients = found.clients.with(number),
                 Role::Operator => found.is_operator = true,
+                Role::Reader => found.is_reader = true,
                 Role::Server => {}
             }
         }
@@ -90,6 +96,12 @@ impl Identity {
         self.is_operator
     }
 
+    /// Whether it may read the whole table: if it may speak for a client, or is a reader.
+    #[must_use]
+    pub fn may_read(&self) -> bool {
+        self.is_reader || self.is_of_clients()
+    }
+
     /// Whether it may send this frame: one that names one of its own clients, or, if it is an
     /// operator, one that ends a client. A peer that may send anything may send a host's Hello,
     /// which names no client. Only a peer that may send everything may send a string that names no
@@ -100,6 +112,7 @@ impl Identity {
         match frame {
             Incoming::Message(message) => self.may_send_message(message),
             Incoming::Sign(sign) => self.is_operator || self.is_client(sign.client),
+            Incoming::Read(_) | Incoming::Host(Some(FromClient::ReaderHello(_))) => self.may_read(),
             Incoming::Host(_) => *self != Identity::nobody(),
         }
     }
@@ -113,8 +126,8 @@ impl Identity {
 
     /// How many connections it may have at once.
     pub(crate) fn most_connections(&self) -> usize {
-        let operator = usize::from(self.is_operator);
-        CONNECTIONS_PER_CLIENT * (self.clients.iter().count() + operator)
+        let others = usize::from(self.is_operator) + usize::from(self.is_reader);
+        CONNECTIONS_PER_CLIENT * (self.clients.iter().count() + others)
     }
 }
 
@@ -131,6 +144,7 @@ impl Role {
         }
         match role {
             OPERATOR => Some(Role::Operator),
+            READER => Some(Role::Reader),
             SERVER => Some(Role::Server),
             _ => number_of(role.strip_prefix(CLIENT)?).map(Role::Client),
         }
@@ -177,6 +191,7 @@ impl FromStr for Identity {
         for word in text.split(',') {
             match word {
                 "operator" => found.is_operator = true,
+                "reader" => found.is_reader = true,
                 number => {
                     found.clients = found.clients.with(number_of(number).ok_or(BadIdentity)?);
                 }
@@ -190,7 +205,8 @@ impl fmt::Display for Identity {
     fn fmt(&self, f: &mut fmt::Formatter<'_>) -> fmt::Result {
         let numbers = self.clients.iter().map(|client| client.to_string());
         let operator = self.is_operator.then(|| "operator".to_string());
-        f.write_str(&numbers.chain(operator).collect::<Vec<_>>().join(","))
+        let reader = self.is_reader.then(|| "reader".to_string());
+        f.write_str(&numbers.chain(operator).chain(reader).collect::<Vec<_>>().join(","))
     }
 }
 
@@ -203,7 +219,8 @@ impl fmt::Display for TableName {
 impl fmt::Display for BadIdentity {
     fn fmt(&self, f: &mut fmt::Formatter<'_>) -> fmt::Result {
         f.write_str(
-            "an identity is client numbers from 0 to 63 and `operator`, such as 3,4,operator",
+            "an identity is client numbers from 0 to 63, `operator` and `reader`, such as \
+             3,4,operator",
         )
     }
 }
@@ -223,7 +240,7 @@ mod tests {
     use super::*;
     use crate::lease::boot_clock::Moment;
     use crate::lease::terms::{Older, Sign};
-    use crate::wire::host_frame::FromClient;
+    use crate::wire::read_frame::ReadRequest;
 
     fn message(kind: u8, client: u8) -> Vec<u8> {
         [&[1, kind, client][..], &[0; 15]].concat()
@@ -260,6 +277,24 @@ mod tests {
             );
         }
         assert_eq!(found.to_string(), "operator");
+    }
+
+    #[test]
+    fn a_reader_reads_and_does_no_more() {
+        let read = ReadRequest { number: 1, lo: 0, hi: 9 }.frame();
+        let hello = FromClient::ReaderHello(None).frame();
+        let reader = of(&["krl:reader"], None).unwrap();
+        assert_eq!((reader.to_string().as_str(), "reader".parse()), ("reader", Ok(reader)));
+        for kind in 0..=8 {
+            assert!(!may_send(&reader, &message(kind, 9)), "{kind}");
+        }
+        for (identity, may) in [("reader", true), ("3", true), ("operator", false)] {
+            let identity = identity.parse().unwrap();
+            assert_eq!(may_send(&identity, &read[8..]), may, "{identity}");
+            assert_eq!(may_send(&identity, &hello[8..]), may, "{identity}");
+        }
+        assert!(!may_send(&Identity::nobody(), &read[8..]));
+        assert_eq!(of(&["krl:reader@orders"], None), None);
     }
 
     #[test]

@@ -132,6 +132,17 @@ impl Joined {
         Ok(self.is_known(&self.parts(keys)?, rows))
     }
 
+    /// The rows of the range, as the stores of its shards have them, each at a moment of its own. The
+    /// caches keep nothing of it.
+    pub fn read_once(&self, keys: &Range<u64>, deadline: Instant) -> Result<Vec<Row>, Error> {
+        let mut rows = Vec::new();
+        for Part { shard, keys } in self.parts(keys)? {
+            let part = self.client(shard).read_once(keys, deadline);
+            rows.extend(part.map_err(self.error_at(shard))?);
+        }
+        Ok(rows)
+    }
+
     /// The tenure of a range that is not empty, if the caches cover it.
     pub fn tenure(&self, keys: &Range<u64>, room: &mut Vec<Row>) -> Result<Option<Tenure>, Error> {
         if let Some(only) = self.only() {

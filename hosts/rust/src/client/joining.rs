@@ -2,24 +2,19 @@
 use crate::client::incarnations::Incarnations;
 use crate::client::link::Link;
 use crate::client::lock_file::LockFile;
+use crate::client::not_joined::why_not_joined;
 use crate::client::shard_client::ShardClient;
 use crate::client::state::State;
-use crate::client::timeout::MAX_WAIT;
+use crate::client::timeout::{MAX_WAIT, TIMEOUT};
 use crate::lease::clocks::Now;
 use crate::lease::terms::Older;
 use crate::model::client_number::ClientNumber;
 use crate::model::error::{ErrorKind, JoinErrorKind};
 use crate::model::refusal::Refusal;
-use crate::net::connect_fault::{NoServer, Rejection};
 use crate::net::servers::Servers;
 use crate::proved::client_handle::ClientHandle;
-use std::io;
 use std::path::Path;
 use std::time::{Duration, Instant};
-
-/// How long a client waits for an answer by default. It is longer than a server waits by default
-/// for a client that was killed: a lease of ten seconds and a quarter.
-pub(crate) const TIMEOUT: Duration = Duration::from_secs(15);
 
 /// How long a client waits.
 #[derive(Clone, Copy, Debug)]
@@ -106,26 +101,7 @@ fn not_joined(client: &ShardClient, refused: ErrorKind) -> JoinErrorKind {
     if let Some(fault) = nothing_listens {
         return JoinErrorKind::NothingListens { servers: Box::new(link.servers().clone()), fault };
     }
-    match refused {
-        ErrorKind::TimedOut => not_answered(link.servers(), fault),
-        ErrorKind::Unserved(refusal) => JoinErrorKind::Unserved(refusal),
-        ErrorKind::OtherShard(other) => JoinErrorKind::OtherShard(other),
-        ErrorKind::TurnedAway => JoinErrorKind::TurnedAway(match rejection {
-            Some(Rejection::NotTaken(why)) => why,
-            _ => String::new(),
-        }),
-        refused => JoinErrorKind::Refused(refused),
-    }
-}
-
-/// Why a client did not join whose last connection ended by this fault.
-fn not_answered(servers: &Servers, fault: Option<io::Error>) -> JoinErrorKind {
-    match fault.as_ref().and_then(NoServer::carried_by) {
-        Some(NoServer(address)) if !servers.are_several() => {
-            JoinErrorKind::NoServer { address: address.clone() }
-        }
-        _ => JoinErrorKind::NoAnswer { servers: Box::new(servers.clone()), fault },
-    }
+    why_not_joined(link.servers(), refused, fault, rejection.as_ref())
 }
 
 /// Whether the server refuses the number until it has another lock file: another number, with its own

@@ -1,5 +1,6 @@
 //! A client of one server: of its only one, or of that of a shard.
 use crate::client::link::Link;
+use crate::client::reader::ServerReader;
 use crate::client::state::State;
 use crate::lease::boot_clock::Moment;
 use crate::model::error::ErrorKind;
@@ -21,6 +22,8 @@ pub(crate) struct ShardClient {
     number: u8,
     link: Arc<Link>,
     thread: Mutex<Option<JoinHandle<()>>>,
+    /// What the client reads and does not keep, by a connection of its own.
+    reader: Mutex<ServerReader>,
 }
 
 impl ShardClient {
@@ -28,9 +31,10 @@ impl ShardClient {
     pub fn start(number: u8, link: Link, poller: Poller) -> io::Result<ShardClient> {
         let link = Arc::new(link);
         let run = Arc::clone(&link);
+        let reader = Mutex::new(ServerReader::new(link.servers().clone()));
         let thread = thread::Builder::new().name(format!("krl-client-{number}"));
         let thread = thread.spawn(move || run.run(poller))?;
-        Ok(ShardClient { number, link, thread: Mutex::new(Some(thread)) })
+        Ok(ShardClient { number, link, thread: Mutex::new(Some(thread)), reader })
     }
 
     pub fn number(&self) -> u8 {
@@ -55,6 +59,13 @@ impl ShardClient {
     /// Whether the client has held each range without a break since it had this tenure.
     pub fn held_since(&self, since: &[(Range<u64>, Tenure)]) -> Vec<bool> {
         self.link.cache().held_since(since, Moment::now)
+    }
+
+    /// The rows of the range, as the server's store has them, which the client does not keep. Threads
+    /// that make this call take turns.
+    pub fn read_once(&self, keys: Range<u64>, deadline: Instant) -> Result<Vec<Row>, ErrorKind> {
+        let mut reader = self.reader.lock().unwrap_or_else(PoisonError::into_inner);
+        reader.read(keys, deadline)
     }
 
     /// Leaves, and waits until the deadline for the server to keep that. Then its thread has ended,

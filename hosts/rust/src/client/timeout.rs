@@ -5,6 +5,10 @@ use std::time::Duration;
 /// No call waits longer than this, a year.
 pub(crate) const MAX_WAIT: Duration = Duration::from_secs(365 * 24 * 3600);
 
+/// How long a client waits for an answer by default. It is longer than a server waits by default
+/// for a client that was killed: a lease of ten seconds and a quarter.
+pub(crate) const TIMEOUT: Duration = Duration::from_secs(15);
+
 /// How long calls wait that have no time of their own. Any thread may change it.
 #[derive(Debug)]
 pub(crate) struct Timeout {

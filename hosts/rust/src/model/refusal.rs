@@ -5,8 +5,8 @@ use std::fmt;
 
 /// The version of the stream: of the frames of the hosts, and of the messages between them. In
 /// version 1 a grant had at most eight holdings, and a Hello named no version; in version 2 no write
-/// took the lock that it needs.
-pub(crate) const STREAM_VERSION: u8 = 3;
+/// took the lock that it needs; in version 3 every read took a lock.
+pub(crate) const STREAM_VERSION: u8 = 4;
 
 /// Why a server does not serve a client. It is a hint for people: the library's rules don't rest on
 /// it, and a server of another kind may give none. Only [`Refusal::OtherStore`] is more: a client
@@ -179,6 +179,6 @@ mod tests {
         let full = Refusal::Full { connections: 256 }.to_string();
         assert_eq!(full, "the server has all its connections, which are 256");
         let version = Refusal::Version { read: 1 }.to_string();
-        assert!(version.contains("speaks version 1 of the protocol, and this client version 3"));
+        assert!(version.contains("speaks version 1 of the protocol, and this client version 4"));
     }
 }

@@ -116,6 +116,14 @@ pub struct RawHeldSlot {
 }
 
 #[repr(C)]
+#[derive(Clone, Copy, Debug)]
+pub struct RawPage {
+    pub reply: Reply,
+    pub next: u64,
+    pub after: u64,
+}
+
+#[repr(C)]
 #[derive(Clone, Copy, Debug, PartialEq, Eq)]
 pub struct Lease {
     pub end: u64,
@@ -250,6 +258,13 @@ unsafe extern "C" {
     ) -> Reply;
     pub fn krl_server_held(handle: *mut Handle, client: u64) -> Reply;
     pub fn krl_server_next_held(handle: *mut Handle, client: u64, from: u64) -> RawHeldSlot;
+    pub fn krl_server_rows(
+        handle: *mut Handle,
+        lo: u64,
+        hi: u64,
+        rows: *mut Row,
+        room: usize,
+    ) -> RawPage;
 
     pub safe fn krl_lease_new() -> Lease;
     pub safe fn krl_lease_take_terms(lease: &mut Lease, stamp: u64, length: u64, now: u64);
@@ -350,6 +365,8 @@ mod tests {
         assert_eq!([size_of::<RawHeldSlot>(), offset_of!(RawHeldSlot, lo)], [40, 16]);
         assert_eq!([offset_of!(RawHeldSlot, hi), offset_of!(RawHeldSlot, mode)], [24, 32]);
         assert_eq!(offset_of!(RawHeldSlot, holds), 36);
+        assert_eq!([size_of::<RawPage>(), offset_of!(RawPage, next)], [32, 16]);
+        assert_eq!(offset_of!(RawPage, after), 24);
         assert_eq!([size_of::<Lease>(), offset_of!(Lease, end)], [24, 0]);
         assert_eq!([offset_of!(Lease, length), offset_of!(Lease, stamp)], [8, 16]);
         assert_eq!([size_of::<Terms>(), offset_of!(Terms, drift)], [16, 8]);

@@ -9,6 +9,7 @@ use crate::model::row::Row;
 use crate::model::snapshot::Snapshot;
 use crate::proved::ffi;
 use crate::proved::handle::{Handle, code, done};
+use std::ops::Range;
 
 /// A server of the library.
 pub(crate) struct ServerHandle {
@@ -138,6 +139,26 @@ impl ServerHandle {
         let ffi::RawHeldSlot { lo, hi, mode, holds, .. } = raw;
         let mode = Mode::of(mode).filter(|_| holds != 0)?;
         Some(HeldSlot { lo, hi, client, mode })
+    }
+
+    /// The rows of the index whose keys are in this range, in ascending order, as many as there is
+    /// room for: they are all that is left in `rows`. Returns the key at which the others begin, or
+    /// the end of the range if there are none.
+    ///
+    /// # Errors
+    ///
+    /// [`Code::Unkept`] if they rest on a change that is not confirmed.
+    pub fn rows(&mut self, keys: Range<u64>, rows: &mut Vec<Row>) -> Result<u64, Code> {
+        let (at, room) = (rows.as_mut_ptr(), rows.len());
+        // SAFETY: as for any handle, and there is so much room to be written to.
+        let page =
+            unsafe { ffi::krl_server_rows(self.handle.raw(), keys.start, keys.end, at, room) };
+        let count = usize::try_from(done(page.reply)?).map_err(|_| Code::OutOfMemory)?;
+        if page.after > self.confirmed {
+            return Err(Code::Unkept);
+        }
+        rows.truncate(count);
+        Ok(page.next)
     }
 
     /// Takes what waits to be sent, as frames, into the front of `room`, and returns how many bytes

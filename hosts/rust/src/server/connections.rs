@@ -15,13 +15,16 @@ use crate::server::strangers::Strangers;
 use crate::wire::frames::{self, Frames, HEAD};
 use crate::wire::host_frame::FromServer;
 use closing::Closings;
-use std::collections::{BTreeMap, VecDeque};
+use std::collections::{BTreeMap, BTreeSet, VecDeque};
 use std::fmt::Display;
 use std::io::{self, Read, Write};
 use std::time::{Duration, Instant};
 
 /// The most connections that have shown whose they are, by default. One more is refused.
 pub(crate) const MAX_CONNECTIONS: usize = 256;
+
+/// The most connections of readers, which take none of the places of the others. One more is refused.
+pub(crate) const MAX_READERS: usize = 1_024;
 
 /// A client is active on a connection on which something has come within this time: each ticks more
 /// often, several times a second.
@@ -35,6 +38,7 @@ pub(crate) struct Connections {
     longest: usize,
     open: BTreeMap<u64, Peer>,
     strangers: Strangers,
+    readers: BTreeSet<u64>,
     routes: Routes,
     closings: Closings,
     /// Those that may have a frame, in the order of their turns. Each is there once.
@@ -90,6 +94,7 @@ impl Connections {
             longest: frames::longest_to_server(room),
             open: BTreeMap::new(),
             strangers: Strangers::default(),
+            readers: BTreeSet::new(),
             routes: Routes::default(),
             closings: Closings::default(),
             ready: VecDeque::new(),
@@ -220,6 +225,7 @@ impl Connections {
             self.closed.push_back(Closed { number, connection });
         }
         self.strangers.remove(number);
+        self.readers.remove(&number);
         self.routes.close(number);
     }
 

@@ -27,6 +27,7 @@ use crate::wire::message::{Head, Kind, Message};
 use admission::KeptRequests;
 use commit_group::CommitGroup;
 use commits::Gathered;
+use reads::Reads;
 use requests::OpenRequests;
 use std::mem;
 use std::sync::Arc;
@@ -64,6 +65,8 @@ pub(crate) struct EventLoop {
     leases: LeaseTable,
     /// What the next commit has to make.
     gathered: Gathered,
+    /// Questions that wait for a commit.
+    reads: Reads,
     watch: Watch,
     last_received: LastReceived,
     status: Status,
@@ -124,6 +127,7 @@ impl EventLoop {
             held_back: HeldBack::new(),
             leases,
             gathered: Gathered::default(),
+            reads: Reads::default(),
             watch: Watch::default(),
             last_received: LastReceived::new(),
             status: Status { epoch, ..Status::default() },
@@ -212,25 +216,23 @@ impl EventLoop {
     /// Takes what came on a connection, and adds what has to be kept.
     fn receive(&mut self, connection: u64, frame: &[u8], now: Now) -> Result<(), ServeError> {
         let frame = Incoming::read(frame);
-        if !self.connections.identity(connection).may_send(&frame) {
+        if !self.may_send(connection, &frame) {
             self.deny(connection, &frame);
             return Ok(());
         }
-        if let Some(most) = self.connections.lacks_place(connection) {
-            self.refuse_full(connection, most);
-            return Ok(());
-        }
-        if !self.lets_in(connection, &frame) {
+        if !(self.has_place(connection, &frame) && self.lets_in(connection, &frame)) {
             return Ok(());
         }
         match frame {
-            Incoming::Message(_) if !self.connections.is_greeted(connection) => {
+            Incoming::Message(_) | Incoming::Read(_)
+                if !self.connections.is_greeted(connection) =>
+            {
                 self.refuse_other_version(connection);
                 Ok(())
             }
             Incoming::Message(message) if self.keeps(connection, message, now) => Ok(()),
             Incoming::Message(message) => self.take_message(connection, message, now),
-            Incoming::Host(Some(FromClient::Hello(seen))) => {
+            Incoming::Host(Some(FromClient::Hello(seen) | FromClient::ReaderHello(seen))) => {
                 self.greet(connection, seen);
                 Ok(())
             }
@@ -239,6 +241,10 @@ impl EventLoop {
                 Ok(())
             }
             Incoming::Sign(sign) => self.receive_sign(connection, sign, now),
+            Incoming::Read(request) => {
+                self.receive_read(connection, request);
+                Ok(())
+            }
             Incoming::Host(_) => Ok(()),
         }
     }
@@ -426,6 +432,7 @@ mod leases;
 mod long_frames;
 mod looks;
 mod notices;
+mod reads;
 mod requests;
 mod sharding;
 mod showing;

@@ -24,6 +24,9 @@ const ANSWERS_SIGNS: u8 = 1;
 /// none.
 const MARK_LENGTHS: [usize; 3] = [0, 24, 40];
 
+/// A Hello is of a host of another version.
+struct OtherVersion;
+
 /// What the host of a client sends.
 #[derive(Clone, Copy, Debug, PartialEq, Eq)]
 pub(crate) enum FromClient {
@@ -36,6 +39,8 @@ pub(crate) enum FromClient {
     Shard(ShardBounds),
     /// The same, with numbers that are not a shard's. No host sends it.
     NoShard,
+    /// As Hello: the first frame of a connection that speaks for no client, and only reads.
+    ReaderHello(Option<Seen>),
 }
 
 /// What the host of a server sends, and only to a host that has sent Hello.
@@ -62,14 +67,14 @@ pub(crate) fn is_of_host(frame: &[u8]) -> bool {
 impl FromClient {
     const HELLO: u8 = 0;
     const SHARD: u8 = 2;
+    const READER_HELLO: u8 = 4;
 
     /// The frame, with its length.
     pub fn frame(self) -> Vec<u8> {
         match self {
-            FromClient::Hello(seen) => {
-                let mut content = seen.map(spelled_seen).unwrap_or_default();
-                content.push(STREAM_VERSION);
-                framed(&[HOST, FromClient::HELLO], &content)
+            FromClient::Hello(seen) => framed(&[HOST, FromClient::HELLO], &spelled_hello(seen)),
+            FromClient::ReaderHello(seen) => {
+                framed(&[HOST, FromClient::READER_HELLO], &spelled_hello(seen))
             }
             FromClient::OtherVersion => framed(&[HOST, FromClient::HELLO], &[]),
             FromClient::Shard(shard) => {
@@ -82,7 +87,12 @@ impl FromClient {
     /// The content of the frame, or `None` if it is of another kind, which has no meaning.
     pub fn read(frame: &[u8]) -> Option<FromClient> {
         match frame {
-            [HOST, FromClient::HELLO, content @ ..] => Some(read_hello(content)),
+            [HOST, FromClient::HELLO, content @ ..] => {
+                Some(read_hello(content).map_or(FromClient::OtherVersion, FromClient::Hello))
+            }
+            [HOST, FromClient::READER_HELLO, content @ ..] => {
+                Some(read_hello(content).map_or(FromClient::OtherVersion, FromClient::ReaderHello))
+            }
             [HOST, FromClient::SHARD, shard @ ..] => {
                 Some(shard_frame::read(shard).map_or(FromClient::NoShard, FromClient::Shard))
             }
@@ -133,13 +143,19 @@ impl FromServer {
     }
 }
 
-/// What follows the kind of a client's Hello: the mark, if it has received one, and the version.
-fn read_hello(content: &[u8]) -> FromClient {
+/// What follows the kind of a Hello to a server: the mark, if its sender has received one, and the
+/// version.
+fn spelled_hello(seen: Option<Seen>) -> Vec<u8> {
+    let mut content = seen.map(spelled_seen).unwrap_or_default();
+    content.push(STREAM_VERSION);
+    content
+}
+
+/// The mark of such a Hello, if it has one.
+fn read_hello(content: &[u8]) -> Result<Option<Seen>, OtherVersion> {
     match content.split_last() {
-        Some((&STREAM_VERSION, mark)) if MARK_LENGTHS.contains(&mark.len()) => {
-            FromClient::Hello(read_seen(mark))
-        }
-        _ => FromClient::OtherVersion,
+        Some((&STREAM_VERSION, mark)) if MARK_LENGTHS.contains(&mark.len()) => Ok(read_seen(mark)),
+        _ => Err(OtherVersion),
     }
 }
 
@@ -212,7 +228,9 @@ mod tests {
     use super::*;
     use crate::lease::boot_clock::Moment;
     use crate::lease::terms::{Answer, Grant, Older, Sign};
+    use crate::model::row::{Row, Value};
     use crate::wire::frames::split;
+    use crate::wire::read_frame::{ReadRequest, RowPage};
 
     const HELLO: FromServer = FromServer::Hello { answers_signs: true };
     const SEEN: Seen =
@@ -259,8 +277,9 @@ mod tests {
             assert_eq!(FromServer::read(&[&body[..], b"more"].concat()), Some(content));
         }
         for seen in [None, Some(SEEN), Some(SEEN_EARLIER)] {
-            let hello = FromClient::Hello(seen);
-            assert_eq!(FromClient::read(&body(&hello.frame())), Some(hello));
+            for hello in [FromClient::Hello(seen), FromClient::ReaderHello(seen)] {
+                assert_eq!(FromClient::read(&body(&hello.frame())), Some(hello));
+            }
         }
         let other = FromClient::OtherVersion;
         assert_eq!(FromClient::read(&body(&other.frame())), Some(other));
@@ -278,7 +297,7 @@ mod tests {
         let earlier = FromServer::Mark(SEEN_EARLIER);
         assert_eq!(body(&earlier.frame()), [&[0, 18][..], &marked].concat());
         let unsigned = FromServer::Hello { answers_signs: false };
-        assert_eq!(body(&unsigned.frame()), [0, 16, 0, 3]);
+        assert_eq!(body(&unsigned.frame()), [0, 16, 0, 4]);
         let numbers = [5, 0, 0, 0, 0, 0, 0, 0, 2, 1, 0, 0, 0, 0, 0, 0, 7, 0, 0, 0, 0, 0, 0, 0];
         let other = FromServer::Refused(Refusal::OtherShard(Some(shard())));
         assert_eq!(body(&other.frame()), [&[0, 17, 7][..], &numbers].concat());
@@ -295,6 +314,7 @@ mod tests {
         let seen = Seen { mark, first_start: Some(7) };
         let (stamp, length) = (Moment::of_nanoseconds(5), 10_000_000_000);
         let older = Older::IsOver(1);
+        let row = Row { key: 15, value: Value::try_from("hello").unwrap() };
         let frames = [
             FromClient::Hello(None).frame(),
             FromClient::Hello(Some(seen)).frame(),
@@ -306,6 +326,9 @@ mod tests {
             FromClient::Shard(shard()).frame(),
             FromServer::Shard(shard()).frame(),
             FromServer::Refused(Refusal::Incarnation { client: 3, registered: 258 }).frame(),
+            FromClient::ReaderHello(None).frame(),
+            ReadRequest { number: 7, lo: 5, hi: 257 }.frame(),
+            RowPage { number: 7, next: 257, rows: vec![row] }.frame(),
         ];
         let hexadecimal = |frame: &Vec<u8>| -> String {
             frame.iter().map(|byte| format!("{byte:02x}")).collect::<Vec<_>>().concat()
@@ -322,7 +345,7 @@ mod tests {
         }
         let of_client = |content: &[u8]| FromClient::read(&[&[0, 0], content].concat());
         // A mark of a host from before versions may end as a version does.
-        for content in [&[][..], &[3; 24], &[3; 40], &[1], &[2], &[3, 9], &[3; 26]] {
+        for content in [&[][..], &[4; 24], &[4; 40], &[1], &[3], &[4, 9], &[4; 26]] {
             assert_eq!(of_client(content), Some(FromClient::OtherVersion), "{content:?}");
         }
         for length in MARK_LENGTHS {

@@ -2,6 +2,7 @@
 use crate::lease::terms::Sign;
 use crate::wire::host_frame::{self, FromClient};
 use crate::wire::message::Message;
+use crate::wire::read_frame::ReadRequest;
 
 /// A frame that has come to a server, read once.
 #[derive(Clone, Copy, Debug)]
@@ -12,6 +13,8 @@ pub(crate) enum Incoming<'f> {
     Host(Option<FromClient>),
     /// A sign of the client's host.
     Sign(Sign),
+    /// A question for rows that nobody keeps.
+    Read(ReadRequest),
 }
 
 impl Incoming<'_> {
@@ -20,6 +23,9 @@ impl Incoming<'_> {
         if !host_frame::is_of_host(frame) {
             return Incoming::Message(Message::read(frame));
         }
+        if let Some(request) = ReadRequest::read(frame) {
+            return Incoming::Read(request);
+        }
         Sign::read(frame).map_or_else(|| Incoming::Host(FromClient::read(frame)), Incoming::Sign)
     }
 
@@ -27,7 +33,12 @@ impl Incoming<'_> {
     pub fn client(&self) -> Option<u8> {
         match self {
             Incoming::Message(message) => message.client(),
-            Incoming::Host(_) | Incoming::Sign(_) => None,
+            Incoming::Host(_) | Incoming::Sign(_) | Incoming::Read(_) => None,
         }
+    }
+
+    /// Whether it speaks for a client, so that no reader may send it.
+    pub fn is_of_a_client(&self) -> bool {
+        matches!(self, Incoming::Message(_) | Incoming::Sign(_))
     }
 }

@@ -11,8 +11,8 @@ pub const BYE: u8 = 1;
 pub const ACK: u8 = 8;
 
 /// The Hello of a client's host, and the answer of a server's: each ends with the version.
-pub const HOST_HELLO: [u8; 11] = [3, 0, 0, 0, 0, 0, 0, 0, 0, 0, 3];
-pub const HOST_ANSWER: [u8; 12] = [4, 0, 0, 0, 0, 0, 0, 0, 0, 16, 1, 3];
+pub const HOST_HELLO: [u8; 11] = [3, 0, 0, 0, 0, 0, 0, 0, 0, 0, 4];
+pub const HOST_ANSWER: [u8; 12] = [4, 0, 0, 0, 0, 0, 0, 0, 0, 16, 1, 4];
 
 /// The incarnation in a lock file.
 pub fn incarnation(lock: &Path) -> u64 {

@@ -12,7 +12,7 @@ loop-key-preserved c =
       within = omega (arith, p.0);
       left = p.2;
       rows = copied_one found c.args.rows.now c.loop-key.rows c.loop-key.i e c.of.result p.0
-          (omega (arith, c.if-rows-count.false, c.count-count.ensures)) p.1 c.of.ensures c.loop-key.invariant.rows;
+          (omega (arith, p.0, c.if-rows-count.false, c.count-count.ensures)) p.1 c.of.ensures c.loop-key.invariant.rows;
     }
 
 pub returns : goal.returns

@@ -54,6 +54,33 @@ fn a_change_that_was_not_reported_is_refused() {
 }
 
 #[test]
+fn rows_are_not_shown_before_what_they_rest_on_is_confirmed() {
+    let value = "a".try_into().unwrap();
+    let rows = (0..5).map(|key| (10 * key, value)).collect();
+    let snapshot = Snapshot { rows, ..Snapshot::default() };
+    let (mut server, epoch) =
+        ServerHandle::open(&snapshot, Room::default(), Reach::default()).unwrap();
+    let read = |server: &mut ServerHandle, keys, most| {
+        let mut rows = vec![Row::default(); most];
+        let next = server.rows(keys, &mut rows)?;
+        Ok((next, rows.iter().map(|row| row.key).collect::<Vec<_>>()))
+    };
+    assert_eq!(read(&mut server, 0..9, 3), Err(Code::Unkept), "its epoch is not kept");
+    server.confirm(&[Change::Started { epoch }]).unwrap();
+    assert_eq!(read(&mut server, 5..41, 9), Ok((41, vec![10, 20, 30, 40])));
+    assert_eq!(read(&mut server, 10..40, 2), Ok((30, vec![10, 20])), "30 is left out");
+    assert_eq!(read(&mut server, 30..40, 2), Ok((40, vec![30])));
+    assert_eq!(read(&mut server, 20..21, 1), Ok((21, vec![20])));
+    assert_eq!(read(&mut server, 11..20, 0), Ok((20, vec![])));
+    let (greater, smaller) = (9, 1);
+    assert_eq!(read(&mut server, greater..smaller, 2), Ok((1, vec![])));
+    let change = register(&mut server, 0);
+    assert_eq!(read(&mut server, 0..9, 3), Err(Code::Unkept));
+    server.confirm(&[change]).unwrap();
+    assert_eq!(read(&mut server, 0..9, 3), Ok((9, vec![0])));
+}
+
+#[test]
 fn a_hello_waits_for_its_incarnation() {
     let mut handle = Handle::closed();
     // SAFETY: the handle stays in its place, and `&mut` gives it to this call only.

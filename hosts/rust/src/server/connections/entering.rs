@@ -1,6 +1,6 @@
 //! Connections that come: who is at the other end, whether there is a place for it, and which one
 //! makes room for another.
-use super::{Connections, Peer};
+use super::{Connections, MAX_READERS, Peer};
 use crate::access::Entry;
 use crate::access::identity::Identity;
 use crate::log::event_log;
@@ -46,6 +46,21 @@ impl Connections {
     /// If there is no place for this connection: the most for which there is one.
     pub fn lacks_place(&self, number: u64) -> Option<usize> {
         (self.is_full() && self.strangers.has(number)).then_some(self.most)
+    }
+
+    /// Takes the connection for that of a reader, which speaks for no client, and needs no place of
+    /// those that do. Returns whether there is a place for one more.
+    pub fn enter_reader(&mut self, number: u64) -> bool {
+        if self.readers.len() >= MAX_READERS {
+            return false;
+        }
+        self.strangers.remove(number);
+        self.readers.insert(number)
+    }
+
+    /// Whether it is the connection of a reader.
+    pub fn is_reader(&self, number: u64) -> bool {
+        self.readers.contains(&number)
     }
 
     pub(super) fn close_one(&mut self, number: Option<u64>, reason: CloseReason) {

@@ -382,6 +382,17 @@ fn a_stranger_makes_room_for_one_more_and_a_known_peer_does_not() {
 }
 
 #[test]
+fn readers_have_places_of_their_own_and_only_so_many() {
+    let (mut connections, at, _waker) = connections();
+    let (_stream, number) = peer(&mut connections, at);
+    for reader in 0..MAX_READERS as u64 {
+        assert!(connections.enter_reader(1_000_000 + reader));
+    }
+    assert!(!connections.enter_reader(number), "there are too many");
+    assert!(!connections.is_reader(number) && connections.lacks_place(number).is_none());
+}
+
+#[test]
 fn one_for_which_there_is_no_place_stays_a_stranger() {
     let (mut connections, at, _) = connections();
     connections.most = 1;

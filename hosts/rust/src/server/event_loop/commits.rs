@@ -47,16 +47,17 @@ impl EventLoop {
     /// server's.
     pub(super) fn is_due(&self) -> bool {
         let Gathered { changes, doubts } = &self.gathered;
-        !changes.is_empty() || self.leases.owes_terms() || !doubts.is_empty()
+        let has_gathered = !changes.is_empty() || !doubts.is_empty();
+        has_gathered || self.leases.owes_terms() || self.reads.are_waiting()
     }
 
     /// Begins a commit, unless nothing has to be committed: then the host frames may leave. If a
     /// commit fails, nothing leaves that waits for it.
     ///
     /// An empty commit is made too, if the store has to be asked whether it is still this server's:
-    /// before terms leave, before a store is called an older one, and now and then. A server after
-    /// which another one has started would find that at its next commit, and its clients might wait
-    /// for it until then.
+    /// before terms leave, before rows leave that were asked for, before a store is called an older
+    /// one, and now and then. A server after which another one has started would find that at its
+    /// next commit, and its clients might wait for it until then.
     pub fn take_commit(&mut self, now: Now) -> Result<Option<Commit>, ServeError> {
         let since_asked = now.monotonic.saturating_duration_since(self.asked_store);
         if !(self.is_due() || since_asked >= ASKS_STORE) {
@@ -91,6 +92,7 @@ impl EventLoop {
             self.alarm_older_store(doubt, now);
         }
         self.send_terms();
+        self.answer_reads()?;
         self.connections.committed();
         Ok(())
     }

@@ -19,7 +19,7 @@ impl EventLoop {
         head: &[u8; HEAD],
     ) -> Result<(), ServeError> {
         let (identity, frame) = (self.connections.identity(connection), Incoming::read(head));
-        if !identity.may_send(&frame) {
+        if !self.may_send(connection, &frame) {
             self.deny(connection, &frame);
             return Ok(());
         }

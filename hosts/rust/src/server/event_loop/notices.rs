@@ -16,7 +16,7 @@ impl EventLoop {
             &self.connections.identity(connection),
             frame.client(),
         );
-        if let Incoming::Host(Some(FromClient::Hello(_))) = frame {
+        if let Incoming::Host(Some(FromClient::Hello(_) | FromClient::ReaderHello(_))) = frame {
             self.connections.greet(connection, FromServer::Hello { answers_signs: true });
         }
         self.connections.refuse(connection, Refusal::Denied);

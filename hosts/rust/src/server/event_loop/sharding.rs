@@ -14,8 +14,9 @@ impl EventLoop {
         self
     }
 
-    /// Whether a frame is judged further. A message and a sign are judged after the client's host
-    /// has stated that it takes the server for what it serves, or at a server of all keys.
+    /// Whether a frame is judged further. A message, a sign and a question are judged after the
+    /// client's host has stated that it takes the server for what it serves, or at a server of all
+    /// keys.
     pub(super) fn lets_in(&mut self, connection: u64, frame: &Incoming<'_>) -> bool {
         match *frame {
             Incoming::Host(Some(FromClient::Shard(expected))) => {
@@ -29,8 +30,8 @@ impl EventLoop {
                 self.refuse(connection, OtherShard { expected: None, served: self.shard });
                 false
             }
-            Incoming::Host(Some(FromClient::Hello(_) | FromClient::OtherVersion) | None) => true,
-            Incoming::Message(_) | Incoming::Sign(_) => {
+            Incoming::Host(_) => true,
+            Incoming::Message(_) | Incoming::Sign(_) | Incoming::Read(_) => {
                 self.connections.is_let_in(connection) || self.compare(connection, None)
             }
         }

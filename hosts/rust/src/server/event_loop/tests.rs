@@ -1,3 +1,4 @@
+mod reading;
 mod waiting;
 
 use super::thread::ServerThread;
