@@ -23,6 +23,7 @@ part_kills() {
     drive 0 'the same over a network that loses, repeats and swaps' "$drive" kill "$work/lossy-tls" 6 sqlite lossy-tls
     finds 'a store that loses what it has not synced' "$drive" kill 20 unsynced direct
     drive 0 'shards' "$drive" shards "$work/shards" 20 2
+    drive 0 'shards that change' "$drive" moves "$work/moves" 60 12 "$programs/krl-server"
 }
 
 part_leases() {

@@ -549,8 +549,9 @@ class client {
     }
     /* How long calls wait from now on that are given no timeout. */
     answer<void> set_timeout(timeout time) { return done(krlc_set_timeout, detail::milliseconds(time)); }
-    /* From now on the client keeps what it reads until another client wants to write it: see `krlc_keep_all`. */
+    /* From now on the client keeps what it reads, or follows its map: see `krlc_keep_all` and `krlc_follow`. */
     answer<void> keep_all() { return done(krlc_keep_all); }
+    answer<void> follow() { return done(krlc_follow); }
     answer<void> reload_tls() { return done(krlc_reload_tls); }
     /* Gives back all that the client holds, and waits until each server has that on its disk. */
     answer<void> leave(timeout time = {}) { return done(krlc_leave, detail::milliseconds(time)); }
@@ -577,7 +578,6 @@ class client {
                                        std::uint64_t, krlc_error *);
 
     explicit client(krlc_client *joined) noexcept : client_(joined) {}
-
     answer<pinned> pinned_by(pin_call call, std::uint64_t lo, std::uint64_t hi, timeout time) {
         krl::rows found;
         krlc_pin *taken = nullptr;

@@ -359,6 +359,12 @@ KRLC_NODISCARD uint32_t krlc_set_timeout(krlc_client *client, uint64_t timeout_m
  * counts as a scan. Call this to read while the server is down. Errors: KRLC_MISUSE. */
 KRLC_NODISCARD uint32_t krlc_keep_all(krlc_client *client, krlc_error *error);
 
+/* From now on the client follows the file `map` of its options: it continues by each map that it finds there whose
+ * version is greater. Calls at shards that the next map has as they are notice nothing; calls at the others wait, and
+ * are made by the next map. A pin no longer holds at a shard that has changed. Errors: KRLC_MISUSE if the client has no
+ * map with a version; KRLC_NO_THREAD. */
+KRLC_NODISCARD uint32_t krlc_follow(krlc_client *client, krlc_error *error);
+
 /* Reads the files for TLS again: connections that are made from now on use them. Errors: KRLC_BAD_TLS, also if the
  * client has none. Then the earlier ones stay. */
 KRLC_NODISCARD uint32_t krlc_reload_tls(krlc_client *client, krlc_error *error);

@@ -167,6 +167,17 @@ pub unsafe extern "C" fn krlc_keep_all(client: *mut Client, error: *mut ErrorRoo
 }
 
 #[unsafe(no_mangle)]
+pub unsafe extern "C" fn krlc_follow(client: *mut Client, error: *mut ErrorRoom) -> u32 {
+    let follow = || {
+        // SAFETY: the caller frees the client after this call.
+        unsafe { own(client) }?.follow()?;
+        Ok(Code::Ok)
+    };
+    // SAFETY: the caller vouches for the room of the error.
+    unsafe { answer(error, follow) }
+}
+
+#[unsafe(no_mangle)]
 pub unsafe extern "C" fn krlc_reload_tls(client: *mut Client, error: *mut ErrorRoom) -> u32 {
     let reload = || {
         // SAFETY: the caller frees the client after this call.

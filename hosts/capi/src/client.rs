@@ -1,8 +1,11 @@
 //! What C holds of a client.
+use crate::code::Code;
 use crate::fault::Fault;
 use crate::pin::OwnPin;
 use crate::tls::Tls;
 use krl::Client;
+use std::io::{self, ErrorKind};
+use std::path::{Path, PathBuf};
 use std::sync::Arc;
 use std::time::Duration;
 
@@ -14,11 +17,13 @@ const LEAVE_TIMEOUT: Duration = Duration::from_secs(1);
 pub struct Joined {
     client: Arc<Client>,
     tls: Tls,
+    /// The file of its map.
+    map_file: Option<PathBuf>,
 }
 
 impl Joined {
-    pub fn new(client: Client, tls: Tls) -> Joined {
-        Joined { client: Arc::new(client), tls }
+    pub fn new(client: Client, tls: Tls, map_file: Option<&Path>) -> Joined {
+        Joined { client: Arc::new(client), tls, map_file: map_file.map(Path::to_path_buf) }
     }
 
     pub fn client(&self) -> &Client {
@@ -31,6 +36,17 @@ impl Joined {
             0 => Client::clone(&self.client),
             _ => self.client.within(Duration::from_millis(timeout_ms)),
         }
+    }
+
+    /// From now on the client follows the file of its map.
+    pub fn follow(&self) -> Result<(), Fault> {
+        let file = self.map_file.as_deref();
+        let file = file.ok_or_else(|| Fault::misuse("only a client with a map follows it"))?;
+        let no_thread = |error: io::Error| match error.kind() {
+            ErrorKind::InvalidInput => Fault::misuse(error.to_string()),
+            _ => Fault::about(Code::NoThread, "the map is not followed", &error),
+        };
+        self.client.follow(file).map_err(no_thread)
     }
 
     pub fn reload_tls(&self) -> Result<(), Fault> {

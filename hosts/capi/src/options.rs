@@ -39,6 +39,8 @@ pub struct Options {
 #[derive(Debug)]
 pub struct Wish<'o> {
     place: Place,
+    /// The file of the map, if the place is one.
+    map_file: Option<&'o Path>,
     number: Number<'o>,
     timeout: Option<Duration>,
     wait_if_in_use: Option<Duration>,
@@ -87,6 +89,7 @@ impl Options {
         };
         Ok(Wish {
             place,
+            map_file: text("map", self.map)?.map(Path::new),
             number: Number::new(self.number, self.numbers, lock_file)?,
             timeout: waited(self.timeout_ms),
             wait_if_in_use: waited(self.wait_if_in_use_ms),
@@ -198,6 +201,6 @@ impl Wish<'_> {
         if let Some(wait) = self.wait_if_in_use {
             builder = builder.wait_if_in_use(wait);
         }
-        Ok(Joined::new(builder.join()?, self.tls))
+        Ok(Joined::new(builder.join()?, self.tls, self.map_file))
     }
 }

@@ -70,8 +70,7 @@ impl World {
         };
         let bounds = [format!("0..{BOUND}@1"), format!("{BOUND}..@1")];
         let servers: Vec<Server> = bounds.map(start).into();
-        let shard =
-            |(first, server): (u64, &Server)| Shard { first, servers: server.address().into() };
+        let shard = |(first, server): (u64, &Server)| Shard::new(first, server.address());
         let map = ShardMap::new([0, BOUND].into_iter().zip(&servers).map(shard).collect());
         let file = folder.join("map.toml");
         fs::write(&file, format!("version = 1\n{}", map.unwrap().to_toml())).unwrap();

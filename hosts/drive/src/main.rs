@@ -9,6 +9,7 @@
 //! krl_drive failover FOLDER ROUNDS SERVER [FAULTS [HOW..]]        breaks servers that stand by
 //! krl_drive frozen FOLDER ROUNDS SERVER                           freezes servers of a reader
 //! krl_drive shards FOLDER SECONDS KILLS                           kills servers of two shards
+//! krl_drive moves FOLDER SECONDS KILLS SERVER                    cuts, merges and moves shards
 //! krl_drive cache FOLDER SECONDS                                  kills readers of a cached table
 //! krl_drive haste FOLDER                                          measures a hasty client's neighbour
 //! krl_drive reaches FOLDER                                        measures long and short grants
@@ -53,6 +54,7 @@ mod log;
 mod long_reports;
 mod lossy;
 mod machines;
+mod moves;
 mod nodes;
 mod reaches;
 mod sealed;
@@ -128,6 +130,10 @@ fn run(words: &[&str]) -> Found {
         }
         ["shards", folder, seconds, kills] => {
             shards::run(Path::new(folder), seconds.parse()?, kills.parse()?)
+        }
+        ["moves", folder, seconds, kills, server] => {
+            let server = Path::new(server);
+            moves::run(Path::new(folder), seconds.parse()?, kills.parse()?, server)
         }
         ["cache", folder, seconds] => cache::run(Path::new(folder), seconds.parse()?),
         ["strangers"] => strangers::run(),

@@ -17,13 +17,13 @@ use std::sync::atomic::{AtomicBool, AtomicU64, Ordering};
 use std::thread;
 use std::time::Duration;
 
-const LEFT: u64 = 10;
-const RIGHT: u64 = 1010;
-const BOUND: u64 = 1000;
+pub const LEFT: u64 = 10;
+pub const RIGHT: u64 = 1010;
+pub const BOUND: u64 = 1000;
 const BOTH: Range<u64> = 0..2000;
 
-const READERS: [u8; 2] = [0, 2];
-const WRITER: u8 = 1;
+pub const READERS: [u8; 2] = [0, 2];
+pub const WRITER: u8 = 1;
 
 /// How long a call of a client waits.
 const TIMEOUT: Duration = Duration::from_secs(3);
@@ -45,17 +45,19 @@ struct ShardServer {
 
 /// What the threads of a run share.
 #[derive(Default)]
-struct Run {
+pub struct Run {
     is_over: AtomicBool,
     /// The greatest number that was begun, and the greatest that is answered at both shards.
     begun: AtomicU64,
     answered: AtomicU64,
     wrong: AtomicU64,
+    /// The calls that ended without an answer.
+    failed: AtomicU64,
 }
 
 /// How many times a reader was answered.
 #[derive(Default)]
-struct Count {
+pub struct Count {
     cached: u64,
     read: u64,
 }
@@ -71,7 +73,7 @@ impl Drop for Over<'_> {
 
 pub fn run(folder: &Path, seconds: u64, kills: u64) -> Found {
     let mut servers = [start(&folder.join("left"))?, start(&folder.join("right"))?];
-    let shard = |(first, server): (u64, &ShardServer)| Shard { first, servers: server.at.into() };
+    let shard = |(first, server): (u64, &ShardServer)| Shard::new(first, server.at);
     let map = ShardMap::new([0, BOUND].into_iter().zip(&servers).map(shard).collect())?;
     let join = |number| Client::builder(map.clone(), number, folder).timeout(5 * TIMEOUT).join();
     let writer = join(WRITER)?;
@@ -79,23 +81,12 @@ pub fn run(folder: &Path, seconds: u64, kills: u64) -> Found {
     for key in [LEFT, RIGHT] {
         applied(writer.insert(key, Value::from(0))?)?;
     }
+    for client in readers.iter().chain([&writer]) {
+        client.set_timeout(TIMEOUT);
+    }
     let run = Run::default();
-    let counts = thread::scope(|scope| -> Result<Vec<Count>, Box<dyn Error>> {
-        let over = Over(&run);
-        let mut threads = Vec::new();
-        for client in &readers {
-            client.set_timeout(TIMEOUT);
-            threads.push(scope.spawn(|| Ok(run.scan_again(client))));
-            threads.push(scope.spawn(|| run.read_again(client)));
-        }
-        let writing = scope.spawn(|| run.write_again(&writer));
-        kill_for(&mut servers, seconds, kills)?;
-        drop(over);
-        writing.join().map_err(|_| "the writer panicked")??;
-        let counted = threads.into_iter().map(|thread| thread.join().unwrap_or(Err(refused())));
-        Ok(counted.collect::<Result<_, _>>()?)
-    })?;
-    run.judge(&counts, kills)
+    let counts = run.work(&writer, &readers, || kill_for(&mut servers, seconds, kills))?;
+    run.judge(&counts, &format!("{kills} kills of servers of two shards"))
 }
 
 /// What a thread that panicked comes to.
@@ -128,6 +119,39 @@ fn kill_for(servers: &mut [ShardServer], seconds: u64, kills: u64) -> Result<(),
 }
 
 impl Run {
+    /// Has these clients write and read until something else is done.
+    pub fn work(
+        &self,
+        writer: &Client,
+        readers: &[Client],
+        until: impl FnOnce() -> Result<(), Box<dyn Error>>,
+    ) -> Result<Vec<Count>, Box<dyn Error>> {
+        thread::scope(|scope| {
+            let over = Over(self);
+            let mut threads = Vec::new();
+            for client in readers {
+                threads.push(scope.spawn(|| Ok(self.scan_again(client))));
+                threads.push(scope.spawn(|| self.read_again(client)));
+            }
+            let writing = scope.spawn(|| self.write_again(writer));
+            until()?;
+            drop(over);
+            writing.join().map_err(|_| "the writer panicked")??;
+            let counted = threads.into_iter().map(|thread| thread.join().unwrap_or(Err(refused())));
+            Ok(counted.collect::<Result<_, _>>()?)
+        })
+    }
+
+    /// The calls that ended without an answer.
+    pub fn failed(&self) -> u64 {
+        self.failed.load(Ordering::SeqCst)
+    }
+
+    /// The last number that was answered at both keys.
+    pub fn last(&self) -> u64 {
+        self.answered.load(Ordering::SeqCst)
+    }
+
     fn goes_on(&self) -> bool {
         !self.is_over.load(Ordering::SeqCst)
     }
@@ -135,13 +159,13 @@ impl Run {
     /// Gives both rows the next number, again and again. A write that is not answered is made once
     /// more.
     fn write_again(&self, client: &Client) -> Result<(), krl::Error> {
-        client.set_timeout(TIMEOUT);
         let mut number = 0;
         while self.goes_on() {
             number += 1;
             self.begun.store(number, Ordering::SeqCst);
             for key in [LEFT, RIGHT] {
-                while answered(client.put(key, Value::from(number)))? != Some(Outcome::Applied) {
+                while self.answered(client.put(key, Value::from(number)))? != Some(Outcome::Applied)
+                {
                     if !self.goes_on() {
                         return Ok(());
                     }
@@ -172,7 +196,7 @@ impl Run {
         let (mut count, mut last) = (Count::default(), [0, 0]);
         while self.goes_on() {
             let before = self.answered.load(Ordering::SeqCst);
-            if let Some(rows) = answered(client.read(BOTH))? {
+            if let Some(rows) = self.answered(client.read(BOTH))? {
                 count.read += 1;
                 self.check(&rows, before, &mut last);
             }
@@ -202,14 +226,14 @@ impl Run {
         }
     }
 
-    fn judge(&self, counts: &[Count], kills: u64) -> Found {
+    pub fn judge(&self, counts: &[Count], what: &str) -> Found {
         let cached: u64 = counts.iter().map(|count| count.cached).sum();
         let read: u64 = counts.iter().map(|count| count.read).sum();
         let written = self.answered.load(Ordering::SeqCst);
         let wrong = self.wrong.load(Ordering::SeqCst);
         println!(
-            "{kills} kills of servers of two shards: {cached} scans of both caches, {read} reads, \
-             {written} pairs of writes; {wrong} wrong"
+            "{what}: {cached} scans of both caches, {read} reads, {written} pairs of writes; {wrong} \
+             wrong"
         );
         let did_enough = written >= LEAST_WRITES && cached >= LEAST_SCANS && read >= LEAST_READS;
         if wrong == 0 && !did_enough {
@@ -217,16 +241,19 @@ impl Run {
         }
         Ok(wrong == 0)
     }
-}
 
-/// What was answered, if anything was.
-fn answered<T>(result: Result<T, krl::Error>) -> Result<Option<T>, krl::Error> {
-    use krl::ErrorKind::{NotSent, TimedOut, Unserved};
-    match result {
-        Ok(found) => Ok(Some(found)),
-        Err(refused) => match refused.kind {
-            TimedOut | Unserved(_) | NotSent(_) => Ok(None),
-            _ => Err(refused),
-        },
+    /// What was answered, if anything was.
+    fn answered<T>(&self, result: Result<T, krl::Error>) -> Result<Option<T>, krl::Error> {
+        use krl::ErrorKind::{NotSent, TimedOut, Unserved};
+        match result {
+            Ok(found) => Ok(Some(found)),
+            Err(refused) => match refused.kind {
+                TimedOut | Unserved(_) | NotSent(_) => {
+                    self.failed.fetch_add(1, Ordering::SeqCst);
+                    Ok(None)
+                }
+                _ => Err(refused),
+            },
+        }
     }
 }

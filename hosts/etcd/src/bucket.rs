@@ -80,6 +80,16 @@ impl Buckets {
         number
     }
 
+    /// Keeps only the rows of these keys, and returns the numbers of the buckets that had others.
+    pub fn retain(&mut self, is_kept: impl Fn(u64) -> bool) -> Vec<usize> {
+        let mut keep = |(number, rows): (usize, &mut Bucket)| {
+            let before = rows.len();
+            rows.retain(|key, _| is_kept(*key));
+            (rows.len() < before).then_some(number)
+        };
+        self.buckets.iter_mut().enumerate().filter_map(&mut keep).collect()
+    }
+
     /// The number of the bucket from which the next one that is added takes rows.
     pub fn splits_next(&self) -> usize {
         self.count() - (self.count() + 1).next_power_of_two() / 2

@@ -55,6 +55,8 @@ fn table_of(snapshot: &Snapshot, salt: u64) -> Table {
         records: snapshot.records.clone(),
         leases: snapshot.leases,
         room: snapshot.room,
+        shard: snapshot.shard,
+        stale: Vec::new(),
         starts: snapshot.first_start.map(first_start).into_iter().collect(),
     }
 }
@@ -86,7 +88,7 @@ impl Place<'_> {
         }
         let mut operations = vec![request::put(&self.key("head"), self.mark.as_bytes())];
         if left.is_some() {
-            let folders = ["bucket", "client", "lease", "room", "start"];
+            let folders = ["bucket", "client", "lease", "room", "shard", "start"];
             operations.extend(folders.map(|name| request::delete_all(&self.key(name))));
         }
         self.transaction(left.as_deref(), &operations)
@@ -133,7 +135,8 @@ impl Place<'_> {
         });
         let clients = table.records.iter();
         let clients = clients.filter_map(|record| table.set_record(self.prefix, record.client));
-        let others = [Some(table.set_leases(self.prefix)), table.set_room(self.prefix)];
+        let leases = Some(table.set_leases(self.prefix));
+        let others = [leases, table.set_room(self.prefix), table.set_shard(self.prefix)];
         let others = others.into_iter().flatten().chain(table.set_starts(self.prefix));
         buckets.chain(clients).chain(others).collect()
     }

@@ -191,7 +191,9 @@ impl EtcdStore {
         let clients = clients.filter_map(|client| self.table.set_record(&self.prefix, *client));
         let leases = part.sets_leases.then(|| self.table.set_leases(&self.prefix));
         let room = part.sets_room.then(|| self.table.set_room(&self.prefix)).flatten();
-        operations.extend(clients.chain(leases).chain(room).map(|set: Set| set.as_json()));
+        let shard = part.sets_shard.then(|| self.table.set_shard(&self.prefix)).flatten();
+        let sets = clients.chain(leases).chain(room).chain(shard);
+        operations.extend(sets.map(|set: Set| set.as_json()));
         operations
     }
 
@@ -251,6 +253,11 @@ impl EtcdStore {
                 part.sets_room = true;
                 self.table.room = Some(room);
             }
+            Change::Shard(shard) => {
+                part.sets_shard = true;
+                self.table.shard = Some(shard);
+                self.table.keep_own_rows();
+            }
         }
         self.table.note_record(change);
     }
@@ -277,6 +284,24 @@ impl EtcdStore {
             self.send(&part, Instant::now() + self.load_timeout)?;
         }
         Ok(())
+    }
+
+    /// Removes the rows of keys that the shard does not have. The transaction that set the shard has
+    /// cut them off: nobody loads them any more, also if a server ends meanwhile.
+    fn remove_other_rows(&mut self) -> Result<(), StoreError> {
+        let mut part = Part::default();
+        for stale in std::mem::take(&mut self.table.stale) {
+            let bytes = self.table.buckets.get(stale).map_or(0, bucket::length);
+            if !part.has_room_for(1, bytes) {
+                self.send(&part, Instant::now() + self.load_timeout)?;
+                part = Part::default();
+            }
+            self.set_in(&mut part, stale);
+        }
+        if part.is_empty() {
+            return Ok(());
+        }
+        self.send(&part, Instant::now() + self.load_timeout)
     }
 
     /// Adds as many of them as fit into one transaction.
@@ -327,6 +352,7 @@ impl Store for EtcdStore {
         if changes.is_empty() {
             return self.confirm(end);
         }
+        Change::judge_shards(self.table.shard, changes).map_err(StoreError::failed)?;
         let mut part = Part::default();
         for change in changes {
             if !part.has_room_for(KEYS_OF_A_CHANGE, self.bytes_of(change)) {
@@ -337,6 +363,7 @@ impl Store for EtcdStore {
         }
         self.next.fence = self.next.fence.after_batch();
         self.send(&part, end)?;
+        self.remove_other_rows()?;
         // A store of the first form stays as it is until its room is raised.
         let is_raised = changes.iter().any(|change| matches!(change, Change::Room(_)));
         if is_raised || self.next.buckets > bucket::FEWEST {

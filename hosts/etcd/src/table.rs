@@ -4,7 +4,9 @@ use crate::head::Head;
 use crate::transaction::Set;
 use crate::{lease, record};
 use krl::fence::Failure;
-use krl::{Change, LeaseRecord, Record, Room, Snapshot};
+use krl::{Change, KeptShard, LeaseRecord, Record, Room, Snapshot};
+use std::fmt::Display;
+use std::str::FromStr;
 
 /// What etcd has of the table.
 #[derive(Debug, Default)]
@@ -14,6 +16,9 @@ pub(crate) struct Table {
     pub records: Vec<Record>,
     pub leases: LeaseRecord,
     pub room: Option<Room>,
+    pub shard: Option<KeptShard>,
+    /// The buckets that have rows in etcd of keys that the shard does not have.
+    pub stale: Vec<usize>,
     /// By epoch. A copy of another store has that one's first start at epoch 0, in which no server
     /// starts.
     pub starts: Vec<(u64, Head)>,
@@ -33,7 +38,8 @@ impl Table {
             match name.split_once('/') {
                 None if name == "head" || name == "active" => {}
                 None if name == "lease" => table.leases = parse_lease(name, value)?,
-                None if name == "room" => table.room = Some(parse_room(name, value)?),
+                None if name == "room" => table.room = Some(parse_text(name, value)?),
+                None if name == "shard" => table.shard = Some(parse_text(name, value)?),
                 Some(("bucket", number)) => table.parse_bucket(name, number, value)?,
                 Some(("client", number)) => records.push(parse_record(name, number, value)?),
                 Some(("start", epoch)) => {
@@ -46,6 +52,7 @@ impl Table {
         records.sort_by_key(|(place, _)| *place);
         table.records = records.into_iter().map(|(_, record)| record).collect();
         table.starts.sort_by_key(|(epoch, _)| *epoch);
+        table.keep_own_rows();
         if head.is_none() && table.has_something() {
             return Err(Failure::Refused("there are rows or records, and no head".to_string()));
         }
@@ -54,16 +61,18 @@ impl Table {
 
     fn has_something(&self) -> bool {
         let has_rows = self.buckets.iter().any(|rows| !rows.is_empty());
-        has_rows || !self.records.is_empty() || !self.starts.is_empty() || self.room.is_some()
+        let has_clients = !self.records.is_empty() || !self.starts.is_empty();
+        has_rows || has_clients || self.room.is_some() || self.shard.is_some()
     }
 
     /// The table as a snapshot, under this head.
     pub fn snapshot(&self, epoch: u64, head: Option<Head>) -> Snapshot {
         let rows = self.buckets.iter().flatten().map(|(key, value)| (*key, *value)).collect();
         let (records, leases, room) = (self.records.clone(), self.leases, self.room);
+        let shard = self.shard;
         let first = self.starts.first().map(|(_, head)| *head).or(head);
         let first_start = first.map(|head| head.fence.owner);
-        Snapshot { epoch, rows, records, leases, room, first_start }
+        Snapshot { epoch, rows, records, leases, room, shard, first_start }
     }
 
     pub fn note_record(&mut self, change: &Change) {
@@ -88,6 +97,18 @@ impl Table {
 
     pub fn set_room(&self, prefix: &str) -> Option<Set> {
         Some(Set { key: format!("{prefix}/room"), value: self.room?.to_string().into() })
+    }
+
+    pub fn set_shard(&self, prefix: &str) -> Option<Set> {
+        Some(Set { key: format!("{prefix}/shard"), value: self.shard?.to_string().into() })
+    }
+
+    /// Removes the rows of keys that the shard does not have. They may stay in etcd: a server that
+    /// was killed as it cut the table has left them there, and the next one removes them.
+    pub fn keep_own_rows(&mut self) {
+        let Some(KeptShard { bounds, .. }) = self.shard else { return };
+        let keys = bounds.keys();
+        self.stale.extend(self.buckets.retain(|key| keys.contains(&key)));
     }
 
     pub fn set_starts(&self, prefix: &str) -> impl Iterator<Item = Set> {
@@ -123,9 +144,10 @@ fn parse_lease(name: &str, value: &[u8]) -> Result<LeaseRecord, Failure> {
     lease::decode(text).ok_or_else(|| strange(name))
 }
 
-fn parse_room(name: &str, value: &[u8]) -> Result<Room, Failure> {
-    let room: Option<Room> = std::str::from_utf8(value).ok().and_then(|text| text.parse().ok());
-    room.filter(|room| room.to_string().as_bytes() == value).ok_or_else(|| strange(name))
+/// What stands there as text, if it is written as krl writes it.
+fn parse_text<T: FromStr + Display>(name: &str, value: &[u8]) -> Result<T, Failure> {
+    let parsed: Option<T> = std::str::from_utf8(value).ok().and_then(|text| text.parse().ok());
+    parsed.filter(|it| it.to_string().as_bytes() == value).ok_or_else(|| strange(name))
 }
 
 fn parse_record(name: &str, number: &str, value: &[u8]) -> Result<(usize, Record), Failure> {

@@ -68,13 +68,14 @@ pub(crate) struct Part {
     pub clients: BTreeSet<u8>,
     pub sets_leases: bool,
     pub sets_room: bool,
+    pub sets_shard: bool,
     /// The head that the server before this one left.
     pub past: Option<Head>,
 }
 
 /// The keys of a transaction that are neither a bucket nor a client: the head, the one that was,
-/// what is known of leases, the room.
-const OTHER_KEYS: usize = 4;
+/// what is known of leases, the room, the shard.
+const OTHER_KEYS: usize = 5;
 
 impl Part {
     pub fn set_bucket(&mut self, number: usize, rows: &Bucket) {

@@ -1,18 +1,22 @@
 //! What one commit changes, as columns of the tables.
-use krl::{Change, LeaseRecord, Outcome, Record, Room, Snapshot, Value, Write};
+use krl::{
+    Change, KeptShard, LeaseRecord, Outcome, Record, Room, ShardBounds, Snapshot, Value, Write,
+};
 use std::collections::{BTreeMap, BTreeSet};
+use std::num::NonZeroU64;
 
 /// The outcomes by the number that stands for them. 0 stands for none.
 const OUTCOMES: [Outcome; 5] =
     [Outcome::Applied, Outcome::Exists, Outcome::Absent, Outcome::NotHeld, Outcome::Full];
 
-/// Which rows and which clients changes concern.
+/// Which rows and which clients changes concern, and what else they set.
 #[derive(Debug, Default)]
 struct Touched {
     rows: BTreeMap<u64, Option<Value>>,
     clients: BTreeSet<u8>,
-    leases: bool,
-    room: bool,
+    leases: Option<LeaseRecord>,
+    room: Option<Room>,
+    shard: Option<KeptShard>,
     starts: bool,
 }
 
@@ -28,6 +32,8 @@ pub(crate) struct Batch {
     pub leases: Option<LeaseRecord>,
     /// The greatest room of a server, if that changes.
     pub room: Option<Room>,
+    /// Which shard the store is of, if that changes. The rows of other keys go with it.
+    pub shard: Option<KeptShard>,
     /// A server starts: the head of the one before is kept.
     pub starts: bool,
     /// The first start of the store that is copied.
@@ -41,17 +47,17 @@ impl Batch {
         for change in changes {
             touched.note(change);
         }
-        let leases = touched.leases.then_some(snapshot.leases);
-        let room = snapshot.room.filter(|_| touched.room);
-        let mut batch = Batch { leases, room, starts: touched.starts, ..Batch::default() };
-        for (key, value) in touched.rows {
-            match value {
+        let Touched { rows, clients, leases, room, shard, starts } = touched;
+        let mut batch = Batch { leases, room, shard, starts, ..Batch::default() };
+        let is_own = |key: u64| shard.is_none_or(|it| it.bounds.keys().contains(&key));
+        for (key, value) in rows {
+            match value.filter(|_| is_own(key)) {
                 Some(value) => batch.put(key, value),
                 None => batch.deleted_keys.push(key.cast_signed()),
             }
         }
         for (place, record) in (0..).zip(&snapshot.records) {
-            if touched.clients.contains(&record.client) {
+            if clients.contains(&record.client) {
                 batch.set_record(place, record);
             }
         }
@@ -62,7 +68,8 @@ impl Batch {
     pub fn of_all(snapshot: &Snapshot) -> Batch {
         let (leases, room) = (Some(snapshot.leases), snapshot.room);
         let first_start = snapshot.first_start;
-        let mut batch = Batch { leases, room, first_start, ..Batch::default() };
+        let shard = snapshot.shard;
+        let mut batch = Batch { leases, room, shard, first_start, ..Batch::default() };
         snapshot.rows.iter().for_each(|(key, value)| batch.put(*key, *value));
         (0..).zip(&snapshot.records).for_each(|(place, record)| batch.set_record(place, record));
         batch
@@ -92,8 +99,9 @@ impl Touched {
                     self.note_write(write);
                 }
             }
-            Change::Leased(_) => self.leases = true,
-            Change::Room(_) => self.room = true,
+            Change::Leased(leases) => self.leases = Some(leases),
+            Change::Room(room) => self.room = Some(room),
+            Change::Shard(shard) => self.shard = Some(shard),
         }
     }
 
@@ -112,6 +120,20 @@ fn fields(place: i64, record: &Record) -> [i64; 6] {
     });
     let incarnation = record.incarnation.cast_signed();
     [record.client.into(), place, incarnation, last, outcome, record.left.into()]
+}
+
+/// `first, last, version` of a shard. All are below 2^63.
+pub(crate) fn numbers_of_shard(shard: KeptShard) -> [i64; 3] {
+    let (keys, version) = (shard.bounds.keys(), shard.bounds.map_version());
+    [keys.start, keys.end - 1, version.get()].map(u64::cast_signed)
+}
+
+/// The shard of `first, last, version`, if it is one.
+pub(crate) fn shard([first, last, version]: [i64; 3], is_sealed: bool) -> Option<KeptShard> {
+    let [first, last, version] = [first, last, version].map(u64::try_from);
+    let version = NonZeroU64::new(version.ok()?)?;
+    let bounds = ShardBounds::new(first.ok()?..last.ok()? + 1, version).ok()?;
+    Some(KeptShard { bounds, is_sealed })
 }
 
 /// The record of `client, incarnation, last, outcome, has_left`, if it is one.
@@ -147,6 +169,17 @@ mod tests {
         }
         for fields in [[64, 1, 0, 0, 0], [1, 1, 0, 6, 0], [1, 1, 0, -1, 0], [1, 1, 0, 0, 2]] {
             assert_eq!(record(fields), None, "{fields:?}");
+        }
+    }
+
+    #[test]
+    fn shards_are_read_as_they_are_written() {
+        for text in ["0..@1", "7..9@3", "9223372036854775807..@9223372036854775807 sealed"] {
+            let of: KeptShard = text.parse().unwrap();
+            assert_eq!(shard(numbers_of_shard(of), of.is_sealed), Some(of), "{text}");
+        }
+        for numbers in [[5, 4, 1], [0, 4, 0], [-1, 4, 1], [0, -1, 1], [0, 4, -1]] {
+            assert_eq!(shard(numbers, false), None, "{numbers:?}");
         }
     }
 }

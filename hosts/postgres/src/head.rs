@@ -4,8 +4,9 @@ use std::ops::RangeInclusive;
 use tokio_postgres::Row;
 
 /// The formats of the tables that this version reads. What it commits makes them of the last one,
-/// as `sql::COMMIT` does. Format 1 has no room.
-const FORMATS: RangeInclusive<u64> = 1..=2;
+/// as `sql::COMMIT` does. Formats 1 and 2 have no shard, and format 1 has no
+/// room.
+const FORMATS: RangeInclusive<u64> = 1..=3;
 
 /// The fence of a row of `epoch, owner, transaction, commits, format`, if it is one that a server
 /// of this version sets.

@@ -1,5 +1,5 @@
 //! A connection to the database, which is made again when it ends.
-use crate::batch::Batch;
+use crate::batch::{self, Batch};
 use crate::connector::{Carrier, Connector};
 use crate::head::{fence_of, owner_text};
 use crate::sql;
@@ -38,6 +38,8 @@ pub(crate) struct Stored {
     pub leases: Row,
     /// The greatest room of a server, if one is kept.
     pub room: Option<Row>,
+    /// Which shard the store is of, if it keeps one.
+    pub shard: Option<Row>,
 }
 
 pub(crate) struct Link {
@@ -196,6 +198,7 @@ async fn load(session: &mut Session) -> Result<Loaded, Error> {
         clients: all.query(sql::CLIENTS, &[]).await?,
         leases: all.query_one(sql::LEASES, &[]).await?,
         room: all.query_opt(sql::ROOM, &[]).await?,
+        shard: all.query_opt(sql::SHARD, &[]).await?,
     };
     all.commit().await?;
     Ok(Loaded { is_safe, stored: Some(stored) })
@@ -215,7 +218,10 @@ async fn commit(
     let (longest, unleased) = (leases.longest.cast_signed(), leases.unleased.bits().cast_signed());
     let room = batch.room.and_then(|room| i64::try_from(room.rows()).ok());
     let first_start = batch.first_start.map(owner_text);
-    let values: [&(dyn ToSql + Sync); 23] = [
+    let shard = batch.shard.map(batch::numbers_of_shard);
+    let [first_key, last_key, version] = [0, 1, 2].map(|at| shard.map(|numbers| numbers[at]));
+    let is_sealed = batch.shard.map(|shard| shard.is_sealed);
+    let values: [&(dyn ToSql + Sync); 27] = [
         &epoch,
         &owner,
         &transaction,
@@ -239,6 +245,10 @@ async fn commit(
         &unleased,
         &room,
         &first_start,
+        &first_key,
+        &last_key,
+        &version,
+        &is_sealed,
     ];
     let Statements { commit, .. } = session.statements().await?;
     let count: i64 = session.client.query_one(&commit, &values).await?.try_get(0)?;

@@ -6,7 +6,7 @@ pub(crate) const HAS_STORE: &str = "SELECT to_regclass('krl.head') IS NOT NULL";
 /// Whether all tables are there. The question needs no right to make any.
 pub(crate) const HAS_TABLES: &str = "
     SELECT bool_and(to_regclass('krl.' || name) IS NOT NULL)
-    FROM unnest(ARRAY['head', 'start', 'entry', 'client', 'lease', 'room']) AS name";
+    FROM unnest(ARRAY['head', 'start', 'entry', 'client', 'lease', 'room', 'shard']) AS name";
 
 /// The tables, unless they are there. Unsigned numbers of 64 bits are stored as signed ones. The
 /// lock makes one of two servers that start over a new database wait for the other.
@@ -29,6 +29,9 @@ pub(crate) const TABLES: &str = "
         id integer PRIMARY KEY CHECK (id = 0), longest bigint NOT NULL, unleased bigint NOT NULL);
     CREATE TABLE IF NOT EXISTS krl.room (
         id integer PRIMARY KEY CHECK (id = 0), most_rows bigint NOT NULL);
+    CREATE TABLE IF NOT EXISTS krl.shard (
+        id integer PRIMARY KEY CHECK (id = 0), first bigint NOT NULL, last bigint NOT NULL,
+        version bigint NOT NULL, sealed boolean NOT NULL);
     INSERT INTO krl.head VALUES (0, 0, repeat('0', 32), 0, 0) ON CONFLICT DO NOTHING;
     INSERT INTO krl.lease VALUES (0, 0, -1) ON CONFLICT DO NOTHING;
     COMMIT;";
@@ -51,13 +54,14 @@ pub(crate) const CLIENTS: &str =
     "SELECT client, incarnation, last, outcome, has_left FROM krl.client ORDER BY place";
 pub(crate) const LEASES: &str = "SELECT longest, unleased FROM krl.lease";
 pub(crate) const ROOM: &str = "SELECT most_rows FROM krl.room";
+pub(crate) const SHARD: &str = "SELECT first, last, version, sealed FROM krl.shard";
 
 /// Commits a batch if the head is as it should be, and makes the format this version's, so that no
-/// server from before the room was kept ignores it. It is one statement, and so one transaction:
+/// server from before the shard was kept ignores it. It is one statement, and so one transaction:
 /// the head's row is locked by it, and compared again once another one has let it go.
 pub(crate) const COMMIT: &str = "
     WITH fence AS (
-        UPDATE krl.head SET epoch = $1, owner = $2, transaction = $3, commits = $4, format = 2
+        UPDATE krl.head SET epoch = $1, owner = $2, transaction = $3, commits = $4, format = 3
         WHERE epoch = $5 AND owner = $6 AND transaction = $7 AND commits = $8 RETURNING 1),
     past AS (
         INSERT INTO krl.start SELECT $5, $6, $8 WHERE $9 AND EXISTS (SELECT FROM fence)),
@@ -83,7 +87,15 @@ pub(crate) const COMMIT: &str = "
     room AS (
         INSERT INTO krl.room SELECT 0, $22::bigint
         WHERE $22::bigint IS NOT NULL AND EXISTS (SELECT FROM fence)
-        ON CONFLICT (id) DO UPDATE SET most_rows = excluded.most_rows)
+        ON CONFLICT (id) DO UPDATE SET most_rows = excluded.most_rows),
+    shard AS (
+        INSERT INTO krl.shard SELECT 0, $24::bigint, $25::bigint, $26::bigint, $27::boolean
+        WHERE $24::bigint IS NOT NULL AND EXISTS (SELECT FROM fence)
+        ON CONFLICT (id) DO UPDATE SET first = excluded.first, last = excluded.last,
+            version = excluded.version, sealed = excluded.sealed),
+    others AS (
+        DELETE FROM krl.entry WHERE (key < $24::bigint OR key > $25::bigint)
+        AND NOT key = ANY($12::bigint[]) AND EXISTS (SELECT FROM fence))
     SELECT count(*) FROM fence";
 
 /// Asks whether the head is as it should be. It writes the row, so that it comes to the replicas

@@ -6,7 +6,8 @@ use crate::head::fence_of;
 use crate::link::{Link, Stored};
 use krl::fence::{Failure, Fence, Ownership};
 use krl::{
-    Change, ClientSet, History, LeaseRecord, Mark, Room, Snapshot, Store, StoreError, Value,
+    Change, ClientSet, History, KeptShard, LeaseRecord, Mark, Room, Snapshot, Store, StoreError,
+    Value,
 };
 use std::fmt;
 use std::thread;
@@ -178,6 +179,7 @@ impl Store for PostgresStore {
             let found = self.link.confirm(&self.head, end);
             return self.ownership.judge(found, Some(&self.head));
         }
+        Change::judge_shards(self.snapshot.shard, changes).map_err(StoreError::failed)?;
         for change in changes {
             self.snapshot.apply(change);
         }
@@ -219,8 +221,9 @@ fn snapshot(stored: &Stored, epoch: u64) -> Result<Snapshot, Failure> {
     let rows = stored.entries.iter().map(entry).collect::<Result<_, _>>()?;
     let records = stored.clients.iter().map(record).collect::<Result<_, _>>()?;
     let room = stored.room.as_ref().map(room).transpose()?;
+    let shard = stored.shard.as_ref().map(shard).transpose()?;
     let leases = leases(&stored.leases)?;
-    Ok(Snapshot { epoch, rows, records, leases, room, first_start: None })
+    Ok(Snapshot { epoch, rows, records, leases, room, shard, first_start: None })
 }
 
 fn entry(row: &Row) -> Result<(u64, Value), Failure> {
@@ -247,6 +250,15 @@ fn room(row: &Row) -> Result<Room, Failure> {
     let rows: Option<i64> = row.try_get(0).ok();
     let rows = rows.and_then(|rows| usize::try_from(rows).ok());
     rows.and_then(|rows| Room::of(rows).ok()).ok_or_else(|| strange("room"))
+}
+
+fn shard(row: &Row) -> Result<KeptShard, Failure> {
+    let mut numbers = [0; 3];
+    for (at, number) in numbers.iter_mut().enumerate() {
+        *number = row.try_get(at).map_err(|_| strange("shard"))?;
+    }
+    let is_sealed = row.try_get(3).map_err(|_| strange("shard"))?;
+    batch::shard(numbers, is_sealed).ok_or_else(|| strange("shard"))
 }
 
 fn mark(row: &Row) -> Result<Mark, Failure> {

@@ -43,7 +43,7 @@ _TYPES |= {"s": c_char_p, "p": c_void_p, "t": c_int64}
 # while the others wait, other threads of the program continue.
 _AT_ONCE = """version:i is_unknown_outcome:?i number:ip joined:np status_at:ipnpp cached:ipqqp
     cached_row:ipqp pin_holds:ip rows_new:p rows_get:ppp rows_free:-p"""
-_WAITING = """join:ippp evict:ipp leave:ipqp free:-p keep_all:ipp reload_tls:ipp read:ipqqpqp
+_WAITING = """join:ippp evict:ipp leave:ipqp free:-p keep_all:ipp follow:ipp reload_tls:ipp read:ipqqpqp
     forget:ipqqqp wait_for_change:ipqqsnqp write_all:ippnqp pin_write_all:ippnqp pin_held:ipqqpqp
     read_once:ipqqpqp reader_connect:ippp reader_read:ipqqpp reader_free:-p
     pin_free:-p pin_for_read:ipqqppqp pin_for_update:ipqqppqp pin_for_write:ipqqppqp"""

@@ -274,6 +274,12 @@ class Client(_Writer):
         and ``cached`` returns ``None``, until it has tried again after some hundred reads."""
         call("keep_all", self._handle)
 
+    def follow(self) -> None:
+        """From now on the client follows the file of its map, which ``join_map`` was given: it
+        continues by each map there whose version is greater. Calls at shards that change wait, and
+        are made by the next map."""
+        call("follow", self._handle)
+
     def reload_tls(self) -> None:
         """Reads the TLS files again for new connections. After ``BadOption`` the old ones stay."""
         call("reload_tls", self._handle)

@@ -1,6 +1,7 @@
 //! A client over a network, of one server or of several.
 pub(crate) mod answer;
 pub(crate) mod asynchronous;
+mod attempt;
 mod backoff;
 mod blocking;
 pub(crate) mod builder;
@@ -9,9 +10,12 @@ pub(crate) mod changes;
 mod deadlines;
 pub(crate) mod engine;
 pub(crate) mod evict;
+#[cfg(feature = "map-file")]
+mod follow;
 pub(crate) mod incarnations;
 mod joined;
 pub(crate) mod joining;
+mod joining_shards;
 pub(crate) mod link;
 pub(crate) mod lock_file;
 pub(crate) mod lock_folder;
@@ -28,24 +32,27 @@ pub(crate) mod shard_client;
 pub(crate) mod silence;
 pub(crate) mod state;
 pub(crate) mod status;
+mod table;
 mod tenure;
 pub(crate) mod timeout;
+pub(crate) mod waiting;
 pub(crate) mod wakes;
 mod writer;
 
-use crate::client::calls::{Calls, Waited};
+use crate::client::calls::Calls;
 use crate::client::changes::{Changes, WatchedRange};
-use crate::client::joined::Joined;
 use crate::client::pin::Pin;
 use crate::client::pinned::Pinned;
 use crate::client::scratch::with_room;
 use crate::client::shard_client::ShardClient;
 use crate::client::state::{Purpose, State};
+use crate::client::table::Table;
 use crate::client::timeout::MAX_WAIT;
+use crate::client::waiting::Waited;
 use crate::log::span;
 use crate::model::batch::{BatchError, Mutation};
 use crate::model::change::{Outcome, Write};
-use crate::model::error::{Error, ErrorKind};
+use crate::model::error::{Error, ErrorKind, JoinError};
 use crate::model::range::keys_of;
 use crate::model::row::{END, Row, Value};
 use crate::shards::map::ShardMap;
@@ -112,41 +119,64 @@ use std::time::Duration;
 /// # Ok::<(), Box<dyn std::error::Error>>(())
 /// ```
 ///
+/// # A map that changes
+///
+/// A client that follows its map (`Client::follow`, with the feature `map-file`) continues by each
+/// next one. A shard that is the same in both keeps its connection, its cache, its pins and its
+/// calls. At a shard that changes all that is asked waits until the client has left the shard by the
+/// one map and has joined what is in its place by the next: so no call is made by two maps, and a
+/// scan is of one. A pin no longer holds at a shard that has changed.
+///
 /// [`Refusal::OtherStore`]: crate::Refusal::OtherStore
 #[derive(Clone)]
 pub struct Client {
-    joined: Arc<Joined>,
+    table: Arc<Table>,
     /// How long the calls by this value wait, if it has a time of its own.
     timeout: Option<Duration>,
 }
 
 impl Client {
-    pub(crate) fn of(joined: Joined) -> Client {
-        Client { joined: Arc::new(joined), timeout: None }
+    pub(crate) fn of(table: Table) -> Client {
+        Client { table: Arc::new(table), timeout: None }
     }
 
     /// Calls that begin now.
     pub(crate) fn calls(&self) -> Calls<'_> {
-        Calls::new(&self.joined, self.timeout())
+        Calls::new(&self.table, self.timeout())
     }
 
-    /// The map of the shards, if the client is of several servers.
+    /// The map of the shards, if the client is of several servers: the one of now, of a client that
+    /// follows it.
     #[must_use]
-    pub fn map(&self) -> Option<&ShardMap> {
-        self.joined.map()
+    pub fn map(&self) -> Option<ShardMap> {
+        self.table.now().map().cloned()
+    }
+
+    /// Continues by this map, if its version is greater than that of the client's own: for programs
+    /// whose map lies elsewhere than in a file that the client could follow. It returns when the
+    /// client has left the shards that change, after half a minute at most; calls at the shards in
+    /// their place wait until those are served.
+    ///
+    /// # Errors
+    ///
+    /// `Incomplete` if the client has no map with a version, or no shard of this one has any of its
+    /// keys; `LockFile` or `NoThread`, if the client of a shard could not be started: then calls
+    /// at the shards that change wait, until this is called again.
+    pub fn change_map(&self, map: ShardMap) -> Result<(), JoinError> {
+        self.table.live.change(map)
     }
 
     /// From now on, each call waits at most this long for an answer, and a year at most. A call
     /// that waits already continues as it began, and what [`Client::within`] has returned keeps its
     /// own time.
     pub fn set_timeout(&self, timeout: Duration) {
-        self.joined.timeout.set(timeout);
+        self.table.timeout.set(timeout);
     }
 
     /// How long each call waits for an answer.
     #[must_use]
     pub fn timeout(&self) -> Duration {
-        self.timeout.unwrap_or_else(|| self.joined.timeout.get())
+        self.timeout.unwrap_or_else(|| self.table.timeout.get())
     }
 
     /// The same client, whose calls by the value that is returned, and by clones of it, wait at
@@ -162,13 +192,13 @@ impl Client {
     /// ```
     #[must_use = "it does nothing before one of its calls"]
     pub fn within(&self, timeout: Duration) -> Client {
-        Client { joined: Arc::clone(&self.joined), timeout: Some(timeout.min(MAX_WAIT)) }
+        Client { table: Arc::clone(&self.table), timeout: Some(timeout.min(MAX_WAIT)) }
     }
 
     /// The client's number, from 0 to 63.
     #[must_use]
     pub fn number(&self) -> u8 {
-        self.joined.number()
+        self.table.number()
     }
 
     /// The rows of the range: from the cache, with no message and no waiting, if the client holds
@@ -186,7 +216,7 @@ impl Client {
     /// `OutOfMemory`; `Stopped`.
     pub fn read(&self, keys: impl RangeBounds<u64>) -> Result<Vec<Row>, Error> {
         let keys = keys_of(&keys)?;
-        let is_cached = |room: &mut Vec<Row>| self.joined.scan(&keys, room);
+        let is_cached = |room: &mut Vec<Row>| self.table.scan(&keys, room);
         if let Some(rows) = with_room(|room| is_cached(room).map(|is| is.then(|| room.clone())))? {
             return Ok(rows);
         }
@@ -222,7 +252,7 @@ impl Client {
     /// `BadRange` as of [`Client::read`]; `TimedOut` or `Unserved`; `TurnedAway` or `OtherShard`;
     /// `StoreWentBack`.
     pub fn read_once(&self, keys: impl RangeBounds<u64>) -> Result<Vec<Row>, Error> {
-        self.joined.read_once(&keys_of(&keys)?, self.calls().end)
+        self.table.now().read_once(&keys_of(&keys)?, self.calls().end)
     }
 
     /// The rows of the range if the cache covers it, otherwise `None`. It sends nothing, and waits
@@ -252,7 +282,7 @@ impl Client {
         keys: impl RangeBounds<u64>,
         rows: &mut Vec<Row>,
     ) -> Result<bool, Error> {
-        self.joined.scan(&keys_of(&keys)?, rows)
+        self.table.scan(&keys_of(&keys)?, rows)
     }
 
     /// The same, and `visit` gets each row, in key order. It returns whether the cache covers the
@@ -380,12 +410,12 @@ impl Client {
     /// `StoreWentBack`, `LeaseEnded` or `Unserved` while the client joins again; those of
     /// [`Client::pin_for_read`] if the client has a map.
     pub fn pin(&self, keys: impl RangeBounds<u64>) -> Result<Pin, Error> {
-        let Some(only) = self.joined.only() else {
+        let Some(only) = self.table.only() else {
             return self.pin_for_read(keys).map(|(_, pin)| pin);
         };
         let keys = keys_of(&keys)?;
         let id = only.link().with_state(|state| state.pin(keys))?;
-        let mut pinned = Pinned::new(&self.joined);
+        let mut pinned = Pinned::new(&self.table, &self.table.now());
         pinned.add(0, id);
         Ok(Pin::of(pinned))
     }
@@ -535,7 +565,7 @@ impl Client {
     #[must_use]
     pub fn take_called_back(&self) -> Vec<Range<u64>> {
         let taken = |client: &ShardClient| client.link().with_state(State::take_called_back);
-        self.joined.clients().flat_map(|(_, client)| taken(client)).collect()
+        self.table.now().clients().flat_map(|(_, client)| taken(client)).collect()
     }
 
     /// From now on the client keeps what it reads until another client wants to write it.
@@ -548,7 +578,7 @@ impl Client {
     ///
     /// It is for callers that have to read while the server is down.
     pub fn keep_all(&self) {
-        self.joined.keep_all();
+        self.table.live.keep_all();
     }
 
     /// Gives back all that the client holds, and waits until each server has kept that it left.
@@ -571,7 +601,7 @@ impl Client {
     /// A range whose changes may be watched: one that is not empty, and of joined shards.
     pub(crate) fn keys_to_watch(&self, keys: &impl RangeBounds<u64>) -> Result<Range<u64>, Error> {
         let keys = keys_of(keys)?;
-        self.joined.parts(&keys)?;
+        self.table.now().parts(&keys)?;
         if keys.is_empty() { Err(ErrorKind::BadRange.into()) } else { Ok(keys) }
     }
 
@@ -606,7 +636,8 @@ impl WatchedRange for RangeOfClient {
 
 impl fmt::Debug for Client {
     fn fmt(&self, f: &mut fmt::Formatter<'_>) -> fmt::Result {
-        let servers = self.joined.clients().map(|(_, client)| client.link().servers());
+        let joined = self.table.now();
+        let servers = joined.clients().map(|(_, client)| client.link().servers());
         let mut shown = f.debug_struct("Client");
         shown.field("number", &self.number()).field("servers", &servers.collect::<Vec<_>>());
         shown.field("timeout", &self.timeout()).finish_non_exhaustive()

@@ -6,6 +6,7 @@ pub(crate) mod client_set;
 pub(crate) mod code;
 pub(crate) mod error;
 pub(crate) mod history;
+pub(crate) mod kept_shard;
 pub(crate) mod lease_record;
 pub(crate) mod lock;
 pub(crate) mod range;

@@ -13,6 +13,7 @@ pub(crate) mod opening;
 pub(crate) mod questions;
 pub(crate) mod room_at_start;
 pub(crate) mod routing;
+pub(crate) mod shard_at_start;
 pub(crate) mod shown;
 pub(crate) mod sockets;
 pub(crate) mod strangers;

@@ -3,7 +3,7 @@ mod peer;
 
 use krl::{
     Change, Client, Error, ErrorKind, JoinError, JoinErrorKind, MemoryStore, Outcome, Refusal, Row,
-    ServeError, Server, Shard, ShardBounds, ShardMap, Value, evict,
+    ServeError, Server, Shard, ShardBounds, ShardMap, Snapshot, Value, evict,
 };
 use peer::{HELLO, HOST_ANSWER, HOST_HELLO, Peer, frame};
 use std::io::{Read, Write};
@@ -62,10 +62,7 @@ fn server(shard: Option<&str>) -> Server {
 }
 
 fn map(version: u64, shards: &[(u64, &Server)]) -> ShardMap {
-    let shard = |(first, server): &(u64, &Server)| {
-        let servers = server.address().into();
-        Shard { first: *first, servers }
-    };
+    let shard = |(first, server): &(u64, &Server)| Shard::new(*first, server.address());
     let map = ShardMap::new(shards.iter().map(shard).collect()).unwrap();
     map.with_version(NonZeroU64::new(version).unwrap())
 }
@@ -226,7 +223,9 @@ fn a_client_goes_on_when_its_server_is_started_as_its_shard_again() {
     for shard in ["0..9@2", "0..9@3"] {
         let snapshot = server.monitor().snapshot().unwrap();
         server.stop().unwrap();
-        server = start(&address, MemoryStore::from(snapshot), Some(shard)).unwrap();
+        // Its store keeps the shard, and no server of another one would start.
+        let store = MemoryStore::from(Snapshot { shard: None, ..snapshot });
+        server = start(&address, store, Some(shard)).unwrap();
         let end = Instant::now() + LONG;
         let found = loop {
             match client.read(0..9) {

@@ -36,8 +36,7 @@ impl World {
             Server::start(listener, MemoryStore::default()).unwrap()
         };
         let servers: Vec<Server> = first_keys.iter().map(start).collect();
-        let shard =
-            |(&first, server): (&u64, &Server)| Shard { first, servers: server.address().into() };
+        let shard = |(&first, server): (&u64, &Server)| Shard::new(first, server.address());
         let map = ShardMap::new(first_keys.iter().zip(&servers).map(shard).collect());
         World { map: map.unwrap(), servers, folder }
     }

@@ -42,7 +42,7 @@ fn a_client_sends_its_own_numbers_and_no_other() {
 fn a_client_of_a_map_shows_its_certificate_to_each_server() {
     let setup = Setup::new("map");
     let servers = [serve(&setup), serve(&setup)];
-    let shard = |(first, server): (u64, &Server)| Shard { first, servers: server.address().into() };
+    let shard = |(first, server): (u64, &Server)| Shard::new(first, server.address());
     let map = ShardMap::new([0, 100].into_iter().zip(&servers).map(shard).collect()).unwrap();
     let builder = Client::builder(&map, 3, &setup.folder);
     let client = builder.tls(setup.config(&["krl:client:3"])).join().unwrap();

@@ -59,6 +59,7 @@ fn check_store(path: &Path) -> Result<ExitCode, Box<dyn Error>> {
          epoch: {}\n\
          rows: {}\n\
          room: {}\n\
+         shard: {}\n\
          checksum: {checksum}\n\
          clients that have not left: {}\n\
          clients that have left: {}\n\
@@ -68,6 +69,7 @@ fn check_store(path: &Path) -> Result<ExitCode, Box<dyn Error>> {
         snapshot.epoch,
         snapshot.rows.len(),
         snapshot.kept_room().unwrap_or_default(),
+        snapshot.shard.map_or("none".to_string(), |shard| shard.to_string()),
         list(&there),
         list(&gone),
     ))?;

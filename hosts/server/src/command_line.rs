@@ -1,5 +1,6 @@
 //! The words of the command line.
 use crate::http::StatusPort;
+use crate::live_reshard::LiveChange;
 use crate::next_map::{MergeMap, SplitMap};
 use crate::pages::{JSON, TEXT};
 use crate::settings::{BadSetting, Given, Key, StorePlace, key};
@@ -201,6 +202,22 @@ If it is killed, repeat it with the same words.")]
         #[command(flatten)]
         map: MergeMap,
     },
+    /// Cut, merge or move shards while the table serves
+    #[command(long_about = "\
+Cut, merge or move shards while the table serves.
+
+The next map takes the place of the file --map, which clients follow. They leave the shards that
+change, and their calls there wait. When all have left, the servers of these shards are stopped by
+--stop, the stores are changed as split and merge do, and the servers are started again by --start
+and --start-new. All other servers and their clients continue.
+
+If it is killed, repeat it with the same words: it continues where it was. If clients have not left
+within --wait seconds, it names them and takes its first step back: the map is then as it was before,
+by a version that is greater by two, and nothing has changed.")]
+    Reshard {
+        #[command(subcommand)]
+        change: LiveChange,
+    },
     /// Write the rows of a file of CSV or JSON lines to a store that no server serves
     #[command(long_about = "\
 Write the rows of a file of CSV or JSON lines to a store that no server serves.
@@ -322,6 +339,9 @@ pub struct FormatOptions {
 }
 
 impl FormatOptions {
+    /// The kind that programs read.
+    pub const JSON: FormatOptions = FormatOptions { json: true, format: Format::Json };
+
     /// The kind of page that is asked for.
     pub fn kind(self) -> &'static str {
         match (self.json, self.format) {

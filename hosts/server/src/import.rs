@@ -61,6 +61,14 @@ fn add(store: Snapshot, lines: Vec<Line>, existing: Existing) -> Result<Added, S
     let existing = if lines.iter().all(has) { Existing::Keep } else { existing };
     let mut added = Added { store, ..Added::default() };
     for line in lines {
+        if let Some(shard) = added.store.shard
+            && !shard.bounds.keys().contains(&line.row.key)
+        {
+            let (place, key) = (line.place, line.row.key);
+            return Err(format!(
+                "line {place}: the key {key} is none of the store's shard, {shard}"
+            ));
+        }
         let is_there = added.store.rows.contains_key(&line.row.key);
         match existing {
             Existing::Refuse if is_there => {
@@ -123,6 +131,14 @@ mod tests {
             let again = add(made.clone(), lines(), existing).unwrap();
             assert_eq!((again.store, again.written.len(), again.kept), (made.clone(), 0, 2));
         }
+    }
+
+    #[test]
+    fn a_row_of_another_shard_is_refused() {
+        let store = || Snapshot { shard: "1..3@4".parse().ok(), ..store() };
+        let refused = add(store(), vec![line(2, 1), line(3, 2)], Existing::Replace).unwrap_err();
+        assert_eq!(refused, "line 2: the key 3 is none of the store's shard, 1..3@4");
+        assert!(add(store(), vec![line(2, 1)], Existing::Replace).is_ok());
     }
 
     #[test]

@@ -9,9 +9,11 @@ mod export;
 mod health;
 mod http;
 mod import;
+mod live_reshard;
 mod locks;
 mod log;
 mod long_waits;
+mod map_watch;
 mod new_store;
 mod next_map;
 mod open_files;
@@ -21,6 +23,7 @@ mod output;
 mod owner;
 mod page;
 mod pages;
+mod published_map;
 mod recent;
 mod reload;
 mod reshard;
@@ -98,11 +101,12 @@ fn run(command: Command) -> Result<ExitCode, Box<dyn Error>> {
             restore::restore(&file, &store, clients_are_stopped)?;
         }
         Command::Split { store, at, new_store, allow_empty, map } => {
-            reshard::split(&store, at, &new_store, allow_empty, &map)?;
+            reshard::split(&store, at, &new_store, allow_empty, &map)?.write_and_print()?;
         }
         Command::Merge { lower, upper, new_store, map } => {
-            reshard::merge(&lower, &upper, &new_store, &map)?;
+            reshard::merge(&lower, &upper, &new_store, &map)?.write_and_print()?;
         }
+        Command::Reshard { change } => live_reshard::reshard(&change)?,
         Command::Import { file, store, existing, json } => {
             import::import(&file, json, &store, existing)?;
         }

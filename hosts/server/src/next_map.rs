@@ -1,6 +1,6 @@
 //! The map after a split or a merge, as a file.
 use clap::Args;
-use krl::{Address, Servers, Shard, ShardMap, Snapshot};
+use krl::{Address, KeptShard, Servers, Shard, ShardBounds, ShardMap, Snapshot};
 use std::error::Error;
 use std::fs::OpenOptions;
 use std::io::{self, ErrorKind, Write};
@@ -36,13 +36,28 @@ pub struct MergeMap {
     new_map: Option<PathBuf>,
 }
 
+/// The map of a move.
+#[derive(Debug)]
+pub struct MoveMap<'m> {
+    /// The map before.
+    pub before: &'m ShardMap,
+    /// The map by which the shard is elsewhere.
+    pub next: &'m ShardMap,
+}
+
 /// A map that is not written yet.
 pub struct NextMap {
+    before: ShardMap,
     map: ShardMap,
     path: PathBuf,
 }
 
 impl SplitMap {
+    /// The map of a split whose next map is in this file already.
+    pub fn of(before: PathBuf, servers: Servers, next: PathBuf) -> SplitMap {
+        SplitMap { map: Some(before), servers: Some(servers), new_map: Some(next) }
+    }
+
     /// The next map, if one is wanted. The store has to be that of the shard that is cut.
     pub fn next(&self, at: u64, store: &Snapshot) -> Result<Option<NextMap>> {
         let (Some(path), Some(servers), Some(new)) = (&self.map, &self.servers, &self.new_map)
@@ -51,14 +66,26 @@ impl SplitMap {
         };
         let map = read(path)?;
         refuse_server_of_map(&map, servers)?;
-        refuse_empty_store(&map, at, store)?;
+        if store.shard.is_none() {
+            refuse_empty_store(&map, at, store)?;
+        }
         refuse_other_store(&map, at, store)?;
         let next = map.split(at, servers.clone()).map_err(|error| no_map(path, at, &error))?;
-        NextMap::new(next, new).map(Some)
+        NextMap::new(map, next, new).map(Some)
     }
 }
 
 impl MergeMap {
+    /// The map of a merge whose next map is in this file already.
+    pub fn of(before: PathBuf, at: u64, next: PathBuf) -> MergeMap {
+        MergeMap { map: Some(before), at: Some(at), new_map: Some(next) }
+    }
+
+    /// The key at which the two shards meet, if a map is given.
+    pub fn at(&self) -> Option<u64> {
+        self.at
+    }
+
     /// The next map, if one is wanted. The stores have to be those of the two shards.
     pub fn next(&self, lower: &Snapshot, upper: &Snapshot) -> Result<Option<NextMap>> {
         let (Some(path), Some(at), Some(new)) = (&self.map, self.at, &self.new_map) else {
@@ -68,16 +95,104 @@ impl MergeMap {
         let next = map.merge(at).map_err(|error| no_map(path, at, &error))?;
         refuse_other_store(&map, at - 1, lower)?;
         refuse_other_store(&map, at, upper)?;
-        NextMap::new(next, new).map(Some)
+        NextMap::new(map, next, new).map(Some)
     }
 }
 
+/// The shards of a cut.
+pub struct CutShards {
+    /// The shard that is cut, as it is before.
+    pub whole: ShardBounds,
+    /// The lower half, by the next map.
+    pub lower: ShardBounds,
+    /// The upper half, by the next map.
+    pub upper: ShardBounds,
+}
+
+impl MoveMap<'_> {
+    /// The shard that begins with this key, before and after the move.
+    pub fn shards(&self, first: u64) -> Result<MovedShard> {
+        let of = |map: &ShardMap| bounds(map, map.shard_of(first).ok());
+        Ok(MovedShard { before: of(self.before)?, after: of(self.next)? })
+    }
+}
+
+/// A shard that moves.
+pub struct MovedShard {
+    before: ShardBounds,
+    /// By the next map.
+    pub after: ShardBounds,
+}
+
+impl MovedShard {
+    /// Refuses a store that is not of the shard. An earlier call may have sealed it.
+    pub fn refuse_other(&self, own: Option<KeptShard>) -> Result<()> {
+        let own = own.ok_or("the store is of no shard")?;
+        if own == KeptShard::sealed(self.after) {
+            return Ok(());
+        }
+        refuse_other_shard(own, self.before)
+    }
+}
+
+/// The shards of a merge.
+pub struct MergedShards {
+    /// The shard of both, by the next map.
+    pub whole: ShardBounds,
+    /// The two shards, as they are before.
+    before: [ShardBounds; 2],
+}
+
+impl CutShards {
+    /// Refuses a store that is not of the shard that is cut, or, if an earlier call has cut it, not
+    /// of the lower half: it would lose rows.
+    pub fn refuse_other(&self, own: KeptShard, is_cut: bool) -> Result<()> {
+        refuse_other_shard(own, if is_cut { self.lower } else { self.whole })
+    }
+}
+
+impl MergedShards {
+    /// What the two stores become: nobody serves them any more.
+    pub fn sealed(&self) -> [ShardBounds; 2] {
+        self.before.map(|half| half.with_version(self.whole.map_version()))
+    }
+
+    /// Refuses stores that are not of the two shards. An earlier call may have sealed them.
+    pub fn refuse_others(&self, stores: [Option<KeptShard>; 2]) -> Result<()> {
+        for ((own, before), sealed) in stores.into_iter().zip(self.before).zip(self.sealed()) {
+            let own = own.filter(|own| *own != KeptShard::sealed(sealed));
+            own.map_or(Ok(()), |own| refuse_other_shard(own, before))?;
+        }
+        Ok(())
+    }
+}
+
+fn refuse_other_shard(own: KeptShard, expected: ShardBounds) -> Result<()> {
+    if own == KeptShard::open(expected) {
+        return Ok(());
+    }
+    Err(format!("the store is of the shard {own}, and by the map it is {expected}").into())
+}
+
 impl NextMap {
-    fn new(map: ShardMap, path: &Path) -> Result<NextMap> {
+    /// The shards of the cut at this key.
+    pub fn shards_of_cut(&self, at: u64) -> Result<CutShards> {
+        let [lower, upper] = neighbors(&self.map, at)?;
+        let whole = bounds(&self.before, self.before.shard_of(at).ok())?;
+        Ok(CutShards { whole, lower, upper })
+    }
+
+    /// The shards of the merge of those that meet at this key.
+    pub fn shards_of_merge(&self, at: u64) -> Result<MergedShards> {
+        let whole = bounds(&self.map, self.map.shard_of(at).ok())?;
+        Ok(MergedShards { whole, before: neighbors(&self.before, at)? })
+    }
+
+    fn new(before: ShardMap, map: ShardMap, path: &Path) -> Result<NextMap> {
         if !may_become(path, &map.to_toml())? {
             return Err(format!("there is a file {} already", path.display()).into());
         }
-        Ok(NextMap { map, path: path.into() })
+        Ok(NextMap { before, map, path: path.into() })
     }
 
     /// Writes the map, and returns by which shard each server has to be started.
@@ -87,12 +202,16 @@ impl NextMap {
             format!("the stores are as they should be, but the map {at} can't be written: {error}")
         })?;
         let shards = self.map.shards().iter().enumerate();
+        let changed = shards.filter(|(place, _)| self.map.since(*place) == self.map.version());
         let start = |(place, shard): (usize, &Shard)| {
             let bounds = self.map.bounds_of(place)?;
-            Some(format!("    {}: --shard {bounds}\n", shard.servers))
+            Some(format!("    {}: {bounds}\n", shard.servers))
         };
-        let starts: String = shards.filter_map(start).collect();
-        Ok(format!("{at}: the next map. Restart each server with it:\n{starts}"))
+        let starts: String = changed.filter_map(start).collect();
+        Ok(format!(
+            "{at}: the next map. Start these servers, each on the store of its shard; all others \
+             continue:\n{starts}"
+        ))
     }
 }
 
@@ -113,17 +232,29 @@ fn write(path: &Path, text: &str) -> io::Result<()> {
     file.sync_all()
 }
 
-fn read(path: &Path) -> Result<ShardMap> {
+/// What the shard of this number has, if the map has such a shard.
+pub fn bounds(map: &ShardMap, shard: Option<usize>) -> Result<ShardBounds> {
+    let bounds = shard.and_then(|shard| map.bounds_of(shard));
+    bounds.ok_or_else(|| "the map has no such shard".into())
+}
+
+/// The two shards that meet at this key.
+pub fn neighbors(map: &ShardMap, at: u64) -> Result<[ShardBounds; 2]> {
+    let upper = map.shard_of(at)?;
+    Ok([bounds(map, upper.checked_sub(1))?, bounds(map, Some(upper))?])
+}
+
+pub fn read(path: &Path) -> Result<ShardMap> {
     ShardMap::from_file(path)
         .map_err(|error| format!("the map {} can't be used: {error}", path.display()).into())
 }
 
-fn no_map(path: &Path, at: u64, error: &dyn Error) -> Box<dyn Error> {
+pub fn no_map(path: &Path, at: u64, error: &dyn Error) -> Box<dyn Error> {
     format!("{} and a shard from {at} on give no next map: {error}", path.display()).into()
 }
 
 /// Refuses a server that has a shard in the map already: a server has one.
-fn refuse_server_of_map(map: &ShardMap, servers: &Servers) -> Result<()> {
+pub fn refuse_server_of_map(map: &ShardMap, servers: &Servers) -> Result<()> {
     let has = |shard: &Shard, address: &Address| shard.servers.iter().any(|it| it == address);
     for address in servers.iter() {
         if let Some(shard) = map.shards().iter().position(|shard| has(shard, address)) {

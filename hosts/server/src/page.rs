@@ -77,7 +77,7 @@ pub async fn without_a_server(shown: &Shown, state: &State) -> String {
 /// The servers of the table, if this one knows others.
 async fn servers(shown: &Shown, state: &State, status: &Status) -> String {
     let Table { others, shard } = &shown.table;
-    servers::part(&Report::own(state, status, *shard), &others.look().await)
+    servers::part(&Report::own(state, status, status.shard.or(*shard)), &others.look().await)
 }
 
 /// The picture of who holds which of these points, as a file of SVG.

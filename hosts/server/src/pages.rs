@@ -63,7 +63,7 @@ impl Page {
 pub struct Table {
     /// The other servers.
     pub others: Others,
-    /// The shard that this server serves, if the table has shards.
+    /// The shard that this server is to serve, if it was given one.
     pub shard: Option<ShardBounds>,
 }
 
@@ -346,7 +346,8 @@ pub fn wait_as_json(wait: &Wait) -> serde_json::Value {
 fn status_as_json(shown: &Shown, monitor: &Monitor) -> Page {
     let status = monitor.status();
     let rates = shown.recent.rates(&status, Instant::now());
-    as_json(&status, &shown.role.state(), shown.table.shard, rates)
+    let shard = status.shard.or(shown.table.shard);
+    as_json(&status, &shown.role.state(), shard, rates)
 }
 
 fn as_json(

@@ -2,29 +2,55 @@
 //!
 //! A command that was killed is repeated: the stores show how far it had come.
 use crate::cause;
-use crate::next_map::{MergeMap, NextMap, SplitMap};
+use crate::next_map::{MergeMap, MoveMap, NextMap, SplitMap};
 use crate::output;
 use crate::owner::Owner;
 use crate::stores;
 use krl::operate::{Checksum, StoreFile};
-use krl::{END, Snapshot, SqliteStore, Store};
+use krl::{END, KeptShard, ShardBounds, Snapshot, SqliteStore, Store};
 use std::error::Error;
-use std::path::Path;
+use std::fmt;
+use std::path::{Path, PathBuf};
 
-type Done = Result<(), Box<dyn Error>>;
+type Done<T = ()> = Result<T, Box<dyn Error>>;
 
-/// Moves the rows from the key on into a new store. Without `is_empty_allowed` it refuses to move
-/// none.
+/// A store can't be cut yet: these clients have not left it.
+#[derive(Debug)]
+pub struct NotLeft {
+    store: PathBuf,
+    clients: Vec<u8>,
+}
+
+/// Moves the rows from the key on into a new store, and returns what was done. Without
+/// `is_empty_allowed` it refuses to move none.
 ///
 /// The new store is on the disk before the old one changes. So at each moment one of three states
 /// is on the disk, and this continues from each: there is no new store; the new store has a copy of
-/// the rows that move; it has their only copy.
-pub fn split(store: &Path, at: u64, new: &Path, is_empty_allowed: bool, map: &SplitMap) -> Done {
+/// the rows that move; it has their only copy. By a map, no server starts on the new store before
+/// it has the only copy, and from then on none of the old shard starts on the old one.
+pub fn split(
+    store: &Path,
+    at: u64,
+    new: &Path,
+    is_empty_allowed: bool,
+    map: &SplitMap,
+) -> Done<DoneByMap> {
     let _owner = own(store)?;
     let kept = read_file(store)?;
-    let before = moved_by_an_earlier_split(&kept, at, new).unwrap_or(kept.snapshot);
+    let own_shard = kept.snapshot.shard;
+    let earlier = moved_by_an_earlier_split(&kept, at, new);
+    let is_cut = earlier.is_some();
+    let before = earlier.unwrap_or(kept.snapshot);
     let next = map.next(at, &before)?;
-    let (lower, upper) = before.split(at);
+    let shards = next.as_ref().map(|next| next.shards_of_cut(at)).transpose()?;
+    match (own_shard, &shards) {
+        (Some(own), Some(shards)) => shards.refuse_other(own, is_cut)?,
+        (Some(own), None) => return Err(needs_map(own)),
+        (None, _) => {}
+    }
+    let (mut lower, mut upper) = before.split(at);
+    lower.shard = shards.as_ref().map(|shards| KeptShard::open(shards.lower));
+    upper.shard = shards.as_ref().map(|shards| KeptShard::sealed(shards.upper));
     if upper.rows.is_empty() && !is_empty_allowed {
         return Err(format!(
             "{} has no row from {at} on, and {} is not the new store of a split at this key: \
@@ -37,9 +63,10 @@ pub fn split(store: &Path, at: u64, new: &Path, is_empty_allowed: bool, map: &Sp
     stores::judge(&store.display(), &lower)?;
     stores::judge(&new.display(), &upper)?;
     create(new, &upper)?;
-    cut_off(store, at, &upper).map_err(|error| {
+    cut_off(store, at, &upper, lower.shard).map_err(|error| {
         format!("{} may have all its rows still: {error}. Split it again", store.display())
     })?;
+    unseal(new)?;
     let (below, from) = (lower.rows.len(), upper.rows.len());
     let done = format!(
         "{}: {below} rows below {at}, epoch {}\n{}: {from} rows from {at} on, epoch {}\n",
@@ -48,7 +75,7 @@ pub fn split(store: &Path, at: u64, new: &Path, is_empty_allowed: bool, map: &Sp
         new.display(),
         upper.epoch
     );
-    print_done_with_map(&done, next.as_ref())
+    Ok(DoneByMap { done, next })
 }
 
 /// The store as it was before a split that was killed after it had moved the rows, if the new store
@@ -59,32 +86,104 @@ fn moved_by_an_earlier_split(kept: &StoreFile, at: u64, new: &Path) -> Option<Sn
     rejoined(&kept.snapshot, at, &moved.snapshot)
 }
 
-/// The snapshot of which a split at this key makes these two, if there is one.
+/// The snapshot of which a split at this key makes these two, if there is one. Of which shard it was
+/// is not known any more.
 fn rejoined(lower: &Snapshot, at: u64, upper: &Snapshot) -> Option<Snapshot> {
+    let of_no_shard = |half: &Snapshot| Snapshot { shard: None, ..half.clone() };
+    let (lower, upper) = (of_no_shard(lower), of_no_shard(upper));
     let mut whole = lower.clone();
     whole.rows.extend(&upper.rows);
     let (below, from) = whole.clone().split(at);
-    (below == *lower && from == *upper).then_some(whole)
+    (below == lower && from == upper).then_some(whole)
 }
 
-/// Makes a new store of two. They are only read.
-pub fn merge(lower: &Path, upper: &Path, new: &Path, map: &MergeMap) -> Done {
+/// Makes a new store of two, and returns what was done. Without a map they are only read. By a map no
+/// server starts on them any more once the new store is there, and none on the new one before both
+/// are sealed.
+pub fn merge(lower: &Path, upper: &Path, new: &Path, map: &MergeMap) -> Done<DoneByMap> {
     let _owners = (own(lower)?, own(upper)?);
-    let (lower, upper) = (read(lower)?, read(upper)?);
-    let next = map.next(&lower, &upper)?;
-    let whole = lower.merge(upper)?;
+    let (below, from) = (read_file(lower)?, read_file(upper)?);
+    // Before both are sealed, no server can have started on a new store.
+    if is_sealed(&below) && is_sealed(&from) {
+        refuse_second(lower, &below, new)?;
+        refuse_second(upper, &from, new)?;
+    }
+    let (below, from) = (below.snapshot, from.snapshot);
+    let next = map.next(&below, &from)?;
+    let next_at = next.as_ref().zip(map.at());
+    let shards = next_at.map(|(next, at)| next.shards_of_merge(at)).transpose()?;
+    match (&shards, below.shard.or(from.shard)) {
+        (Some(shards), _) => shards.refuse_others([below.shard, from.shard])?,
+        (None, Some(own)) => return Err(needs_map(own)),
+        (None, None) => {}
+    }
+    let mut whole = below.merge(from)?;
+    whole.shard = shards.as_ref().map(|shards| KeptShard::sealed(shards.whole));
     stores::judge(&new.display(), &whole)?;
     create(new, &whole)?;
+    if let Some(shards) = &shards {
+        let [below, from] = shards.sealed();
+        seal(lower, below, &whole)?;
+        seal(upper, from, &whole)?;
+    }
+    unseal(new)?;
     let (rows, epoch) = (whole.rows.len(), whole.epoch);
-    print_done_with_map(&format!("{}: {rows} rows, epoch {epoch}\n", new.display()), next.as_ref())
+    Ok(DoneByMap { done: format!("{}: {rows} rows, epoch {epoch}\n", new.display()), next })
 }
 
-/// Writes the next map, if there is one, and only then prints what was done.
-fn print_done_with_map(done: &str, next: Option<&NextMap>) -> Done {
-    let written = next.map_or(Ok(String::new()), NextMap::write);
-    let map = written.as_deref().unwrap_or_default();
-    output::print_done(&format!("{done}{map}"))?;
-    written.map(drop)
+/// Makes a new store of the shard that begins with `first` and moves, and returns what was done. No
+/// server starts on the old one any more once the new one is there, and none on the new one before
+/// the old one is sealed.
+pub fn move_store(store: &Path, first: u64, new: &Path, map: &MoveMap) -> Done<String> {
+    let _owner = own(store)?;
+    let kept = read_file(store)?;
+    if is_sealed(&kept) {
+        refuse_second(store, &kept, new)?;
+    }
+    let (mut moved, shards) = (kept.snapshot, map.shards(first)?);
+    shards.refuse_other(moved.shard)?;
+    moved.shard = Some(KeptShard::sealed(shards.after));
+    stores::judge(&new.display(), &moved)?;
+    create(new, &moved)?;
+    seal(store, shards.after, &moved)?;
+    unseal(new)?;
+    Ok(format!("{}: {} rows, epoch {}\n", new.display(), moved.rows.len(), moved.epoch))
+}
+
+fn is_sealed(kept: &StoreFile) -> bool {
+    kept.snapshot.shard.is_some_and(|shard| shard.is_sealed)
+}
+
+/// Refuses to make a second new store of one that is sealed: the new store that an earlier call has
+/// made may be served by now.
+fn refuse_second(store: &Path, kept: &StoreFile, new: &Path) -> Done {
+    let is_made = |made: StoreFile| kept.cut_off.is_some_and(|cut_off| cut_off.is(&made.snapshot));
+    if SqliteStore::read(new).is_ok_and(is_made) {
+        return Ok(());
+    }
+    let (store, new) = (store.display(), new.display());
+    Err(format!("{store} is sealed, and {new} is not the store that was made of it").into())
+}
+
+/// A store that is of a shard changes with the map.
+fn needs_map(own: KeptShard) -> Box<dyn Error> {
+    format!("the store is of the shard {own}: give --map").into()
+}
+
+/// What was done with stores, and the map that comes next, if there is one. It is not written yet.
+pub struct DoneByMap {
+    pub done: String,
+    next: Option<NextMap>,
+}
+
+impl DoneByMap {
+    /// Writes the next map, and only then prints what was done.
+    pub fn write_and_print(&self) -> Done {
+        let written = self.next.as_ref().map_or(Ok(String::new()), NextMap::write);
+        let map = written.as_deref().unwrap_or_default();
+        output::print_done(&format!("{}{map}", self.done))?;
+        written.map(drop)
+    }
 }
 
 /// No server starts on the store while this process has it.
@@ -106,24 +205,45 @@ fn read_file(store: &Path) -> Result<StoreFile, Box<dyn Error>> {
     if present.is_empty() {
         return Ok(file);
     }
-    let clients: Vec<String> = present.iter().map(u8::to_string).collect();
-    let (store, clients) = (store.display(), clients.join(", "));
-    Err(format!(
-        "{store} has clients that have not left: {clients}. Serve it once more, and let each leave, \
-         or evict it if its process is dead"
-    )
-    .into())
+    Err(NotLeft { store: store.into(), clients: present }.into())
 }
+
+impl fmt::Display for NotLeft {
+    fn fmt(&self, f: &mut fmt::Formatter<'_>) -> fmt::Result {
+        let clients: Vec<String> = self.clients.iter().map(u8::to_string).collect();
+        write!(
+            f,
+            "{} has clients that have not left: {}. Serve it once more, and let each leave, or evict \
+             it if its process is dead",
+            self.store.display(),
+            clients.join(", ")
+        )
+    }
+}
+
+impl Error for NotLeft {}
 
 fn create(new: &Path, snapshot: &Snapshot) -> Done {
     SqliteStore::create(new, snapshot).map_err(|error| cause(&error).into())
 }
 
-fn cut_off(store: &Path, at: u64, upper: &Snapshot) -> Done {
+fn cut_off(store: &Path, at: u64, upper: &Snapshot, lower: Option<KeptShard>) -> Done {
     let mut file = SqliteStore::open(store).map_err(|error| cause(&error))?;
     file.load().map_err(|error| cause(&error))?;
-    file.cut_off(at, upper).map_err(|error| cause(&error))?;
+    file.cut_off(at, upper, lower).map_err(|error| cause(&error))?;
     Ok(())
+}
+
+fn seal(store: &Path, bounds: ShardBounds, new: &Snapshot) -> Done {
+    let mut file = SqliteStore::open(store).map_err(|error| cause(&error))?;
+    file.load().map_err(|error| cause(&error))?;
+    file.seal(bounds, new).map_err(|error| cause(&error))?;
+    Ok(())
+}
+
+/// A server may start on the store: no other one has its rows any more.
+pub fn unseal(new: &Path) -> Done {
+    SqliteStore::unseal(new).map_err(|error| cause(&error).into())
 }
 
 /// Whether a shard may begin at a key: the first one begins at 0 by itself.

@@ -8,7 +8,7 @@ use crate::owner::Owner;
 use crate::pages::Table;
 use crate::role::Role;
 use crate::settings::{BadSetting, Settings, StatusAddress, StorePlace};
-use crate::{long_waits, open_files, reload, stand_by, status_port, watchdog};
+use crate::{long_waits, map_watch, open_files, reload, stand_by, status_port, watchdog};
 use krl::operate::RateLimit;
 use krl::{Access, Listener, ServeError, Server, SqliteStore, Store, StoreError};
 use krl_postgres::{PostgresAddress, PostgresStore};
@@ -78,6 +78,9 @@ fn run(settings: &Settings) -> Result<(), Box<dyn Error>> {
     reload::start(tls.clone())?;
     watchdog::start(role.clone())?;
     long_waits::start(role.clone())?;
+    if let Some(map) = &settings.map {
+        map_watch::start(role.clone(), map.clone())?;
+    }
     if let StatusAddress::At(address) = &settings.status {
         let table = Table { others: Others::new(settings.others()?), shard: settings.shard };
         let at = status_port::start(address, tls, role.clone(), table)
@@ -201,7 +204,7 @@ pub fn ready(settings: &Settings, server: &Server, role: &Role) {
         store = %settings.store,
         room = %server.room(),
         reach = %server.reach(),
-        shard = settings.shard.map(tracing::field::display),
+        shard = server.status().shard.map(tracing::field::display),
         "ready"
     );
     notify(&[NotifyState::Ready, NotifyState::Status(&format!("serves at {}", server.address()))]);

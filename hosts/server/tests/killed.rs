@@ -2,13 +2,12 @@
 //! words: nothing is lost, doubled or left unfinished.
 mod common;
 
-use common::{Serving, errors, program, run, text};
-use krl::{Outcome, Record, Snapshot, SqliteStore, Value};
+use common::{Serving, errors, killer, program, run, text};
+use krl::{KeptShard, Outcome, Record, Snapshot, SqliteStore, Value};
 use std::fs;
 use std::ops::Range;
 use std::os::unix::process::ExitStatusExt;
-use std::path::{Path, PathBuf};
-use std::process::Command;
+use std::path::Path;
 
 const SIGKILL: i32 = 9;
 
@@ -33,16 +32,6 @@ fn keys(keys: Range<u64>) -> Vec<u64> {
     keys.collect()
 }
 
-/// The library that kills a process before one of its changes.
-fn killer(folder: &Path) -> PathBuf {
-    let library = folder.join("kill.so");
-    let source = Path::new(env!("CARGO_MANIFEST_DIR")).join("tests/programs/kill_before_change.c");
-    let mut compiler = Command::new("cc");
-    compiler.args(["-shared", "-fPIC", "-Wall", "-Wextra", "-Werror", "-o"]);
-    assert!(compiler.arg(&library).arg(source).status().unwrap().success());
-    library
-}
-
 /// Kills the command before its first change of a file, repeats it and judges what there is then;
 /// and so on with each later change, until the command ends before it. Each time it begins with
 /// what `prepare` makes in an empty folder, where it runs.
@@ -60,8 +49,10 @@ fn killed_at_each_change(words: &[&str], prepare: impl Fn(&Path), judge: impl Fn
         let mut interrupted = command();
         interrupted.env("LD_PRELOAD", &killer).env("KILL_BEFORE_CHANGE", change.to_string());
         let interrupted = interrupted.output().unwrap();
+        refuse_two_owners(folder.path());
         let again = command().output().unwrap();
         assert_eq!(again.status.code(), Some(0), "before change {change}: {}", errors(&again));
+        refuse_two_owners(folder.path());
         judge(folder.path());
         if interrupted.status.code() == Some(0) {
             assert!(change > 1, "no change was counted");
@@ -71,18 +62,48 @@ fn killed_at_each_change(words: &[&str], prepare: impl Fn(&Path), judge: impl Fn
     }
 }
 
+/// The shards of the stores in the folder on which a server may start. No two of them have a key in
+/// common, whatever a service manager starts.
+fn refuse_two_owners(folder: &Path) {
+    let files = fs::read_dir(folder).unwrap().map(|file| file.unwrap().path());
+    let stores = files.filter(|file| file.extension().is_some_and(|end| end == "db"));
+    let shards = stores.filter_map(|store| SqliteStore::read(store).ok()?.snapshot.shard);
+    let mut open: Vec<KeptShard> = shards.filter(|shard| !shard.is_sealed).collect();
+    open.sort_by_key(|shard| shard.bounds.keys().start);
+    for pair in open.windows(2) {
+        let [lower, upper] = [pair[0], pair[1]].map(|shard| shard.bounds.keys());
+        assert!(lower.end <= upper.start, "{open:?}");
+    }
+}
+
+/// Which shard the store is of.
+fn kept(store: &Path) -> String {
+    let shard = SqliteStore::read(store).unwrap().snapshot.shard;
+    shard.map(|shard| shard.to_string()).unwrap_or_default()
+}
+
+/// The same store, which is of this shard.
+fn of_shard(shard: &str, store: Snapshot) -> Snapshot {
+    Snapshot { shard: Some(shard.parse().unwrap()), ..store }
+}
+
 #[test]
 fn a_split_loses_no_row() {
     let words = "split krl.db 20 upper.db --map 3.toml --servers 127.0.0.1:2 --new-map 4.toml";
     let words: Vec<&str> = words.split(' ').collect();
     let prepare = |folder: &Path| {
-        SqliteStore::create(folder.join("krl.db"), &store(0..40)).unwrap();
+        let whole = of_shard("0..@3", store(0..40));
+        SqliteStore::create(folder.join("krl.db"), &whole).unwrap();
         fs::write(folder.join("3.toml"), MAP).unwrap();
     };
     killed_at_each_change(&words, prepare, |folder| {
         assert_eq!(rows(&folder.join("krl.db")), keys(0..20));
         assert_eq!(rows(&folder.join("upper.db")), keys(20..40));
         assert_eq!(fs::read_to_string(folder.join("4.toml")).unwrap(), MAP_OF_TWO);
+        assert_eq!(
+            ["krl.db", "upper.db"].map(|name| kept(&folder.join(name))),
+            ["0..20@4", "20..@4"]
+        );
     });
 }
 
@@ -91,14 +112,17 @@ fn a_merge_makes_the_whole_store() {
     let words = "merge krl.db upper.db whole.db --map 4.toml --at 20 --new-map 5.toml";
     let words: Vec<&str> = words.split(' ').collect();
     let prepare = |folder: &Path| {
-        SqliteStore::create(folder.join("krl.db"), &store(0..20)).unwrap();
-        SqliteStore::create(folder.join("upper.db"), &store(20..40)).unwrap();
+        for (name, shard, keys) in [("krl.db", "0..20@4", 0..20), ("upper.db", "20..@4", 20..40)] {
+            SqliteStore::create(folder.join(name), &of_shard(shard, store(keys))).unwrap();
+        }
         fs::write(folder.join("4.toml"), MAP_OF_TWO).unwrap();
     };
     killed_at_each_change(&words, prepare, |folder| {
         assert_eq!(rows(&folder.join("whole.db")), keys(0..40));
         let map = fs::read_to_string(folder.join("5.toml")).unwrap();
         assert_eq!(map, MAP.replace("version = 3", "version = 5"));
+        let shards = ["krl.db", "upper.db", "whole.db"].map(|name| kept(&folder.join(name)));
+        assert_eq!(shards, ["0..20@5 sealed", "20..@5 sealed", "0..@5"]);
     });
 }
 

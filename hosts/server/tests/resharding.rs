@@ -28,7 +28,7 @@ fn join(serving: &Serving, lock_file: &Path, number: u8) -> Client {
 }
 
 fn shard(first: u64, serving: &Serving) -> Shard {
-    Shard { first, servers: (&serving.address).into() }
+    Shard::new(first, &serving.address)
 }
 
 /// The keys that a client of all shards finds, and whether each has the value that it had.
@@ -103,6 +103,12 @@ fn a_full_server_is_split_and_its_clients_go_on() {
     drop(Serving::start(&whole));
 }
 
+/// Which shard the store is of.
+fn kept(store: &String) -> String {
+    let shard = SqliteStore::read(store).unwrap().snapshot.shard;
+    shard.map(|shard| shard.to_string()).unwrap_or_default()
+}
+
 #[test]
 fn two_stores_become_one() {
     let folder = tempfile::tempdir().unwrap();
@@ -157,8 +163,11 @@ fn a_split_and_a_merge_write_the_next_map() {
     let done = run(&split);
     assert_eq!(done.status.code(), Some(0), "{}", errors(&done));
     let printed = text(&done);
-    assert!(printed.contains("    127.0.0.1:1: --shard 0..1001@2\n"), "{printed}");
-    assert!(printed.contains("    127.0.0.1:2: --shard 1001..@2\n"), "{printed}");
+    assert!(
+        printed.contains("    127.0.0.1:1: 0..1001@2\n    127.0.0.1:2: 1001..@2\n"),
+        "{printed}"
+    );
+    assert_eq!([&store, &upper].map(kept), ["0..1001@2", "1001..@2"]);
     let upper_shard = "\n[[shard]]\nfirst = 1001\nservers = \"127.0.0.1:2\"\n";
     assert_eq!(std::fs::read_to_string(&next).unwrap(), text_of(2) + upper_shard);
     // The store that is named is that of the other shard.
@@ -182,4 +191,67 @@ fn a_split_and_a_merge_write_the_next_map() {
     let done = run(&[&merge[..], &["1001"]].concat());
     assert_eq!(done.status.code(), Some(0), "{}", errors(&done));
     assert_eq!(std::fs::read_to_string(&last).unwrap(), text_of(3));
+    assert_eq!(kept(&whole), "0..@3");
+    assert_eq!([&store, &upper].map(kept), ["0..1001@3 sealed", "1001..@3 sealed"]);
+}
+
+/// The new store may be served by now: of another name a second one would have the same rows.
+#[test]
+fn two_stores_are_merged_once() {
+    let folder = tempfile::tempdir().unwrap();
+    let path = |name: &str| folder.path().join(name).to_str().unwrap().to_string();
+    let [lower, upper, whole, other] = ["a.db", "b.db", "whole.db", "other.db"].map(path);
+    let [map, next] = ["4.toml", "5.toml"].map(path);
+    for (store, shard) in [(&lower, "0..100@4"), (&upper, "100..@4")] {
+        let shard = Some(shard.parse().unwrap());
+        SqliteStore::create(store, &Snapshot { shard, ..Snapshot::default() }).unwrap();
+    }
+    let shard = |first: u64| {
+        format!("\n[[shard]]\nfirst = {first}\nservers = \"127.0.0.1:{}\"\n", first + 1)
+    };
+    std::fs::write(&map, format!("version = 4\n{}{}", shard(0), shard(100))).unwrap();
+    let merge = |new: &String| {
+        run(&["merge", &lower, &upper, new, "--map", &map, "--at", "100", "--new-map", &next])
+    };
+    for _ in 0..2 {
+        let done = merge(&whole);
+        assert_eq!(done.status.code(), Some(0), "{}", errors(&done));
+    }
+    let refused = merge(&other);
+    assert_eq!(refused.status.code(), Some(1));
+    let why = format!("{lower} is sealed, and {other} is not the store that was made of it");
+    assert!(errors(&refused).contains(&why), "{}", errors(&refused));
+    assert!(!Path::new(&other).exists());
+    assert_eq!(kept(&whole), "0..@5");
+}
+
+#[test]
+fn a_store_is_cut_only_as_the_shard_that_it_is_of() {
+    let folder = tempfile::tempdir().unwrap();
+    let path = |name: &str| folder.path().join(name).to_str().unwrap().to_string();
+    let [store, upper, map, next] = ["krl.db", "upper.db", "3.toml", "4.toml"].map(path);
+    let mut before = full();
+    before.rows.retain(|key, _| key % 64 == 0);
+    let text = "version = 3\n\n[[shard]]\nfirst = 0\nservers = \"127.0.0.1:1\"\n";
+    std::fs::write(&map, text).unwrap();
+    let bare = ["split", &store, "1001", &upper];
+    let by_map = ["--map", &map, "--new-map", &next, "--servers", "127.0.0.1:2"];
+    let by_map = [&bare[..], &by_map].concat();
+    for (shard, words, why) in [
+        ("0..@3", &bare[..], "the store is of the shard 0..@3: give --map"),
+        ("0..@2", &by_map[..], "the store is of the shard 0..@2, and by the map it is 0..@3"),
+        ("0..@4", &by_map[..], "the store is of the shard 0..@4, and by the map it is 0..@3"),
+        ("0..131072@3", &by_map[..], "by the map it is 0..@3"),
+        ("0..@3 sealed", &by_map[..], "the store is of the shard 0..@3 sealed"),
+    ] {
+        let _ = std::fs::remove_file(&store);
+        let shard = Some(shard.parse().unwrap());
+        SqliteStore::create(&store, &Snapshot { shard, ..before.clone() }).unwrap();
+        let refused = run(words);
+        assert_eq!(refused.status.code(), Some(1), "{why}");
+        assert!(errors(&refused).contains(why), "{}", errors(&refused));
+        assert!(![&upper, &next].iter().any(|path| Path::new(path).exists()), "{why}");
+        let found = SqliteStore::read(&store).unwrap().snapshot;
+        assert_eq!((found.shard, found.rows.len()), (shard, before.rows.len()), "{why}");
+    }
 }

@@ -1,7 +1,7 @@
 //! A server of one shard: whom it serves, on which store, and who may evict there.
 mod common;
 
-use common::{Serving, errors, program, run};
+use common::{Serving, errors, output_within_a_minute, program, run, text};
 use krl::{
     Change, Client, JoinError, JoinErrorKind, Outcome, Servers, Snapshot, SqliteStore, Value,
 };
@@ -39,13 +39,57 @@ fn a_store_with_a_key_of_another_shard_is_not_served() {
     let rows = [(700, Value::from(1))].into();
     SqliteStore::create(&store, &Snapshot { epoch: 1, rows, ..Snapshot::default() }).unwrap();
     let words = ["serve", "--shard", "0..500@3", "--status", "off", "--listen", "127.0.0.1:0"];
-    let ended = run(&[&words[..], &["--store", store.to_str().unwrap()]].concat());
+    let words = [&words[..], &["--store", store.to_str().unwrap()]].concat();
+    let ended = output_within_a_minute(program().args(words));
     assert_eq!(ended.status.code(), Some(1));
     let printed = [errors(&ended), common::text(&ended)].concat();
     assert!(printed.contains("the store has the key 700, which the shard 0..500@3"), "{printed}");
     let refused = run(&["config", "--shard", "500..0@3"]);
     assert_eq!(refused.status.code(), Some(2));
     assert!(errors(&refused).contains("has to be FIRST..END@VERSION"), "{}", errors(&refused));
+}
+
+/// What a server prints that does not start over this store.
+fn refused(store: &Path, shard: &[&str]) -> String {
+    let words = ["serve", "--status", "off", "--listen", "127.0.0.1:0", "--store"];
+    let words = [&words[..], &[store.to_str().unwrap()], shard].concat();
+    let ended = output_within_a_minute(program().args(words));
+    assert_eq!(ended.status.code(), Some(1));
+    [errors(&ended), common::text(&ended)].concat()
+}
+
+#[test]
+fn a_store_keeps_its_shard_and_refuses_servers_of_another_one() {
+    let folder = tempfile::tempdir().unwrap();
+    let (store, lock) = (folder.path().join("krl.db"), folder.path().join("3.lock"));
+    let stop = |serving: Serving| {
+        serving.signal(&["TERM"]);
+        assert_eq!(serving.ended().status.code(), Some(0));
+    };
+    stop(serve(&store, "0..500@3"));
+    for shard in ["0..500@4", "0..500@2", "0..400@4", "0..@3"] {
+        let printed = refused(&store, &["--shard", shard]);
+        assert!(printed.contains("the store is of the shard 0..500@3"), "{printed}");
+    }
+    stop(serve(&store, "0..500@3"));
+    let serving = Serving::start(&store);
+    join(&serving, "0..500@3", &lock).unwrap().leave().unwrap();
+    let status = text(&run(&["status", &serving.status, "--json"]));
+    assert!(status.contains("\"shard\": \"0..500@3\""), "{status}");
+}
+
+#[test]
+fn no_server_starts_on_a_sealed_store() {
+    let folder = tempfile::tempdir().unwrap();
+    let store = folder.path().join("krl.db");
+    let shard = "0..500@3 sealed".parse().ok();
+    SqliteStore::create(&store, &Snapshot { epoch: 1, shard, ..Snapshot::default() }).unwrap();
+    for shard in [&[][..], &["--shard", "0..500@3"], &["--shard", "0..500@4"]] {
+        let printed = refused(&store, shard);
+        assert!(printed.contains("the store of the shard 0..500@3 is sealed"), "{printed}");
+    }
+    SqliteStore::unseal(&store).unwrap();
+    drop(Serving::start(&store));
 }
 
 #[test]

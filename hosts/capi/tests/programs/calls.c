@@ -228,6 +228,7 @@ static void shows(krlc_client *client, const world *world) {
     }
     EXPECT(KRLC_MISUSE, krlc_status_at(client, joined, &status, &error));
     EXPECT(strcmp(world->kind, "tls") == 0 ? KRLC_OK : KRLC_BAD_TLS, krlc_reload_tls(client, &error));
+    EXPECT(strcmp(world->kind, "map") == 0 ? KRLC_OK : KRLC_MISUSE, krlc_follow(client, &error));
 }
 
 /* A client that waits until it times out, since the other one's pin keeps it waiting. */

@@ -20,6 +20,7 @@ static void null_pointers(krlc_client *client, krlc_rows *rows) {
     EXPECT(KRLC_MISUSE, krlc_leave(NULL, 0, &error));
     EXPECT(KRLC_MISUSE, krlc_set_timeout(NULL, 5, &error));
     EXPECT(KRLC_MISUSE, krlc_keep_all(NULL, &error));
+    EXPECT(KRLC_MISUSE, krlc_follow(NULL, &error));
     EXPECT(KRLC_MISUSE, krlc_reload_tls(NULL, &error));
     WANT(krlc_joined(NULL) == 0 && krlc_number(NULL) == KRLC_NUMBERS);
     EXPECT(KRLC_MISUSE, krlc_cached(NULL, 1, 2, rows));

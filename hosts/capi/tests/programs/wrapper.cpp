@@ -204,6 +204,7 @@ int main(int count, char **words) {
     throws(KRLC_BAD_TLS, [&] { moved.reload_tls(); });
     moved.set_timeout(30s);
     moved.keep_all();
+    throws(KRLC_MISUSE, [&] { moved.follow(); });
     auto after = moved.pin_for_read(10, 20);
     moved.leave();
     throws(KRLC_LEFT, [&] { (void)moved.read(1, 2); });

@@ -51,6 +51,38 @@ fn a_batch_that_is_too_large_for_one_transaction_is_committed_in_several() {
 }
 
 #[test]
+fn a_store_becomes_only_a_later_shard() {
+    let Some(cluster) = Cluster::start() else { return };
+    let address = cluster.address("shard");
+    store_tests::becomes_only_a_later_shard(|| open(&address));
+}
+
+#[test]
+fn rows_that_a_cut_has_left_are_not_loaded_and_go_with_the_next_start() {
+    let Some(cluster) = Cluster::start() else { return };
+    let address = cluster.address("cut");
+    let mut expected = Snapshot { epoch: 7, rows: rows_in(130, 5), ..Snapshot::default() };
+    put_store(&address, bucket::FEWEST, &expected);
+    let at = *expected.rows.keys().nth(expected.rows.len() / 2).unwrap();
+    let (mut store, _) = loaded(&address);
+    // It is killed after the transaction that has the shard.
+    let cut = Change::Shard(format!("0..{at}@3").parse().unwrap());
+    let mut part = Part::default();
+    store.note(&cut, &mut part);
+    store.send(&part, Instant::now() + Duration::from_secs(60)).unwrap();
+    expected.apply(&cut);
+    let (mut store, found) = loaded(&address);
+    assert_eq!(found, expected, "the rows above the cut are not loaded");
+    assert!(!store.table.stale.is_empty(), "they are in etcd");
+    let start = Change::Started { epoch: 8 };
+    store.commit(&[start]).unwrap();
+    expected.apply(&start);
+    let (store, found) = loaded(&address);
+    assert_eq!(found, expected);
+    assert!(store.table.stale.is_empty(), "they are gone");
+}
+
+#[test]
 fn an_older_server_is_deposed_for_good() {
     let Some(cluster) = Cluster::start() else { return };
     let address = cluster.address("deposed");

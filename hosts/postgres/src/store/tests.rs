@@ -95,6 +95,12 @@ fn a_database_that_is_not_there_is_reported() {
 }
 
 #[test]
+fn a_store_becomes_only_a_later_shard() {
+    let Some(database) = Database::start() else { return };
+    store_tests::becomes_only_a_later_shard(|| open(&database));
+}
+
+#[test]
 fn a_copy_becomes_a_store_of_its_own() {
     let Some(database) = Database::start() else { return };
     let create = |snapshot: &Snapshot| PostgresStore::create(&database.address(), None, snapshot);
@@ -102,17 +108,17 @@ fn a_copy_becomes_a_store_of_its_own() {
 }
 
 #[test]
-fn a_store_of_before_the_room_was_kept_is_brought_forward() {
+fn a_store_of_before_room_and_shard_were_kept_is_brought_forward() {
     let Some(database) = Database::start() else { return };
     loaded(&database).0.commit(&[Change::Started { epoch: 1 }, REGISTER]).unwrap();
     let sql = database.connect();
-    sql.run("DROP TABLE krl.room");
+    sql.run("DROP TABLE krl.room, krl.shard");
     sql.run("UPDATE krl.head SET format = 1");
     let (mut store, found) = loaded(&database);
     assert_eq!((found.room, found.kept_room()), (None, Some(Room::default())));
     sql.run("DO 'BEGIN ASSERT (SELECT format FROM krl.head) = 1; END'");
     store.commit(&[Change::Started { epoch: 2 }, Change::Room(Room::MAX)]).unwrap();
-    sql.run("DO 'BEGIN ASSERT (SELECT format FROM krl.head) = 2; END'");
+    sql.run("DO 'BEGIN ASSERT (SELECT format FROM krl.head) = 3; END'");
     assert_eq!(loaded(&database).1.room, Some(Room::MAX));
 }
 
@@ -123,8 +129,9 @@ fn what_no_server_commits_is_not_loaded() {
     let sql = database.connect();
     for (wrong, right) in [
         ("UPDATE krl.head SET owner = 'nobody'", "UPDATE krl.head SET owner = repeat('1', 32)"),
-        ("UPDATE krl.head SET format = 3", "UPDATE krl.head SET format = 2"),
+        ("UPDATE krl.head SET format = 4", "UPDATE krl.head SET format = 3"),
         ("INSERT INTO krl.room VALUES (0, 0)", "DELETE FROM krl.room"),
+        ("INSERT INTO krl.shard VALUES (0, 5, 4, 1, false)", "DELETE FROM krl.shard"),
         ("INSERT INTO krl.entry VALUES (-1, '')", "DELETE FROM krl.entry"),
         ("INSERT INTO krl.entry VALUES (1, repeat('x', 33)::bytea)", "DELETE FROM krl.entry"),
         ("INSERT INTO krl.client VALUES (64, 0, 1, 0, 0, 0)", "DELETE FROM krl.client"),

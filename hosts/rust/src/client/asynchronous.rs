@@ -1,9 +1,10 @@
 //! A client whose calls are futures.
 use crate::client::Client;
-use crate::client::calls::{Calls, Waited};
+use crate::client::calls::Calls;
 use crate::client::pin::Pin;
 use crate::client::state::Purpose;
 use crate::client::timeout::MAX_WAIT;
+use crate::client::waiting::Waited;
 use crate::model::batch::{BatchError, Mutation};
 use crate::model::change::{Outcome, Write};
 use crate::model::error::{Error, ErrorKind};

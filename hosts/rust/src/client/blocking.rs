@@ -34,18 +34,18 @@ impl Calls<'_> {
 
     pub fn block_on_write(&self, write: Write) -> Result<Outcome, Error> {
         let key = write.key();
-        let _span = span::of(name_of(write), self.joined.number(), &(key..key.saturating_add(1)));
+        let _span = span::of(name_of(write), self.table.number(), &(key..key.saturating_add(1)));
         self.block(self.write(write))
     }
 
     pub fn block_on_set(&self, row: Row) -> Result<Outcome, Error> {
         let keys = row.key..row.key.saturating_add(1);
-        let _span = span::of("set", self.joined.number(), &keys);
+        let _span = span::of("set", self.table.number(), &keys);
         self.block(self.set(row))
     }
 
     pub fn block_on_all(&self, writes: Vec<Mutation>) -> Result<Vec<Outcome>, BatchError> {
-        let _span = span::of("write_all", self.joined.number(), &hull(&writes));
+        let _span = span::of("write_all", self.table.number(), &hull(&writes));
         self.block(self.write_all(writes))
     }
 }

@@ -1,11 +1,13 @@
 //! What a client is given before it joins.
 use crate::client::Client;
-use crate::client::joined::Joined;
+use crate::client::joined::{Joined, leave_soon};
 use crate::client::joining::{self, JoinPurpose, Waits};
+use crate::client::joining_shards::{JoiningShards, Lock};
 use crate::client::lock_folder::lock_folder;
 use crate::client::numbers;
 use crate::client::place::Place;
 use crate::client::shard_client::ShardClient;
+use crate::client::table::Table;
 use crate::model::client_number::ClientNumber;
 use crate::model::error::{JoinError, JoinErrorKind};
 use crate::model::row::END;
@@ -16,6 +18,7 @@ use crate::shards::map::ShardMap;
 use std::ops::Range;
 use std::panic::resume_unwind;
 use std::path::{Path, PathBuf};
+use std::sync::Arc;
 use std::thread::{self, ScopedJoinHandle};
 use std::time::Duration;
 
@@ -29,22 +32,23 @@ pub struct ClientBuilder {
     lock: Lock,
     keys: Range<u64>,
     waits: Waits,
-}
-
-/// Where the lock files of a client are.
-#[derive(Clone, Debug)]
-enum Lock {
-    /// This is the file of its only number; of a map it is the folder.
-    Given(PathBuf),
-    /// In this folder, by their numbers.
-    In(PathBuf),
+    #[cfg(feature = "tls")]
+    tls: Option<TlsConfig>,
 }
 
 type JoinedShard = Result<ShardClient, JoinErrorKind>;
 
 impl ClientBuilder {
     fn new(place: Place, numbers: Vec<u8>, lock: Lock) -> ClientBuilder {
-        ClientBuilder { place, numbers, lock, keys: 0..END + 1, waits: Waits::by_default() }
+        ClientBuilder {
+            place,
+            numbers,
+            lock,
+            keys: 0..END + 1,
+            waits: Waits::by_default(),
+            #[cfg(feature = "tls")]
+            tls: None,
+        }
     }
 
     /// What the client shows to its servers if they listen by TLS, and whom it believes. It is
@@ -54,7 +58,8 @@ impl ClientBuilder {
     /// [`TlsConfig::reload`]: crate::TlsConfig::reload
     #[cfg(feature = "tls")]
     pub fn tls(mut self, config: TlsConfig) -> ClientBuilder {
-        self.place = self.place.with_tls(config);
+        self.place = self.place.with_tls(config.clone());
+        self.tls = Some(config);
         self
     }
 
@@ -109,14 +114,13 @@ impl ClientBuilder {
         let lock_file = self.lock.of_number(number);
         let joined = joining::join(servers, number, &lock_file, waits, JoinPurpose::Work);
         let client = joined.map_err(JoinError::of(number, None))?;
-        Ok(Client::of(Joined::one(client, waits.timeout)))
+        Ok(Client::of(Table::of_one(client, waits.timeout)))
     }
 
     /// Joins the shards of the client's keys as the client of this number.
     fn join_shards(&self, map: &ShardMap, number: u8, waits: Waits) -> Result<Client, JoinError> {
-        let of_no_shard =
-            || JoinError::of(number, None)(JoinErrorKind::Incomplete("keys of a shard"));
-        let shards = shards_of(map, &self.keys).ok_or_else(of_no_shard)?;
+        let joining = self.joining(number);
+        let shards = joining.shards_of(map)?;
         let joined: Vec<JoinedShard> = thread::scope(|scope| {
             let joining = shards.clone().map(|shard| {
                 let lock_file = self.lock.of_shard(map.shards()[shard].first, number);
@@ -131,41 +135,30 @@ impl ClientBuilder {
         let (mut clients, mut failed) = (Vec::new(), None);
         for (shard, joined) in shards.clone().zip(joined) {
             match joined {
-                Ok(client) => clients.push(client),
+                Ok(client) => clients.push(Arc::new(client)),
                 Err(kind) => {
                     failed.get_or_insert(JoinError::of(number, Some(shard))(kind));
                 }
             }
         }
-        let joined = Joined::shards(map.clone(), shards.start, clients, waits.timeout);
-        match failed {
-            Some(failed) => Err(failed),
-            None => Ok(Client::of(joined.ok_or_else(of_no_shard)?)),
+        if let Some(failed) = failed {
+            leave_soon(&clients.iter().collect::<Vec<_>>());
+            return Err(failed);
+        }
+        let joined = Joined::shards(map.clone(), shards.start, clients);
+        let joined = joined.ok_or_else(|| joining.of_no_shard())?;
+        Ok(Client::of(Table::of_shards(joined, joining, waits.timeout)))
+    }
+
+    fn joining(&self, number: u8) -> JoiningShards {
+        JoiningShards {
+            number,
+            lock: self.lock.clone(),
+            keys: self.keys.clone(),
+            #[cfg(feature = "tls")]
+            tls: self.tls.clone(),
         }
     }
-}
-
-impl Lock {
-    /// The lock file of a number at one server.
-    fn of_number(&self, number: u8) -> PathBuf {
-        match self {
-            Lock::Given(file) => file.clone(),
-            Lock::In(folder) => folder.join(format!("client-{number}.lock")),
-        }
-    }
-
-    /// The lock file of a number at the shard that begins with this key, by which the shard is the
-    /// same one in each map that has it.
-    fn of_shard(&self, first: u64, number: u8) -> PathBuf {
-        let (Lock::Given(folder) | Lock::In(folder)) = self;
-        folder.join(format!("shard-{first}-client-{number}.lock"))
-    }
-}
-
-/// The shards that have some of the keys. They lie next to each other.
-fn shards_of(map: &ShardMap, keys: &Range<u64>) -> Option<Range<usize>> {
-    let parts = map.parts(keys.clone()).ok()?;
-    Some(parts.first()?.shard..parts.last()?.shard + 1)
 }
 
 /// Waits until a shard's client has joined, or has not.
@@ -224,8 +217,8 @@ impl Client {
     /// let first = Server::start(TcpListener::bind("127.0.0.1:0")?, MemoryStore::default())?;
     /// let second = Server::start(TcpListener::bind("127.0.0.1:0")?, MemoryStore::default())?;
     /// let map = ShardMap::new(vec![
-    ///     Shard { first: 0, servers: first.address().into() },
-    ///     Shard { first: 1000, servers: second.address().into() },
+    ///     Shard::new(0, first.address()),
+    ///     Shard::new(1000, second.address()),
     /// ])?;
     /// let client = Client::join(map, 0, &folder)?;
     /// assert_eq!(client.insert(999, Value::from(1))?, Outcome::Applied);

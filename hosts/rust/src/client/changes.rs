@@ -1,6 +1,6 @@
 //! The states of a range, one after the other.
-use crate::client::calls::Waited;
 use crate::client::timeout::MAX_WAIT;
+use crate::client::waiting::Waited;
 use crate::model::error::{Error, ErrorKind};
 use crate::model::row::Row;
 use std::fmt;

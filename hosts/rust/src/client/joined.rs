@@ -1,10 +1,10 @@
-//! The servers that a client has joined: one, or those of shards of a map.
+//! The servers that a client has joined by one map, or the only one.
 use crate::client::link::Link;
 use crate::client::shard_client::{LEAVE_TIMEOUT, ShardClient};
 use crate::client::state::State;
-use crate::client::timeout::Timeout;
 use crate::model::error::{Error, ErrorKind};
 use crate::model::row::{END, Row};
+use crate::net::servers::Servers;
 use crate::proved::losses::Tenure;
 use crate::proved::partition::Part;
 use crate::shards::map::ShardMap;
@@ -14,41 +14,49 @@ use std::ops::Range;
 use std::sync::Arc;
 use std::time::{Duration, Instant};
 
-/// The servers that a client has joined. When nobody has them any more, all are left at once.
+/// How long a client that has not joined may take to leave.
+const NOT_JOINED: Duration = Duration::from_secs(5);
+
+/// The servers that a client has joined, by one map. A shard that the next map has as it is has the
+/// same client by both.
 ///
 /// Without a map it is one server, which has all keys and counts as shard 0.
 pub(crate) struct Joined {
     map: Option<ShardMap>,
-    /// The shard of `first`.
+    /// The shard of the first client.
     first_shard: usize,
-    /// It lies here, so that a call of one server follows no other pointer.
-    first: ShardClient,
-    /// The clients of the next shards, in their order.
-    others: Vec<ShardClient>,
-    pub timeout: Timeout,
+    /// The clients of the shards, in their order: at least one.
+    clients: Vec<Arc<ShardClient>>,
+    /// More than each tenure that was returned by an earlier map.
+    earlier_tenures: u64,
 }
 
 impl Joined {
     /// The one server of a client without a map.
-    pub fn one(client: ShardClient, timeout: Duration) -> Joined {
-        let timeout = Timeout::new(timeout);
-        Joined { map: None, first_shard: 0, first: client, others: Vec::new(), timeout }
+    pub fn one(client: Arc<ShardClient>) -> Joined {
+        Joined { map: None, first_shard: 0, clients: vec![client], earlier_tenures: 0 }
     }
 
     /// Shards of the map, from this one on, each by its client. `None` if there is no client.
     pub fn shards(
         map: ShardMap,
         first_shard: usize,
-        clients: Vec<ShardClient>,
-        timeout: Duration,
+        clients: Vec<Arc<ShardClient>>,
     ) -> Option<Joined> {
-        let mut others = clients.into_iter();
-        let first = others.next()?;
-        let (others, timeout) = (others.collect(), Timeout::new(timeout));
-        let joined = Joined { map: Some(map), first_shard, first, others, timeout };
+        if clients.is_empty() {
+            return None;
+        }
+        let joined = Joined { map: Some(map), first_shard, clients, earlier_tenures: 0 };
         // A read of several shards is answered by what all of them know after it.
         joined.keep_all();
         Some(joined)
+    }
+
+    /// The same, by a map that comes after that of these. No tenure is one that they have returned.
+    pub fn after(self, before: &Joined) -> Joined {
+        let of_all = |client: &Arc<ShardClient>| client.link().cache().losses();
+        let returned: u64 = before.clients.iter().map(of_all).sum();
+        Joined { earlier_tenures: before.earlier_tenures + returned + 1, ..self }
     }
 
     /// The clients keep what they read.
@@ -60,26 +68,23 @@ impl Joined {
         self.map.as_ref()
     }
 
-    pub fn number(&self) -> u8 {
-        self.first.number()
-    }
-
-    /// The client of the only server, if there is no map.
-    #[inline]
-    pub fn only(&self) -> Option<&ShardClient> {
-        self.map.is_none().then_some(&self.first)
+    /// Whether there is no map.
+    pub fn is_one(&self) -> bool {
+        self.map.is_none()
     }
 
     /// The shards, each with its client.
-    pub fn clients(&self) -> impl Iterator<Item = (usize, &ShardClient)> {
-        (self.first_shard..).zip(iter::once(&self.first).chain(&self.others))
+    pub fn clients(&self) -> impl Iterator<Item = (usize, &Arc<ShardClient>)> {
+        (self.first_shard..).zip(&self.clients)
+    }
+
+    /// The client of these servers of a shard, if there is one.
+    pub fn client_of(&self, servers: &Servers) -> Option<&Arc<ShardClient>> {
+        self.clients.iter().find(|client| client.link().servers() == servers)
     }
 
     pub fn client(&self, shard: usize) -> &ShardClient {
-        match shard - self.first_shard {
-            0 => &self.first,
-            place => &self.others[place - 1],
-        }
+        &self.clients[shard - self.first_shard]
     }
 
     pub fn link(&self, shard: usize) -> &Arc<Link> {
@@ -87,7 +92,7 @@ impl Joined {
     }
 
     fn has(&self, shard: usize) -> bool {
-        shard.checked_sub(self.first_shard).is_some_and(|place| place <= self.others.len())
+        shard.checked_sub(self.first_shard).is_some_and(|place| place < self.clients.len())
     }
 
     /// Makes errors of this shard, which has no number if it is the only server.
@@ -119,16 +124,8 @@ impl Joined {
         if self.has(shard) { Ok(shard) } else { Err(ErrorKind::BadKey.into()) }
     }
 
-    /// Whether the caches know the range at one moment. If so the rows are there.
-    #[inline]
+    /// Whether the caches of the shards know the range at one moment. If so the rows are there.
     pub fn scan(&self, keys: &Range<u64>, rows: &mut Vec<Row>) -> Result<bool, Error> {
-        match self.only() {
-            Some(only) => Ok(only.scan(keys, rows)),
-            None => self.scan_parts(keys, rows),
-        }
-    }
-
-    fn scan_parts(&self, keys: &Range<u64>, rows: &mut Vec<Row>) -> Result<bool, Error> {
         Ok(self.is_known(&self.parts(keys)?, rows))
     }
 
@@ -143,20 +140,16 @@ impl Joined {
         Ok(rows)
     }
 
-    /// The tenure of a range that is not empty, if the caches cover it.
+    /// The tenure of a range that is not empty, if the caches of the shards cover it.
     pub fn tenure(&self, keys: &Range<u64>, room: &mut Vec<Row>) -> Result<Option<Tenure>, Error> {
-        if let Some(only) = self.only() {
-            return Ok(only.tenure(keys, room));
-        }
         let parts = self.parts(keys)?;
-        Ok(parts.iter().map(|part| self.client(part.shard).tenure(&part.keys, room)).sum())
+        let of_part = |part: &Part| self.client(part.shard).tenure(&part.keys, room);
+        let earlier = iter::once(Some(Tenure::from(self.earlier_tenures)));
+        Ok(earlier.chain(parts.iter().map(of_part)).sum())
     }
 
     /// Whether each range, which is not empty, was held without a break since it had this tenure.
     pub fn held_since(&self, since: &[(Range<u64>, Tenure)]) -> Result<Vec<bool>, Error> {
-        if let Some(only) = self.only() {
-            return Ok(only.held_since(since));
-        }
         let mut room = Vec::new();
         let mut is_held = |(keys, since): &(Range<u64>, Tenure)| {
             Ok(self.tenure(keys, &mut room)? == Some(*since))
@@ -175,19 +168,29 @@ impl Joined {
     }
 }
 
-impl Drop for Joined {
-    fn drop(&mut self) {
-        if self.others.is_empty() {
-            return;
+/// Leaves the servers of all these clients at once, and waits for as long as a client that is
+/// dropped does.
+pub(crate) fn leave_soon(clients: &[&Arc<ShardClient>]) {
+    leave_all(clients, Instant::now() + LEAVE_TIMEOUT);
+}
+
+/// Leaves the servers of all these clients at once, and waits for each until the deadline. Then each
+/// of them has ended and answers nothing, whether or not its server has kept that it left. One that
+/// has not joined has nothing, and its server may be gone: it is not waited for so long.
+pub(crate) fn leave_all(clients: &[&Arc<ShardClient>], end: Instant) {
+    let soon = end.min(Instant::now() + NOT_JOINED);
+    let begin = |client: &&Arc<ShardClient>| {
+        let has_joined = client.link().with_state(|state| state.has_joined());
+        (client.link().begin(State::leave), if has_joined { end } else { soon })
+    };
+    let leaving: Vec<_> = clients.iter().map(begin).collect();
+    for (client, (leaving, end)) in clients.iter().zip(leaving) {
+        if client.link().finish(leaving, end).is_ok() {
+            client.end(end);
         }
-        let end = Instant::now() + LEAVE_TIMEOUT;
-        let begin = |(_, client): (usize, &ShardClient)| client.link().begin(State::leave);
-        let leaving: Vec<_> = self.clients().map(begin).collect();
-        for ((_, client), leaving) in self.clients().zip(leaving) {
-            if client.link().finish(leaving, end).is_ok() {
-                client.end(end);
-            }
-        }
-        self.clients().for_each(|(_, client)| client.end_by(Instant::now()));
+    }
+    for client in clients {
+        client.link().with_state(State::end_unanswered);
+        client.end_by(Instant::now());
     }
 }

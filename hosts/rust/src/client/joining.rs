@@ -69,7 +69,7 @@ pub(crate) fn join(
 }
 
 /// A client that has not joined yet, with the thread of its connection.
-fn start(
+pub(crate) fn start(
     servers: Servers,
     number: u8,
     lock_file: &Path,

@@ -159,6 +159,11 @@ impl Link {
         self.session().rejection()
     }
 
+    /// From now on the client waits for a server that is of another shard.
+    pub fn follow_map(&self) {
+        self.with_session(Session::follow_map);
+    }
+
     /// Gives the client's number free: another process may take it.
     pub fn free_number(&self) {
         lock(&self.lock_file).take();

@@ -57,7 +57,7 @@ impl Pin {
     /// [`Pin::within`] gave it a time of its own.
     #[must_use]
     pub fn timeout(&self) -> Duration {
-        self.timeout.unwrap_or_else(|| self.pinned.joined().timeout.get())
+        self.timeout.unwrap_or_else(|| self.pinned.table().timeout.get())
     }
 
     /// Calls that begin now.

@@ -1,10 +1,15 @@
 //! What is pinned at the servers of a client.
 use crate::client::joined::Joined;
+use crate::client::table::Table;
 use std::fmt;
 use std::sync::Arc;
 
 /// What the clones of a pin share. The range is free again when the last of them is dropped.
 pub(crate) struct Pinned {
+    /// It keeps the client.
+    table: Arc<Table>,
+    /// The servers by the map by which it was taken. At a shard that a later map changes the pin no
+    /// longer holds.
     joined: Arc<Joined>,
     /// The shards that have a part of the range, each with the pin there.
     parts: Vec<(usize, u64)>,
@@ -12,13 +17,17 @@ pub(crate) struct Pinned {
 
 impl Pinned {
     /// A pin of nothing.
-    pub fn new(joined: &Arc<Joined>) -> Pinned {
-        Pinned { joined: Arc::clone(joined), parts: Vec::new() }
+    pub fn new(table: &Arc<Table>, joined: &Arc<Joined>) -> Pinned {
+        Pinned { table: Arc::clone(table), joined: Arc::clone(joined), parts: Vec::new() }
     }
 
     /// Adds what this pin has of a shard.
     pub fn add(&mut self, shard: usize, pin: u64) {
         self.parts.push((shard, pin));
+    }
+
+    pub fn table(&self) -> &Arc<Table> {
+        &self.table
     }
 
     pub fn joined(&self) -> &Arc<Joined> {

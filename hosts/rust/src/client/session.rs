@@ -30,6 +30,13 @@ const HINT: Duration = Duration::from_secs(2);
 /// gives up. One answer may be that of a proxy whose server is being restarted.
 const STRANGERS: u32 = 2;
 
+/// For so long, a client of a shard that has just changed connects again soon: the shard's server
+/// is about to start.
+const HURRY: Duration = Duration::from_secs(10);
+
+/// The longest pause of one that does.
+const SOON: Duration = Duration::from_millis(50);
+
 /// Whether a client that joins gives up at this moment, since the server reports this reason.
 type GivesUp = Box<dyn Fn(Refusal, Instant) -> bool + Send>;
 
@@ -73,6 +80,15 @@ pub(crate) struct Session {
     /// The greatest epoch that a server has sent.
     epoch: u64,
     joining: Option<Joining>,
+    map_follower: MapFollower,
+}
+
+/// Whether a client continues by each next map of its shards.
+#[derive(Clone, Copy, Debug, PartialEq, Eq)]
+enum MapFollower {
+    No,
+    /// It does. Until it has joined, it connects again soon for a while after this moment.
+    Since(Instant),
 }
 
 /// One connection, while it lasts.
@@ -119,7 +135,14 @@ impl Session {
             seen: None,
             epoch: 0,
             joining: None,
+            map_follower: MapFollower::No,
         }
+    }
+
+    /// From now on it waits for a server that is of another shard: the server is about to change, or
+    /// the next map, by which the client leaves, is about to come.
+    pub fn follow_map(&mut self) {
+        self.map_follower = MapFollower::Since(self.now());
     }
 
     /// The session at this moment, read after all that the next call takes has come.
@@ -201,7 +224,13 @@ impl Session {
         if self.gives_up_if_refused() {
             return self.refused_connects.shorten(pause, self.now());
         }
-        pause
+        if self.is_in_a_hurry() { pause.min(SOON) } else { pause }
+    }
+
+    /// Whether its server is about to start.
+    fn is_in_a_hurry(&self) -> bool {
+        let MapFollower::Since(since) = self.map_follower else { return false };
+        !self.state.has_joined() && self.now().saturating_duration_since(since) < HURRY
     }
 
     /// Takes what has come whole.
@@ -340,6 +369,9 @@ impl Session {
             return;
         }
         let is_of_shard = matches!(self.rejections.last(), Some(Rejection::OtherShard(_)));
+        if is_of_shard && self.map_follower != MapFollower::No {
+            return;
+        }
         let of_sent = is_of_shard.then(|| self.unanswered(WasSent::Yes));
         self.state.refuse_all(self.unanswered(WasSent::No), of_sent);
     }

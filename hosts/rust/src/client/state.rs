@@ -190,7 +190,7 @@ impl State {
         match self.life.stage {
             Stage::Ended => job.refuse(ErrorKind::Stopped),
             Stage::Gone => job.end_after_bye(),
-            Stage::Here | Stage::Returning | Stage::Leaving => {
+            Stage::Here | Stage::Returning | Stage::Finishing | Stage::Leaving => {
                 self.open.push((id, job));
                 self.advance(Asking::Allowed);
             }
@@ -331,7 +331,7 @@ impl State {
             return;
         }
         let _ = match self.life.stage {
-            Stage::Here | Stage::Returning => {
+            Stage::Here | Stage::Returning | Stage::Finishing => {
                 self.yield_again();
                 self.client.tick()
             }
@@ -346,8 +346,8 @@ impl State {
             return;
         }
         self.asking = asking;
-        self.send_bye_if_returned();
         self.end_written();
+        self.finish_if_leaving();
         self.free_pins();
         for (id, job) in std::mem::take(&mut self.open) {
             if let Some(job) = self.advance_one(id, job) {

@@ -2,6 +2,7 @@
 use crate::client::Client;
 use crate::client::shard_client::ShardClient;
 use crate::model::error::Error;
+use std::sync::Arc;
 use std::time::Duration;
 
 /// What a client shows of a server that it has joined.
@@ -28,8 +29,9 @@ impl Client {
     /// is at least one.
     #[must_use]
     pub fn status(&self) -> Vec<ShardStatus> {
-        let status = |(shard, client): (usize, &ShardClient)| {
-            let (link, error_at) = (client.link(), self.joined.error_at(shard));
+        let joined = self.table.now();
+        let status = |(shard, client): (usize, &Arc<ShardClient>)| {
+            let (link, error_at) = (client.link(), joined.error_at(shard));
             let is_connected = link.is_connected();
             link.with_state(|state| ShardStatus {
                 shard,
@@ -39,6 +41,6 @@ impl Client {
                 lease_left: state.lease_left(),
             })
         };
-        self.joined.clients().map(status).collect()
+        joined.clients().map(status).collect()
     }
 }

@@ -16,7 +16,7 @@ impl Client {
     /// they stayed as they were: it takes the tenure, loads, and uses what it has loaded only as
     /// long as the tenure is the same. Tenures of different clients or ranges are not compared. A
     /// new tenure may also be due to the loss of another range, if the client has lost thousands of
-    /// keys.
+    /// keys, and to a next map.
     ///
     /// ```no_run
     /// # use krl::{Client, Error, Tenure};
@@ -42,7 +42,7 @@ impl Client {
         if keys.is_empty() {
             return Err(ErrorKind::BadRange.into());
         }
-        with_room(|room| self.joined.tenure(&keys, room))
+        with_room(|room| self.table.tenure(&keys, room))
     }
 
     /// Returns for each of these ranges whether the client has held it without a break since
@@ -59,6 +59,6 @@ impl Client {
                 return Err(ErrorKind::BadRange.into());
             }
         }
-        self.joined.held_since(since)
+        self.table.held_since(since)
     }
 }

@@ -110,7 +110,8 @@ impl EventLog {
                 Change::Started { .. }
                 | Change::Judged { .. }
                 | Change::Leased(_)
-                | Change::Room(_) => {}
+                | Change::Room(_)
+                | Change::Shard(_) => {}
             }
         }
     }
@@ -250,6 +251,20 @@ pub(crate) fn began_again(client: u8, incarnation: u64) {
         incarnation,
         "a client starts over: its lease has ended, or the server's store went back"
     );
+}
+
+/// A client continues by the map of this version.
+#[cfg(feature = "map-file")]
+pub(crate) fn follows_map(version: u64) {
+    tell!(info, version, "a client continues by the next map");
+}
+
+/// A client that follows its map does not continue by what it has found.
+#[cfg(feature = "map-file")]
+pub(crate) fn cannot_follow(limit: &mut RateLimit, error: &dyn Display) {
+    if let Some(passed_over) = limit.admits(Instant::now()) {
+        tell!(warn, %error, passed_over, "a client can't continue by the map that it follows");
+    }
 }
 
 /// The server has ended by an error.

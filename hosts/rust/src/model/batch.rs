@@ -68,6 +68,16 @@ impl From<Write> for Mutation {
     }
 }
 
+impl Fate {
+    /// The outcome of a write that was judged.
+    pub(crate) fn outcome(self) -> Option<Outcome> {
+        match self {
+            Fate::Judged(outcome) => Some(outcome),
+            Fate::Unknown | Fate::NotMade => None,
+        }
+    }
+}
+
 impl Judged {
     /// One of which nothing was judged.
     pub fn nothing(why: ErrorKind) -> Judged {

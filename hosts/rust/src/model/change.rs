@@ -1,4 +1,5 @@
 //! What survives a restart of a server, and how it changes.
+use crate::model::kept_shard::{KeptShard, NotLater};
 use crate::model::lease_record::LeaseRecord;
 use crate::model::room::Room;
 use crate::model::row::Row;
@@ -80,6 +81,9 @@ pub enum Change {
     Leased(LeaseRecord),
     /// A server has started with more room than any before it on this store.
     Room(Room),
+    /// The store is of this shard from now on, and loses the rows of all other keys. No client may be
+    /// registered that has not left, unless the rows are all there.
+    Shard(KeptShard),
 }
 
 impl Change {
@@ -91,7 +95,7 @@ impl Change {
             | Change::Registered { .. }
             | Change::Left { .. }
             | Change::Judged { .. } => true,
-            Change::Leased(_) | Change::Room(_) => false,
+            Change::Leased(_) | Change::Room(_) | Change::Shard(_) => false,
         }
     }
 }
@@ -108,6 +112,22 @@ impl Write {
 }
 
 impl Change {
+    /// Whether a store that is of this shard, or of none, may become what the changes make of it.
+    ///
+    /// # Errors
+    ///
+    /// `NotLater` for the first change by which it may not.
+    pub fn judge_shards(kept: Option<KeptShard>, changes: &[Change]) -> Result<(), NotLater> {
+        let mut kept = kept;
+        for change in changes {
+            if let Change::Shard(next) = *change {
+                kept.map_or(Ok(()), |kept| kept.judge_next(next))?;
+                kept = Some(next);
+            }
+        }
+        Ok(())
+    }
+
     /// How many rows a table has after the change that had this many before.
     pub(crate) fn rows_after(&self, before: u64) -> u64 {
         let Change::Judged { write, outcome: Outcome::Applied, .. } = self else { return before };

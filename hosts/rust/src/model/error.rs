@@ -45,8 +45,9 @@ pub enum ErrorKind {
     /// waits for its answer until the timeout, and ends with `TimedOut` then.
     TurnedAway,
     /// The server serves another shard than the client takes it for, or by another map. It comes
-    /// when `TurnedAway` does. A write was not sent, and changes nothing: one that was sent ends
-    /// with `Unserved`, and this reason, at the same moment.
+    /// when `TurnedAway` does, or, if the client follows its map, at the timeout. A write was not
+    /// sent, and changes nothing: one that was sent ends with `Unserved`, and this reason, at the
+    /// same moment.
     OtherShard(OtherShard),
     /// The server's store lacks what this client has seen of it: it is an older copy, or another
     /// store. The client has dropped its cache and its pins, and joins again. A write was sent, and

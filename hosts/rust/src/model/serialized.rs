@@ -1,8 +1,9 @@
-//! How values, modes, rooms and reaches are serialized, by the feature `serde`.
+//! How values, modes, rooms, reaches and shards are serialized, by the feature `serde`.
 use crate::model::lock::Mode;
 use crate::model::reach::Reach;
 use crate::model::room::Room;
 use crate::model::row::Value;
+use crate::model::shard_bounds::ShardBounds;
 use serde::de::{Error, SeqAccess, Visitor};
 use serde::{Deserialize, Deserializer, Serialize, Serializer};
 use std::fmt;
@@ -51,6 +52,13 @@ impl<'de> Visitor<'de> for ValueVisitor {
 impl Serialize for Room {
     fn serialize<S: Serializer>(&self, serializer: S) -> Result<S::Ok, S::Error> {
         self.rows().serialize(serializer)
+    }
+}
+
+/// As its text.
+impl Serialize for ShardBounds {
+    fn serialize<S: Serializer>(&self, serializer: S) -> Result<S::Ok, S::Error> {
+        serializer.collect_str(self)
     }
 }
 

@@ -42,6 +42,12 @@ impl ShardBounds {
         self.first..self.end
     }
 
+    /// The same keys, by the map of this version.
+    #[must_use]
+    pub fn with_version(self, map_version: NonZeroU64) -> ShardBounds {
+        ShardBounds { map_version, ..self }
+    }
+
     /// The version of the map.
     #[must_use]
     pub fn map_version(self) -> NonZeroU64 {
@@ -100,6 +106,8 @@ mod tests {
         let whole: ShardBounds = "0..9223372036854775808@7".parse().unwrap();
         assert_eq!((whole.keys(), whole.map_version().get()), (0..TOP, 7));
         assert_eq!(whole.to_string(), "0..@7");
+        let later = whole.with_version(NonZeroU64::new(8).unwrap());
+        assert_eq!(later.to_string(), "0..@8");
     }
 
     #[test]

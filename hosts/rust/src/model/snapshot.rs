@@ -1,5 +1,6 @@
 //! All that survives a restart of a server: how it changes, and how it is cut in two or merged.
 use crate::model::change::{Change, Outcome, Record, Write};
+use crate::model::kept_shard::KeptShard;
 use crate::model::lease_record::LeaseRecord;
 use crate::model::room::Room;
 use crate::model::row::Value;
@@ -20,6 +21,8 @@ pub struct Snapshot {
     /// The greatest room that a server had over it. A store that no server has served keeps none,
     /// nor does one of a version that did not keep it.
     pub room: Option<Room>,
+    /// Which shard the store is of, if it was ever one of a shard.
+    pub shard: Option<KeptShard>,
     /// The bits of the first start of a server over the store, if there was one and the store keeps
     /// its history. A copy has the same: they distinguish an older copy from another store.
     pub first_start: Option<u128>,
@@ -47,6 +50,7 @@ impl Snapshot {
             Change::Left { client } => self.revise(client, |record| record.left = true),
             Change::Leased(leases) => self.leases = leases,
             Change::Room(room) => self.room = Some(room),
+            Change::Shard(shard) => self.become_shard(shard),
             Change::Judged { client, number, write, outcome } => {
                 self.revise(client, |record| record.last = Some((number, outcome)));
                 if outcome == Outcome::Applied {
@@ -54,6 +58,12 @@ impl Snapshot {
                 }
             }
         }
+    }
+
+    fn become_shard(&mut self, shard: KeptShard) {
+        self.shard = Some(shard);
+        let keys = shard.bounds.keys();
+        self.rows.retain(|key, _| keys.contains(key));
     }
 
     fn register(&mut self, client: u8, incarnation: u64) {
@@ -100,9 +110,11 @@ impl Snapshot {
     /// records, what is known of leases and the room. The lower one keeps the first start; the
     /// upper one is a new store, on which no server has started. A server can start on either only
     /// if it can start on this, and a client may learn of the cut only if all have left before:
-    /// otherwise one would continue to answer for both halves.
+    /// otherwise one would continue to answer for both halves. Of which shards they are is left to the
+    /// caller: neither is of one.
     #[must_use]
     pub fn split(mut self, at: u64) -> (Snapshot, Snapshot) {
+        self.shard = None;
         let upper = Snapshot { rows: self.rows.split_off(&at), ..self.without_rows() };
         (self, upper)
     }
@@ -110,7 +122,8 @@ impl Snapshot {
     /// Makes one of this, whose keys are all lower, and of another one. Its epoch is the greater
     /// one, so that no client has joined a later one, and so are each client's incarnation, the
     /// longest lease and the room. It is a new store, on which no server has started. The clients
-    /// are in the order of this one's records, and after them those that only the other one has.
+    /// are in the order of this one's records, and after them those that only the other one has. It is
+    /// of no shard yet.
     ///
     /// # Errors
     ///
@@ -125,7 +138,7 @@ impl Snapshot {
         self.room = self.kept_room().max(upper.kept_room());
         self.epoch = self.epoch.max(upper.epoch);
         self.leases = self.leases.with_those_of(upper.leases);
-        self.first_start = None;
+        (self.shard, self.first_start) = (None, None);
         self.rows.extend(upper.rows);
         for record in upper.records {
             self.merge_record(record);

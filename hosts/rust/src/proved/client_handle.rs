@@ -117,6 +117,11 @@ impl Cache {
         })
     }
 
+    /// How many losses the client has had: no tenure of it is greater.
+    pub fn losses(&self) -> u64 {
+        self.0.read(|incarnation| incarnation.losses.count())
+    }
+
     /// Keeps the cache as it is, as long as the answer lives: the client takes no message and no
     /// call meanwhile. A thread that holds several has to take them in the order of their shards.
     pub fn hold(&self) -> CacheGuard<'_> {

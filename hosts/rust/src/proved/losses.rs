@@ -68,6 +68,11 @@ impl Losses {
         self.of_all = self.count;
     }
 
+    /// How many there were: no tenure is greater.
+    pub fn count(&self) -> u64 {
+        self.count
+    }
+
     /// The tenure of keys that the client holds now.
     pub fn tenure(&self, keys: &Range<u64>) -> Tenure {
         let places = self.by_place.get_or_init(no_losses);

@@ -80,7 +80,9 @@ impl<S: Store + 'static> ServerBuilder<S> {
     }
 
     /// The shard that the server serves, by a map of this version: it serves clients that take it
-    /// for this, and no others. By default it serves all keys, and no client of a shard.
+    /// for this, and no others. The store keeps it, and is of no other one until it is split or merged.
+    /// By default the server serves the shard that its store keeps, and without one all keys, and no
+    /// client of a shard.
     pub fn shard(mut self, shard: ShardBounds) -> ServerBuilder<S> {
         self.options.shard = Some(shard);
         self
@@ -111,7 +113,8 @@ impl<S: Store + 'static> ServerBuilder<S> {
     ///
     /// # Errors
     ///
-    /// Those of [`Server::start`]; `OtherKey` if the store has a key that the shard does not have;
+    /// Those of [`Server::start`]; `OtherStoreShard` if the store is of another shard; `OtherKey` if it
+    /// has a key that the shard does not have;
     /// `MoreRows` if it has more rows than there is room for.
     pub fn start(self) -> Result<Server, ServeError> {
         Server::start_with(self.listener, self.store, self.options)
@@ -138,9 +141,9 @@ impl Server {
     ///
     /// # Errors
     ///
-    /// `Store` if the store fails; `Refused` if what it gives is not what a server committed, or
-    /// memory is refused; `Network` if the listener fails, may not be listened at, or there is no
-    /// thread.
+    /// `Store` if the store fails; `Sealed` if no server may start on it; `Refused` if what it gives
+    /// is not what a server committed, or memory is refused; `Network` if the listener fails, may not
+    /// be listened at, or there is no thread.
     pub fn start(
         listener: impl Into<Listener>,
         store: impl Store + 'static,
@@ -188,10 +191,11 @@ impl Server {
         let timings = Arc::new(Timings::new());
         let decided = Decided { leases, shard, room, reach, max_connections };
         let opened = decided.open(&mut store, &address, Arc::clone(&timings), Now::read)?;
-        let Opened { events, epoch, room } = opened;
+        let Opened { events, epoch, room, shard } = opened;
         let (sockets, waker) = Sockets::new(listener, access)?;
         let (questions, asked) = Questions::new(Arc::clone(&waker));
-        let status = Arc::new(Mutex::new(Status { epoch, room, reach, ..Status::default() }));
+        let status =
+            Arc::new(Mutex::new(Status { epoch, room, reach, shard, ..Status::default() }));
         let shown = Arc::clone(&status);
         let longest_store_wait = store.longest_wait();
         let store = TimedStore::new(store, Arc::clone(&timings));

@@ -28,6 +28,16 @@ pub enum ServeError {
         /// The shard.
         shard: ShardBounds,
     },
+    /// No server may start on the store, which is of this shard: another store has these rows, or may
+    /// have them.
+    Sealed(ShardBounds),
+    /// The store is of another shard than the one that the server is given.
+    OtherStoreShard {
+        /// What the store is of.
+        kept: ShardBounds,
+        /// What the server is given.
+        given: ShardBounds,
+    },
     /// The store has more rows than the server has room for.
     MoreRows {
         /// How many rows.
@@ -66,6 +76,16 @@ impl fmt::Display for ServeError {
                 "the store has the key {key}, which the shard {shard} does not have: it is another \
                  shard's, or has to be split"
             ),
+            ServeError::Sealed(shard) => write!(
+                f,
+                "the store of the shard {shard} is sealed: another store has its rows, or may have \
+                 them. Repeat the command that was to change the map, and it continues"
+            ),
+            ServeError::OtherStoreShard { kept, given } => write!(
+                f,
+                "the store is of the shard {kept}, and the server was to serve {given}: without a shard \
+                 it serves what the store is of"
+            ),
             ServeError::OlderStore { identity, seen } => write!(
                 f,
                 "the store lacks what the holder of the identity {identity} has seen of it \
@@ -86,6 +106,8 @@ impl std::error::Error for ServeError {
             ServeError::Network(error) | ServeError::Clock(error) => Some(error),
             ServeError::OtherKey { .. }
             | ServeError::MoreRows { .. }
+            | ServeError::Sealed(_)
+            | ServeError::OtherStoreShard { .. }
             | ServeError::OlderStore { .. }
             | ServeError::Panicked => None,
         }

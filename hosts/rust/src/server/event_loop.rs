@@ -96,6 +96,8 @@ pub(crate) struct EventLoop {
     frames: Vec<u8>,
     kept_requests: KeptRequests,
     shard: Option<ShardBounds>,
+    /// What the next map has in place of the shard. Then no lease is renewed.
+    next_shard: Option<ShardBounds>,
 }
 
 /// A server whose epoch is committed, and what it begins with.
@@ -148,6 +150,7 @@ impl EventLoop {
             frames: Vec::new(),
             kept_requests: KeptRequests::default(),
             shard: None,
+            next_shard: None,
         }
     }
 

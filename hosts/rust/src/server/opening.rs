@@ -7,13 +7,13 @@ use crate::model::change::Change;
 use crate::model::reach::Reach;
 use crate::model::room::Room;
 use crate::model::shard_bounds::ShardBounds;
-use crate::model::snapshot::Snapshot;
 use crate::net::address::Address;
 use crate::proved::server_handle::ServerHandle;
 use crate::server::connections::Connections;
 use crate::server::error::ServeError;
 use crate::server::event_loop::{EventLoop, Started};
 use crate::server::room_at_start::RoomAtStart;
+use crate::server::shard_at_start::{shard_at_start, shard_change};
 use crate::server::shown::timings::Timings;
 use crate::store::Store;
 use std::sync::Arc;
@@ -33,6 +33,7 @@ pub(crate) struct Opened {
     pub events: EventLoop,
     pub epoch: u64,
     pub room: Room,
+    pub shard: Option<ShardBounds>,
 }
 
 impl Decided {
@@ -46,7 +47,7 @@ impl Decided {
     ) -> Result<Opened, ServeError> {
         let Decided { leases, shard, room, reach, max_connections } = self;
         let snapshot = store.load()?;
-        refuse_other_keys(&snapshot, shard)?;
+        let shard = shard_at_start(&snapshot, shard)?;
         let at_start = RoomAtStart::of(&snapshot, room)?;
         let room = at_start.room;
         let (mut server, epoch) =
@@ -56,9 +57,10 @@ impl Decided {
         let record = leases.record();
         let revised = (record != snapshot.leases).then_some(Change::Leased(record));
         let first = leases.commit().map_err(ServeError::Refused)?;
-        // The epoch, what is known of leases and the room are kept before anything is sent.
+        // The epoch, what is known of leases, the room and the shard are kept before anything is sent.
         let changes = [Change::Started { epoch }].into_iter().chain(revised);
-        let changes: Vec<Change> = changes.chain(at_start.change(&snapshot)).collect();
+        let changes = changes.chain(at_start.change(&snapshot));
+        let changes: Vec<Change> = changes.chain(shard_change(&snapshot, shard)).collect();
         store.commit(&changes)?;
         server.confirm(&changes).map_err(ServeError::Refused)?;
         // No older server grants anything after that commit, and the clock is read after it.
@@ -74,40 +76,6 @@ impl Decided {
         let started = Started { server, epoch, history, leases, connections, timings, log };
         let events = EventLoop::new(started);
         let events = events.of_shard(shard).of_table(rows, room, reach);
-        Ok(Opened { events, epoch, room })
-    }
-}
-
-/// Refuses a store with a key that the shard does not have: nobody would find it.
-fn refuse_other_keys(store: &Snapshot, shard: Option<ShardBounds>) -> Result<(), ServeError> {
-    let Some(shard) = shard else { return Ok(()) };
-    let stray = stray_key(store, shard);
-    stray.map_or(Ok(()), |key| Err(ServeError::OtherKey { key, shard }))
-}
-
-/// A key of the store that the shard does not have, if there is one.
-fn stray_key(store: &Snapshot, shard: ShardBounds) -> Option<u64> {
-    let keys = shard.keys();
-    let below = store.rows.range(..keys.start).next();
-    below.or_else(|| store.rows.range(keys.end..).next()).map(|(key, _)| *key)
-}
-
-#[cfg(test)]
-mod tests {
-    use super::*;
-    use crate::model::row::Value;
-
-    #[test]
-    fn keys_of_another_shard_are_found() {
-        let store = |keys: &[u64]| Snapshot {
-            rows: keys.iter().map(|key| (*key, Value::from(0))).collect(),
-            ..Snapshot::default()
-        };
-        let shard = "10..20@1".parse().unwrap();
-        for (keys, stray) in
-            [(&[][..], None), (&[10, 19], None), (&[9, 10], Some(9)), (&[15, 20], Some(20))]
-        {
-            assert_eq!(stray_key(&store(keys), shard), stray);
-        }
+        Ok(Opened { events, epoch, room, shard })
     }
 }

@@ -1,4 +1,5 @@
 //! What other threads ask of a server's loop.
+use crate::model::shard_bounds::ShardBounds;
 use crate::model::snapshot::Snapshot;
 use crate::server::lock_search::{Page, Search};
 use crate::store::StoreError;
@@ -19,6 +20,8 @@ pub(crate) enum Question {
     Snapshot(SyncSender<Result<Snapshot, StoreError>>),
     /// Who holds what.
     Locks(Search, SyncSender<Page>),
+    /// The shard is another one by the next map, which has this one in its place; or not any more.
+    GiveWay(Option<ShardBounds>),
     /// The server is to end.
     Stop,
 }

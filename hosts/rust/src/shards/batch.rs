@@ -80,15 +80,8 @@ impl Spread {
         }
         match first_error {
             Some(error) => Err(BatchError { fates, error }),
-            None => Ok(fates.into_iter().filter_map(outcome).collect()),
+            None => Ok(fates.into_iter().filter_map(Fate::outcome).collect()),
         }
-    }
-}
-
-fn outcome(fate: Fate) -> Option<Outcome> {
-    match fate {
-        Fate::Judged(outcome) => Some(outcome),
-        Fate::Unknown | Fate::NotMade => None,
     }
 }
 

@@ -19,6 +19,18 @@ pub struct Shard {
     pub first: u64,
     /// Where its server is, or where it may be; with what is shown there, if it listens by TLS.
     pub servers: Servers,
+    /// The version of the map in which the shard became what it is, if that is an earlier one than
+    /// the map's. Its server and its clients know it by this version, so they need not learn of a
+    /// change of other shards.
+    pub since: Option<NonZeroU64>,
+}
+
+impl Shard {
+    /// A shard that begins at this key, with these servers, as the map's version has it.
+    #[must_use]
+    pub fn new(first: u64, servers: impl Into<Servers>) -> Shard {
+        Shard { first, servers: servers.into(), since: None }
+    }
 }
 
 /// All keys, cut into shards, each with a server and a store of its own.
@@ -45,11 +57,11 @@ impl ShardMap {
     /// The map of these shards, in ascending order.
     ///
     /// ```
-    /// use krl::{Shard, ShardMap};
+    /// use krl::{Address, Shard, ShardMap};
     ///
     /// let map = ShardMap::new(vec![
-    ///     Shard { first: 0, servers: "127.0.0.1:7400".parse()? },
-    ///     Shard { first: 1000, servers: "127.0.0.1:7500".parse()? },
+    ///     Shard::new(0, "127.0.0.1:7400".parse::<Address>()?),
+    ///     Shard::new(1000, "127.0.0.1:7500".parse::<Address>()?),
     /// ])?;
     /// assert_eq!(map.shard_of(1000), Ok(1));
     /// # Ok::<(), Box<dyn std::error::Error>>(())
@@ -93,13 +105,21 @@ impl ShardMap {
         self.version
     }
 
-    /// What the shard of this number has of the keys, by the version of this map. A map without a
+    /// The version of the map in which the shard of this number became what it is. A map without a
     /// version returns `None`, and so does one that has no such shard.
+    #[must_use]
+    pub fn since(&self, shard: usize) -> Option<NonZeroU64> {
+        let version = self.version?;
+        Some(self.shards.get(shard)?.since.unwrap_or(version))
+    }
+
+    /// What the shard of this number has of the keys, by the version in which it became what it is.
+    /// A map without a version returns `None`, and so does one that has no such shard.
     #[must_use]
     pub fn bounds_of(&self, shard: usize) -> Option<ShardBounds> {
         let first = self.shards.get(shard)?.first;
         let end = self.shards.get(shard + 1).map_or(END + 1, |next| next.first);
-        ShardBounds::new(first..end, self.version?).ok()
+        ShardBounds::new(first..end, self.since(shard)?).ok()
     }
 
     /// The servers of a shard, which a client takes for its own.
@@ -156,7 +176,7 @@ mod tests {
 
     fn map(firsts: &[u64]) -> Result<ShardMap, BadShardMap> {
         let servers: Servers = "127.0.0.1:7400".parse().unwrap();
-        let shards = firsts.iter().map(|first| Shard { first: *first, servers: servers.clone() });
+        let shards = firsts.iter().map(|first| Shard::new(*first, servers.clone()));
         ShardMap::new(shards.collect())
     }
 
@@ -188,5 +208,21 @@ mod tests {
         let expected = ["0..10@3", "10..9223372036854775807@3", "9223372036854775807..@3"];
         let expected = expected.map(|text| Some(text.parse().unwrap()));
         assert_eq!(bounds, [&expected[..], &[None]].concat());
+    }
+
+    #[test]
+    fn a_shard_is_known_by_the_version_in_which_it_became_what_it_is() {
+        let version = |number| NonZeroU64::new(number).unwrap();
+        let mut shards = map(&[0, 10]).unwrap().shards().to_vec();
+        shards[1].since = Some(version(3));
+        let map = ShardMap::new(shards).unwrap();
+        assert_eq!((map.since(1), map.bounds_of(1)), (None, None));
+        let map = map.with_version(version(5));
+        let bounds = [0, 1].map(|shard| map.bounds_of(shard).unwrap().to_string());
+        assert_eq!(bounds, ["0..10@5", "10..@3"]);
+        assert_eq!(
+            [0, 1, 2].map(|shard| map.since(shard)),
+            [Some(version(5)), Some(version(3)), None]
+        );
     }
 }

@@ -30,6 +30,8 @@ struct MapFile {
 struct ShardEntry {
     first: u64,
     servers: String,
+    /// That of the map if it is left out.
+    since: Option<NonZeroU64>,
 }
 
 impl ShardMap {
@@ -47,13 +49,16 @@ impl ShardMap {
     ///     [[shard]]
     ///     first = 500000
     ///     servers = "tls:db3:7400"
+    ///     since = 2
     ///     "#,
     /// )?;
     /// assert_eq!(map.bounds_of(0), Some("0..500000@3".parse()?));
+    /// assert_eq!(map.bounds_of(1), Some("500000..@2".parse()?));
     /// # Ok::<(), Box<dyn std::error::Error>>(())
     /// ```
     ///
-    /// A shard ends where the next one begins.
+    /// A shard ends where the next one begins. It is known by the version in which it became what it
+    /// is: `since`, or the map's version if that is left out.
     ///
     /// # Errors
     ///
@@ -64,6 +69,11 @@ impl ShardMap {
         let shards: Result<Vec<Shard>, BadMapFile> =
             file.shard.iter().map(ShardEntry::shard).collect();
         let map = ShardMap::new(shards?).map_err(BadMapFile::Shards)?;
+        if let Some(later) = map.shards().iter().find(|shard| shard.since > Some(file.version)) {
+            let first = later.first;
+            let form = format!("the shard from {first} on is of a later version than the map");
+            return Err(BadMapFile::Form(form));
+        }
         Ok(map.with_version(file.version))
     }
 
@@ -80,9 +90,11 @@ impl ShardMap {
     #[must_use]
     pub fn to_toml(&self) -> String {
         let version = self.version().map(|version| format!("version = {version}\n"));
-        let shard = |Shard { first, servers }: &Shard| {
+        let shard = |Shard { first, servers, since }: &Shard| {
             let servers = toml::Value::String(servers.to_string());
-            format!("\n[[shard]]\nfirst = {first}\nservers = {servers}\n")
+            let since = since.filter(|since| Some(*since) != self.version());
+            let since = since.map(|since| format!("since = {since}\n")).unwrap_or_default();
+            format!("\n[[shard]]\nfirst = {first}\nservers = {servers}\n{since}")
         };
         version.into_iter().chain(self.shards().iter().map(shard)).collect()
     }
@@ -90,13 +102,13 @@ impl ShardMap {
 
 impl ShardEntry {
     fn shard(&self) -> Result<Shard, BadMapFile> {
-        let ShardEntry { first, servers } = self;
+        let ShardEntry { first, servers, since } = self;
         let parsed = servers.parse().map_err(|error| {
             BadMapFile::Form(format!(
                 "the servers '{servers}' of the shard from {first} on: {error}"
             ))
         });
-        Ok(Shard { first: *first, servers: parsed? })
+        Ok(Shard { first: *first, servers: parsed?, since: *since })
     }
 }
 
@@ -107,7 +119,7 @@ impl fmt::Display for BadMapFile {
             BadMapFile::Form(what) => write!(
                 f,
                 "a map is a line `version = N`, and for each shard a table [[shard]] with `first` \
-                 and `servers`: {what}"
+                 and `servers`, and `since` if it is of an earlier version: {what}"
             ),
             BadMapFile::Shards(error) => error.fmt(f),
         }
@@ -129,7 +141,7 @@ mod tests {
     use super::*;
 
     const MAP: &str = "version = 3\n\n[[shard]]\nfirst = 0\nservers = \"127.0.0.1:1\"\n\n\
-                       [[shard]]\nfirst = 9\nservers = \"tls:db1:7400,tls:db2:7400\"\n";
+                       [[shard]]\nfirst = 9\nservers = \"tls:db1:7400,tls:db2:7400\"\nsince = 2\n";
 
     #[test]
     fn a_map_has_its_version_and_its_shards() {
@@ -139,6 +151,7 @@ mod tests {
             map.shards().iter().map(|shard| (shard.first, shard.servers.to_string())).collect();
         let last = (9, "tls:db1:7400,tls:db2:7400".into());
         assert_eq!(shards, [(0, "127.0.0.1:1".into()), last]);
+        assert_eq!([0, 1].map(|shard| map.since(shard).map(NonZeroU64::get)), [Some(3), Some(2)]);
         assert_eq!(map.to_toml(), MAP);
     }
 
@@ -149,6 +162,8 @@ mod tests {
             ("version = 3\n", "", "missing field `version`"),
             ("version = 3", "version = 0", "[[shard]]"),
             ("first = 9", "frist = 9", "unknown field `frist`"),
+            ("since = 2", "since = 4", "the shard from 9 on is of a later version"),
+            ("since = 2", "since = 0", "[[shard]]"),
             ("first = 9", "first = 0", "each other one above the one before it"),
             ("127.0.0.1:1", "here", "the servers 'here' of the shard from 0 on: "),
         ] {

@@ -5,15 +5,18 @@ mod joined;
 mod journal;
 mod merged;
 mod progress;
+mod shard;
 mod transaction;
 mod version;
 
 use crate::model::change::{Change, Outcome, Record};
 use crate::model::client_set::ClientSet;
 use crate::model::history::{History, Mark};
+use crate::model::kept_shard::KeptShard;
 use crate::model::lease_record::LeaseRecord;
 use crate::model::room::Room;
 use crate::model::row::{Row, Value};
+use crate::model::shard_bounds::ShardBounds;
 use crate::model::snapshot::Snapshot;
 use crate::store::sqlite::checksum::Checksum;
 use crate::store::sqlite::journal::Journal;
@@ -81,6 +84,9 @@ const TABLES: &str = "
         id INTEGER PRIMARY KEY CHECK (id = 0), longest INTEGER NOT NULL, unleased INTEGER NOT NULL);
     CREATE TABLE IF NOT EXISTS room (
         id INTEGER PRIMARY KEY CHECK (id = 0), most_rows INTEGER NOT NULL);
+    CREATE TABLE IF NOT EXISTS shard (
+        id INTEGER PRIMARY KEY CHECK (id = 0), first INTEGER NOT NULL, last INTEGER NOT NULL,
+        version INTEGER NOT NULL, sealed INTEGER NOT NULL);
     CREATE TABLE IF NOT EXISTS journal (batch INTEGER PRIMARY KEY, changes BLOB NOT NULL);
     INSERT OR IGNORE INTO epoch VALUES (0, 0);
     INSERT OR IGNORE INTO lease VALUES (0, 0, -1);";
@@ -136,17 +142,68 @@ impl SqliteStore {
 
     /// Takes the rows of this key and of all greater ones away, all or none: they are in another
     /// store by now, which has this snapshot. [`SqliteStore::read`] shows that store's checksum as
-    /// what was cut off. No server may run on it, and each client has left.
+    /// what was cut off. If the other store is of a shard, this one is of `lower` in the same
+    /// transaction. No server may run on it, and each client has left.
     ///
     /// # Errors
     ///
     /// `Deposed` if somebody else has changed the store since it was loaded; `Failed` if SQLite
     /// can't write it.
-    pub fn cut_off(&mut self, key: u64, upper: &Snapshot) -> Result<(), StoreError> {
+    pub fn cut_off(
+        &mut self,
+        key: u64,
+        upper: &Snapshot,
+        lower: Option<KeptShard>,
+    ) -> Result<(), StoreError> {
         self.change_tables(|transaction| {
             run(transaction, DELETE_FROM, params![signed(key)?])?;
+            lower.map_or(Ok(()), |lower| shard::write(transaction, lower))?;
             checksum::write_cut(transaction, upper)
         })
+    }
+
+    /// From now on no server may start on the store, which is of this shard: another store has its
+    /// rows by now, and this snapshot. [`SqliteStore::read`] shows that store's checksum as what was
+    /// cut off. No server may run on it, and each client has left.
+    ///
+    /// # Errors
+    ///
+    /// `Deposed` if somebody else has changed the store since it was loaded; `Failed` if SQLite
+    /// can't write it.
+    pub fn seal(&mut self, bounds: ShardBounds, new: &Snapshot) -> Result<(), StoreError> {
+        self.change_tables(|transaction| {
+            shard::write(transaction, KeptShard::sealed(bounds))?;
+            checksum::write_cut(transaction, new)
+        })
+    }
+
+    /// From now on a server may start on the file, if it was sealed. A checksum that it has is that
+    /// of what it is then. A file that is not sealed stays as it is.
+    ///
+    /// # Errors
+    ///
+    /// If the file can't be read or written, or is damaged; if a server runs on it.
+    pub fn unseal(path: impl AsRef<Path>) -> Result<(), StoreError> {
+        let flags = OpenFlags::SQLITE_OPEN_READ_WRITE | OpenFlags::SQLITE_OPEN_NO_MUTEX;
+        let connection = Connection::open_with_flags(path, flags)?;
+        connection.pragma_update(None, "locking_mode", "EXCLUSIVE")?;
+        // If this is killed, a reader finds the file as it was, or as it is to be.
+        use_log(&connection)?;
+        let mut snapshot = load(&connection)?;
+        let Some(kept) = snapshot.shard.filter(|shard| shard.is_sealed) else { return Ok(()) };
+        let checksum = checksum::compare(&connection, &snapshot)?;
+        if checksum == Checksum::Differs {
+            return Err(StoreError::failed(checksum::DIFFERS));
+        }
+        let opened = KeptShard::open(kept.bounds);
+        snapshot.shard = Some(opened);
+        let transaction = WriteTransaction::begin(&connection)?;
+        shard::write(&transaction, opened)?;
+        if checksum == Checksum::Matches {
+            checksum::remove(&transaction)?;
+            checksum::write(&transaction, &snapshot)?;
+        }
+        transaction.commit()
     }
 
     /// Writes these rows, each in place of the one of its key if there is one, all or none. No
@@ -198,12 +255,7 @@ impl SqliteStore {
         if found == Found::New {
             set_page_size(&connection)?;
         }
-        let mode: String =
-            connection.query_row("PRAGMA journal_mode = WAL", [], |row| row.get(0))?;
-        if mode != "wal" {
-            return Err(StoreError::failed("SQLite gives no WAL mode for this file"));
-        }
-        connection.pragma_update(None, "synchronous", "FULL")?;
+        use_log(&connection)?;
         limit_log(&connection)?;
         if found != Found::Current {
             prepare(&connection)?;
@@ -240,6 +292,15 @@ pub(crate) fn set_page_size(connection: &Connection) -> Result<(), StoreError> {
 /// The page size of the file, in bytes.
 pub(crate) fn page_size(connection: &Connection) -> Result<i64, StoreError> {
     Ok(connection.query_row("PRAGMA page_size", [], |row| row.get(0))?)
+}
+
+/// What is committed from now on is in the log first, and on the disk.
+fn use_log(connection: &Connection) -> Result<(), StoreError> {
+    let mode: String = connection.query_row("PRAGMA journal_mode = WAL", [], |row| row.get(0))?;
+    if mode != "wal" {
+        return Err(StoreError::failed("SQLite gives no WAL mode for this file"));
+    }
+    Ok(connection.pragma_update(None, "synchronous", "FULL")?)
 }
 
 fn limit_log(connection: &Connection) -> Result<(), StoreError> {
@@ -344,6 +405,7 @@ pub(crate) fn load(connection: &Connection) -> Result<Snapshot, StoreError> {
     }
     snapshot.leases = lease_record(connection)?;
     snapshot.room = kept_room(connection)?;
+    snapshot.shard = shard::read(connection)?;
     snapshot.first_start = first_start(connection)?;
     journal::apply(connection, &mut snapshot)?;
     Ok(snapshot)

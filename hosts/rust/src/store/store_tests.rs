@@ -12,11 +12,15 @@
 use crate::model::change::{Change, Outcome, Write};
 use crate::model::client_set::ClientSet;
 use crate::model::history::Mark;
+use crate::model::kept_shard::KeptShard;
 use crate::model::lease_record::LeaseRecord;
 use crate::model::room::Room;
 use crate::model::row::{END, MAX_VALUE_BYTES, Row, Value};
+use crate::model::shard_bounds::ShardBounds;
 use crate::model::snapshot::Snapshot;
 use crate::store::{Store, StoreError};
+use std::num::NonZeroU64;
+use std::ops::Range;
 
 /// A client registers for the first time.
 pub const REGISTER: Change = Change::Registered { client: 9, incarnation: 1 };
@@ -70,7 +74,17 @@ pub fn changes() -> Vec<Change> {
         leased(u64::MAX >> 1, 0),
         Change::Room(Room::of(3).unwrap_or_default()),
         Change::Room(Room::MAX),
+        shard(0..END + 1, 1, false),
+        shard(10..END, 7, true),
+        shard(10..END, 7, false),
     ]
+}
+
+/// The store is of this shard from now on.
+fn shard(keys: Range<u64>, version: u64, is_sealed: bool) -> Change {
+    let version = NonZeroU64::new(version).expect("versions begin with 1");
+    let bounds = ShardBounds::new(keys, version).expect("the keys are those of a shard");
+    Change::Shard(KeptShard { bounds, is_sealed })
 }
 
 /// Makes the changes in the snapshot, in their order.
@@ -210,6 +224,42 @@ pub fn distinguishes_two_starts<S: Store>(mut open: impl FnMut() -> S) {
     }
 }
 
+/// A store becomes only a later shard, with keys that it has: otherwise nothing changes.
+///
+/// # Panics
+///
+/// If it becomes another one, or keeps a row of another key.
+pub fn becomes_only_a_later_shard<S: Store>(mut open: impl FnMut() -> S) {
+    let insert = |number, key| judged(number, Write::Insert(row(key, b"x")), Outcome::Applied);
+    let (mut store, _) = loaded(&mut open);
+    let rows = [REGISTER, insert(1, 9), insert(2, 10), insert(3, 19), insert(4, 20)];
+    store.commit(&[Change::Started { epoch: 1 }]).expect("nobody else has committed anything");
+    store.commit(&rows).expect("nobody else has committed anything");
+    store.commit(&[shard(10..20, 7, false)]).expect("it was of no shard");
+    drop(store);
+    let expected = loaded(&mut open).1;
+    assert_eq!(expected.rows.keys().copied().collect::<Vec<_>>(), [10, 19]);
+    for other in [
+        shard(10..20, 6, false),
+        shard(10..20, 7, true),
+        shard(10..15, 7, false),
+        shard(10..21, 8, false),
+        shard(9..20, 8, false),
+    ] {
+        let (mut store, found) = loaded(&mut open);
+        assert_eq!(found, expected, "before {other:?}");
+        let committed = store.commit(&[other]);
+        assert!(matches!(committed, Err(StoreError::Failed(_))), "{other:?}: {committed:?}");
+    }
+    let (mut store, found) = loaded(&mut open);
+    assert_eq!(found, expected);
+    store.commit(&[shard(10..15, 8, true)]).expect("it is a later one");
+    drop(store);
+    let found = loaded(&mut open).1;
+    assert_eq!(found.rows.keys().copied().collect::<Vec<_>>(), [10]);
+    assert_eq!(Change::Shard(found.shard.expect("it is kept")), shard(10..15, 8, true));
+}
+
 /// A copy of another store continues from what it has, and from the first start of that store. For
 /// a store that can be made of a snapshot.
 ///
@@ -223,7 +273,7 @@ pub fn goes_on_from_a_copy<S: Store>(
     let first_start = 1 << 127 | 5;
     let mut copied = Snapshot { first_start: Some(first_start), ..Snapshot::default() };
     apply(&mut copied, &changes());
-    copied.rows.extend((0..500).map(|key| (key, key.into())));
+    copied.rows.extend((10..510).map(|key| (key, key.into())));
     create(&copied).expect("nothing is there");
     create(&copied).expect("a command that was killed is repeated");
     assert!(create(&Snapshot::default()).is_err(), "it is there already");

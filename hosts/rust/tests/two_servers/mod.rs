@@ -37,8 +37,7 @@ impl World {
 
     /// A client of both servers. The second one has the keys from 100 on.
     pub fn join_both(&self, number: u8) -> Client {
-        let shard =
-            |(first, server): (u64, &Server)| Shard { first, servers: server.address().into() };
+        let shard = |(first, server): (u64, &Server)| Shard::new(first, server.address());
         let shards = [0, BOUND].into_iter().zip(&self.servers).map(shard).collect();
         let map = ShardMap::new(shards).unwrap();
         Client::builder(map, number, &self.folder).timeout(LONG).join().unwrap()

@@ -204,7 +204,17 @@ settings! {
         default: "",
         expected: "FIRST..END@VERSION, such as 0..500000@3, or 500000..@3 for the last shard",
         help: "The shard that the server serves, FIRST..END@VERSION: its keys, and the version of \
-               the map. Clients of another map are refused",
+               the map in which they became its. Clients of another shard are refused. The store keeps \
+               it: then it may be left out",
+    };
+    MAP = Key {
+        name: "map",
+        word: "FILE",
+        kind: Kind::Text,
+        default: "",
+        expected: "the file of a map of shards",
+        help: "The map that clients follow: ten seconds after the shard of this server is another \
+               one there, the server renews no lease of a client that has stayed",
     };
     ADVERTISE = Key {
         name: "advertise",

@@ -49,6 +49,16 @@ pub fn output_within_a_minute(command: &mut Command) -> Output {
     process.wait_with_output().unwrap()
 }
 
+/// The library that kills a process before one of its changes of a file.
+pub fn killer(folder: &Path) -> PathBuf {
+    let library = folder.join("kill.so");
+    let source = Path::new(env!("CARGO_MANIFEST_DIR")).join("tests/programs/kill_before_change.c");
+    let mut compiler = Command::new("cc");
+    compiler.args(["-shared", "-fPIC", "-Wall", "-Wextra", "-Werror", "-o"]);
+    assert!(compiler.arg(&library).arg(source).status().unwrap().success());
+    library
+}
+
 pub fn errors(output: &Output) -> String {
     String::from_utf8(output.stderr.clone()).unwrap()
 }

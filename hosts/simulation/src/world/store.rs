@@ -122,5 +122,6 @@ fn spelled(change: &Change) -> [u64; 4] {
         }
         Change::Leased(record) => [5, record.longest, record.unleased.bits(), 0],
         Change::Room(room) => [6, room.rows() as u64, 0, 0],
+        Change::Shard(shard) => [7, shard.bounds.keys().start, shard.bounds.keys().end, 0],
     }
 }

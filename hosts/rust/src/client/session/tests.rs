@@ -297,6 +297,44 @@ fn a_client_that_has_joined_waits_for_a_server_that_refuses() {
     assert!(session.take_nothing_listens().is_none());
 }
 
+/// Ends two connections since the server is of another shard.
+fn reject_twice(session: &mut Session) {
+    for _ in 0..2 {
+        connect(session);
+        session.disconnected(OtherShard { expected: None, served: None }.into());
+    }
+}
+
+#[test]
+fn only_a_client_that_follows_its_map_waits_for_a_server_of_another_shard() {
+    let other = OtherShard { expected: None, served: None };
+    for follows in [false, true] {
+        let mut session = session("unix:one");
+        if follows {
+            session.follow_map();
+        }
+        let read = session.state().read(0..9);
+        reject_twice(&mut session);
+        let answer = read.answer.try_recv();
+        assert_eq!(answer.is_err(), follows, "{answer:?}");
+        assert_eq!(session.give_up(read.id), ErrorKind::OtherShard(other), "so it was not in time");
+    }
+}
+
+#[test]
+fn a_client_of_a_shard_that_has_just_changed_connects_again_soon_for_a_while() {
+    let mut session = session("unix:one");
+    session.follow_map();
+    let end = session.now() + HURRY;
+    while session.now() < end {
+        let pause = session.disconnected(io::ErrorKind::ConnectionRefused.into());
+        assert!(pause <= SOON, "{pause:?}");
+        pass(&mut session, pause.max(Duration::from_millis(1)));
+    }
+    let pause = session.disconnected(io::ErrorKind::ConnectionRefused.into());
+    assert!(pause > SOON, "{pause:?}");
+}
+
 /// Why a job ends that was sent or not, if the last connection ended with this.
 fn ended(fault: io::Error, was_sent: WasSent) -> ErrorKind {
     let mut session = session("unix:nowhere");

@@ -120,6 +120,7 @@ impl State {
             frames.truncate(before);
             return;
         }
+        self.life.has_sent |= frames.len() > before;
         self.leave_out_acknowledgement(frames, before);
         let is_alone = frames.len() == before;
         let piggyback = if is_alone { Piggyback::Alone } else { Piggyback::OnMessages };

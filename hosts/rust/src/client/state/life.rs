@@ -32,6 +32,8 @@ pub(super) struct Life {
     /// Why the client has dropped all, if it has not begun again.
     pub void: Option<Dropped>,
     has_begun_again: bool,
+    /// A message of the library may have left: a server may know the client.
+    pub has_sent: bool,
     /// The last incarnation that it has begun.
     pub incarnation: u64,
     pub may_send: MaySend,
@@ -43,6 +45,8 @@ pub(super) enum Stage {
     Here,
     /// It joins again to send Bye: the server may know it by an older incarnation.
     Returning,
+    /// It waits for the answer to the write that is on its way, and then sends Bye.
+    Finishing,
     /// It sends Bye.
     Leaving,
     /// The server has kept the Bye. Nothing more is asked.
@@ -73,7 +77,8 @@ impl Dropped {
 impl Life {
     pub fn of(incarnation: u64) -> Life {
         let (stage, may_send) = (Stage::Here, MaySend::Free);
-        Life { stage, void: None, has_begun_again: false, incarnation, may_send }
+        let (has_begun_again, has_sent) = (false, false);
+        Life { stage, void: None, has_begun_again, has_sent, incarnation, may_send }
     }
 
     /// Whether it has what it was given, and has not begun to leave.
@@ -83,7 +88,7 @@ impl Life {
 
     /// Whether it leaves, and the server has not kept that.
     pub fn is_leaving(&self) -> bool {
-        matches!(self.stage, Stage::Returning | Stage::Leaving)
+        matches!(self.stage, Stage::Returning | Stage::Finishing | Stage::Leaving)
     }
 
     /// The server has kept that the client has left, if it has sent Bye.
@@ -134,12 +139,13 @@ impl Job {
 }
 
 impl State {
-    /// Sends Bye, and sends it again with each tick until the server has kept it.
+    /// Ends all jobs, waits for the answer to the write that is on its way, and sends Bye; and sends
+    /// it again with each tick until the server has kept it. So a write is judged before Bye, or not
+    /// sent at all.
     pub fn leave(&mut self) -> Asked<()> {
-        match self.life.stage {
-            Stage::Here if self.has_to_return() => self.life.stage = Stage::Returning,
-            Stage::Here => self.send_bye(),
-            _ => {}
+        if self.life.stage == Stage::Here {
+            let has_to_return = self.has_to_return();
+            self.life.stage = if has_to_return { Stage::Returning } else { Stage::Finishing };
         }
         self.add(Job::Leave)
     }
@@ -150,10 +156,28 @@ impl State {
         self.is_void() || self.life.has_begun_again && !self.has_joined()
     }
 
-    /// Sends Bye if the client has joined again to do so.
-    pub(super) fn send_bye_if_returned(&mut self) {
-        if self.life.stage == Stage::Returning && self.has_joined() {
-            self.send_bye();
+    /// Ends the jobs of a client that leaves, and sends Bye if nothing has to come before it: it has
+    /// joined again to do so, and no write is on its way.
+    pub(super) fn finish_if_leaving(&mut self) {
+        if !self.life.is_leaving() {
+            return;
+        }
+        for (id, job) in mem::take(&mut self.open) {
+            match job {
+                Job::Leave(_) => self.open.push((id, job)),
+                job => self.refuse_one(id, job, ErrorKind::Left),
+            }
+        }
+        let is_ready = match self.life.stage {
+            Stage::Returning => self.has_joined(),
+            Stage::Finishing => self.held.written.is_none(),
+            _ => false,
+        };
+        match is_ready {
+            true if self.life.has_sent => self.send_bye(),
+            // No server knows it.
+            true => self.life.stage = Stage::Gone,
+            false => {}
         }
     }
 
@@ -162,6 +186,25 @@ impl State {
         // If there is no memory for it just now, the next tick sends it.
         let _ = self.client.leave();
         self.watches.note_change();
+    }
+
+    /// The server has not kept in time that the client leaves, and the client ends all the same: it
+    /// knows nothing any more, and a write that may have left may be done or not.
+    pub fn end_unanswered(&mut self) {
+        if matches!(self.life.stage, Stage::Gone | Stage::Ended) {
+            return;
+        }
+        self.life.stage = Stage::Gone;
+        let closed = ClientHandle::closed();
+        self.client.replace(closed);
+        if let Some(written) = mem::take(&mut self.held).written {
+            written.end_unanswered();
+        }
+        for (_, job) in self.open.drain(..) {
+            job.end_after_bye();
+        }
+        self.watches.note_change();
+        self.report_changes();
     }
 
     /// The client's thread has ended: no job continues, and each one that waits learns it. A client
@@ -186,7 +229,7 @@ impl State {
     pub fn drop_all(&mut self, why: Dropped) {
         match self.life.stage {
             Stage::Gone | Stage::Ended => return,
-            Stage::Leaving => self.life.stage = Stage::Returning,
+            Stage::Finishing | Stage::Leaving => self.life.stage = Stage::Returning,
             Stage::Here | Stage::Returning => {}
         }
         self.life.void = Some(why);

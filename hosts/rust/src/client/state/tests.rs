@@ -79,6 +79,59 @@ fn a_client_has_left_when_the_server_confirms_it() {
     assert!(!world.clients[0].are_open());
 }
 
+/// Has the client send an insert, and returns what it sends with that.
+fn send_insert(world: &mut World) -> (Asked<Outcome>, Vec<Vec<u8>>) {
+    let asked = world.clients[0].write(Write::Insert(row(3, 1)));
+    while world.clients[0].was_sent(asked.id) == WasSent::No {
+        world.round();
+    }
+    (asked, world.messages_of(0))
+}
+
+#[test]
+fn a_client_that_leaves_waits_for_the_answer_to_its_write_and_begins_nothing_more() {
+    let mut world = World::new();
+    world.read(1, 0..9);
+    let (write, sent) = send_insert(&mut world);
+    let next = world.clients[0].write(Write::Insert(row(4, 1)));
+    let left = world.clients[0].leave();
+    let read = world.clients[0].read(0..9);
+    assert_eq!(next.answer.try_recv(), Ok(Err(ErrorKind::Left)));
+    assert_eq!(read.answer.try_recv(), Ok(Err(ErrorKind::Left)));
+    let after = world.messages_of(0);
+    world.deliver_to_server(&[sent, after].concat());
+    assert!(!world.server.record(0).unwrap().unwrap().left, "its write is not answered");
+    world.settle();
+    assert_eq!(write.answer.try_recv(), Ok(Ok(Outcome::Applied)));
+    assert!(world.server.record(0).unwrap().unwrap().left);
+    world.clients[0].receive(&[]).unwrap();
+    assert_eq!(left.answer.try_recv(), Ok(Ok(())));
+    assert_eq!(world.read(1, 0..9), [row(3, 1)]);
+}
+
+#[test]
+fn a_client_that_no_server_knows_has_left_at_once() {
+    let mut client = State::new(ClientHandle::open(0, 1).unwrap(), Now::read());
+    let read = client.read(0..9);
+    let left = client.leave();
+    assert_eq!(left.answer.try_recv(), Ok(Ok(())));
+    assert_eq!(read.answer.try_recv(), Ok(Err(ErrorKind::Left)));
+}
+
+#[test]
+fn a_client_whose_server_does_not_answer_in_time_knows_nothing_any_more() {
+    let mut world = World::new();
+    world.read(0, 10..20);
+    let (write, _) = send_insert(&mut world);
+    let left = world.clients[0].leave();
+    world.clients[0].end_unanswered();
+    assert_eq!(write.answer.try_recv(), Ok(Err(ErrorKind::TimedOut)), "it may be done");
+    assert_eq!(left.answer.try_recv(), Ok(Ok(())));
+    assert!(!world.is_cached(0, 10..20));
+    let read = world.clients[0].read(10..20);
+    assert_eq!(read.answer.try_recv(), Ok(Err(ErrorKind::Left)));
+}
+
 #[test]
 fn a_cache_knows_nothing_of_what_was_dropped() {
     let mut world = World::new();

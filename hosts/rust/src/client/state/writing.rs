@@ -34,6 +34,12 @@ impl Written {
         self.report.refuse(why);
     }
 
+    /// The client ends, and its server has not answered. A write that has not left never will.
+    pub fn end_unanswered(self) {
+        let why = if self.may_have_left { ErrorKind::TimedOut } else { ErrorKind::Left };
+        self.report.refuse(why);
+    }
+
     pub fn note_left(&mut self) {
         self.may_have_left = true;
     }

@@ -11,7 +11,14 @@ impl EventLoop {
     /// The same server, of this shard.
     pub fn of_shard(mut self, shard: Option<ShardBounds>) -> EventLoop {
         self.shard = shard;
+        self.status.shard = shard;
         self
+    }
+
+    /// From now on no lease is renewed, since the next map has another shard in place of this one; or
+    /// leases are renewed again.
+    pub fn give_way(&mut self, next: Option<ShardBounds>) {
+        self.next_shard = next;
     }
 
     /// Whether a frame is judged further. A message, a sign and a question are judged after the
@@ -31,6 +38,12 @@ impl EventLoop {
                 false
             }
             Incoming::Host(_) => true,
+            // So the client learns what its map lacks, and is evicted when its lease ends.
+            Incoming::Sign(_) if self.next_shard.is_some() => {
+                let next = OtherShard { expected: self.shard, served: self.next_shard };
+                self.refuse(connection, next);
+                false
+            }
             Incoming::Message(_) | Incoming::Sign(_) | Incoming::Read(_) => {
                 self.connections.is_let_in(connection) || self.compare(connection, None)
             }
@@ -54,7 +67,7 @@ impl EventLoop {
 
     fn refuse(&mut self, connection: u64, other: OtherShard) {
         self.log.other_shard(&self.connections.at(connection), &other);
-        self.connections.refuse(connection, Refusal::OtherShard(self.shard));
+        self.connections.refuse(connection, Refusal::OtherShard(other.served));
         self.connections.end(connection, CloseReason::OtherShard);
     }
 }

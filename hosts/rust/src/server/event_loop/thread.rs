@@ -104,6 +104,7 @@ impl<S: Store> ServerThread<S> {
                     let page = self.events.look_up(search, began, is_late);
                     let _ = reply.send(Page { took: began.monotonic.elapsed(), ..page });
                 }
+                Question::GiveWay(next) => self.events.give_way(next),
                 Question::Stop => self.events.stop(Now::read()),
             }
         }

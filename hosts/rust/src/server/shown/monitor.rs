@@ -1,4 +1,5 @@
 //! What a server lets other threads see of it while it runs.
+use crate::model::shard_bounds::ShardBounds;
 use crate::model::snapshot::Snapshot;
 use crate::server::questions::{BUSY, Question, Questions, Unanswered};
 use crate::server::shown::liveness::{LONGEST_TURN, Liveness};
@@ -38,6 +39,16 @@ impl Monitor {
     #[must_use]
     pub fn status(&self) -> Status {
         self.status.lock().unwrap_or_else(PoisonError::into_inner).clone()
+    }
+
+    /// Has the server renew no lease from now on, since the next map has this shard in place of its
+    /// own: clients that follow the map have left by then. Each other one is refused by that shard,
+    /// and is evicted when its lease has ended. With `None` it renews leases again. A server without
+    /// leases evicts nobody. Returns whether the server's loop takes it: not if it has ended, or is
+    /// too busy.
+    #[must_use = "a loop that is too busy does not take it"]
+    pub fn give_way(&self, next: Option<ShardBounds>) -> bool {
+        self.questions.ask(Question::GiveWay(next)).is_ok()
     }
 
     /// What the server has measured since it started.

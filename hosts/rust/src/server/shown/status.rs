@@ -1,6 +1,7 @@
 //! What an operator sees of a server.
 use crate::model::reach::Reach;
 use crate::model::room::Room;
+use crate::model::shard_bounds::ShardBounds;
 use crate::server::close_reason::ClosedConnections;
 use crate::server::shown::client_status::ClientStatus;
 use crate::server::shown::watch::{HeldSlots, Wait};
@@ -20,6 +21,8 @@ pub struct Status {
     pub room: Room,
     /// How many slots one grant takes at most.
     pub reach: Reach,
+    /// The shard that the server serves, if it is not of all keys.
+    pub shard: Option<ShardBounds>,
     /// It answers requests. Otherwise it waits for the reports of the clients in `missing`.
     pub is_serving: bool,
     /// The clients that have to report, or be evicted, before the server serves.

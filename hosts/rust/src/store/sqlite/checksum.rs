@@ -1,6 +1,7 @@
 //! The checksum of a store that no server has changed since it was made, such as a backup; and the
 //! one by which a store that was cut knows the other part.
 use crate::model::change::Record;
+use crate::model::kept_shard::KeptShard;
 use crate::model::snapshot::Snapshot;
 use crate::store::StoreError;
 use crate::store::sqlite::has_table;
@@ -67,10 +68,10 @@ const SELECT_CUT: &str = "SELECT sha256 FROM cut";
 pub struct CutOff([u8; 32]);
 
 impl CutOff {
-    /// Whether this is what was cut off.
+    /// Whether this is what was cut off, whether or not it is sealed still.
     #[must_use]
     pub fn is(&self, snapshot: &Snapshot) -> bool {
-        self.0 == digest(snapshot)
+        self.0 == digest_of_opened(snapshot)
     }
 
     /// What was last cut off from the file.
@@ -85,13 +86,23 @@ impl CutOff {
 /// Writes what is cut off, within the transaction that removes it.
 pub(crate) fn write_cut(connection: &Connection, snapshot: &Snapshot) -> Result<(), StoreError> {
     connection.execute_batch(MAKE_CUT)?;
-    connection.execute(INSERT_CUT, params![digest(snapshot)])?;
+    connection.execute(INSERT_CUT, params![digest_of_opened(snapshot)])?;
     Ok(())
+}
+
+/// The digest that a sealed store has once it is opened.
+fn digest_of_opened(snapshot: &Snapshot) -> [u8; 32] {
+    digest_as(snapshot, snapshot.shard.map(|shard| KeptShard::open(shard.bounds)))
 }
 
 /// SHA-256 of all that is kept, whatever the pages of the file are.
 fn digest(snapshot: &Snapshot) -> [u8; 32] {
-    let Snapshot { epoch, rows, records, leases, room, first_start } = snapshot;
+    digest_as(snapshot, snapshot.shard)
+}
+
+/// The digest of what is kept, as of a store of this shard.
+fn digest_as(snapshot: &Snapshot, shard: Option<KeptShard>) -> [u8; 32] {
+    let Snapshot { epoch, rows, records, leases, room, shard: _, first_start } = snapshot;
     let mut sum = Sha256::new();
     let mut number = |number: u64| sum.update(number.to_le_bytes());
     number(*epoch);
@@ -108,6 +119,8 @@ fn digest(snapshot: &Snapshot) -> [u8; 32] {
         sum.update(value.as_bytes());
     }
     sum.update(records.iter().flat_map(bytes_of).collect::<Vec<_>>());
+    // Without a shard the checksum is that of earlier versions.
+    sum.update(shard.map(|shard| shard.to_string()).unwrap_or_default());
     sum.finalize().into()
 }
 
@@ -135,7 +148,7 @@ mod tests {
 
     #[test]
     fn whatever_changes_has_another_digest() {
-        let damages: [fn(&mut Snapshot); 11] = [
+        let damages: [fn(&mut Snapshot); 13] = [
             |it| it.epoch = 5,
             |it| {
                 it.rows.insert(2, Value::from(3));
@@ -153,6 +166,8 @@ mod tests {
             |it| it.leases.longest = 12,
             |it| it.room = Some(Room::MAX),
             |it| it.first_start = Some(9),
+            |it| it.shard = "0..9@3".parse().ok(),
+            |it| it.shard = "0..9@3 sealed".parse().ok(),
         ];
         let before = digest(&snapshot());
         assert_eq!(digest(&snapshot()), before);

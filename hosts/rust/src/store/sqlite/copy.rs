@@ -1,4 +1,5 @@
 //! Stores as files: one that is read, and a new one that is written.
+use crate::model::kept_shard::KeptShard;
 use crate::model::snapshot::Snapshot;
 use crate::store::StoreError;
 use crate::store::sqlite::checksum::{self, Checksum, CutOff};
@@ -101,12 +102,13 @@ impl SqliteStore {
     /// the new store; or if it can't be written.
     pub fn create(path: impl AsRef<Path>, snapshot: &Snapshot) -> Result<(), StoreError> {
         let path = path.as_ref();
+        if is_made_of(path, snapshot) {
+            // The call that made it may have been killed before this, and one that unsealed it may
+            // have left a log.
+            return sync_folder_of(path).map_err(Into::into);
+        }
         for end in ["-wal", "-shm", "-journal"] {
             refuse_taken(&beside(path, end))?;
-        }
-        if is_made_of(path, snapshot) {
-            // The call that made it may have been killed before this.
-            return sync_folder_of(path).map_err(Into::into);
         }
         refuse_taken(path)?;
         part::remove_leftovers(path);
@@ -175,10 +177,15 @@ pub(crate) fn beside(path: &Path, end: &str) -> PathBuf {
     name.into()
 }
 
-/// Whether the file is a new store of the snapshot, which no server has opened.
+/// Whether the file is a new store of the snapshot, which no server has opened. It may be unsealed
+/// since.
 fn is_made_of(path: &Path, snapshot: &Snapshot) -> bool {
     let found = SqliteStore::read(path);
-    found.is_ok_and(|it| it.checksum == Checksum::Matches && it.snapshot == *snapshot)
+    let opened = snapshot.shard.map(|shard| KeptShard::open(shard.bounds));
+    found.is_ok_and(|StoreFile { checksum, snapshot: found, .. }| {
+        let is_same = found == (Snapshot { shard: found.shard, ..snapshot.clone() });
+        checksum == Checksum::Matches && is_same && [snapshot.shard, opened].contains(&found.shard)
+    })
 }
 
 fn refuse_taken(path: &Path) -> Result<(), StoreError> {
@@ -260,6 +267,7 @@ pub(crate) mod tests {
             ],
             leases: LeaseRecord { longest: 12, unleased: [2, 9].into_iter().collect() },
             room: Room::of(1_000_000).ok(),
+            shard: "0..@9".parse().ok(),
             first_start: Some(1 << 127 | 5),
         }
     }
@@ -273,7 +281,7 @@ pub(crate) mod tests {
         assert_eq!(file.metadata().unwrap().permissions().mode() & 0o777, 0o600);
         let (checksum, cut_off) = (Checksum::Matches, None);
         let expected =
-            StoreFile { version: 6, page_size: 1024, snapshot: snapshot(), checksum, cut_off };
+            StoreFile { version: 7, page_size: 1024, snapshot: snapshot(), checksum, cut_off };
         assert_eq!(SqliteStore::read(&file).unwrap(), expected);
         assert_eq!(folder.names(), ["copy.db"]);
         assert_eq!(SqliteStore::open(&file).unwrap().load().unwrap(), snapshot());
@@ -438,17 +446,19 @@ pub(crate) mod tests {
             (3, "UPDATE lease SET longest = 0, unleased = -1;", snapshot().first_start),
             (4, "UPDATE lease SET longest = 0, unleased = -1;", snapshot().first_start),
             (5, "UPDATE lease SET longest = 0, unleased = -1;", snapshot().first_start),
+            (6, "UPDATE lease SET longest = 0, unleased = -1;", snapshot().first_start),
         ] {
             let file = folder.0.join(format!("{version}.db"));
             SqliteStore::create(&file, &snapshot()).unwrap();
             let room = if version < 4 { "DROP TABLE room;" } else { "DELETE FROM room;" };
-            let counts = if version < 5 { "" } else { COUNTS };
+            let counts = if version == 5 { COUNTS } else { "" };
+            let journal = if version < 6 { "DROP TABLE journal;" } else { "" };
             let older = format!(
-                "DROP TABLE checksum; DROP TABLE journal; {counts} {room} {marks}
+                "DROP TABLE checksum; DROP TABLE shard; {journal} {counts} {room} {marks}
                 PRAGMA user_version = {version};"
             );
             let leases = LeaseRecord::UNKNOWN;
-            let before = Snapshot { leases, room: None, first_start, ..snapshot() };
+            let before = Snapshot { leases, room: None, shard: None, first_start, ..snapshot() };
             Connection::open(&file).unwrap().execute_batch(&older).unwrap();
             let version_of = |file| SqliteStore::read(file).map(|it| it.version).unwrap();
             assert_eq!([version_of(&file), version_of(&file)], [version, version]);
@@ -474,11 +484,11 @@ pub(crate) mod tests {
         let folder = Folder::new("newer");
         let file = folder.0.join("new.db");
         SqliteStore::create(&file, &snapshot()).unwrap();
-        Connection::open(&file).unwrap().execute_batch("PRAGMA user_version = 7").unwrap();
+        Connection::open(&file).unwrap().execute_batch("PRAGMA user_version = 8").unwrap();
         let before = std::fs::read(&file).unwrap();
         for refused in [SqliteStore::read(&file).map(drop), SqliteStore::open(&file).map(drop)] {
             let refused = refused.unwrap_err().to_string();
-            assert!(refused.contains("version 7, and"), "{refused}");
+            assert!(refused.contains("version 8, and"), "{refused}");
         }
         assert_eq!(std::fs::read(&file).unwrap(), before);
         assert_eq!(folder.names(), ["new.db"]);

@@ -66,7 +66,7 @@ impl Journal {
 
     /// Whether a batch of these changes is added to the journal.
     pub fn takes(changes: &[Change]) -> bool {
-        !changes.iter().any(|change| matches!(change, Change::Started { .. }))
+        !changes.iter().any(|it| matches!(it, Change::Started { .. } | Change::Shard(_)))
     }
 
     /// Adds the batch of this number, and folds some of what was there. If it fails, the

@@ -1,8 +1,10 @@
 //! What changes do to the tables when they are made together: of several changes of one row or one
 //! record, only what they come to is written.
+use super::shard;
 use super::transaction::WriteTransaction;
 use super::{DELETE, EPOCH, JUDGE, LEASE, LEAVE, PUT, REGISTER, ROOM, run, signed};
 use crate::model::change::{Change, Outcome, Record, Write};
+use crate::model::kept_shard::KeptShard;
 use crate::model::lease_record::LeaseRecord;
 use crate::model::room::Room;
 use crate::model::row::{Row, Value};
@@ -18,6 +20,8 @@ pub(super) struct Merged {
     epoch: Option<u64>,
     leases: Option<LeaseRecord>,
     room: Option<Room>,
+    /// What the store becomes. Rows of other keys go before `rows` are written.
+    shard: Option<KeptShard>,
     /// By client, in the order of their first changes: records keep the order of registration.
     records: Vec<(u8, RecordChange)>,
     /// The value of each row that has changed, or none if it is deleted.
@@ -40,6 +44,7 @@ impl Merged {
             Change::Started { epoch } => self.epoch = Some(epoch),
             Change::Leased(leases) => self.leases = Some(leases),
             Change::Room(room) => self.room = Some(room),
+            Change::Shard(shard) => self.become_shard(shard),
             Change::Registered { client, incarnation } => {
                 *self.record(client) =
                     RecordChange { registered: Some(incarnation), ..RecordChange::default() };
@@ -52,6 +57,12 @@ impl Merged {
                 }
             }
         }
+    }
+
+    fn become_shard(&mut self, shard: KeptShard) {
+        self.shard = Some(shard);
+        let keys = shard.bounds.keys();
+        self.rows.retain(|key, _| keys.contains(key));
     }
 
     fn write_row(&mut self, write: &Write) {
@@ -75,10 +86,11 @@ impl Merged {
     }
 
     pub fn is_empty(&self) -> bool {
-        let Merged { epoch, leases, room, records, rows } = self;
+        let Merged { epoch, leases, room, shard, records, rows } = self;
         epoch.is_none()
             && leases.is_none()
             && room.is_none()
+            && shard.is_none()
             && records.is_empty()
             && rows.is_empty()
     }
@@ -102,6 +114,9 @@ impl Merged {
         }
         if let Some(room) = self.room {
             run(transaction, ROOM, params![signed(room.rows() as u64)?])?;
+        }
+        if let Some(shard) = self.shard {
+            shard::write(transaction, shard)?;
         }
         for (client, record) in &self.records {
             record.write(transaction, *client)?;
@@ -146,6 +161,7 @@ impl From<&Snapshot> for Merged {
             epoch: Some(snapshot.epoch),
             leases: Some(snapshot.leases),
             room: snapshot.room,
+            shard: snapshot.shard,
             records: snapshot.records.iter().map(record).collect(),
             rows: snapshot.rows.iter().map(|(key, value)| (*key, Some(*value))).collect(),
         }

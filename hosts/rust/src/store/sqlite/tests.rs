@@ -24,6 +24,42 @@ fn what_is_loaded_is_what_was_kept() {
 }
 
 #[test]
+fn a_store_becomes_only_a_later_shard() {
+    let folder = super::copy::tests::Folder::new("shard");
+    let file = folder.0.join("table.db");
+    store_tests::becomes_only_a_later_shard(|| SqliteStore::open(&file).unwrap());
+}
+
+#[test]
+fn a_sealed_copy_is_opened_and_keeps_its_checksum() {
+    let folder = super::copy::tests::Folder::new("sealed");
+    let file = folder.0.join("table.db");
+    let sealed: KeptShard = "10..20@3 sealed".parse().unwrap();
+    let rows = [(10, Value::from(1)), (19, Value::from(2))].into();
+    let snapshot = Snapshot { epoch: 7, rows, shard: Some(sealed), ..Snapshot::default() };
+    SqliteStore::create(&file, &snapshot).unwrap();
+    let opened = Snapshot { shard: Some(KeptShard::open(sealed.bounds)), ..snapshot.clone() };
+    for _ in 0..2 {
+        SqliteStore::unseal(&file).unwrap();
+        let found = SqliteStore::read(&file).unwrap();
+        assert_eq!((found.snapshot, found.checksum), (opened.clone(), Checksum::Matches));
+    }
+    SqliteStore::create(&file, &snapshot).unwrap();
+    assert_eq!(SqliteStore::read(&file).unwrap().snapshot, opened, "it is made already");
+    let mut store = SqliteStore::open(&file).unwrap();
+    store.load().unwrap();
+    assert!(
+        store.seal(sealed.bounds, &Snapshot::default()).is_err(),
+        "no server of this version may be kept off any more"
+    );
+    store.seal("10..20@4".parse().unwrap(), &Snapshot::default()).unwrap();
+    drop(store);
+    let found = SqliteStore::read(&file).unwrap().snapshot;
+    assert_eq!(found.shard, "10..20@4 sealed".parse().ok());
+    assert_eq!(found.rows, opened.rows);
+}
+
+#[test]
 fn each_start_and_each_batch_is_counted() {
     let folder = std::env::temp_dir().join(format!("krl-starts-{}", std::process::id()));
     std::fs::create_dir_all(&folder).unwrap();

@@ -6,7 +6,7 @@ use rusqlite::Connection;
 const APPLICATION: i64 = 0x6b72_6c31;
 
 /// The version of the tables, as SQLite's user version.
-pub(crate) const VERSION: i64 = 6;
+pub(crate) const VERSION: i64 = 7;
 
 /// The tables of a store from before there were versions, by name.
 const NAMES: [&str; 3] = ["entry", "epoch", "record"];
@@ -19,10 +19,10 @@ pub(crate) enum Found {
     /// It has bytes, and no tables. So has a copy of a running server's file: the tables are in the
     /// log for as long as that is short. So has one whose first start was cut off, with a log.
     Bare,
-    /// A store of this older version: 0 if it is from before there were versions. It has no journal;
-    /// the records of version 5 count commits; one of before version 4 lacks the room of its
-    /// servers, one of before version 3 what is known of leases, and one of before version 2 the
-    /// starts of its servers.
+    /// A store of this older version: 0 if it is from before there were versions. It keeps no shard;
+    /// one of before version 6 has no journal; the records of version 5 count commits; one of before
+    /// version 4 lacks the room of its servers, one of before version 3 what is known of leases, and
+    /// one of before version 2 the starts of its servers.
     Older(i64),
     /// A store of this version.
     Current,
@@ -122,7 +122,8 @@ mod tests {
         assert_eq!(found(APPLICATION, 3, &ours), Ok(Found::Older(3)));
         assert_eq!(found(APPLICATION, 4, &ours), Ok(Found::Older(4)));
         assert_eq!(found(APPLICATION, 5, &ours), Ok(Found::Older(5)));
-        assert_eq!(found(APPLICATION, 6, &ours), Ok(Found::Current));
+        assert_eq!(found(APPLICATION, 6, &ours), Ok(Found::Older(6)));
+        assert_eq!(found(APPLICATION, 7, &ours), Ok(Found::Current));
         for (application, version, tables) in [
             (0, 0, tables(&["entry", "epoch"])),
             (0, 0, tables(&["entry", "epoch", "other", "record"])),
@@ -134,7 +135,7 @@ mod tests {
             let what = found(application, version, &tables).unwrap_err();
             assert!(what.contains("another program"), "{application} {version} {tables:?}: {what}");
         }
-        for version in [0, 7, -1] {
+        for version in [0, 8, -1] {
             let what = found(APPLICATION, version, &ours).unwrap_err();
             assert!(what.contains(&format!("version {version},")), "{what}");
         }

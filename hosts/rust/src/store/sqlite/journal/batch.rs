@@ -52,7 +52,9 @@ fn put_change(bytes: &mut Vec<u8>, change: &Change) -> Result<(), StoreError> {
             bytes.push(ROOM);
             put_number(bytes, room.rows() as u64)
         }
-        Change::Started { .. } => Err(StoreError::failed("the journal has no starts")),
+        Change::Started { .. } | Change::Shard(_) => {
+            Err(StoreError::failed("the journal has no starts and no shards"))
+        }
     }
 }
 

@@ -189,7 +189,7 @@ fn what_no_server_writes_comes_after_the_journal() {
     checked.commits += 1;
     checked.check();
     checked.put([12].into_iter());
-    checked.store.cut_off(11, &Snapshot::default()).unwrap();
+    checked.store.cut_off(11, &Snapshot::default(), None).unwrap();
     checked.expected.rows.split_off(&11);
     checked.commits += 1;
     checked.check();

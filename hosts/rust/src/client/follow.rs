@@ -1,0 +1,109 @@
+//! A client that follows its map: it looks at the file, and continues by each next map.
+use crate::client::Client;
+use crate::client::table::Live;
+use crate::log::event_log;
+use crate::log::rate_limit::RateLimit;
+use crate::shards::map::ShardMap;
+use std::fs;
+use std::io::{self, ErrorKind};
+use std::num::NonZeroU64;
+use std::os::unix::fs::MetadataExt;
+use std::path::{Path, PathBuf};
+use std::sync::Arc;
+use std::thread;
+use std::time::Duration;
+
+/// How often a client looks whether the file is another one.
+const LOOK: Duration = Duration::from_millis(50);
+
+/// By what the next file is known: its number, its length, and when it was written.
+type Stamp = (u64, u64, i64, i64);
+
+impl Client {
+    /// From now on the client follows the map in this file: it continues by each map that it finds
+    /// there whose version is greater than that of its own. Calls at shards that the next map has as
+    /// they are notice nothing. Calls at the others wait, and are made by the next map.
+    ///
+    /// The file has to be replaced at once, by a rename: `krl-server reshard` does so. It may be a
+    /// copy: a client that sees a map late waits for longer, and answers nothing outdated. What is
+    /// no map is logged and passed over, and so is a missing file. It looks at the file twenty times
+    /// a second, until the client leaves or is dropped.
+    ///
+    /// ```no_run
+    /// # fn join() -> Result<(), Box<dyn std::error::Error>> {
+    /// use krl::{Client, ShardMap};
+    ///
+    /// let client = Client::join(ShardMap::from_file("map.toml")?, 0, "locks")?;
+    /// client.follow("map.toml")?;
+    /// # Ok(())
+    /// # }
+    /// ```
+    ///
+    /// # Errors
+    ///
+    /// `InvalidInput` if the client has no map with a version; why there is no thread for it.
+    pub fn follow(&self, file: impl Into<PathBuf>) -> io::Result<()> {
+        if self.map().and_then(|map| map.version()).is_none() {
+            let why = "only a client of a map with a version follows a map";
+            return Err(io::Error::new(ErrorKind::InvalidInput, why));
+        }
+        let live = Arc::clone(&self.table.live);
+        live.follow_map();
+        let follower =
+            Follower { live, file: file.into(), seen: None, limit: RateLimit::default() };
+        thread::Builder::new().name("krl-map".into()).spawn(|| follower.run()).map(drop)
+    }
+}
+
+/// The thread of a client that looks at the file of its map.
+struct Follower {
+    live: Arc<Live>,
+    file: PathBuf,
+    /// The file with which nothing more is to be done.
+    seen: Option<Stamp>,
+    limit: RateLimit,
+}
+
+impl Follower {
+    /// Looks at the file until the client leaves, or nobody has it any more.
+    fn run(mut self) {
+        while !self.live.is_over() {
+            let stamp = stamp_of(&self.file);
+            if stamp.is_some() && stamp != self.seen && self.take_file() {
+                self.seen = stamp;
+            }
+            // Calls that wait for the next map end at their deadlines.
+            self.live.wake_all();
+            thread::sleep(LOOK);
+        }
+    }
+
+    /// Continues by what the file has, if it is a next map. Returns whether nothing more is to be
+    /// done with it.
+    fn take_file(&mut self) -> bool {
+        let map = match ShardMap::from_file(&self.file) {
+            Ok(map) => map,
+            Err(error) => {
+                event_log::cannot_follow(&mut self.limit, &error);
+                return true;
+            }
+        };
+        let before = self.version();
+        let changed = self.live.change(map);
+        if let Err(error) = &changed {
+            event_log::cannot_follow(&mut self.limit, error);
+        } else if self.version() > before {
+            event_log::follows_map(self.version().map_or(0, NonZeroU64::get));
+        }
+        changed.is_ok()
+    }
+
+    fn version(&self) -> Option<NonZeroU64> {
+        self.live.now().map().and_then(ShardMap::version)
+    }
+}
+
+fn stamp_of(file: &Path) -> Option<Stamp> {
+    let data = fs::metadata(file).ok()?;
+    Some((data.ino(), data.len(), data.mtime(), data.mtime_nsec()))
+}
