@@ -26661,7 +26661,7 @@ krl_world.world_fields.WorldFields.deliver:
 	.quad	0x4828244c89480000,0x4400000158248c89,0xc70000016024a488,0x1612484
 	.quad	0x1642484c70000,0x948d480000000000,0x7c89480000014024
 	.byte	0x24,0x78,0xe8
-	.reloc	.,R_X86_64_PLT32,.Lin.text.krl_table.table.Table.can_take-4
+	.reloc	.,R_X86_64_PLT32,.Lin.text.krl_table.table.Table.is_open_to-4
 	.byte	0x0,0x0,0x0,0x0
 	.quad	0xd88949c084ea894c,0x8b48000000d3840f,0x5824443948602444,0x481024448b485b76
 	.quad	0x8b4800000138908b,0x7c8b4c0000019088,0x8b4a04e7c1496024,0x4c083a6c8b4a3a34
@@ -28175,7 +28175,7 @@ krl_table.table.Table.go_on:
 	.quad	0x48c33948241c8948,0x8d48107410245c8b,0x8b4d04e1c148400c,0x8b48240489480e24
 	.quad	0x8b4ce6894c08247c
 	.byte	0x74,0x24,0x18,0x4c,0x89,0xf2,0xe8
-	.reloc	.,R_X86_64_PLT32,.Lin.text.krl_table.table.Table.can_take-4
+	.reloc	.,R_X86_64_PLT32,.Lin.text.krl_table.table.Table.is_open_to-4
 	.byte	0x0,0x0,0x0,0x0
 	.quad	0x78e4854d4474c084,0x894c08247c8b483f
 	.byte	0xe6,0x4c,0x89,0xf2,0xe8
@@ -28184,12 +28184,12 @@ krl_table.table.Table.go_on:
 	.quad	0x4c00000400838b48,0x8948c0ff48c32489,0xfeb9480000040083,0x497fffffffffffff
 	.quad	0x24443b480b77cc39,0x48ffffff1a820f20,0x5d415c415b28c483
 	.byte	0x41,0x5e,0x41,0x5f,0x5d,0xc3
-	.section	.text.krl_table.table.Table.can_take,"ax",@progbits
+	.section	.text.krl_table.table.Table.is_open_to,"ax",@progbits
 	.balign	16
-.Lin.text.krl_table.table.Table.can_take:
-	.type	krl_table.table.Table.can_take,@function
-	.size	krl_table.table.Table.can_take,234
-krl_table.table.Table.can_take:
+.Lin.text.krl_table.table.Table.is_open_to:
+	.type	krl_table.table.Table.is_open_to,@function
+	.size	krl_table.table.Table.is_open_to,234
+krl_table.table.Table.is_open_to:
 	.quad	0x4155415641574155,0x8948d68949505354,0x684f8b48ff8949f3,0x4808778b493f8b48
 	.byte	0x89,0xda,0xe8
 	.reloc	.,R_X86_64_PLT32,.Lin.text.krl_blocks.search.count_tops-4
