@@ -222,6 +222,32 @@ static void lease_runs_from_the_sign(void) {
     want(lease.end == 3000 && lease.length == 2000 && lease.stamp == 1000, "terms that renew");
 }
 
+/* The client knows the rows 10, 15 and 20 of this range. The lease ends at 1,100. */
+static void scan_by_a_lease(const krl_handle *client) {
+    krl_row rows[4] = {{0}};
+    krl_lease lease = krl_lease_new();
+    krl_lease_take_terms(&lease, 100, 1000, 900);
+    krl_reader reader = krl_reader_of(client), closed = {0};
+    krl_leased_scan none = {0};
+    want(krl_leased_scan_answer(&none, &lease, 0).code == KRL_CLOSED, "no scan");
+    krl_leased_scan scan = krl_reader_scan_leased(&reader, 0, 21, rows, 4);
+    krl_reply reply = krl_leased_scan_answer(&scan, &lease, 1099);
+    want(reply.code == KRL_DONE && reply.detail == 3 && rows[2].key == 20, "a scan by a lease that holds");
+    want(krl_leased_scan_answer(&scan, &lease, 1099).code == KRL_CLOSED, "a scan that was answered");
+    scan = krl_reader_scan_leased(&reader, 0, 21, rows, 4);
+    reply = krl_leased_scan_answer(&scan, &lease, 1100);
+    want(reply.code == KRL_LEASE_ENDED && reply.detail == 0, "a scan by a lease that has ended");
+    const krl_lease next = krl_lease_new();
+    want(krl_leased_scan_answer(&scan, &next, 1099).code == KRL_CLOSED, "a later lease");
+    scan = krl_reader_scan_leased(&reader, 0, 21, rows, 2);
+    reply = krl_leased_scan_answer(&scan, &lease, 1099);
+    want(reply.code == KRL_TOO_SHORT && reply.detail == 3, "a room that is too short, by a lease");
+    scan = krl_reader_scan_leased(&reader, 9, 9, rows, 4);
+    want(krl_leased_scan_answer(&scan, &lease, 1099).code == KRL_BAD_SPAN, "a span of no points, by a lease");
+    scan = krl_reader_scan_leased(&closed, 0, 21, rows, 4);
+    want(krl_leased_scan_answer(&scan, &lease, 1099).code == KRL_CLOSED, "a closed reader, by a lease");
+}
+
 static const krl_terms terms = {1000, 25};
 
 /* A table over a store in which the longest lease is 3,000. Incarnation 7 of clients 5 and 6 is registered, and 6 may
@@ -408,6 +434,7 @@ int main(int count, char **words) {
     AGAIN(reply, krl_client_scan(&client, 0, 21, rows, 4));
     want(reply.detail == 3 && rows[1].key == 15 && rows[1].length == 3 && !memcmp(rows[1].bytes, "abc", 4), "the scan");
     want(krl_client_scan(&client, 0, 21, rows, 2).code == KRL_TOO_SHORT, "a room that is too short");
+    scan_by_a_lease(&client);
     keep_waiting(&other, &server);
     read_rows(&client, &server);
     give_back_a_part(&client);

@@ -109,12 +109,14 @@ static uint64_t version;
 static bool ends;
 
 static void *read_what_changes(void *unused) {
+    const krl_lease lease = krl_lease_new();
     for (bool goes_on = true; goes_on;) {
         krl_row found[ROOM];
         uint64_t shown = 0;
         pthread_rwlock_rdlock(&lock);
         krl_reader reader = krl_reader_of(&client);
-        krl_reply reply = krl_reader_scan(&reader, KEY, KEY + 1, found, ROOM);
+        krl_leased_scan scan = krl_reader_scan_leased(&reader, KEY, KEY + 1, found, ROOM);
+        krl_reply reply = krl_leased_scan_answer(&scan, &lease, 0);
         want(reply.code == KRL_DONE && reply.detail == 1, "a scan of what changes");
         memcpy(&shown, found[0].bytes, sizeof shown);
         want(shown == version, "a scan shows no older value");

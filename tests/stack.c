@@ -31,6 +31,12 @@ static void reader_scan(void) {
     krl_reader reader = krl_reader_of(&client);
     krl_reader_scan(&reader, 0, 8, rows, ROWS);
 }
+static void reader_scan_leased(void) {
+    const krl_lease lease = krl_lease_new();
+    krl_reader reader = krl_reader_of(&client);
+    krl_leased_scan scan = krl_reader_scan_leased(&reader, 0, 8, rows, ROWS);
+    krl_leased_scan_answer(&scan, &lease, 0);
+}
 static void reader_status(void) {
     krl_reader reader = krl_reader_of(&client);
     krl_reader_status(&reader);
@@ -133,9 +139,9 @@ int main(void) {
     }
     void (*const calls[])(void) = {server_open, client_open, client_lock, client_scan, client_put, client_delete,
                                    client_take_put, client_take_insert, client_tick, server_nudge, server_held,
-                                   server_next_held, server_rows, client_status, reader_scan, reader_status,
-                                   lease_table_new, leases, shard_of, all_parts, client_lower, client_forget,
-                                   client_leave, client_close, server_close};
+                                   server_next_held, server_rows, client_status, reader_scan,
+                                   reader_scan_leased, reader_status, lease_table_new, leases, shard_of, all_parts,
+                                   client_lower, client_forget, client_leave, client_close, server_close};
     for (size_t i = 0; i < sizeof calls / sizeof calls[0]; i++) {
         measure(calls[i]);
         settle();

@@ -11,7 +11,7 @@
  * No pointer may be null but one to no bytes, rows, records, clients, bounds or parts. A length or a room is that of
  * the memory that its pointer points to. The rooms that a call writes overlap no other argument. Any other number may
  * be anything: each call tests what it is given and reports by its code what was wrong. A call whose code is neither
- * KRL_DONE nor KRL_UNSAID has changed nothing.
+ * KRL_DONE nor KRL_UNSAID has changed nothing, but that `krl_leased_scan_answer` answers each scan once.
  *
  * No call takes more than 32,000 bytes of stack.
  */
@@ -126,6 +126,9 @@ static inline krl_reader krl_reader_of(const krl_handle *handle) {
 /* `krl_client_scan`, by a reader. */
 krl_reply krl_reader_scan(krl_reader *reader, uint64_t lo, uint64_t hi, krl_row *rows, size_t room);
 
+/* The same for a client that has a lease: what the scan answers, `krl_leased_scan_answer` reports. */
+krl_leased_scan krl_reader_scan_leased(krl_reader *reader, uint64_t lo, uint64_t hi, krl_row *rows, size_t room);
+
 /* `krl_client_held`, by a reader. */
 krl_held krl_reader_held(krl_reader *reader, uint64_t point);
 
@@ -239,7 +242,13 @@ krl_lease krl_lease_new(void);
  * `stamp` is not later than that of the terms taken before. Terms of an earlier connection must not be handed in. */
 void krl_lease_take_terms(krl_lease *lease, uint64_t stamp, uint64_t length, uint64_t now);
 
-/* Whether rows that were read from the cache may be handed over. `now` has to be read after the rows. */
+/* What the scan has answered, if the lease holds. `now` has to be read after `krl_reader_scan_leased` has returned: the
+ * library does not learn when it was read. A scan is answered once, and a lease that has ended answers nothing, no miss
+ * either. Refused, in this order, by KRL_CLOSED if the scan was answered before, KRL_LEASE_ENDED. */
+krl_reply krl_leased_scan_answer(krl_leased_scan *scan, const krl_lease *lease, uint64_t now);
+
+/* Whether a client's host may hand over what else it has learned from the client, and may send for it. `now` has to be
+ * read after that. */
 bool krl_lease_holds(const krl_lease *lease, uint64_t now);
 
 /* A table of leases.

@@ -57,7 +57,7 @@ enum krl_code {
     KRL_UNSAID = 1,
     /* Memory was refused. */
     KRL_OUT_OF_MEMORY = 2,
-    /* The handle is closed, or the server of a table of leases has not begun. */
+    /* The handle is closed, or the server of a table of leases has not begun, or a scan was answered. */
     KRL_CLOSED = 3,
     /* The handle is open already, or the server of a table of leases has begun. */
     KRL_OPEN_ALREADY = 4,
@@ -126,7 +126,9 @@ enum krl_code {
     /* Grants of no slot, or of more than KRL_MAX_REACH. */
     KRL_BAD_REACH = 34,
     /* The incarnation that is registered may still answer. */
-    KRL_STILL_ANSWERS = 35
+    KRL_STILL_ANSWERS = 35,
+    /* The client's lease has ended: what its cache answers may be outdated. */
+    KRL_LEASE_ENDED = 36
 };
 
 /* What is wrong with bytes that are no message: the first fault from the left. */
@@ -391,6 +393,13 @@ typedef struct krl_lease {
     /* The sign that the last terms answered: the moment at which it was sent. */
     uint64_t stamp;
 } krl_lease;
+
+/* What a scan has answered, while it waits for its lease. Only the library reads and writes it: one of zeros was
+ * answered before. */
+typedef struct krl_leased_scan {
+    krl_reply found;
+    uint32_t waits;
+} krl_leased_scan;
 
 /* What a server grants. */
 typedef struct krl_terms {

@@ -59,6 +59,8 @@ SIZE(krl_lease, 24);
 AT(krl_lease, end, 0);
 AT(krl_lease, length, 8);
 AT(krl_lease, stamp, 16);
+SIZE(krl_leased_scan, 24);
+AT(krl_leased_scan, waits, 16);
 SIZE(krl_terms, 16);
 AT(krl_terms, length, 0);
 AT(krl_terms, drift, 8);

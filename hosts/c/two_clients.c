@@ -273,23 +273,31 @@ static void pass_time(void)
     settle();
 }
 
-/* Scans a client's cache, and locks what it lacks until the cache answers. The clock is read after the rows. */
+/* What a client's cache answers, if its lease holds. The clock is read after the rows. */
+static krl_reply scan_cache(int number, uint64_t lo, uint64_t hi, krl_row *rows)
+{
+    client *of = &clients[number];
+    krl_reader reader = krl_reader_of(&of->handle);
+    krl_leased_scan found = krl_reader_scan_leased(&reader, lo, hi, rows, ROWS);
+    return krl_leased_scan_answer(&found, &of->lease, client_clock(number));
+}
+
+/* Scans a client's cache, and locks what it lacks until the cache answers. */
 static void scan(int number, uint64_t lo, uint64_t hi)
 {
-    krl_handle *handle = &clients[number].handle;
     krl_row rows[ROWS];
     unsigned long before = delivered;
-    krl_reply reply = krl_client_scan(handle, lo, hi, rows, ROWS);
+    krl_reply reply = scan_cache(number, lo, hi, rows);
     for (int asked = 0; reply.code == KRL_MISS && asked < ROWS; asked++) {
-        expect("lock", krl_client_lock(handle, reply.detail, hi, KRL_RANGE_S_S));
+        expect("lock", krl_client_lock(&clients[number].handle, reply.detail, hi, KRL_RANGE_S_S));
         settle();
-        reply = krl_client_scan(handle, lo, hi, rows, ROWS);
+        reply = scan_cache(number, lo, hi, rows);
     }
-    expect("scan", reply);
-    if (!holds_lease(number)) {
+    if (reply.code == KRL_LEASE_ENDED) {
         printf("client %d answers nothing: its lease has ended\n", number);
         return;
     }
+    expect("scan", reply);
     printf("client %d reads:", number);
     for (uint64_t i = 0; i < reply.detail; i++)
         printf(" %" PRIu64 "=%.*s", rows[i].key, (int)rows[i].length, (const char *)rows[i].bytes);

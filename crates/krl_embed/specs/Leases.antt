@@ -1,6 +1,8 @@
 -- Leases, as C has them: what it hands to the table of a server's host, and what it is answered.
 use Rattle.std.specs.Prelude.{◌≡◌, ℕ, Bool, true, false, ◌==◌, Option, Some, None, Result, Ok, Err, ⊤, if◌then◌else◌}
 use Rattle.krl_leases.specs.declared.length.Terms.{Terms}
+use Rattle.krl_leases.specs.declared.lease.Lease.{Lease}
+use Rattle.krl_leases.specs.Clients.{holds}
 use Rattle.krl_lease_table.specs.declared.refused.Refused.{Refused}
 use Rattle.krl_lease_table.specs.declared.refused.Refused.TheVariants as refused
 use Rattle.krl_lease_table.specs.declared.sign.Older.{Older}
@@ -21,6 +23,7 @@ use Rattle.krl_embed.specs.declared.lease_rows.TermsRow.{TermsRow}
 use Rattle.krl_embed.specs.declared.lease_rows.SignRow.{SignRow}
 use Rattle.krl_embed.specs.declared.lease_rows.GrantRow.{GrantRow}
 use Rattle.krl_embed.specs.declared.lease_rows.LeaseShown.{LeaseShown}
+use Rattle.krl_embed.specs.declared.leased_scan.LeasedScan.{LeasedScan}
 use Rattle.krl_embed.specs.declared.reply.Reply.{Reply}
 use Rattle.krl_embed.specs.Endpoints.{IsCode}
 use Rattle.krl_embed.specs.Replies.{code_of}
@@ -116,3 +119,14 @@ IsNotShown c r =
 abbrev pub Shows : ℕ → Result Row Refused → LeaseShown → Type 0
 Shows longest (Err e) r = IsNotShown (refusal e) r
 Shows longest (Ok row) r = IsShown longest row r
+
+-- Scans
+
+-- an answer that waits is given by a lease that holds
+abbrev pub AnswersIf : Bool → Bool → Reply → Reply → Type 0
+AnswersIf false by_lease found r = IsCode code.Closed r
+AnswersIf true false found r = IsCode code.LeaseEnded r
+AnswersIf true true found r = r ≡ found
+
+abbrev pub AnswersByLease : LeasedScan → Lease → ℕ → Reply → Type 0
+AnswersByLease scan lease now r = AnswersIf (is_yes scan.waits) (holds lease now) scan.found r

@@ -12,7 +12,7 @@ all_codes =
     ∷ code.BadRecord ∷ code.BadValue ∷ code.BadKey ∷ code.Twice ∷ code.Full ∷ code.BadMode ∷ code.BadPoint
     ∷ code.BadSpan ∷ code.NotJoined ∷ code.Busy ∷ code.NotHeld ∷ code.Pinned ∷ code.Writing ∷ code.TooManyPins
     ∷ code.BadIncarnation ∷ code.BadShards ∷ code.BadRoom ∷ code.Unkept ∷ code.NotTold ∷ code.BadReach
-    ∷ code.StillAnswers ∷ []
+    ∷ code.StillAnswers ∷ code.LeaseEnded ∷ []
 
 -- the code of a number, if it is one's
 unfoldable pub code_at : ℕ → Option Code

@@ -79,6 +79,8 @@ pub enum Code {
     BadReach,
     /// The registered incarnation of the client may still answer.
     StillAnswers,
+    /// The client's lease has ended.
+    LeaseEnded,
 }
 
 impl From<AllocError> for Code {

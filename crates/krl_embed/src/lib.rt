@@ -15,6 +15,7 @@ mod handle;
 mod laws;
 mod lease_rows;
 mod lease_table;
+mod leased_scan;
 mod leases;
 mod lent;
 mod notes;

@@ -97,7 +97,7 @@ impl CacheView {
         &self,
         keys: &Range<u64>,
         rows: &mut Vec<Row>,
-        clock: impl FnOnce() -> Duration,
+        clock: impl Fn() -> Duration,
     ) -> Cached {
         match self.0.scan(keys, rows, || Ok(moment(clock()))) {
             Ok(Scan::Rows) => Cached::Rows,

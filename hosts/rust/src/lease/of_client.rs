@@ -25,16 +25,38 @@ pub(crate) enum Piggyback {
 pub(crate) struct End(AtomicU64);
 
 impl End {
-    /// Whether rows that were read from the cache may be handed over. It has to be asked **after**
-    /// the reading. If the clock can't be read, they may not.
+    /// That of no lease: what a client learns for its own use needs none.
+    pub fn of_no_lease() -> End {
+        End(AtomicU64::new(FOR_EVER))
+    }
+
+    /// What a scan of the cache found, if it may be handed over.
+    pub fn answer(
+        &self,
+        mut scan: ffi::LeasedScan,
+        clock: impl FnOnce() -> io::Result<Moment>,
+    ) -> ffi::Reply {
+        let now = self.moment(clock);
+        ffi::krl_leased_scan_answer(&mut scan, &self.read(), now)
+    }
+
+    /// Whether what else was learned from the cache may be handed over. It has to be asked
+    /// **after** that.
+    pub fn allows(&self, clock: impl FnOnce() -> io::Result<Moment>) -> bool {
+        let now = self.moment(clock);
+        ffi::krl_lease_holds(&self.read(), now)
+    }
+
+    /// The moment at which the lease has to hold: at none if the clock can't be read. A lease that
+    /// does not end needs no clock.
     ///
     /// The clock is read before the end: terms that come between the two were taken by a lease that
     /// held then, so it held when the clock was read.
-    pub fn allows(&self, clock: impl FnOnce() -> io::Result<Moment>) -> bool {
+    fn moment(&self, clock: impl FnOnce() -> io::Result<Moment>) -> u64 {
         if self.read().end == FOR_EVER {
-            return true;
+            return 0;
         }
-        clock().is_ok_and(|now| ffi::krl_lease_holds(&self.read(), now.nanoseconds()))
+        clock().map_or(FOR_EVER, Moment::nanoseconds)
     }
 
     fn read(&self) -> ffi::Lease {

@@ -73,4 +73,5 @@ codes! {
     NotReported = 33, "more notes were confirmed than were reported, or a commit that has not begun";
     BadReach = 34, "grants of no slot, or of more than 128";
     StillAnswers = 35, "the registered incarnation may still answer";
+    LeaseEnded = 36, "the client's lease has ended";
 }

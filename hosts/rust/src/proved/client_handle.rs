@@ -14,7 +14,7 @@ use crate::proved::hits::Hits;
 use crate::proved::losses::{Losses, Tenure};
 use crate::wire::message::Message;
 use std::io;
-use std::mem;
+use std::mem::{self, MaybeUninit};
 use std::ops::Range;
 use std::sync::Arc;
 
@@ -83,7 +83,7 @@ impl Cache {
         &self,
         keys: &Range<u64>,
         rows: &mut Vec<Row>,
-        clock: impl FnOnce() -> io::Result<Moment>,
+        clock: impl Fn() -> io::Result<Moment>,
     ) -> Result<Scan, Code> {
         self.0.read(|incarnation| incarnation.scan_and_count(keys, rows, clock))
     }
@@ -94,7 +94,7 @@ impl Cache {
         &self,
         keys: &Range<u64>,
         room: &mut Vec<Row>,
-        clock: impl FnOnce() -> io::Result<Moment>,
+        clock: impl Fn() -> io::Result<Moment>,
     ) -> Result<Option<Tenure>, Code> {
         self.0.read(|incarnation| {
             let is_held = incarnation.scan_and_count(keys, room, clock)? == Scan::Rows;
@@ -144,7 +144,7 @@ impl CacheGuard<'_> {
         &self,
         keys: &Range<u64>,
         rows: &mut Vec<Row>,
-        clock: impl FnOnce() -> io::Result<Moment>,
+        clock: impl Fn() -> io::Result<Moment>,
     ) -> Result<Scan, Code> {
         self.0.scan_after(keys, rows, clock)
     }
@@ -328,8 +328,8 @@ impl ClientHandle {
     /// more than the room that there is.
     pub fn known(&self, keys: &Range<u64>, rows: &mut Vec<Row>) -> Result<Scan, Code> {
         rows.clear();
-        let reply = self.handle.get().handle.scan_once(keys, rows)?;
-        found(reply)
+        let no_clock = || Err(io::ErrorKind::Unsupported.into());
+        found(self.handle.get().handle.scan_once(keys, rows, &End::of_no_lease(), no_clock)?)
     }
 
     pub fn forget(&mut self, keys: &Range<u64>) -> Result<(), Code> {
@@ -452,7 +452,7 @@ impl Incarnation {
         &self,
         keys: &Range<u64>,
         rows: &mut Vec<Row>,
-        clock: impl FnOnce() -> io::Result<Moment>,
+        clock: impl Fn() -> io::Result<Moment>,
     ) -> Result<Scan, Code> {
         let found = self.scan(keys, rows, clock)?;
         if found == Scan::Rows {
@@ -465,7 +465,7 @@ impl Incarnation {
         &self,
         keys: &Range<u64>,
         rows: &mut Vec<Row>,
-        clock: impl FnOnce() -> io::Result<Moment>,
+        clock: impl Fn() -> io::Result<Moment>,
     ) -> Result<Scan, Code> {
         rows.clear();
         self.scan_after(keys, rows, clock)
@@ -477,9 +477,9 @@ impl Incarnation {
         &self,
         keys: &Range<u64>,
         rows: &mut Vec<Row>,
-        clock: impl FnOnce() -> io::Result<Moment>,
+        clock: impl Fn() -> io::Result<Moment>,
     ) -> Result<Scan, Code> {
-        found_by_lease(|| self.handle.scan_after(keys, rows), &self.end, clock)
+        self.handle.scan_after(keys, rows, &self.end, clock)
     }
 }
 
@@ -495,44 +495,50 @@ fn found(reply: ffi::Reply) -> Result<Scan, Code> {
         Code::Done => Ok(Scan::Rows),
         Code::Miss => Ok(Scan::Miss(reply.detail)),
         Code::Pending => Ok(Scan::Pending),
+        Code::LeaseEnded => Ok(Scan::Ended),
         refused => Err(refused),
     }
 }
 
 /// What the scan found, if the lease holds after it.
-fn found_by_lease(
-    scan: impl FnOnce() -> Result<Scan, Code>,
+fn by_lease(
+    scan: impl FnOnce() -> ffi::LeasedScan,
     end: &End,
     clock: impl FnOnce() -> io::Result<Moment>,
-) -> Result<Scan, Code> {
-    let found = scan()?;
-    if found == Scan::Rows && !end.allows(clock) {
-        return Ok(Scan::Ended);
-    }
-    Ok(found)
+) -> ffi::Reply {
+    let scan = scan();
+    end.answer(scan, clock)
 }
 
 /// What a client's handle answers by a reader.
 impl Handle {
     /// The rows come after those that are there.
-    fn scan_after(&self, keys: &Range<u64>, rows: &mut Vec<Row>) -> Result<Scan, Code> {
-        let mut reply = self.scan_once(keys, rows)?;
+    fn scan_after(
+        &self,
+        keys: &Range<u64>,
+        rows: &mut Vec<Row>,
+        end: &End,
+        clock: impl Fn() -> io::Result<Moment>,
+    ) -> Result<Scan, Code> {
+        let mut reply = self.scan_once(keys, rows, end, &clock)?;
         if code(reply) == Code::TooShort {
             rows.try_reserve_exact(count(reply)?).map_err(|_| Code::OutOfMemory)?;
-            reply = self.scan_once(keys, rows)?;
+            reply = self.scan_once(keys, rows, end, &clock)?;
         }
         found(reply)
     }
 
     /// Scans into the room that there is after the rows.
-    fn scan_once(&self, keys: &Range<u64>, rows: &mut Vec<Row>) -> Result<ffi::Reply, Code> {
+    fn scan_once(
+        &self,
+        keys: &Range<u64>,
+        rows: &mut Vec<Row>,
+        end: &End,
+        clock: impl FnOnce() -> io::Result<Moment>,
+    ) -> Result<ffi::Reply, Code> {
         let room = rows.spare_capacity_mut();
-        let (at, length) = (room.as_mut_ptr().cast(), room.len());
-        let mut reader = self.reader();
-        // SAFETY: the reader is this call's own, `&` keeps away each call that takes the handle,
-        // and there is so much room to be written to. The library reads nothing of the room.
-        let reply =
-            unsafe { ffi::krl_reader_scan(&raw mut reader, keys.start, keys.end, at, length) };
+        let length = room.len();
+        let reply = by_lease(|| self.scan_into(keys, room), end, clock);
         if code(reply) == Code::Done {
             let count = count(reply)?;
             debug_assert!(count <= length, "{count} rows in a room of {length}");
@@ -541,6 +547,14 @@ impl Handle {
             unsafe { rows.set_len(rows.len() + count) };
         }
         Ok(reply)
+    }
+
+    fn scan_into(&self, keys: &Range<u64>, room: &mut [MaybeUninit<Row>]) -> ffi::LeasedScan {
+        let mut reader = self.reader();
+        let (at, length) = (room.as_mut_ptr().cast(), room.len());
+        // SAFETY: the reader is this call's own, `&` keeps away each call that takes the handle,
+        // and there is so much room to be written to. The library reads nothing of the room.
+        unsafe { ffi::krl_reader_scan_leased(&raw mut reader, keys.start, keys.end, at, length) }
     }
 
     fn held(&self, point: u64) -> ffi::Held {

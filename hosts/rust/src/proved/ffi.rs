@@ -131,6 +131,14 @@ pub struct Lease {
     pub stamp: u64,
 }
 
+/// Only the library reads and writes it.
+#[repr(C)]
+#[derive(Debug)]
+pub struct LeasedScan {
+    found: Reply,
+    waits: u32,
+}
+
 #[repr(C)]
 #[derive(Clone, Copy, Debug, PartialEq, Eq)]
 pub struct Terms {
@@ -224,13 +232,13 @@ unsafe extern "C" {
     pub fn krl_client_unpin(handle: *mut Handle, pin: u64) -> Reply;
     pub fn krl_client_leave(handle: *mut Handle) -> Reply;
 
-    pub fn krl_reader_scan(
+    pub fn krl_reader_scan_leased(
         reader: *mut Reader,
         lo: u64,
         hi: u64,
         rows: *mut Row,
         room: usize,
-    ) -> Reply;
+    ) -> LeasedScan;
     pub fn krl_reader_held(reader: *mut Reader, point: u64) -> Held;
     pub fn krl_reader_status(reader: *mut Reader) -> ClientState;
 
@@ -269,6 +277,7 @@ unsafe extern "C" {
     pub safe fn krl_lease_new() -> Lease;
     pub safe fn krl_lease_take_terms(lease: &mut Lease, stamp: u64, length: u64, now: u64);
     pub safe fn krl_lease_holds(lease: &Lease, now: u64) -> bool;
+    pub safe fn krl_leased_scan_answer(scan: &mut LeasedScan, lease: &Lease, now: u64) -> Reply;
     pub safe fn krl_lease_table_new(terms: &Terms, longest: u64) -> LeaseTable;
     pub safe fn krl_lease_table_store_has(
         table: &mut LeaseTable,
@@ -369,6 +378,7 @@ mod tests {
         assert_eq!(offset_of!(RawPage, after), 24);
         assert_eq!([size_of::<Lease>(), offset_of!(Lease, end)], [24, 0]);
         assert_eq!([offset_of!(Lease, length), offset_of!(Lease, stamp)], [8, 16]);
+        assert_eq!([size_of::<LeasedScan>(), offset_of!(LeasedScan, waits)], [24, 16]);
         assert_eq!([size_of::<Terms>(), offset_of!(Terms, drift)], [16, 8]);
         assert_eq!([size_of::<RawSign>(), offset_of!(RawSign, stamp)], [40, 8]);
         assert_eq!([offset_of!(RawSign, length), offset_of!(RawSign, over)], [16, 24]);

@@ -193,12 +193,21 @@ fn a_scan_makes_the_room_that_it_needs() {
     assert_eq!(world.scanned.scan(&reversed, &mut rows, Now::read()), Err(Code::BadSpan));
 }
 
-#[test]
-fn rows_count_only_if_the_lease_holds_after_them() {
+/// The end of a lease that ends at 1,600.
+fn end_at_1600() -> Arc<End> {
     let mut lease = Lease::new(3, 1, Older::Unknown);
     let sign = lease.greet(Moment::of_nanoseconds(1000)).unwrap();
     let grant = Grant { incarnation: 1, stamp: sign.stamp, length: 600 };
     assert!(lease.take(grant, Moment::of_nanoseconds(1001)));
+    lease.end()
+}
+
+#[test]
+fn rows_count_only_if_the_lease_holds_after_them() {
+    let world = World::new(|client| client);
+    let handle = &world.scanned.handle.get().handle;
+    let (end, mut rows) = (end_at_1600(), Vec::with_capacity(2));
+    let mut scan = || handle.scan_into(&LAST, rows.spare_capacity_mut());
     // The scan continues until the second of these moments.
     for (begun, ended, expected) in
         [(1100, 1599, Scan::Rows), (1100, 1600, Scan::Ended), (1700, 1700, Scan::Ended)]
@@ -206,11 +215,22 @@ fn rows_count_only_if_the_lease_holds_after_them() {
         let time = Cell::new(begun);
         let scan = || {
             time.set(ended);
-            Ok(Scan::Rows)
+            scan()
         };
         let clock = || Ok(Moment::of_nanoseconds(time.get()));
-        assert_eq!(found_by_lease(scan, &lease.end(), clock), Ok(expected));
+        assert_eq!(found(by_lease(scan, &end, clock)), Ok(expected));
     }
     let fails = || Err(std::io::ErrorKind::Other.into());
-    assert_eq!(found_by_lease(|| Ok(Scan::Rows), &lease.end(), fails), Ok(Scan::Ended));
+    assert_eq!(found(by_lease(scan, &end, fails)), Ok(Scan::Ended));
+}
+
+#[test]
+fn an_ended_lease_answers_nothing() {
+    let client = ClientHandle::open(0, 1).unwrap();
+    let handle = &client.handle.get().handle;
+    for (now, expected) in [(1599, Scan::Miss(0)), (1600, Scan::Ended)] {
+        let clock = || Ok(Moment::of_nanoseconds(now));
+        let found = handle.scan_after(&ALL, &mut Vec::new(), &end_at_1600(), clock);
+        assert_eq!(found, Ok(expected));
+    }
 }
