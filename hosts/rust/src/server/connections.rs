@@ -41,8 +41,10 @@ pub(crate) struct Connections {
     readers: BTreeSet<u64>,
     routes: Routes,
     closings: Closings,
-    /// Those that may have a frame, in the order of their turns. Each is there once.
+    /// Those that may have a frame, in the order of their turns: those of readers, and all others.
+    /// Each is there once.
     ready: VecDeque<u64>,
+    ready_readers: VecDeque<u64>,
     /// Those of which something waits for the next commit. Each is there once.
     waiting: Vec<u64>,
     /// Those that have something to send. Each is there once.
@@ -72,9 +74,17 @@ pub(crate) struct Closed {
     pub connection: Connection,
 }
 
+/// Connections that have their turns by themselves.
+#[derive(Clone, Copy, Debug, PartialEq, Eq)]
+pub(crate) enum Line {
+    /// All that are not known as those of readers.
+    Clients,
+    Readers,
+}
+
 /// What the next connection has, when it is its turn.
 pub(crate) enum Found {
-    /// No connection has anything.
+    /// No connection of the line has anything.
     Nobody,
     /// This one has no frame now, or is closed.
     Nothing,
@@ -98,6 +108,7 @@ impl Connections {
             routes: Routes::default(),
             closings: Closings::default(),
             ready: VecDeque::new(),
+            ready_readers: VecDeque::new(),
             waiting: Vec::new(),
             sending: Vec::new(),
             to_write: VecDeque::new(),
@@ -119,7 +130,16 @@ impl Connections {
 
     /// Whether a connection may have something to be judged or read.
     pub fn are_busy(&self) -> bool {
-        !self.ready.is_empty()
+        !(self.ready.is_empty() && self.ready_readers.is_empty())
+    }
+
+    /// How many connections of the line may have something.
+    #[cfg(test)]
+    pub fn count_ready(&self, line: Line) -> usize {
+        match line {
+            Line::Clients => self.ready.len(),
+            Line::Readers => self.ready_readers.len(),
+        }
     }
 
     /// The system has reported what the socket of this connection is ready for.
@@ -139,14 +159,22 @@ impl Connections {
         let Some(peer) = self.open.get_mut(&number) else { return };
         if peer.connection.is_ready() && !peer.is_in_ready {
             peer.is_in_ready = true;
-            self.ready.push_back(number);
+            let is_reader = self.readers.contains(&number);
+            self.line(if is_reader { Line::Readers } else { Line::Clients }).push_back(number);
         }
     }
 
-    /// What the next connection has. Each gives one frame or is read once, and then the others have
-    /// their turns.
-    pub fn look(&mut self) -> Found {
-        let Some(number) = self.ready.pop_front() else { return Found::Nobody };
+    fn line(&mut self, line: Line) -> &mut VecDeque<u64> {
+        match line {
+            Line::Clients => &mut self.ready,
+            Line::Readers => &mut self.ready_readers,
+        }
+    }
+
+    /// What the next connection of the line has. Each gives one frame or is read once, and then the
+    /// others have their turns.
+    pub fn look(&mut self, line: Line) -> Found {
+        let Some(number) = self.line(line).pop_front() else { return Found::Nobody };
         let Some(peer) = self.open.get_mut(&number) else { return Found::Nothing };
         peer.is_in_ready = false;
         if !peer.connection.is_ready() {

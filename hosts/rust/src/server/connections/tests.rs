@@ -34,7 +34,7 @@ impl Rig {
 
     /// What the next connection has, which is read if that is due.
     fn look(&mut self) -> Found {
-        let found = match self.connections.look() {
+        let found = match self.connections.look(Line::Clients) {
             Found::Unread(number) => self.sockets.read(&mut self.connections, number),
             found => found,
         };

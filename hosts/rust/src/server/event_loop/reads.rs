@@ -12,37 +12,40 @@ use crate::server::error::ServeError;
 use crate::wire::host_frame::FromClient;
 use crate::wire::incoming::Incoming;
 use crate::wire::read_frame::{PAGE, ReadRequest, RowPage};
-use std::collections::{BTreeMap, VecDeque};
+use std::collections::BTreeMap;
+use std::mem;
+use std::time::Instant;
 
-/// After a commit questions are answered until they have taken so many rows, where each question
-/// counts as one more. The others wait for the next commit: clients are judged in between, and a
-/// call of theirs may take many turns.
-const MAX_AT_ONCE: usize = 256;
-
-/// The questions that wait, at most one of each connection, in the order in which they are answered.
+/// The questions that wait for a commit, at most one of each connection, and when readers may ask.
 #[derive(Debug, Default)]
 pub(super) struct Reads {
-    asked: BTreeMap<u64, ReadRequest>,
-    order: VecDeque<u64>,
+    waiting: BTreeMap<u64, ReadRequest>,
+    /// When readers have had no more time than clients.
+    even_at: Option<Instant>,
 }
 
 impl Reads {
     /// Whether a question waits.
     pub fn are_waiting(&self) -> bool {
-        !self.order.is_empty()
+        !self.waiting.is_empty()
     }
 
-    /// Takes a question. It replaces the one of the same connection that waits, in its turn.
+    /// Takes a question. It replaces the one of the same connection that waits.
     pub fn put(&mut self, connection: u64, request: ReadRequest) {
-        if self.asked.insert(connection, request).is_none() {
-            self.order.push_back(connection);
-        }
+        self.waiting.insert(connection, request);
     }
 
-    /// The question whose turn it is, and its connection.
-    fn next(&mut self) -> Option<(u64, ReadRequest)> {
-        let connection = self.order.pop_front()?;
-        Some((connection, self.asked.remove(&connection)?))
+    /// Whether a turn takes something from readers that has judged so many messages of clients: next
+    /// to clients they get half of the server's time, and all that clients leave. A call of a client
+    /// may take many turns.
+    pub fn are_due(&self, messages: usize, now: Instant) -> bool {
+        messages == 0 || self.even_at.is_none_or(|even_at| now >= even_at)
+    }
+
+    /// A turn has taken something from readers since `began`, and has ended. What it did for clients
+    /// meanwhile counts as done for readers.
+    pub fn answered(&mut self, began: Instant, ended: Instant) {
+        self.even_at = Some(ended + ended.saturating_duration_since(began));
     }
 }
 
@@ -71,6 +74,10 @@ impl EventLoop {
         lacked.is_none()
     }
 
+    pub(super) fn reads(&mut self) -> &mut Reads {
+        &mut self.reads
+    }
+
     /// Takes a question. The answer leaves after the commit that begins next.
     pub(super) fn receive_read(&mut self, connection: u64, request: ReadRequest) {
         if request.lo >= request.hi {
@@ -80,14 +87,11 @@ impl EventLoop {
         self.reads.put(connection, request);
     }
 
-    /// Answers questions that came before the commit that was just made. The library refuses to show
-    /// what rests on anything that is not confirmed.
+    /// Answers the questions that came before the commit that was just made. The library refuses to
+    /// show what rests on anything that is not confirmed.
     pub(super) fn answer_reads(&mut self) -> Result<(), ServeError> {
-        let mut taken = 0;
-        while taken < MAX_AT_ONCE {
-            let Some((connection, request)) = self.reads.next() else { break };
+        for (connection, request) in mem::take(&mut self.reads.waiting) {
             let page = self.page(request)?;
-            taken += 1 + page.rows.len();
             self.connections.send_after_commit(connection, &page.frame());
         }
         Ok(())
@@ -104,22 +108,33 @@ impl EventLoop {
 #[cfg(test)]
 mod tests {
     use super::*;
+    use std::time::Duration;
 
     fn request(number: u64) -> ReadRequest {
         ReadRequest { number, lo: 0, hi: 9 }
     }
 
     #[test]
-    fn each_connection_has_one_question_and_they_take_turns() {
+    fn each_connection_has_one_question() {
         let mut reads = Reads::default();
-        assert!(!reads.are_waiting() && reads.next().is_none());
+        assert!(!reads.are_waiting());
         for (connection, number) in [(3, 1), (2, 1), (3, 2), (9, 1), (3, 3)] {
             reads.put(connection, request(number));
         }
-        let answered: Vec<_> = std::iter::from_fn(|| reads.next()).collect();
-        assert_eq!(answered, [(3, request(3)), (2, request(1)), (9, request(1))]);
-        assert!(!reads.are_waiting());
-        reads.put(3, request(4));
-        assert_eq!(reads.next(), Some((3, request(4))));
+        assert!(reads.are_waiting());
+        let waiting: Vec<_> = reads.waiting.into_iter().collect();
+        assert_eq!(waiting, [(2, request(1)), (3, request(3)), (9, request(1))]);
+    }
+
+    #[test]
+    fn next_to_clients_readers_get_half_of_the_time() {
+        const MS: Duration = Duration::from_millis(1);
+        let (mut reads, began) = (Reads::default(), Instant::now());
+        assert!(reads.are_due(1, began));
+        let ended = began + 3 * MS;
+        reads.answered(began, ended);
+        let is_due = |after| [0, 1].map(|messages| reads.are_due(messages, ended + after));
+        assert_eq!(is_due(2 * MS), [true, false]);
+        assert_eq!(is_due(3 * MS), [true, true]);
     }
 }

@@ -26,7 +26,7 @@ const LAST_WRITES: Duration = Duration::from_millis(500);
 pub(crate) struct ServerThread<S> {
     pub(super) events: EventLoop,
     pub(super) store: S,
-    sockets: Sockets,
+    pub(super) sockets: Sockets,
     asked: Receiver<Question>,
 }
 

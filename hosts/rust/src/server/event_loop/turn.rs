@@ -3,13 +3,17 @@
 use super::EventLoop;
 use super::commits::Commit;
 use crate::lease::clocks::Now;
-use crate::server::connections::{Connections, Found};
+use crate::server::connections::{Connections, Found, Line};
 use crate::server::error::ServeError;
 use std::time::{Duration, Instant};
 
 /// The most messages that a turn judges before it commits what they changed. A read that brings no
 /// whole message counts as one.
 pub(super) const MAX_AT_ONCE: usize = 256;
+
+/// The most frames of readers that a turn takes. A client whose message comes meanwhile waits until
+/// all of them are answered.
+pub(super) const MAX_OF_READERS: usize = 16;
 
 /// What is around a server: the bytes of its connections, and the time.
 pub(crate) trait Environment {
@@ -30,6 +34,9 @@ pub(crate) struct Turn {
     was_to_end: bool,
     began: Now,
     judged: usize,
+    /// How many frames of readers it has taken, and since when.
+    taken: usize,
+    readers_began: Option<Instant>,
     /// Since when its commit may wait for writers.
     gathers: Option<Instant>,
 }
@@ -54,7 +61,7 @@ impl Turn {
     /// A turn that began to look at its connections at this moment. If the server was to end before
     /// that, all that came before is seen by this turn.
     pub fn new(was_to_end: bool, began: Now) -> Turn {
-        Turn { was_to_end, began, judged: 0, gathers: None }
+        Turn { was_to_end, began, judged: 0, taken: 0, readers_began: None, gathers: None }
     }
 
     /// Judges what has come, and then what time brings: so nobody is taken for silent whose
@@ -80,20 +87,22 @@ impl Turn {
         }
     }
 
-    /// Judges connections in their turn.
+    /// Judges connections in their turn, and after all others those of readers.
     fn judge_connections(
         &mut self,
         events: &mut EventLoop,
         around: &mut impl Environment,
     ) -> Result<(), ServeError> {
-        while self.judged < MAX_AT_ONCE {
-            let found = match events.connections().look() {
-                Found::Nobody => break,
-                Found::Unread(number) => around.read(events.connections(), number),
-                found => found,
-            };
-            events.take(found)?;
+        while self.judged < MAX_AT_ONCE && judge_one(Line::Clients, events, around)? {
             self.judged += 1;
+        }
+        let now = around.now().monotonic;
+        if !events.reads().are_due(self.judged, now) {
+            return Ok(());
+        }
+        while self.taken < MAX_OF_READERS && judge_one(Line::Readers, events, around)? {
+            self.taken += 1;
+            self.readers_began.get_or_insert(now);
         }
         Ok(())
     }
@@ -116,8 +125,27 @@ impl Turn {
     ) -> Result<Step, ServeError> {
         events.send(around.now())?;
         around.settle(events.connections());
-        events.end_turn(self.began, around.now());
-        let goes_on = events.goes_on(self.was_to_end, self.began, self.judged);
+        let now = around.now();
+        if let Some(began) = self.readers_began {
+            events.reads().answered(began, now.monotonic);
+        }
+        events.end_turn(self.began, now);
+        let goes_on = events.goes_on(self.was_to_end, self.began, self.judged + self.taken);
         Ok(Step::End { goes_on })
     }
+}
+
+/// Judges the next connection of the line. Returns whether there was one.
+fn judge_one(
+    line: Line,
+    events: &mut EventLoop,
+    around: &mut impl Environment,
+) -> Result<bool, ServeError> {
+    let found = match events.connections().look(line) {
+        Found::Nobody => return Ok(false),
+        Found::Unread(number) => around.read(events.connections(), number),
+        found => found,
+    };
+    events.take(found)?;
+    Ok(true)
 }

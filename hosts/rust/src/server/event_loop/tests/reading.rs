@@ -1,6 +1,12 @@
 //! Questions for rows that nobody keeps.
 use super::*;
+use crate::server::connections::Line;
+use crate::server::event_loop::turn::MAX_OF_READERS;
 use crate::wire::read_frame::{ReadRequest, RowPage};
+use std::net::SocketAddr;
+
+/// Twice as many as a turn takes.
+const READERS: usize = 2 * MAX_OF_READERS;
 
 const QUESTION: ReadRequest = ReadRequest { number: 7, lo: 0, hi: 9 };
 
@@ -30,18 +36,64 @@ fn a_server_after_which_another_one_started_shows_no_rows() {
     assert_eq!(pages(&mut peer), []);
 }
 
-#[test]
-fn so_many_questions_are_answered_at_once_and_the_others_wait() {
-    let (mut serving, _, _) = event_loop();
-    // Nobody has these connections: each question counts all the same.
-    for connection in 0..500 {
-        serving.events.reads.put(1_000 + connection, QUESTION);
+/// Connects a reader, and takes turns until its host is greeted.
+fn reader(serving: &mut ServerThread<Watching>, at: SocketAddr) -> TcpStream {
+    let mut reader = TcpStream::connect(at).unwrap();
+    reader.set_nonblocking(true).unwrap();
+    reader.write_all(&FromClient::ReaderHello(None).frame()).unwrap();
+    while reader.peek(&mut [0; 1]).is_err() {
+        assert!(serving.turn().unwrap());
     }
-    serving.events.answer_reads().unwrap();
-    assert!(serving.events.reads.are_waiting());
-    assert_eq!(serving.events.longest_wait(), Duration::ZERO, "the next turn begins at once");
-    serving.events.answer_reads().unwrap();
-    assert!(!serving.events.reads.are_waiting());
+    reader
+}
+
+/// A loop to which a client has sent so much, and twice as many readers a question as a turn takes.
+fn busy_loop() -> (ServerThread<Watching>, TcpStream, Vec<TcpStream>) {
+    let (mut serving, mut peer, _) = event_loop();
+    peer.write_all(&HELLO).unwrap();
+    while serving.events.status.taken == 0 {
+        assert!(serving.turn().unwrap());
+    }
+    let at = peer.peer_addr().unwrap();
+    let mut readers: Vec<_> = (0..READERS).map(|_| reader(&mut serving, at)).collect();
+    for reader in &mut readers {
+        reader.write_all(&QUESTION.frame()).unwrap();
+    }
+    peer.write_all(&HELLO.repeat(3)).unwrap();
+    let end = Instant::now() + Duration::from_secs(60);
+    while ready(&serving) != [1, READERS] {
+        assert!(Instant::now() < end, "{:?}", ready(&serving));
+        serving.sockets.wait(&mut serving.events.connections, Duration::ZERO).unwrap();
+    }
+    (serving, peer, readers)
+}
+
+/// How many connections of each line may have something.
+fn ready(serving: &ServerThread<Watching>) -> [usize; 2] {
+    [Line::Clients, Line::Readers].map(|line| serving.events.connections.count_ready(line))
+}
+
+#[test]
+fn a_turn_takes_some_readers_after_all_clients() {
+    let (mut serving, _peer, _readers) = busy_loop();
+    for (taken, left) in [(4, MAX_OF_READERS), (4, 0)] {
+        assert!(serving.turn().unwrap());
+        assert_eq!((serving.events.status.taken, ready(&serving)), (taken, [0, left]));
+        assert_eq!(serving.events.connections.are_busy(), left > 0, "the next turn begins at once");
+    }
+}
+
+#[test]
+fn a_turn_takes_no_readers_next_to_clients_that_have_had_less_time() {
+    let (mut serving, _peer, _readers) = busy_loop();
+    let now = Instant::now();
+    serving.events.reads().answered(now, now + Duration::from_secs(3600));
+    for (taken, left) in [(4, READERS), (4, READERS - MAX_OF_READERS)] {
+        assert!(serving.turn().unwrap());
+        assert_eq!((serving.events.status.taken, ready(&serving)), (taken, [0, left]));
+    }
+    // Now the turn that took them has told how long they took.
+    assert!(serving.events.reads().are_due(1, Instant::now() + Duration::from_secs(600)));
 }
 
 #[test]
