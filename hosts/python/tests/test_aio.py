@@ -40,6 +40,7 @@ class AsyncTest(Served):
                 with self.assertRaises(krl.PinIsVoid):
                     await pin.delete(10)
                 await client.forget(0, 20)
+                self.assertEqual(await client.read_once(0, 20), [Row(10, b"3")])
                 self.assertIsNone(client.cached(0, 20))
                 self.assertEqual((client.number, client.status()[0].epoch), (0, 1))
             with self.assertRaises(krl.Closed):

@@ -29,6 +29,7 @@ mod refused_connects;
 pub(crate) mod scratch;
 pub(crate) mod session;
 pub(crate) mod shard_client;
+mod shared_reader;
 pub(crate) mod silence;
 pub(crate) mod state;
 pub(crate) mod status;
@@ -252,7 +253,8 @@ impl Client {
     /// `BadRange` as of [`Client::read`]; `TimedOut` or `Unserved`; `TurnedAway` or `OtherShard`;
     /// `StoreWentBack`.
     pub fn read_once(&self, keys: impl RangeBounds<u64>) -> Result<Vec<Row>, Error> {
-        self.table.now().read_once(&keys_of(&keys)?, self.calls().end)
+        let (keys, calls) = (keys_of(&keys)?, self.calls());
+        calls.block(calls.read_once(keys))
     }
 
     /// The rows of the range if the cache covers it, otherwise `None`. It sends nothing, and waits

@@ -134,6 +134,8 @@ fn each_call_has_its_outcome_and_a_read_from_the_cache_does_not_yield() {
         assert_eq!(client.forget(10..20).await, Ok(()));
         assert_eq!(client.client().cached(10..20), Ok(None));
         assert_eq!(client.delete(16).await, Ok(Outcome::Applied));
+        assert_eq!(client.read_once(10..20).await, Ok(vec![row(15, 2)]));
+        assert_eq!(client.client().cached(10..20), Ok(None), "it is not kept");
         assert_eq!(client.read(10..20).await, Ok(vec![row(15, 2)]));
         assert_eq!(client.put(krl::END, Value::from(1)).await, Err(ErrorKind::BadKey.into()));
         let (rows, pin) = client.pin_for_update(10..20).await.unwrap();
@@ -181,11 +183,12 @@ fn a_task_may_call_the_client_within_the_call_that_wakes_it() {
         let put = pin.put(15, Value::from(2)).await;
         drop(pin);
         let watched = client.wait_for_change(10..20, &[row(15, 2)], Duration::from_millis(1)).await;
+        let once = client.read_once(10..20).await;
         let left = client.leave().await;
-        ended.send((inserted, rows, put, watched, left)).unwrap();
+        ended.send((inserted, rows, put, watched, once, left)).unwrap();
     });
-    let applied = Ok(Outcome::Applied);
-    let expected = (applied, vec![row(15, 1)], applied, Ok(Waited::Unchanged), Ok(()));
+    let (applied, kept) = (Ok(Outcome::Applied), Ok(Waited::Unchanged));
+    let expected = (applied, vec![row(15, 1)], applied, kept, Ok(vec![row(15, 2)]), Ok(()));
     assert_eq!(end.recv_timeout(LONG), Ok(expected));
     server.stop().unwrap();
 }
@@ -242,6 +245,16 @@ fn several_writes_are_one_future() {
 }
 
 #[test]
+fn a_read_that_is_not_kept_keeps_no_executor_waiting() {
+    let server = server();
+    let client = client(&server, 0, "once");
+    assert_eq!(block_on(client.read_once(..)), Ok(vec![]));
+    server.stop().unwrap();
+    let client = AsyncClient::from(client.client().within(Duration::from_secs(5)));
+    assert!(!ends_at_once(client.read_once(..)), "a thread waits for the server");
+}
+
+#[test]
 fn the_calls_of_a_client_of_several_servers_are_futures_too() {
     let world = World::new("futures");
     let (client, other) = (AsyncClient::from(world.join_both(0)), world.join_both(1));
@@ -249,6 +262,7 @@ fn the_calls_of_a_client_of_several_servers_are_futures_too() {
         let writes = [row(99, 1), row(100, 1)].map(Mutation::Insert);
         assert_eq!(client.write_all(writes).await, Ok(vec![Outcome::Applied; 2]));
         assert_eq!(client.forget(..).await, Ok(()));
+        assert_eq!(client.read_once(..).await, Ok(vec![row(99, 1), row(100, 1)]));
         assert_eq!(client.read(..).await, Ok(vec![row(99, 1), row(100, 1)]));
         let (rows, pin) = client.pin_for_update(90..110).await.unwrap();
         assert_eq!(rows, [row(99, 1), row(100, 1)]);

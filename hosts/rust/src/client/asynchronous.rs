@@ -88,6 +88,16 @@ impl AsyncClient {
         }
     }
 
+    /// The rows of the range, as [`Client::read_once`] gives them. Tasks that make this call take
+    /// turns: a thread of its own, which the first of them starts, reads for them.
+    ///
+    /// # Errors
+    ///
+    /// Those of [`Client::read_once`].
+    pub async fn read_once(&self, keys: impl RangeBounds<u64>) -> Result<Vec<Row>, Error> {
+        self.calls().read_once(keys_of(&keys)?).await
+    }
+
     /// Inserts a row, as [`Client::insert`] does.
     ///
     /// # Errors

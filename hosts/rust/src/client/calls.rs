@@ -95,6 +95,11 @@ impl<'c> Calls<'c> {
         by_each_map!(self, ErrorKind::TimedOut, attempt => attempt.read(keys.clone()))
     }
 
+    /// The rows of a range, as the stores have them: the caches keep nothing of it.
+    pub async fn read_once(&self, keys: Range<u64>) -> Result<Vec<Row>, Error> {
+        self.attempt().joined.read_once(&keys, self.end, self.waiting).await
+    }
+
     /// Reads the range and pins it for this.
     pub async fn hold(&self, keys: Range<u64>, purpose: Purpose) -> Taken {
         by_each_map!(self, ErrorKind::TimedOut, attempt => attempt.hold(keys.clone(), purpose))

@@ -2,6 +2,7 @@
 use crate::client::link::Link;
 use crate::client::shard_client::{LEAVE_TIMEOUT, ShardClient};
 use crate::client::state::State;
+use crate::client::waiting::Waiting;
 use crate::model::error::{Error, ErrorKind};
 use crate::model::row::{END, Row};
 use crate::net::servers::Servers;
@@ -131,10 +132,15 @@ impl Joined {
 
     /// The rows of the range, as the stores of its shards have them, each at a moment of its own. The
     /// caches keep nothing of it.
-    pub fn read_once(&self, keys: &Range<u64>, deadline: Instant) -> Result<Vec<Row>, Error> {
+    pub async fn read_once(
+        &self,
+        keys: &Range<u64>,
+        deadline: Instant,
+        waiting: Waiting,
+    ) -> Result<Vec<Row>, Error> {
         let mut rows = Vec::new();
         for Part { shard, keys } in self.parts(keys)? {
-            let part = self.client(shard).read_once(keys, deadline);
+            let part = self.client(shard).read_once(keys, deadline, waiting).await;
             rows.extend(part.map_err(self.error_at(shard))?);
         }
         Ok(rows)

@@ -1,7 +1,8 @@
 //! A client of one server: of its only one, or of that of a shard.
 use crate::client::link::Link;
-use crate::client::reader::ServerReader;
+use crate::client::shared_reader::SharedReader;
 use crate::client::state::State;
+use crate::client::waiting::Waiting;
 use crate::lease::boot_clock::Moment;
 use crate::model::error::ErrorKind;
 use crate::model::row::Row;
@@ -23,7 +24,7 @@ pub(crate) struct ShardClient {
     link: Arc<Link>,
     thread: Mutex<Option<JoinHandle<()>>>,
     /// What the client reads and does not keep, by a connection of its own.
-    reader: Mutex<ServerReader>,
+    reader: SharedReader,
 }
 
 impl ShardClient {
@@ -31,7 +32,7 @@ impl ShardClient {
     pub fn start(number: u8, link: Link, poller: Poller) -> io::Result<ShardClient> {
         let link = Arc::new(link);
         let run = Arc::clone(&link);
-        let reader = Mutex::new(ServerReader::new(link.servers().clone()));
+        let reader = SharedReader::new(link.servers().clone());
         let thread = thread::Builder::new().name(format!("krl-client-{number}"));
         let thread = thread.spawn(move || run.run(poller))?;
         Ok(ShardClient { number, link, thread: Mutex::new(Some(thread)), reader })
@@ -61,11 +62,15 @@ impl ShardClient {
         self.link.cache().held_since(since, Moment::now)
     }
 
-    /// The rows of the range, as the server's store has them, which the client does not keep. Threads
-    /// that make this call take turns.
-    pub fn read_once(&self, keys: Range<u64>, deadline: Instant) -> Result<Vec<Row>, ErrorKind> {
-        let mut reader = self.reader.lock().unwrap_or_else(PoisonError::into_inner);
-        reader.read(keys, deadline)
+    /// The rows of the range, as the server's store has them, which the client does not keep. Calls
+    /// take turns.
+    pub async fn read_once(
+        &self,
+        keys: Range<u64>,
+        deadline: Instant,
+        waiting: Waiting,
+    ) -> Result<Vec<Row>, ErrorKind> {
+        self.reader.read(keys, deadline, waiting).await
     }
 
     /// Leaves, and waits until the deadline for the server to keep that. Then its thread has ended,

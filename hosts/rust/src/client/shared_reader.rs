@@ -1,0 +1,89 @@
+//! What a client of one server reads and does not keep, by a connection of its own.
+use crate::client::answer::{Answering, place};
+use crate::client::reader::ServerReader;
+use crate::client::waiting::Waiting;
+use crate::client::wakes::Wakes;
+use crate::model::error::ErrorKind;
+use crate::model::row::Row;
+use crate::net::servers::Servers;
+use std::future::poll_fn;
+use std::io;
+use std::ops::Range;
+use std::sync::mpsc::{Receiver, Sender, channel};
+use std::sync::{Arc, Mutex, MutexGuard, PoisonError};
+use std::thread;
+use std::time::Instant;
+
+/// A reader for threads, which take turns, and for tasks: a thread reads for these, one after the
+/// other.
+#[derive(Debug)]
+pub(crate) struct SharedReader {
+    reader: Arc<Mutex<ServerReader>>,
+    /// What tasks ask. It is made, and the thread started, when one asks first; and the thread ends
+    /// after it.
+    asked: Mutex<Option<Sender<Question>>>,
+    wakes: Wakes,
+}
+
+/// What a task asks.
+#[derive(Debug)]
+struct Question {
+    keys: Range<u64>,
+    deadline: Instant,
+    answering: Answering<Answered>,
+}
+
+type Answered = Result<Vec<Row>, ErrorKind>;
+
+impl SharedReader {
+    /// It connects at its first call.
+    pub fn new(servers: Servers) -> SharedReader {
+        let reader = Arc::new(Mutex::new(ServerReader::new(servers)));
+        SharedReader { reader, asked: Mutex::default(), wakes: Wakes::default() }
+    }
+
+    /// The rows of the keys, as the store has them.
+    pub async fn read(&self, keys: Range<u64>, deadline: Instant, waiting: Waiting) -> Answered {
+        let asked = match waiting {
+            Waiting::OnThread => None,
+            // If the system gives no thread, this one reads.
+            Waiting::InTask => self.asked().ok(),
+        };
+        let Some(asked) = asked else { return lock(&self.reader).read(keys, deadline) };
+        let (answering, answer) = place(&self.wakes);
+        // A thread that has panicked answers nothing.
+        let _ = asked.send(Question { keys, deadline, answering });
+        poll_fn(|context| answer.poll(context)).await.unwrap_or(Err(ErrorKind::Stopped))
+    }
+
+    /// Where tasks ask.
+    fn asked(&self) -> io::Result<Sender<Question>> {
+        let mut asked = lock(&self.asked);
+        match &*asked {
+            Some(asked) => Ok(asked.clone()),
+            None => Ok(asked.insert(self.start()?).clone()),
+        }
+    }
+
+    /// Starts the thread that reads for tasks.
+    fn start(&self) -> io::Result<Sender<Question>> {
+        let (sender, asked) = channel();
+        let (reader, wakes) = (Arc::clone(&self.reader), self.wakes.clone());
+        let thread = thread::Builder::new().name("krl-reader".into());
+        thread.spawn(move || answer_all(&asked, &reader, &wakes))?;
+        Ok(sender)
+    }
+}
+
+/// Reads what is asked, until nobody can ask any more.
+fn answer_all(asked: &Receiver<Question>, reader: &Mutex<ServerReader>, wakes: &Wakes) {
+    for Question { keys, deadline, answering } in asked {
+        let answer = lock(reader).read(keys, deadline);
+        answering.give(answer);
+        wakes.wake_all();
+    }
+}
+
+fn lock<T>(mutex: &Mutex<T>) -> MutexGuard<'_, T> {
+    mutex.lock().unwrap_or_else(PoisonError::into_inner)
+}
