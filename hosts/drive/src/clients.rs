@@ -1,7 +1,8 @@
-//! The clients of a drive: four processes that read and write, and are killed in turn.
+//! The clients of a drive: four processes that read and write, and are killed in turn. Next to them
+//! there may be an asker, which reads without being a client.
 use crate::history::{History, Tally};
 use crate::log::{Note, notes};
-use crate::nodes::{READERS, WRITERS, end_file};
+use crate::nodes::{ASKER, READERS, WRITERS, end_file};
 use krl::Snapshot;
 use std::collections::BTreeMap;
 use std::error::Error;
@@ -19,6 +20,7 @@ pub const ENDING: Duration = Duration::from_secs(60);
 /// What a drive has to come to at least, for each round: a run that does nothing shows nothing.
 const LEAST_ANSWERED: u64 = 5;
 const LEAST_READS: u64 = 20;
+const LEAST_ASKED: u64 = 5;
 
 /// A busy machine may take this long for what a round has to come to.
 const ROUND: Duration = Duration::from_secs(10);
@@ -141,9 +143,18 @@ impl Clients {
         Ok(clients)
     }
 
+    /// Starts an asker.
+    pub fn start_asker(&mut self) -> std::io::Result<()> {
+        self.start_one(ASKER)
+    }
+
     /// Starts the client of this number.
     pub fn start_one(&mut self, number: u8) -> std::io::Result<()> {
-        let role = if WRITERS.contains(&number) { "writer" } else { "reader" };
+        let role = match number {
+            ASKER => "asker",
+            number if WRITERS.contains(&number) => "writer",
+            _ => "reader",
+        };
         let words = [role, &number.to_string(), &self.servers];
         let program = match self.others.get(&number) {
             Some(other) => other.clone(),
@@ -252,6 +263,11 @@ impl Clients {
         for number in READERS.into_iter().chain(WRITERS) {
             history.compare(&notes(&self.folder, number)?, down, &mut tally);
         }
+        if self.running.iter().any(|(number, _)| *number == ASKER) {
+            let before = tally.reads;
+            history.compare(&notes(&self.folder, ASKER)?, down, &mut tally);
+            tally.asked = Some(tally.reads - before);
+        }
         history.compare_store(snapshot, &mut tally);
         Ok(tally)
     }
@@ -286,6 +302,7 @@ pub fn command(program: PathBuf, words: &[&str], folder: &Path) -> Command {
 pub fn judge(tally: &Tally, rounds: u64, hung: u64) -> crate::Found {
     let did_enough = tally.answered >= LEAST_ANSWERED * rounds
         && tally.reads >= LEAST_READS * rounds
+        && tally.asked.is_none_or(|asked| asked >= LEAST_ASKED * rounds)
         && tally.while_down > 0;
     match tally.wrong {
         0 if !did_enough => Err("too little was done to judge anything".into()),

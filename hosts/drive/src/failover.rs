@@ -68,6 +68,7 @@ pub fn run(
     std::fs::create_dir_all(folder)?;
     let servers = StandBys::start(folder, (program, leases), site)?;
     let mut clients = Clients::start(folder, servers.addresses())?;
+    clients.start_asker()?;
     let mut drive = Drive { folder: folder.to_path_buf(), servers, noted: Vec::new() };
     let rounds_of_faults = faults.into_iter().cycle().take(rounds);
     // If no server serves any more, what was read until then is compared all the same.
@@ -78,13 +79,14 @@ pub fn run(
     let mut store = EtcdStore::open(&drive.servers.cluster.address(), &Credentials::default())?;
     let tally = clients.compare(&store.load()?, &down)?;
     println!(
-        "{} faults of servers {} and {} kills of clients: {} ranges read, {} keys in them \
-         compared, {} of them while no server served; {} writes answered; {} wrong, {hung} \
-         processes hung",
+        "{} faults of servers {} and {} kills of clients: {} ranges read, {} of them without a \
+         number, {} keys in them compared, {} of them while no server served; {} writes answered; {} \
+         wrong, {hung} processes hung",
         drive.noted.len(),
         drive.servers.site,
         clients.killed(),
         tally.reads,
+        tally.asked.unwrap_or(0),
         tally.points,
         tally.while_down,
         tally.answered,

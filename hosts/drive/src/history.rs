@@ -27,6 +27,8 @@ pub struct History {
 pub struct Tally {
     /// The ranges that were read.
     pub reads: u64,
+    /// Those that an asker read, if there was one.
+    pub asked: Option<u64>,
     /// The points of them that were compared: keys of the writers, with an entry or without one.
     pub points: u64,
     /// Those that were read while no server ran.

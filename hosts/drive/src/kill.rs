@@ -1,5 +1,6 @@
 //! The drive: a server and four clients in processes of their own, killed again and again while
-//! they read and write.
+//! they read and write. An asker reads what they write, unless the network loses messages: it sends a
+//! question again after seconds only.
 use crate::Found;
 use crate::clients::{Clients, ENDING, Others, Process, judge, this};
 use crate::log::now;
@@ -69,7 +70,10 @@ fn drive(folder: &Path, rounds: u64, store: &str, net: &str, others: Others) -> 
     let net = Net::of_name(net)?;
     let clients_at = net.start(server_at)?;
     let server = start_server(folder, &net.address(server_at), store, net.lease())?;
-    let clients = Clients::start_beside(others, folder, net.address(clients_at))?;
+    let mut clients = Clients::start_beside(others, folder, net.address(clients_at))?;
+    if !net.is_lossy {
+        clients.start_asker()?;
+    }
     let (folder, store) = (folder.to_path_buf(), store.to_string());
     let mut drive = Drive { folder, store, server_at, net, server, clients };
     drive.clients.wait_for_others()?;
@@ -79,11 +83,13 @@ fn drive(folder: &Path, rounds: u64, store: &str, net: &str, others: Others) -> 
     let snapshot = SqliteStore::open(store_file(&drive.folder))?.load()?;
     let tally = drive.clients.compare(&snapshot, &down)?;
     println!(
-        "{} kills of the server and {} of clients: {} ranges read, {} keys in them compared, \
-         {} of them while no server ran; {} writes answered; {} wrong, {hung} processes hung",
+        "{} kills of the server and {} of clients: {} ranges read, {} of them without a number, {} \
+         keys in them compared, {} of them while no server ran; {} writes answered; {} wrong, {hung} \
+         processes hung",
         down.len(),
         drive.clients.killed(),
         tally.reads,
+        tally.asked.unwrap_or(0),
         tally.points,
         tally.while_down,
         tally.answered,

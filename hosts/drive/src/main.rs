@@ -162,6 +162,7 @@ fn run(words: &[&str]) -> Found {
         ["writer", number, address, folder] => {
             nodes::writer(number.parse()?, address, Path::new(folder))
         }
+        ["asker", _, address, folder] => nodes::asker(address, Path::new(folder)),
         _ => Err("see the head of main.rs for the words".into()),
     }
 }

@@ -4,8 +4,8 @@ use crate::certificates;
 use crate::log::{Log, Note, now};
 use crate::unsynced::UnsyncedStore;
 use krl::{
-    Access, Address, Client, ClientBuilder, JoinError, Leases, Listener, Outcome, Row, Server,
-    Servers, SqliteStore, Store, Value,
+    Access, Address, Client, ClientBuilder, JoinError, Leases, Listener, Outcome, Reader, Row,
+    Server, Servers, SqliteStore, Store, Value,
 };
 use std::error::Error;
 use std::ops::Range;
@@ -17,6 +17,9 @@ use std::time::{Duration, Instant};
 /// The numbers of the clients that only read, and of those that write too.
 pub const READERS: [u8; 2] = [0, 2];
 pub const WRITERS: [u8; 2] = [1, 3];
+
+/// No client has this number: that of the process that reads without being one.
+pub const ASKER: u8 = 64;
 
 /// Each writer has this many keys, this far apart.
 const KEYS: u64 = 10;
@@ -68,12 +71,18 @@ pub fn server(address: &str, folder: &Path, store: &str, lease: u64) -> Found {
     Ok(true)
 }
 
+/// These servers, which get this client's certificate, if they listen by TLS.
+fn servers_for(number: u8, servers: &str) -> Result<Servers, Box<dyn Error>> {
+    let servers: Servers = servers.parse()?;
+    if !servers.iter().any(Address::is_tls) {
+        return Ok(servers);
+    }
+    Ok(servers.with_tls(certificates::of(&format!("client-{number}"))?))
+}
+
 fn join(number: u8, servers: &str, folder: &Path) -> Result<Client, Box<dyn Error>> {
     let lock = folder.join(format!("client-{number}.lock"));
-    let mut servers: Servers = servers.parse()?;
-    if servers.iter().any(Address::is_tls) {
-        servers = servers.with_tls(certificates::of(&format!("client-{number}"))?);
-    }
+    let servers = servers_for(number, servers)?;
     // A server that recovers answers late.
     Ok(join_when_served(&Client::builder(servers, number, lock), 5 * TIMEOUT)?)
 }
@@ -95,13 +104,7 @@ pub fn join_when_served(builder: &ClientBuilder, timeout: Duration) -> Result<Cl
 pub fn reader(number: u8, servers: &str, folder: &Path) -> Found {
     let client = join(number, servers, folder)?;
     client.set_timeout(TIMEOUT);
-    let log = Mutex::new(Log::open(folder, number)?);
-    let [first, second] = WRITERS.map(range_of);
-    let [third, fourth] = WRITERS.map(still_range_of);
-    // One callback takes a whole range from the cache. Single keys stay there.
-    let keys = [first.clone(), second.clone()].map(|range| range.start + STEP);
-    let [one, other] = keys.map(|key| key..key + 1);
-    let ranges = [first.start..second.end, one, first, third, other, second, fourth];
+    let (log, ranges) = (Mutex::new(Log::open(folder, number)?), ranges_to_read());
     thread::scope(|scope| {
         let cached = scope.spawn(|| read_again(&ranges, folder, &log, |keys| client.cached(keys)));
         read_again(&ranges, folder, &log, |keys| answered(client.read(keys)))?;
@@ -111,12 +114,30 @@ pub fn reader(number: u8, servers: &str, folder: &Path) -> Found {
     Ok(true)
 }
 
+/// Reads the same ranges again and again, without a number and a cache.
+pub fn asker(servers: &str, folder: &Path) -> Found {
+    let mut reader = Reader::new(servers_for(READERS[0], servers)?).with_timeout(TIMEOUT);
+    let log = Mutex::new(Log::open(folder, ASKER)?);
+    read_again(&ranges_to_read(), folder, &log, |keys| answered(reader.read(keys)))?;
+    Ok(true)
+}
+
+/// Every writer's ranges, and parts of them.
+fn ranges_to_read() -> [Range<u64>; 7] {
+    let [first, second] = WRITERS.map(range_of);
+    let [third, fourth] = WRITERS.map(still_range_of);
+    // One callback takes a whole range from a cache. Single keys stay there.
+    let keys = [first.clone(), second.clone()].map(|range| range.start + STEP);
+    let [one, other] = keys.map(|key| key..key + 1);
+    [first.start..second.end, one, first, third, other, second, fourth]
+}
+
 /// Reads one range after the other, until the drive ends.
 fn read_again(
     ranges: &[Range<u64>],
     folder: &Path,
     log: &Mutex<Log>,
-    read: impl Fn(Range<u64>) -> Result<Option<Vec<Row>>, krl::Error>,
+    mut read: impl FnMut(Range<u64>) -> Result<Option<Vec<Row>>, krl::Error>,
 ) -> Result<(), String> {
     for keys in ranges.iter().cycle() {
         if end_file(folder).exists() {
