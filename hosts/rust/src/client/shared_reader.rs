@@ -9,6 +9,7 @@ use crate::net::servers::Servers;
 use std::future::poll_fn;
 use std::io;
 use std::ops::Range;
+use std::panic::{AssertUnwindSafe, catch_unwind};
 use std::sync::mpsc::{Receiver, Sender, channel};
 use std::sync::{Arc, Mutex, MutexGuard, PoisonError};
 use std::thread;
@@ -51,7 +52,7 @@ impl SharedReader {
         };
         let Some(asked) = asked else { return lock(&self.reader).read(keys, deadline) };
         let (answering, answer) = place(&self.wakes);
-        // A thread that has panicked answers nothing.
+        // It would fail only without the thread, which then answers nothing.
         let _ = asked.send(Question { keys, deadline, answering });
         poll_fn(|context| answer.poll(context)).await.unwrap_or(Err(ErrorKind::Stopped))
     }
@@ -78,8 +79,9 @@ impl SharedReader {
 /// Reads what is asked, until nobody can ask any more.
 fn answer_all(asked: &Receiver<Question>, reader: &Mutex<ServerReader>, wakes: &Wakes) {
     for Question { keys, deadline, answering } in asked {
-        let answer = lock(reader).read(keys, deadline);
-        answering.give(answer);
+        // A panic ends the call, and no other one.
+        let read = AssertUnwindSafe(|| lock(reader).read(keys, deadline));
+        answering.give(catch_unwind(read).unwrap_or(Err(ErrorKind::Stopped)));
         wakes.wake_all();
     }
 }
