@@ -47,6 +47,25 @@ pub(crate) fn create(
     Ok(())
 }
 
+/// Whether a call that makes a store there is not finished.
+pub(crate) fn is_unfinished(etcd: &mut Etcd, prefix: &str) -> Result<bool, Failure> {
+    Ok(unfinished(etcd, prefix)?.is_some())
+}
+
+/// The mark of a call that is not finished.
+fn unfinished(etcd: &mut Etcd, prefix: &str) -> Result<Option<String>, Failure> {
+    let asked = request::range_of_one(&format!("{prefix}/head"));
+    let found = etcd.call("kv/range", &asked, Instant::now() + TIMEOUT)?;
+    let head = found["kvs"][0].get("value").and_then(request::text_of);
+    Ok(head.filter(|head| head.starts_with(UNFINISHED)))
+}
+
+/// What removes all keys of a table, but for the head, and that of the server that serves.
+pub(crate) fn delete_all(prefix: &str) -> Vec<Json> {
+    let names = ["bucket", "client", "lease", "room", "shard", "start"];
+    names.map(|name| request::delete_all(&format!("{prefix}/{name}"))).into()
+}
+
 /// The table as a store of this salt keeps it.
 fn table_of(snapshot: &Snapshot, salt: u64) -> Table {
     let count = bucket::count_for(snapshot.kept_room().unwrap_or_default());
@@ -78,28 +97,22 @@ impl Place<'_> {
     /// at its next transaction, and no store is mixed of both.
     fn begin(&mut self) -> Result<(), Failure> {
         let (folder, last) = (self.key(""), format!("{}0", self.prefix));
-        let asked = request::range(folder.as_bytes(), last.as_bytes(), 1, 0);
+        let asked = request::range(folder.as_bytes(), last.as_bytes(), 2, 0);
         let found = self.etcd.call("kv/range", &asked, Instant::now() + TIMEOUT)?;
-        let is_empty = found["kvs"].get(0).is_none();
-        let left = if is_empty { None } else { self.unfinished()? };
+        // A server may stand by already, which has that key.
+        let active = request::get(&self.key("active"));
+        let mut others = found["kvs"].as_array().into_iter().flatten();
+        let is_empty = others.all(|pair| pair["key"] == active["requestRange"]["key"]);
+        let left = if is_empty { None } else { unfinished(self.etcd, self.prefix)? };
         if !is_empty && left.is_none() {
             let why = format!("there is something at {} already", self.prefix);
             return Err(Failure::Refused(why));
         }
         let mut operations = vec![request::put(&self.key("head"), self.mark.as_bytes())];
         if left.is_some() {
-            let folders = ["bucket", "client", "lease", "room", "shard", "start"];
-            operations.extend(folders.map(|name| request::delete_all(&self.key(name))));
+            operations.extend(delete_all(self.prefix));
         }
         self.transaction(left.as_deref(), &operations)
-    }
-
-    /// The mark of another call that is not finished.
-    fn unfinished(&mut self) -> Result<Option<String>, Failure> {
-        let asked = request::range_of_one(&self.key("head"));
-        let found = self.etcd.call("kv/range", &asked, Instant::now() + TIMEOUT)?;
-        let head = found["kvs"][0].get("value").and_then(request::text_of);
-        Ok(head.filter(|head| head.starts_with(UNFINISHED)))
     }
 
     fn set(&mut self, sets: &[Set]) -> Result<(), Failure> {

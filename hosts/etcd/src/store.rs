@@ -22,6 +22,7 @@ use crate::transaction::{self, Part, Set};
 use krl::fence::{self, Failure, Fence, Ownership};
 use krl::{Change, History, Outcome, Snapshot, Store, StoreError};
 use serde_json::{Value as Json, json};
+use std::ops::Range;
 use std::time::{Duration, Instant};
 
 /// A change sets this many keys at most: a bucket and a record.
@@ -96,6 +97,35 @@ impl EtcdStore {
         let first_start = snapshot.first_start;
         let is_it = |found| Snapshot { first_start, ..found } == *snapshot;
         if made.is_err() && found().is_ok_and(is_it) { Ok(()) } else { made }
+    }
+
+    /// Removes a store of these keys that is sealed, so that another one can be made there. Returns
+    /// whether there was one: any other one stays as it is. No server can have started on it.
+    ///
+    /// # Errors
+    ///
+    /// If somebody else changes it meanwhile; if the cluster does not answer, or refuses.
+    pub fn remove_sealed(
+        address: &EtcdAddress,
+        credentials: &Credentials,
+        keys: &Range<u64>,
+    ) -> Result<bool, StoreError> {
+        let mut store = EtcdStore::open(address, credentials)?;
+        if create::is_unfinished(&mut store.etcd, &store.prefix)? {
+            return Ok(false);
+        }
+        let shard = store.load()?.shard;
+        if !shard.is_some_and(|shard| shard.is_sealed && shard.bounds.keys() == *keys) {
+            return Ok(false);
+        }
+        let head = store.key("head");
+        let mut removes = create::delete_all(&store.prefix);
+        removes.push(request::delete(&head));
+        let asked = json!({
+            "compare": [store.fence()], "success": removes, "failure": [request::get(&head)],
+        });
+        store.ask(&asked, None, Instant::now() + store.load_timeout)?;
+        Ok(true)
     }
 
     /// From now on a commit waits at most this long for the cluster. Longer than an election of

@@ -95,6 +95,13 @@ impl Link {
         })
     }
 
+    /// Removes all, if the head is `last`. Returns the head as it stands then: that of no store.
+    pub fn remove(&mut self, last: &Fence, end: Instant) -> Result<Option<Fence>, Failure> {
+        self.again(end, |link, end| {
+            link.ask(end, async |session: &mut Session| remove(session, last).await)
+        })
+    }
+
     /// The head as it stands, on every machine that a commit comes to.
     pub fn confirm(&mut self, head: &Fence, end: Instant) -> Result<Option<Fence>, Failure> {
         self.again(end, |link, end| {
@@ -254,6 +261,14 @@ async fn commit(
     let count: i64 = session.client.query_one(&commit, &values).await?.try_get(0)?;
     // An attempt whose answer was lost may have set it. Then the replicas may still lack it.
     if count == 1 { Ok(Some(*next)) } else { confirm(session, next).await }
+}
+
+async fn remove(session: &mut Session, last: &Fence) -> Result<Option<Fence>, Error> {
+    let ([epoch, transaction, commits], owner) = columns(last);
+    let values: [&(dyn ToSql + Sync); 4] = [&epoch, &owner, &transaction, &commits];
+    session.client.query_one(sql::REMOVE, &values).await?;
+    // An attempt whose answer was lost may have removed it.
+    confirm(session, &Fence::default()).await
 }
 
 /// The head as it stands. If it is the one that is expected, the replicas have it too.

@@ -98,6 +98,20 @@ pub(crate) const COMMIT: &str = "
         AND NOT key = ANY($12::bigint[]) AND EXISTS (SELECT FROM fence))
     SELECT count(*) FROM fence";
 
+/// Removes what a store has if the head is as it should be, in one statement as a commit.
+pub(crate) const REMOVE: &str = "
+    WITH fence AS (
+        UPDATE krl.head SET epoch = 0, owner = repeat('0', 32), transaction = 0, commits = 0
+        WHERE epoch = $1 AND owner = $2 AND transaction = $3 AND commits = $4 RETURNING 1),
+    starts AS (DELETE FROM krl.start WHERE EXISTS (SELECT FROM fence)),
+    entries AS (DELETE FROM krl.entry WHERE EXISTS (SELECT FROM fence)),
+    clients AS (DELETE FROM krl.client WHERE EXISTS (SELECT FROM fence)),
+    leases AS (
+        UPDATE krl.lease SET longest = 0, unleased = -1 WHERE EXISTS (SELECT FROM fence)),
+    rooms AS (DELETE FROM krl.room WHERE EXISTS (SELECT FROM fence)),
+    shards AS (DELETE FROM krl.shard WHERE EXISTS (SELECT FROM fence))
+    SELECT count(*) FROM fence";
+
 /// Asks whether the head is as it should be. It writes the row, so that it comes to the replicas
 /// that a commit comes to.
 pub(crate) const CONFIRM: &str = "

@@ -10,6 +10,7 @@ use krl::{
     Value,
 };
 use std::fmt;
+use std::ops::Range;
 use std::thread;
 use std::time::{Duration, Instant};
 use tokio_postgres::Row;
@@ -117,6 +118,27 @@ impl PostgresStore {
         let next = Fence { epoch: snapshot.epoch, ..store.next };
         let next = next.after_batch().after_transaction();
         store.send(&Batch::of_all(snapshot), next, Instant::now() + CREATE_TIMEOUT)
+    }
+
+    /// Removes a store of these keys that is sealed, so that another one can be made there. Returns
+    /// whether there was one: any other one stays as it is. No server can have started on it.
+    ///
+    /// # Errors
+    ///
+    /// If somebody else changes it meanwhile; if the database does not answer, or refuses.
+    pub fn remove_sealed(
+        address: &PostgresAddress,
+        user: Option<&(String, String)>,
+        keys: &Range<u64>,
+    ) -> Result<bool, StoreError> {
+        let mut store = PostgresStore::open(address, user)?;
+        let shard = store.load()?.shard;
+        if !shard.is_some_and(|shard| shard.is_sealed && shard.bounds.keys() == *keys) {
+            return Ok(false);
+        }
+        let found = store.link.remove(&store.head, Instant::now() + CREATE_TIMEOUT);
+        store.ownership.judge(found, Some(&Fence::default()))?;
+        Ok(true)
     }
 
     /// From now on a commit waits at most this long for the database.

@@ -208,8 +208,8 @@ Cut, merge or move shards while the table serves.
 
 The next map takes the place of the file --map, which clients follow. They leave the shards that
 change, and their calls there wait. When all have left, the servers of these shards are stopped by
---stop, the stores are changed as split and merge do, and the servers are started again by --start
-and --start-new. All other servers and their clients continue.
+--stop, the stores are changed, and the servers are started again by --start and --start-new. All other
+servers and their clients continue. A store is a file of SQLite, or in etcd or PostgreSQL, as for serve.
 
 If it is killed, repeat it with the same words: it continues where it was. If clients have not left
 within --wait seconds, it names them and takes its first step back: the map is then as it was before,

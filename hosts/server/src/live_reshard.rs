@@ -5,26 +5,26 @@
 //! 1. The next map takes the place of this one. Clients that follow it leave the shards that change,
 //!    and no client joins them: their servers are of shards that no later map has.
 //! 2. When all have left, the servers of these shards are stopped.
-//! 3. The stores change as in [`crate::reshard`]: **no server can start on a new store while another
+//! 3. The stores change, as [`change`] describes: **no server can start on a new store while another
 //!    one can start on a store that has its rows.**
 //! 4. The servers of the next map's shards start.
+mod change;
 mod stores;
 mod words;
 
 use crate::clients;
 use crate::http::StatusPort;
-use crate::next_map::{self, MergeMap, MoveMap, SplitMap};
+use crate::next_map;
 use crate::output;
-use crate::owner::served_by;
 use crate::published_map::{PublishedMap, run};
-use crate::reshard::{self, NotLeft};
-use crate::settings::BadSetting;
-use krl::{KeptShard, ShardBounds, ShardMap};
+use crate::settings::{BadSetting, StorePlace};
+pub use change::Place;
+use change::{InUse, NewStore, OldStore};
+use krl::{KeptShard, ShardBounds, ShardMap, Snapshot};
 use std::error::Error;
-use std::path::Path;
 use std::thread;
 use std::time::{Duration, Instant};
-use stores::{OldStore, Stores, json};
+use stores::{Stores, json, served_by};
 pub use words::LiveChange;
 use words::LiveOptions;
 
@@ -35,6 +35,9 @@ const LOOK: Duration = Duration::from_millis(20);
 
 /// How often it is reported who is left.
 const REPORT: Duration = Duration::from_secs(5);
+
+/// The pause after which stores are tried again that were in use: clients leave their servers meanwhile.
+const AGAIN: Duration = Duration::from_secs(1);
 
 /// How long a server may take to start or to end.
 const START_OR_END: Duration = Duration::from_secs(60);
@@ -51,11 +54,11 @@ pub fn reshard(change: &LiveChange) -> Done {
     stores.refuse_others()?;
     map.publish()?;
     output::report(&format!("the map is of version {}", version_of(&map.next)));
-    if !stores.have_changed() {
-        change_stores(change, &map, &stores)?;
-    } else if served_by(stores.new).is_none() {
-        // An earlier call has changed the stores, and was killed.
+    if stores.have_changed()? {
+        // An earlier call has changed the stores, and may have been killed.
         stores.open_new()?;
+    } else {
+        change_stores(change, &map, &stores)?;
     }
     start_servers(change, &stores)?;
     let done = format!("{}: version {} is served\n", live.map.display(), version_of(&map.next));
@@ -91,21 +94,22 @@ impl LiveChange {
         let before = |point: u64| next_map::bounds(&map.before, map.before.shard_of(point).ok());
         let next = |point: u64| next_map::bounds(&map.next, map.next.shard_of(point).ok());
         let version = map.next.version().ok_or("the map has no version")?;
-        let sealed = |shard: ShardBounds| KeptShard::sealed(shard.with_version(version));
-        let (old, new, new_shard): (Vec<(&Path, ShardBounds, KeptShard)>, _, _) = match self {
+        let sealed = |place, before: ShardBounds| {
+            let after = KeptShard::sealed(before.with_version(version));
+            OldStore { place, before, after }
+        };
+        let (old, place, shard) = match self {
             LiveChange::Split { store, at, new_store, .. } => {
-                let lower = KeptShard::open(next(at - 1)?);
-                (vec![(store, before(*at)?, lower)], new_store, next(*at)?)
+                let after = KeptShard::open(next(at - 1)?);
+                let old = OldStore { place: store, before: before(*at)?, after };
+                (vec![old], new_store, next(*at)?)
             }
             LiveChange::Merge { lower, upper, new_store, at, .. } => {
-                let halves = [before(at - 1)?, before(*at)?];
-                let old = [lower, upper].into_iter().zip(halves);
-                let old = old.map(|(store, half)| (store.as_path(), half, sealed(half)));
-                (old.collect(), new_store, next(*at)?)
+                let old = vec![sealed(lower, before(at - 1)?), sealed(upper, before(*at)?)];
+                (old, new_store, next(*at)?)
             }
             LiveChange::Move { store, new_store, first, .. } => {
-                let moved = before(*first)?;
-                (vec![(store, moved, sealed(moved))], new_store, next(*first)?)
+                (vec![sealed(store, before(*first)?)], new_store, next(*first)?)
             }
         };
         let ports = self.ports()?;
@@ -113,9 +117,7 @@ impl LiveChange {
             let why = format!("{} status ports are expected, one of each old store", old.len());
             return Err(BadSetting::new(why).into());
         }
-        let old = old.into_iter().zip(ports);
-        let old = old.map(|((path, before, after), port)| OldStore { path, port, before, after });
-        Ok(Stores { old: old.collect(), new, new_shard })
+        Ok(Stores { old, ports, new: NewStore { place, shard } })
     }
 
     fn ports(&self) -> Done<Vec<StatusPort>> {
@@ -124,23 +126,23 @@ impl LiveChange {
         Ok(ports.collect::<Result<_, _>>()?)
     }
 
-    /// Changes the stores, which nobody serves.
-    fn change_stores(&self, map: &PublishedMap) -> Done<String> {
-        let (before, path) = (map.path_before(), map.path().to_path_buf());
-        Ok(match self {
-            LiveChange::Split { store, at, new_store, servers, allow_empty, .. } => {
-                let map = SplitMap::of(before, servers.clone(), path);
-                reshard::split(store, *at, new_store, *allow_empty, &map)?.done
+    /// What the new store has of what the old ones have.
+    fn content(&self, mut old: Vec<Snapshot>) -> Done<Snapshot> {
+        let last = old.pop().ok_or("no store changes")?;
+        match self {
+            LiveChange::Split { store, at, allow_empty, .. } => {
+                let (_, upper) = last.split(*at);
+                if upper.rows.is_empty() && !allow_empty {
+                    let why = format!("{store} has no row from {at} on: nothing would move");
+                    return Err(format!("{why}. --allow-empty makes a store without rows").into());
+                }
+                Ok(upper)
             }
-            LiveChange::Merge { lower, upper, new_store, at, .. } => {
-                let map = MergeMap::of(before, *at, path);
-                reshard::merge(lower, upper, new_store, &map)?.done
+            LiveChange::Merge { .. } => {
+                Ok(old.pop().ok_or("one store can't be merged")?.merge(last)?)
             }
-            LiveChange::Move { store, new_store, first, .. } => {
-                let map = MoveMap { before: &map.before, next: &map.next };
-                reshard::move_store(store, *first, new_store, &map)?
-            }
-        })
+            LiveChange::Move { .. } => Ok(last),
+        }
     }
 }
 
@@ -151,26 +153,23 @@ fn change_stores(change: &LiveChange, map: &PublishedMap, stores: &Stores<'_>) -
     loop {
         let who = match wait_until_left(stores, end) {
             Err(Stay(who)) => who,
-            Ok(()) => match change_stopped(change, map, stores) {
+            Ok(()) => match change_stopped(change, stores) {
                 // One that does not follow the map has joined meanwhile.
-                Err(error) if error.is::<NotLeft>() => start_again(start, &error.to_string()),
+                Err(error) if error.is::<InUse>() => start_again(start, &error.to_string()),
                 ended => return ended,
             },
         };
         if Instant::now() >= end {
             return give_up(&who, *wait, map, stores);
         }
-        thread::sleep(LOOK);
+        thread::sleep(AGAIN);
     }
 }
 
 /// Changes the stores once their servers are stopped.
-fn change_stopped(change: &LiveChange, map: &PublishedMap, stores: &Stores<'_>) -> Done {
+fn change_stopped(change: &LiveChange, stores: &Stores<'_>) -> Done {
     stop_servers(change, stores)?;
-    stores.set_unused_aside()?;
-    let done = change.change_stores(map)?;
-    output::report(done.trim_end());
-    Ok(())
+    stores.change(|old| change.content(old))
 }
 
 /// Starts the old servers, so that the clients that have not left can. Returns which these are.
@@ -185,7 +184,7 @@ fn start_again(start: &str, who: &str) -> String {
 /// Takes the map back, since clients do not leave, unless a store has changed already.
 fn give_up(who: &str, wait: u64, map: &PublishedMap, stores: &Stores<'_>) -> Done {
     let late = format!("{who}: not left within {wait} seconds");
-    if stores.have_begun_to_change() {
+    if stores.have_begun_to_change()? {
         return Err(format!("{late}. An old store is sealed already: repeat the command").into());
     }
     let version = map.take_back()?;
@@ -198,7 +197,7 @@ fn give_up(who: &str, wait: u64, map: &PublishedMap, stores: &Stores<'_>) -> Don
 fn wait_until_left(stores: &Stores<'_>, end: Instant) -> Result<(), Stay> {
     let mut next_report = Instant::now() + REPORT;
     loop {
-        let who = stores.old.iter().find_map(|old| clients_of(&old.port));
+        let who = stores.ports.iter().find_map(clients_of);
         let Some(who) = who else { return Ok(()) };
         if Instant::now() >= end {
             return Err(Stay(who));
@@ -222,10 +221,12 @@ fn clients_of(port: &StatusPort) -> Option<String> {
     (!names.is_empty()).then(|| names.join("; "))
 }
 
-/// Stops the servers of the stores that change, and waits until none runs.
+/// Stops the servers of the stores that change. Those of files have ended when it returns. One that
+/// still runs over a database commits nothing any more once the command has taken the store.
 fn stop_servers(change: &LiveChange, stores: &Stores<'_>) -> Done {
-    let served = || stores.old.iter().find_map(|old| served_by(old.path));
-    if served().is_none() {
+    let served = || stores.old.iter().find_map(|old| served_by(old.place));
+    let are_files = stores.old.iter().all(|old| matches!(old.place, StorePlace::File(_)));
+    if are_files && served().is_none() {
         return Ok(());
     }
     run(&change.live().stop)?;
@@ -242,10 +243,10 @@ fn stop_servers(change: &LiveChange, stores: &Stores<'_>) -> Done {
 /// Starts the servers of the next map that do not run. Of a merge and a move only the new one does.
 fn start_servers(change: &LiveChange, stores: &Stores<'_>) -> Done {
     let LiveOptions { start, start_new, .. } = change.live();
-    if served_by(stores.new).is_none() {
+    if served_by(stores.new.place).is_none() {
         run(start_new)?;
     }
     let serves_on =
-        stores.old.iter().any(|old| !old.after.is_sealed && served_by(old.path).is_none());
+        stores.old.iter().any(|old| !old.after.is_sealed && served_by(old.place).is_none());
     if serves_on { run(start) } else { Ok(()) }
 }

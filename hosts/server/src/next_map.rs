@@ -36,15 +36,6 @@ pub struct MergeMap {
     new_map: Option<PathBuf>,
 }
 
-/// The map of a move.
-#[derive(Debug)]
-pub struct MoveMap<'m> {
-    /// The map before.
-    pub before: &'m ShardMap,
-    /// The map by which the shard is elsewhere.
-    pub next: &'m ShardMap,
-}
-
 /// A map that is not written yet.
 pub struct NextMap {
     before: ShardMap,
@@ -53,11 +44,6 @@ pub struct NextMap {
 }
 
 impl SplitMap {
-    /// The map of a split whose next map is in this file already.
-    pub fn of(before: PathBuf, servers: Servers, next: PathBuf) -> SplitMap {
-        SplitMap { map: Some(before), servers: Some(servers), new_map: Some(next) }
-    }
-
     /// The next map, if one is wanted. The store has to be that of the shard that is cut.
     pub fn next(&self, at: u64, store: &Snapshot) -> Result<Option<NextMap>> {
         let (Some(path), Some(servers), Some(new)) = (&self.map, &self.servers, &self.new_map)
@@ -76,11 +62,6 @@ impl SplitMap {
 }
 
 impl MergeMap {
-    /// The map of a merge whose next map is in this file already.
-    pub fn of(before: PathBuf, at: u64, next: PathBuf) -> MergeMap {
-        MergeMap { map: Some(before), at: Some(at), new_map: Some(next) }
-    }
-
     /// The key at which the two shards meet, if a map is given.
     pub fn at(&self) -> Option<u64> {
         self.at
@@ -107,32 +88,6 @@ pub struct CutShards {
     pub lower: ShardBounds,
     /// The upper half, by the next map.
     pub upper: ShardBounds,
-}
-
-impl MoveMap<'_> {
-    /// The shard that begins with this key, before and after the move.
-    pub fn shards(&self, first: u64) -> Result<MovedShard> {
-        let of = |map: &ShardMap| bounds(map, map.shard_of(first).ok());
-        Ok(MovedShard { before: of(self.before)?, after: of(self.next)? })
-    }
-}
-
-/// A shard that moves.
-pub struct MovedShard {
-    before: ShardBounds,
-    /// By the next map.
-    pub after: ShardBounds,
-}
-
-impl MovedShard {
-    /// Refuses a store that is not of the shard. An earlier call may have sealed it.
-    pub fn refuse_other(&self, own: Option<KeptShard>) -> Result<()> {
-        let own = own.ok_or("the store is of no shard")?;
-        if own == KeptShard::sealed(self.after) {
-            return Ok(());
-        }
-        refuse_other_shard(own, self.before)
-    }
 }
 
 /// The shards of a merge.

@@ -47,18 +47,8 @@ impl PublishedMap {
         if next_map::read(&self.path)? == self.next {
             return self.run_publish();
         }
-        replace(&self.path_before(), &self.before)?;
+        replace(&path_before(&self.path), &self.before)?;
         self.replace_by(&self.next)
-    }
-
-    /// The file of the map before.
-    pub fn path_before(&self) -> PathBuf {
-        path_before(&self.path)
-    }
-
-    /// The file that clients follow.
-    pub fn path(&self) -> &Path {
-        &self.path
     }
 
     /// Puts the map before into the file again, by a version after that of the next map. Its shards

@@ -2,7 +2,7 @@
 //!
 //! A command that was killed is repeated: the stores show how far it had come.
 use crate::cause;
-use crate::next_map::{MergeMap, MoveMap, NextMap, SplitMap};
+use crate::next_map::{MergeMap, NextMap, SplitMap};
 use crate::output;
 use crate::owner::Owner;
 use crate::stores;
@@ -16,7 +16,7 @@ type Done<T = ()> = Result<T, Box<dyn Error>>;
 
 /// A store can't be cut yet: these clients have not left it.
 #[derive(Debug)]
-pub struct NotLeft {
+struct NotLeft {
     store: PathBuf,
     clients: Vec<u8>,
 }
@@ -131,25 +131,6 @@ pub fn merge(lower: &Path, upper: &Path, new: &Path, map: &MergeMap) -> Done<Don
     Ok(DoneByMap { done: format!("{}: {rows} rows, epoch {epoch}\n", new.display()), next })
 }
 
-/// Makes a new store of the shard that begins with `first` and moves, and returns what was done. No
-/// server starts on the old one any more once the new one is there, and none on the new one before
-/// the old one is sealed.
-pub fn move_store(store: &Path, first: u64, new: &Path, map: &MoveMap) -> Done<String> {
-    let _owner = own(store)?;
-    let kept = read_file(store)?;
-    if is_sealed(&kept) {
-        refuse_second(store, &kept, new)?;
-    }
-    let (mut moved, shards) = (kept.snapshot, map.shards(first)?);
-    shards.refuse_other(moved.shard)?;
-    moved.shard = Some(KeptShard::sealed(shards.after));
-    stores::judge(&new.display(), &moved)?;
-    create(new, &moved)?;
-    seal(store, shards.after, &moved)?;
-    unseal(new)?;
-    Ok(format!("{}: {} rows, epoch {}\n", new.display(), moved.rows.len(), moved.epoch))
-}
-
 fn is_sealed(kept: &StoreFile) -> bool {
     kept.snapshot.shard.is_some_and(|shard| shard.is_sealed)
 }
@@ -242,7 +223,7 @@ fn seal(store: &Path, bounds: ShardBounds, new: &Snapshot) -> Done {
 }
 
 /// A server may start on the store: no other one has its rows any more.
-pub fn unseal(new: &Path) -> Done {
+fn unseal(new: &Path) -> Done {
     SqliteStore::unseal(new).map_err(|error| cause(&error).into())
 }
 

@@ -193,6 +193,15 @@ fn a_copy_becomes_a_store_of_its_own() {
     store_tests::goes_on_from_a_copy(create, || open(&address));
 }
 
+#[test]
+fn only_a_sealed_store_is_removed() {
+    let Some(cluster) = Cluster::start() else { return };
+    let (address, credentials) = (cluster.address("sealed"), Credentials::default());
+    let create = |snapshot: &Snapshot| EtcdStore::create(&address, &credentials, snapshot);
+    let remove = |keys: &Range<u64>| EtcdStore::remove_sealed(&address, &credentials, keys);
+    store_tests::removes_only_what_is_sealed(create, remove, || open(&address));
+}
+
 /// Puts these keys, whatever is there.
 fn put_keys(store: &mut EtcdStore, sets: &[Set]) {
     for part in transaction::parts(sets) {
@@ -217,6 +226,7 @@ fn a_place_that_was_not_finished_is_no_store_and_is_taken() {
     let sets = left.map(set);
     put_keys(&mut store, &sets);
     assert!(matches!(store.load(), Err(StoreError::Failed(_))));
+    assert!(!EtcdStore::remove_sealed(&address, &credentials, &(0..5)).unwrap());
     let mut snapshot = Snapshot::default();
     apply(&mut snapshot, &store_tests::changes()[..3]);
     EtcdStore::create(&address, &credentials, &snapshot).unwrap();

@@ -108,6 +108,15 @@ fn a_copy_becomes_a_store_of_its_own() {
 }
 
 #[test]
+fn only_a_sealed_store_is_removed() {
+    let Some(database) = Database::start() else { return };
+    let address = database.address();
+    let create = |snapshot: &Snapshot| PostgresStore::create(&address, None, snapshot);
+    let remove = |keys: &Range<u64>| PostgresStore::remove_sealed(&address, None, keys);
+    store_tests::removes_only_what_is_sealed(create, remove, || open(&database));
+}
+
+#[test]
 fn a_store_of_before_room_and_shard_were_kept_is_brought_forward() {
     let Some(database) = Database::start() else { return };
     loaded(&database).0.commit(&[Change::Started { epoch: 1 }, REGISTER]).unwrap();

@@ -290,3 +290,34 @@ pub fn goes_on_from_a_copy<S: Store>(
     let (mut store, _) = loaded(&mut open);
     assert_eq!(store.history().expect("a history is read"), Some(history));
 }
+
+/// A store is removed only if it is sealed and of these keys. Another one is made in its place. For a
+/// store that can be made of a snapshot.
+///
+/// # Panics
+///
+/// If another one is removed, or something of it is left.
+pub fn removes_only_what_is_sealed<S: Store>(
+    mut create: impl FnMut(&Snapshot) -> Result<(), StoreError>,
+    mut remove: impl FnMut(&Range<u64>) -> Result<bool, StoreError>,
+    mut open: impl FnMut() -> S,
+) {
+    let mut sealed = Snapshot::default();
+    let leases = LeaseRecord { longest: 5, unleased: ClientSet::of_bits(1) };
+    let room = Change::Room(Room::MAX);
+    apply(&mut sealed, &[REGISTER, Change::Leased(leases), room, shard(10..20, 7, true)]);
+    sealed.rows.extend((10..20).map(|key| (key, key.into())));
+    assert!(!remove(&(10..20)).expect("nothing is there"), "before there was one");
+    create(&sealed).expect("nothing is there");
+    for other in [10..21, 9..20, 10..11] {
+        assert!(!remove(&other).expect("it is asked"), "of {other:?}");
+    }
+    assert_eq!(loaded(&mut open).1, sealed);
+    assert!(remove(&(10..20)).expect("it is sealed"));
+    assert_eq!(loaded(&mut open).1, Snapshot::default());
+    let mut opened = Snapshot { epoch: 3, ..sealed };
+    apply(&mut opened, &[shard(10..20, 7, false)]);
+    create(&opened).expect("the other one is removed");
+    assert!(!remove(&(10..20)).expect("it is asked"), "a server may start on it");
+    assert_eq!(loaded(&mut open).1, opened);
+}

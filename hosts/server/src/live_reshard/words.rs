@@ -1,6 +1,7 @@
 //! The words of `reshard`.
 use crate::command_line::TlsOptions;
 use crate::reshard;
+use crate::settings::StorePlace;
 use clap::{Args, Subcommand};
 use krl::Servers;
 use std::path::PathBuf;
@@ -11,12 +12,12 @@ pub enum LiveChange {
     /// Cut a shard in two at a key
     Split {
         /// The store of the shard
-        store: PathBuf,
+        store: StorePlace,
         /// The first key that moves
         #[arg(value_parser = reshard::cut)]
         at: u64,
         /// The new store
-        new_store: PathBuf,
+        new_store: StorePlace,
         /// Where the new store will be served, as in a map
         #[arg(long, value_name = "ADDRESS")]
         servers: Servers,
@@ -29,11 +30,11 @@ pub enum LiveChange {
     /// Make one shard of two neighbors. It has the place of the lower one
     Merge {
         /// The store of the shard with the lower keys
-        lower: PathBuf,
+        lower: StorePlace,
         /// The store of the shard with the greater keys
-        upper: PathBuf,
+        upper: StorePlace,
         /// The new store
-        new_store: PathBuf,
+        new_store: StorePlace,
         /// Where the upper one of the two shards begins
         #[arg(long, value_name = "KEY", value_parser = reshard::cut)]
         at: u64,
@@ -43,9 +44,9 @@ pub enum LiveChange {
     /// Move a shard to another server
     Move {
         /// The store of the shard
-        store: PathBuf,
+        store: StorePlace,
         /// The new store
-        new_store: PathBuf,
+        new_store: StorePlace,
         /// Where the shard begins
         #[arg(long, value_name = "KEY")]
         first: u64,

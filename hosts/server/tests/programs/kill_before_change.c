@@ -1,5 +1,5 @@
-/* Kills the process before its n-th call that may change a file. The environment's KILL_BEFORE_CHANGE has n, from 1.
- * The tests load it by LD_PRELOAD. */
+/* Kills the process before its n-th call that may change a file, or that sends by a socket. The environment's
+ * KILL_BEFORE_CHANGE or KILL_BEFORE_SEND has n, from 1. The tests load it by LD_PRELOAD. */
 #define _GNU_SOURCE
 #include <dlfcn.h>
 #include <fcntl.h>
@@ -7,26 +7,41 @@
 #include <stdarg.h>
 #include <stdatomic.h>
 #include <stdlib.h>
+#include <sys/socket.h>
 #include <sys/types.h>
+#include <sys/uio.h>
 #include <unistd.h>
+
+static void count(atomic_long *calls, const char *variable)
+{
+    const char *last = getenv(variable);
+    if (last && atomic_fetch_add(calls, 1) + 1 == atol(last))
+        kill(getpid(), SIGKILL);
+}
 
 static void before_change(void)
 {
     static atomic_long changes;
-    const char *last = getenv("KILL_BEFORE_CHANGE");
-    if (last && atomic_fetch_add(&changes, 1) + 1 == atol(last))
-        kill(getpid(), SIGKILL);
+    count(&changes, "KILL_BEFORE_CHANGE");
+}
+
+static void before_send(void)
+{
+    static atomic_long sends;
+    count(&sends, "KILL_BEFORE_SEND");
 }
 
 /* Defines the call of this name as the next library's, with a count before it. */
-#define COUNTED(type, name, parameters, arguments) \
-    type name parameters                           \
-    {                                              \
-        type(*next) parameters;                    \
-        *(void **)&next = dlsym(RTLD_NEXT, #name); \
-        before_change();                           \
-        return next arguments;                     \
+#define COUNTED_BY(before, type, name, parameters, arguments) \
+    type name parameters                                      \
+    {                                                         \
+        type(*next) parameters;                               \
+        *(void **)&next = dlsym(RTLD_NEXT, #name);            \
+        before();                                             \
+        return next arguments;                                \
     }
+
+#define COUNTED(type, name, parameters, arguments) COUNTED_BY(before_change, type, name, parameters, arguments)
 
 COUNTED(ssize_t, write, (int file, const void *bytes, size_t count), (file, bytes, count))
 COUNTED(ssize_t, pwrite, (int file, const void *bytes, size_t count, off_t at), (file, bytes, count, at))
@@ -39,6 +54,8 @@ COUNTED(int, link, (const char *from, const char *to), (from, to))
 COUNTED(int, linkat, (int old, const char *from, int new, const char *to, int flags), (old, from, new, to, flags))
 COUNTED(int, rename, (const char *from, const char *to), (from, to))
 COUNTED(int, unlink, (const char *path), (path))
+COUNTED_BY(before_send, ssize_t, send, (int to, const void *bytes, size_t size, int flags), (to, bytes, size, flags))
+COUNTED_BY(before_send, ssize_t, writev, (int file, const struct iovec *parts, int many), (file, parts, many))
 
 /* Defines a call that opens a file as the next library's, with a count before it if it may make the file. */
 #define COUNTED_OPEN(name)                                          \
