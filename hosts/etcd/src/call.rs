@@ -1,12 +1,12 @@
 //! Calls of etcd over its JSON gateway: one at a time, to one endpoint after another.
 use crate::address::{Credentials, EtcdAddress};
 use crate::explain::{self, Given};
-use crate::request::{bytes_of, text_of};
+use crate::request::{self, bytes_of, text_of};
 use krl::fence::Failure;
 use native_tls::{Certificate, Identity, TlsConnector};
 use serde_json::{Value as Json, json};
 use std::fmt;
-use std::io::Read;
+use std::io::{BufRead, BufReader, Read};
 use std::sync::Arc;
 use std::thread;
 use std::time::{Duration, Instant};
@@ -109,6 +109,29 @@ impl Etcd {
         }
     }
 
+    /// Waits until the key changes, from this revision on, and for this time at most. Returns false if
+    /// the endpoint that last answered gives no event before.
+    pub fn watch(&self, key: &str, from: u64, most: Duration) -> bool {
+        let end = Instant::now() + most;
+        let mut request = self.post("watch").timeout(most);
+        if let Some(token) = &self.token {
+            request = request.set("Authorization", token);
+        }
+        let Ok(answer) = request.send_string(&request::watch(key, from).to_string()) else {
+            return false;
+        };
+        let lines = BufReader::new(answer.into_reader()).lines().map_while(Result::ok);
+        let events = lines.filter_map(|line| serde_json::from_str::<Json>(&line).ok());
+        // The first line says that the watch is there.
+        let mut changes = events.filter(|event| event["result"]["events"].is_array());
+        changes.next().is_some() || Instant::now() >= end
+    }
+
+    fn post(&self, path: &str) -> ureq::Request {
+        let url = format!("{}://{}/v3/{path}", self.scheme, self.endpoints[self.at]);
+        self.agent.post(&url).set("Content-Type", "application/json")
+    }
+
     /// One attempt, with the token of the user if there is one. A token that has run out is
     /// replaced: the next attempt has a new one.
     fn attempt_as_user(&mut self, path: &str, body: &Json) -> Result<Json, Attempt> {
@@ -130,8 +153,7 @@ impl Etcd {
 
     fn attempt(&self, path: &str, body: &Json) -> Result<Json, Attempt> {
         let endpoint = &self.endpoints[self.at];
-        let mut request = self.agent.post(&format!("{}://{endpoint}/v3/{path}", self.scheme));
-        request = request.set("Content-Type", "application/json");
+        let mut request = self.post(path);
         if let Some(token) = &self.token {
             request = request.set("Authorization", token);
         }

@@ -4,7 +4,7 @@ use crate::bucket::{self, Buckets};
 use crate::call::Etcd;
 use crate::head::Head;
 use crate::request;
-use crate::table::{Table, bucket_key};
+use crate::table::{OTHERS, Table, bucket_key};
 use crate::transaction::{self, Set, parts};
 use krl::fence::{self, Failure, Fence};
 use krl::{Snapshot, StoreError};
@@ -60,7 +60,7 @@ fn unfinished(etcd: &mut Etcd, prefix: &str) -> Result<Option<String>, Failure> 
     Ok(head.filter(|head| head.starts_with(UNFINISHED)))
 }
 
-/// What removes all keys of a table, but for the head, and that of the server that serves.
+/// What removes all keys of a table, but for the head.
 pub(crate) fn delete_all(prefix: &str) -> Vec<Json> {
     let names = ["bucket", "client", "lease", "room", "shard", "start"];
     names.map(|name| request::delete_all(&format!("{prefix}/{name}"))).into()
@@ -97,12 +97,11 @@ impl Place<'_> {
     /// at its next transaction, and no store is mixed of both.
     fn begin(&mut self) -> Result<(), Failure> {
         let (folder, last) = (self.key(""), format!("{}0", self.prefix));
-        let asked = request::range(folder.as_bytes(), last.as_bytes(), 2, 0);
+        let asked = request::range(folder.as_bytes(), last.as_bytes(), OTHERS.len() + 1, 0);
         let found = self.etcd.call("kv/range", &asked, Instant::now() + TIMEOUT)?;
-        // A server may stand by already, which has that key.
-        let active = request::get(&self.key("active"));
-        let mut others = found["kvs"].as_array().into_iter().flatten();
-        let is_empty = others.all(|pair| pair["key"] == active["requestRange"]["key"]);
+        let others = OTHERS.map(|name| request::range_of_one(&self.key(name)));
+        let is_other = |pair: &Json| others.iter().any(|other| pair["key"] == other["key"]);
+        let is_empty = found["kvs"].as_array().into_iter().flatten().all(is_other);
         let left = if is_empty { None } else { unfinished(self.etcd, self.prefix)? };
         if !is_empty && left.is_none() {
             let why = format!("there is something at {} already", self.prefix);

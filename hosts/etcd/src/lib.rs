@@ -1,4 +1,4 @@
-//! A store of krl in etcd, and the election of the server that serves from it.
+//! A store of krl in etcd, the election of the server that serves from it, and a map of shards there.
 //!
 //! What survives a server lies in a cluster of etcd, on several machines, and a server on any
 //! machine may serve from it. **The store decides which one may**: every transaction compares one
@@ -14,6 +14,7 @@ mod election;
 mod explain;
 mod head;
 mod lease;
+mod map;
 mod record;
 mod request;
 mod store;
@@ -22,4 +23,5 @@ mod transaction;
 
 pub use address::{BadEtcdAddress, Credentials, EtcdAddress};
 pub use election::{Election, ElectionError, Standing, Term};
+pub use map::EtcdMap;
 pub use store::EtcdStore;

@@ -53,6 +53,12 @@ pub(crate) fn range_of_one(key: &str) -> Json {
     json!({"key": encode(key.as_bytes())})
 }
 
+/// One key, and all its changes from the revision on.
+pub(crate) fn watch(key: &str, revision: u64) -> Json {
+    let key = encode(key.as_bytes());
+    json!({"create_request": {"key": key, "start_revision": revision.to_string()}})
+}
+
 /// One key, as it was at the revision.
 pub(crate) fn range_at(key: &str, revision: u64) -> Json {
     json!({"key": encode(key.as_bytes()), "revision": revision.to_string()})

@@ -9,6 +9,7 @@
 //! PREFIX/start/7       the head as the server of epoch 7 left it; in a copy of another store,
 //!                      start/0 has that one's first start
 //! PREFIX/active        the address of the server that serves, with a lease: no promise rests on it
+//! PREFIX/map           a map of shards, if one is at home there: it is of no store
 //! ```
 use crate::address::{Credentials, EtcdAddress};
 use crate::bucket;

@@ -8,6 +8,9 @@ use krl::{Change, KeptShard, LeaseRecord, Record, Room, Snapshot};
 use std::fmt::Display;
 use std::str::FromStr;
 
+/// The names after the prefix that are of no table: who serves, and a map of shards.
+pub(crate) const OTHERS: [&str; 2] = ["active", "map"];
+
 /// What etcd has of the table.
 #[derive(Debug, Default)]
 pub(crate) struct Table {
@@ -36,7 +39,7 @@ impl Table {
         let mut records = Vec::new();
         for (name, value) in pairs {
             match name.split_once('/') {
-                None if name == "head" || name == "active" => {}
+                None if name == "head" || OTHERS.contains(&name.as_str()) => {}
                 None if name == "lease" => table.leases = parse_lease(name, value)?,
                 None if name == "room" => table.room = Some(parse_text(name, value)?),
                 None if name == "shard" => table.shard = Some(parse_text(name, value)?),

@@ -2,8 +2,12 @@
 use crate::address::PostgresAddress;
 use crate::security::Tls;
 use std::fmt;
+use std::future::poll_fn;
+use std::sync::Arc;
+use tokio::io::{AsyncRead, AsyncWrite};
+use tokio::sync::Notify;
 use tokio::task::JoinHandle;
-use tokio_postgres::{Client, Config, Error, NoTls};
+use tokio_postgres::{AsyncMessage, Client, Config, Connection, Error, NoTls};
 
 /// Connects to the database of an address, by TLS if the address asks for it.
 #[derive(Clone)]
@@ -56,19 +60,36 @@ impl Connector {
     ///
     /// If the database does not answer, or refuses the user; if TLS fails.
     pub async fn connect(&self) -> Result<(Client, Carrier), Error> {
+        self.connect_and_tell(Arc::default()).await
+    }
+
+    /// The same. What is told learns of each notification, and of the end of the connection.
+    pub(crate) async fn connect_and_tell(
+        &self,
+        told: Arc<Notify>,
+    ) -> Result<(Client, Carrier), Error> {
         if let Some(tls) = &self.tls {
             let (client, connection) = self.config.connect(tls.clone()).await?;
-            Ok((client, Carrier(tokio::spawn(carry(connection)))))
+            Ok((client, Carrier(tokio::spawn(carry(connection, told)))))
         } else {
             let (client, connection) = self.config.connect(NoTls).await?;
-            Ok((client, Carrier(tokio::spawn(carry(connection)))))
+            Ok((client, Carrier(tokio::spawn(carry(connection, told)))))
         }
     }
 }
 
 /// Carries a connection until it ends. How it ended is reported to the caller whose query fails.
-async fn carry(connection: impl Future<Output = Result<(), Error>>) {
-    let _ = connection.await;
+async fn carry<S, T>(mut connection: Connection<S, T>, told: Arc<Notify>)
+where
+    S: AsyncRead + AsyncWrite + Unpin,
+    T: AsyncRead + AsyncWrite + Unpin,
+{
+    while let Some(Ok(message)) = poll_fn(|context| connection.poll_message(context)).await {
+        if matches!(message, AsyncMessage::Notification(_)) {
+            told.notify_one();
+        }
+    }
+    told.notify_one();
 }
 
 impl fmt::Debug for Connector {

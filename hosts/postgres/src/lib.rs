@@ -1,4 +1,4 @@
-//! A store of krl in PostgreSQL.
+//! A store of krl in PostgreSQL, and a map of shards there.
 //!
 //! Each commit compares one row, the head, and sets it again in one statement with what it changes.
 //! If two servers both believe that they serve, the older one's first change is refused, and it
@@ -12,6 +12,7 @@ mod batch;
 mod connector;
 mod head;
 mod link;
+mod map;
 mod security;
 mod sql;
 mod store;
@@ -24,6 +25,7 @@ pub use address::{BadPostgresAddress, PostgresAddress};
 pub use address::without_password;
 #[doc(hidden)]
 pub use connector::{Carrier, Connector};
+pub use map::PostgresMap;
 pub use store::PostgresStore;
 #[cfg(feature = "command-line")]
 #[doc(hidden)]

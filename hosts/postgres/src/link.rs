@@ -290,7 +290,7 @@ fn columns(head: &Fence) -> ([i64; 3], String) {
     (numbers, owner_text(head.owner))
 }
 
-fn failure_of(error: &Error) -> Failure {
+pub(crate) fn failure_of(error: &Error) -> Failure {
     let Some(reported) = error.as_db_error() else {
         let why = error.to_string();
         let is_refused = REFUSED_BY_TLS.iter().any(|sign| why.contains(sign));

@@ -119,3 +119,19 @@ pub(crate) const CONFIRM: &str = "
         UPDATE krl.head SET epoch = epoch
         WHERE epoch = $1 AND owner = $2 AND transaction = $3 AND commits = $4 RETURNING 1)
     SELECT count(*) FROM fence";
+
+pub(crate) const HAS_MAP: &str = "SELECT to_regclass('krl.map') IS NOT NULL";
+
+/// The table of a map of shards. It belongs to no store.
+pub(crate) const MAP_TABLE: &str = "
+    BEGIN;
+    SELECT pg_advisory_xact_lock(7097964914);
+    CREATE SCHEMA IF NOT EXISTS krl;
+    CREATE TABLE IF NOT EXISTS krl.map (id integer PRIMARY KEY CHECK (id = 0), map text NOT NULL);
+    COMMIT;";
+
+pub(crate) const MAP: &str = "SELECT map FROM krl.map";
+pub(crate) const FIRST_MAP: &str = "INSERT INTO krl.map VALUES (0, $1) ON CONFLICT DO NOTHING";
+pub(crate) const REPLACE_MAP: &str = "UPDATE krl.map SET map = $2 WHERE map = $1";
+pub(crate) const LISTEN: &str = "LISTEN krl_map";
+pub(crate) const NOTIFY: &str = "NOTIFY krl_map";

@@ -1,6 +1,7 @@
 //! The words of the command line.
 use crate::http::StatusPort;
 use crate::live_reshard::LiveChange;
+use crate::map_home::MapCommand;
 use crate::next_map::{MergeMap, SplitMap};
 use crate::pages::{JSON, TEXT};
 use crate::settings::{BadSetting, Given, Key, StorePlace, key};
@@ -217,6 +218,17 @@ by a version that is greater by two, and nothing has changed.")]
     Reshard {
         #[command(subcommand)]
         change: LiveChange,
+    },
+    /// Put the map of a table into etcd or PostgreSQL, or follow it from there
+    #[command(long_about = "\
+Put the map of a table into etcd or PostgreSQL, or follow it from there.
+
+Where a map is for many machines, reshard gives each next one to its home by --publish 'krl-server map
+put HOME \"$KRL_MAP\"', and on each machine krl-server map follow HOME FILE keeps a file, which its
+servers and clients follow. A map takes only the place of one of a lesser version.")]
+    Map {
+        #[command(subcommand)]
+        command: MapCommand,
     },
     /// Write the rows of a file of CSV or JSON lines to a store that no server serves
     #[command(long_about = "\

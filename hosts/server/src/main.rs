@@ -13,6 +13,7 @@ mod live_reshard;
 mod locks;
 mod log;
 mod long_waits;
+mod map_home;
 mod map_watch;
 mod new_store;
 mod next_map;
@@ -107,6 +108,7 @@ fn run(command: Command) -> Result<ExitCode, Box<dyn Error>> {
             reshard::merge(&lower, &upper, &new_store, &map)?.write_and_print()?;
         }
         Command::Reshard { change } => live_reshard::reshard(&change)?,
+        Command::Map { command } => command.run()?,
         Command::Import { file, store, existing, json } => {
             import::import(&file, json, &store, existing)?;
         }

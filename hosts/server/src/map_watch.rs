@@ -1,13 +1,13 @@
 //! The map that clients follow, as a server watches it: clients that do not follow it may not hold a
 //! change up for longer than their leases.
+use crate::map_home::WatchedMap;
 use crate::role::{Role, State};
 use krl::{ShardBounds, ShardMap};
 use std::io;
-use std::path::PathBuf;
 use std::thread;
 use std::time::{Duration, Instant};
 
-/// How often the file is looked at.
+/// How often the map is looked at.
 const LOOK: Duration = Duration::from_millis(200);
 
 /// How long clients that follow the map have to leave a shard that changes.
@@ -17,15 +17,13 @@ const GRACE: Duration = Duration::from_secs(10);
 type Next = Option<(ShardBounds, Instant)>;
 
 /// Watches the map from now on, while the process serves.
-pub fn start(role: Role, map: PathBuf) -> io::Result<()> {
+pub fn start(role: Role, mut map: WatchedMap) -> io::Result<()> {
     let run = move || {
         let (mut next, mut told) = (None, None);
         loop {
             if let State::Serves { monitor, .. } = role.state() {
-                let found = monitor
-                    .status()
-                    .shard
-                    .and_then(|own| in_place_of(own, &ShardMap::from_file(&map).ok()?));
+                let own = monitor.status().shard;
+                let found = own.and_then(|own| in_place_of(own, &map.read()?));
                 next = since(next, found, Instant::now());
                 let tells =
                     next.filter(|(_, since)| since.elapsed() >= GRACE).map(|(next, _)| next);

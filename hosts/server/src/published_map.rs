@@ -88,7 +88,7 @@ pub fn beside(path: &Path, end: &str) -> PathBuf {
 }
 
 /// Puts the map into the file at once: whoever reads it finds the one or the other.
-fn replace(path: &Path, map: &ShardMap) -> Done {
+pub fn replace(path: &Path, map: &ShardMap) -> Done {
     let fails = |error: io::Error| format!("{} can't be written: {error}", path.display());
     try_replace(path, &map.to_toml()).map_err(|error| fails(error).into())
 }

@@ -1,6 +1,7 @@
 //! A server, from its start until it is stopped.
 use crate::cause;
 use crate::log;
+use crate::map_home::WatchedMap;
 use crate::new_store::{self, AskedFor};
 use crate::others::Others;
 use crate::output;
@@ -79,7 +80,8 @@ fn run(settings: &Settings) -> Result<(), Box<dyn Error>> {
     watchdog::start(role.clone())?;
     long_waits::start(role.clone())?;
     if let Some(map) = &settings.map {
-        map_watch::start(role.clone(), map.clone())?;
+        let map = WatchedMap::open(map, &stand_by::credentials(settings))?;
+        map_watch::start(role.clone(), map)?;
     }
     if let StatusAddress::At(address) = &settings.status {
         let table = Table { others: Others::new(settings.others()?), shard: settings.shard };
@@ -147,6 +149,13 @@ impl Unanswered {
     pub fn log(&mut self, why: &str) {
         if let Some(passed_over) = self.0.admits(Instant::now()) {
             tracing::warn!(%why, passed_over, "the store does not answer");
+        }
+    }
+
+    /// The same of a command, which has no log.
+    pub fn report(&mut self, why: &str) {
+        if self.0.admits(Instant::now()).is_some() {
+            output::report(why);
         }
     }
 }

@@ -47,7 +47,7 @@ pub struct Settings {
     pub room: Option<Room>,
     pub reach: Reach,
     pub shard: Option<ShardBounds>,
-    pub map: Option<PathBuf>,
+    pub map: Option<StorePlace>,
     pub advertise: Option<Address>,
     pub election_lease: Duration,
     pub status: StatusAddress,

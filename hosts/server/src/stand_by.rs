@@ -88,7 +88,7 @@ fn stands_by_again(error: ServeError) -> Result<(), ServeError> {
 }
 
 /// What the server shows to the cluster.
-fn credentials(settings: &Settings) -> Credentials {
+pub fn credentials(settings: &Settings) -> Credentials {
     Credentials {
         user: user(),
         authority: settings.store_authority.clone(),

@@ -2,14 +2,14 @@
 mod common;
 mod shard_world;
 
-use common::{errors, killer, text};
-use krl::{Client, Outcome, Snapshot, Value};
+use common::{errors, killer, program, text};
+use krl::{Client, Outcome, ShardMap, Snapshot, Value};
 use krl_testing::cluster::Cluster;
 use krl_testing::database::Database;
 use shard_world::{Engine, World, refused, run};
 use std::collections::BTreeSet;
 use std::fs;
-use std::process::Command;
+use std::process::{Child, Command, Stdio};
 use std::sync::atomic::{AtomicBool, Ordering};
 use std::thread;
 
@@ -115,6 +115,59 @@ fn a_shard_moves_from_a_file_to_a_database_and_back() {
     assert_eq!(world.keys(), [10, 20].into());
     let kept = ["0..@2 sealed", "0..@3 sealed", "0..@4 sealed", "0..@4"];
     assert_eq!(world.kept(&["a", "b", "c", "d"]), kept);
+}
+
+/// Changes a table whose map is at home in a database, which its servers watch. One client follows a
+/// copy of it, and one follows none.
+fn is_followed_from_a_database(engine: &Engine) {
+    let home = engine.place("maps");
+    let mut world = World::watching(engine, [10, 20], &home);
+    let copy = world.path("copy.toml");
+    let map = |word: &str, file: &str| {
+        let mut command = program();
+        command.current_dir(world.path("")).args(["map", word, &home, file]);
+        command
+    };
+    run(&mut map("put", "map.toml"));
+    run(map("follow", "copy.toml").arg("--once"));
+    let follower = map("follow", "copy.toml").stderr(Stdio::null()).spawn().unwrap();
+    let _follower = Killed(follower);
+    run(&mut map("put", "map.toml"));
+    let (client, deaf) = (world.join_by(&copy, 1), world.join_deaf(3));
+    assert_eq!(deaf.set(20, Value::from(3)), Ok(Outcome::Applied));
+    let server = env!("CARGO_BIN_EXE_krl-server");
+    let publish = format!("'{server}' map put '{home}' \"$KRL_MAP\"");
+    run(world.split("a", 20, "b").args(["--publish", &publish]));
+    assert_eq!(client.read(..).unwrap().len(), 2);
+    assert_eq!(ShardMap::from_file(&copy).unwrap(), world.map());
+    assert!(deaf.read(..).is_err(), "it is evicted");
+    fs::write(world.path("other.toml"), world.map().to_toml().replace("= 20", "= 15")).unwrap();
+    let mut other = program();
+    let why = refused(other.current_dir(world.path("")).args(["map", "put", &home, "other.toml"]));
+    assert!(why.contains("has a map of version 2, and this one is of version 2"), "{why}");
+}
+
+/// A process that ends with the test.
+struct Killed(Child);
+
+impl Drop for Killed {
+    fn drop(&mut self) {
+        // One that has ended needs no end.
+        let _ = self.0.kill();
+        let _ = self.0.wait();
+    }
+}
+
+#[test]
+fn a_map_is_followed_from_postgresql() {
+    let Some(engine) = postgres() else { return };
+    is_followed_from_a_database(&engine);
+}
+
+#[test]
+fn a_map_is_followed_from_etcd() {
+    let Some(engine) = etcd() else { return };
+    is_followed_from_a_database(&engine);
 }
 
 #[test]

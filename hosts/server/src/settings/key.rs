@@ -209,12 +209,13 @@ settings! {
     };
     MAP = Key {
         name: "map",
-        word: "FILE",
+        word: "MAP",
         kind: Kind::Text,
         default: "",
-        expected: "the file of a map of shards",
-        help: "The map that clients follow: ten seconds after the shard of this server is another \
-               one there, the server renews no lease of a client that has stayed",
+        expected: "the file of a map of shards, or where the map is at home, as in `krl-server map`",
+        help: "The map that clients follow, in a file or at home in etcd or PostgreSQL: ten seconds \
+               after the shard of this server is another one there, the server renews no lease of a \
+               client that has stayed",
     };
     ADVERTISE = Key {
         name: "advertise",

@@ -9,7 +9,7 @@ use krl_testing::database::Database;
 use krl_testing::ports::free_address;
 use std::collections::{BTreeMap, BTreeSet};
 use std::fs;
-use std::path::PathBuf;
+use std::path::{Path, PathBuf};
 use std::process::{Command, Output};
 use std::sync::atomic::{AtomicU32, Ordering};
 use std::time::Duration;
@@ -18,14 +18,14 @@ use tempfile::TempDir;
 /// No wait of a test is longer.
 const LONG: Duration = Duration::from_secs(60);
 
-/// Starts a server unless it runs, and returns when it serves: `start.sh NAME STATUS ADDRESS STORE`.
+/// Starts a server unless it runs, and returns when it serves: `start.sh NAME STATUS ADDRESS STORE MAP`.
 const START: &str = "\
 unset LD_PRELOAD
 cd \"$(dirname \"$0\")\" || exit
 exec 9>\"$1.start\"
 flock 9
 $SERVER health --ready \"$2\" >/dev/null 2>&1 && exit
-$SERVER serve --store \"$4\" --listen \"$3\" --status \"$2\" --map map.toml \\
+$SERVER serve --store \"$4\" --listen \"$3\" --status \"$2\" --map \"$5\" \\
     >>\"$1.log\" 2>&1 </dev/null 9>&- &
 echo $! >\"$1.process\"
 until $SERVER health --ready \"$2\" >/dev/null 2>&1; do
@@ -68,6 +68,8 @@ pub struct World<'e> {
     places: Vec<(String, String)>,
     /// Where the stores are, by the names of their servers.
     stores: BTreeMap<String, String>,
+    /// The map that servers watch.
+    watched: String,
 }
 
 static COUNT: AtomicU32 = AtomicU32::new(0);
@@ -91,6 +93,15 @@ impl Engine {
 impl<'e> World<'e> {
     /// One shard of all keys, at the server `a`, over these rows, and the map of it.
     pub fn new(engine: &'e Engine, keys: impl IntoIterator<Item = u64>) -> World<'e> {
+        World::watching(engine, keys, "map.toml")
+    }
+
+    /// The same, with servers that watch another map.
+    pub fn watching(
+        engine: &'e Engine,
+        keys: impl IntoIterator<Item = u64>,
+        watched: &str,
+    ) -> World<'e> {
         let mut world = World {
             engine,
             number: COUNT.fetch_add(1, Ordering::Relaxed),
@@ -98,6 +109,7 @@ impl<'e> World<'e> {
             servers: Vec::new(),
             places: Vec::new(),
             stores: BTreeMap::new(),
+            watched: watched.into(),
         };
         for (name, script) in [("start.sh", START), ("stop.sh", STOP)] {
             let server = format!("SERVER='{}'\n", env!("CARGO_BIN_EXE_krl-server"));
@@ -177,8 +189,8 @@ impl<'e> World<'e> {
 
     pub fn start_command(&mut self, name: &str) -> String {
         let (script, status, store) = (self.path("start.sh"), self.status(name), self.store(name));
-        let address = self.address(name);
-        format!("sh '{}' {name} {status} '{address}' '{store}'", script.display())
+        let (script, address, map) = (script.display(), self.address(name), &self.watched);
+        format!("sh '{script}' {name} {status} '{address}' '{store}' '{map}'")
     }
 
     pub fn stop_command(&mut self, name: &str) -> String {
@@ -244,8 +256,13 @@ impl<'e> World<'e> {
 
     /// A client that follows the map.
     pub fn join(&self, number: u8) -> Client {
+        self.join_by(&self.path("map.toml"), number)
+    }
+
+    /// A client that follows the map in this file.
+    pub fn join_by(&self, file: &Path, number: u8) -> Client {
         let client = self.join_deaf(number);
-        client.follow(self.path("map.toml")).unwrap();
+        client.follow(file).unwrap();
         client
     }
 

@@ -1,0 +1,218 @@
+//! A map of shards in a row of PostgreSQL.
+use crate::address::PostgresAddress;
+use crate::connector::{Carrier, Connector};
+use crate::link::failure_of;
+use crate::sql;
+use krl::StoreError;
+use krl::fence::Failure;
+use std::fmt;
+use std::sync::Arc;
+use std::time::Duration;
+use tokio::runtime::{Builder, Runtime};
+use tokio::sync::Notify;
+use tokio::time::{sleep, timeout};
+use tokio_postgres::{Client, Error};
+
+/// How long the database is asked.
+const TIMEOUT: Duration = Duration::from_secs(60);
+
+/// The pause if there is no connection on which a change could be waited for.
+const PAUSE: Duration = Duration::from_millis(200);
+
+/// A map of shards in a row of PostgreSQL, as text, which others replace and wait for: the one row of
+/// `krl.map`. The database may have a store of krl too.
+///
+/// It waits by its own runtime, as [`PostgresStore`](crate::PostgresStore) does. A client continues by
+/// each map that comes there:
+///
+/// ```no_run
+/// # fn join() -> Result<(), Box<dyn std::error::Error>> {
+/// use krl::{Client, ShardMap};
+/// use krl_postgres::PostgresMap;
+/// use std::time::Duration;
+///
+/// let address = "postgres://krl@localhost/orders".parse()?;
+/// let mut map = PostgresMap::open(&address, None)?;
+/// let first = map.read()?.ok_or("there is no map")?;
+/// let client = Client::join(ShardMap::from_toml(&first)?, 0, "locks")?;
+/// loop {
+///     map.wait(Duration::from_secs(60));
+///     if let Ok(Some(next)) = map.read() {
+///         client.change_map(ShardMap::from_toml(&next)?)?;
+///     }
+/// }
+/// # }
+/// ```
+pub struct PostgresMap {
+    runtime: Runtime,
+    connector: Connector,
+    session: Option<Session>,
+}
+
+/// A connection that listens.
+struct Session {
+    client: Client,
+    /// It is notified of each change, and of the end of the connection.
+    told: Arc<Notify>,
+    _carrier: Carrier,
+}
+
+impl PostgresMap {
+    /// The row of the database at this address, as this user by this password, or as the address
+    /// states. Nothing is asked yet.
+    ///
+    /// # Errors
+    ///
+    /// If a file of the address can't be used, or this process can open no sockets.
+    pub fn open(
+        address: &PostgresAddress,
+        user: Option<&(String, String)>,
+    ) -> Result<PostgresMap, StoreError> {
+        let connector = Connector::new(address, user).map_err(StoreError::failed)?;
+        let runtime = Builder::new_current_thread().enable_all().build();
+        let runtime = runtime.map_err(StoreError::failed)?;
+        Ok(PostgresMap { runtime, connector, session: None })
+    }
+
+    /// The map that stands there, if one does.
+    ///
+    /// # Errors
+    ///
+    /// If the database does not answer, or refuses.
+    pub fn read(&mut self) -> Result<Option<String>, StoreError> {
+        self.ask(async |client: &mut Client| read(client).await)
+    }
+
+    /// Puts the next map in the place of the one before, or where there is none. Returns whether it
+    /// stands there then: it does not if somebody has put another one there.
+    ///
+    /// # Errors
+    ///
+    /// If the database does not answer, or refuses. It may have been put there then.
+    pub fn replace(&mut self, before: Option<&str>, next: &str) -> Result<bool, StoreError> {
+        self.ask(async |client: &mut Client| replace(client, before, next).await)
+    }
+
+    /// Waits until the map may be another one than was last read, and for this time at most.
+    pub fn wait(&mut self, most: Duration) {
+        let told = self.session.as_ref().map(|session| Arc::clone(&session.told));
+        self.runtime.block_on(async {
+            match told {
+                // That nothing came in time is no error.
+                Some(told) => drop(timeout(most, told.notified()).await),
+                None => sleep(PAUSE.min(most)).await,
+            }
+        });
+    }
+
+    /// Asks by the connection, or by a new one if it has ended. One that was not answered is given up.
+    fn ask<T>(
+        &mut self,
+        what: impl AsyncFnOnce(&mut Client) -> Result<T, Error>,
+    ) -> Result<T, StoreError> {
+        let session = self.session.take().filter(|session| !session.client.is_closed());
+        let asked = self.runtime.block_on(async {
+            let asking = async {
+                let mut session = match session {
+                    Some(session) => session,
+                    None => listen(&self.connector).await?,
+                };
+                let answer = what(&mut session.client).await?;
+                Ok::<_, Error>((session, answer))
+            };
+            timeout(TIMEOUT, asking).await
+        });
+        let unknown = |_| Failure::Unknown("no answer came in time".to_string());
+        let (session, answer) = asked.map_err(unknown)?.map_err(|error| failure_of(&error))?;
+        self.session = Some(session);
+        Ok(answer)
+    }
+}
+
+async fn listen(connector: &Connector) -> Result<Session, Error> {
+    let told = Arc::new(Notify::new());
+    let (client, carrier) = connector.connect_and_tell(Arc::clone(&told)).await?;
+    client.batch_execute(sql::SESSION).await?;
+    client.batch_execute(sql::LISTEN).await?;
+    Ok(Session { client, told, _carrier: carrier })
+}
+
+async fn has_table(client: &Client) -> Result<bool, Error> {
+    client.query_one(sql::HAS_MAP, &[]).await?.try_get(0)
+}
+
+async fn read(client: &Client) -> Result<Option<String>, Error> {
+    if !has_table(client).await? {
+        return Ok(None);
+    }
+    client.query_opt(sql::MAP, &[]).await?.map(|row| row.try_get(0)).transpose()
+}
+
+async fn replace(client: &mut Client, before: Option<&str>, next: &str) -> Result<bool, Error> {
+    if !has_table(client).await? {
+        client.batch_execute(sql::MAP_TABLE).await?;
+    }
+    let change = client.transaction().await?;
+    let changed = match before {
+        Some(before) => change.execute(sql::REPLACE_MAP, &[&before, &next]).await?,
+        None => change.execute(sql::FIRST_MAP, &[&next]).await?,
+    };
+    if changed > 0 {
+        change.batch_execute(sql::NOTIFY).await?;
+    }
+    change.commit().await?;
+    // A call whose answer was lost may have put it there.
+    Ok(changed > 0 || read(client).await?.as_deref() == Some(next))
+}
+
+impl fmt::Debug for PostgresMap {
+    fn fmt(&self, f: &mut fmt::Formatter<'_>) -> fmt::Result {
+        f.debug_struct("PostgresMap").field("connector", &self.connector).finish_non_exhaustive()
+    }
+}
+
+#[cfg(test)]
+mod tests {
+    use super::*;
+    use krl_testing::database::Database;
+    use std::thread;
+    use std::time::Instant;
+
+    const LONG: Duration = Duration::from_secs(60);
+
+    #[test]
+    fn a_map_is_replaced_only_by_who_knows_the_one_before() {
+        let Some(database) = Database::start() else { return };
+        let open = || PostgresMap::open(&database.address(), None).unwrap();
+        let (mut one, mut other) = (open(), open());
+        assert_eq!(one.read().unwrap(), None);
+        assert!(!one.replace(Some("0"), "1").unwrap());
+        assert!(one.replace(None, "1").unwrap());
+        assert!(!other.replace(None, "2").unwrap() && !other.replace(Some("0"), "2").unwrap());
+        assert!(other.replace(Some("1"), "2").unwrap());
+        assert!(other.replace(Some("1"), "2").unwrap(), "its answer was lost");
+        assert_eq!(one.read().unwrap().as_deref(), Some("2"));
+    }
+
+    #[test]
+    fn a_change_is_waited_for_also_one_that_came_before_the_wait() {
+        let Some(mut database) = Database::start() else { return };
+        let open = || PostgresMap::open(&database.address(), None).unwrap();
+        let (mut one, mut other) = (open(), open());
+        one.read().unwrap();
+        other.replace(None, "1").unwrap();
+        let begun = Instant::now();
+        one.wait(LONG);
+        assert_eq!(one.read().unwrap().as_deref(), Some("1"));
+        thread::scope(|scope| {
+            scope.spawn(|| one.wait(LONG));
+            other.replace(Some("1"), "2").unwrap();
+        });
+        assert_eq!(one.read().unwrap().as_deref(), Some("2"));
+        // The end of the connection is a reason to look again.
+        database.stop();
+        one.wait(LONG);
+        assert!(one.read().is_err());
+        assert!(begun.elapsed() < LONG, "it was told of each change");
+    }
+}
