@@ -513,8 +513,10 @@ KRLC_NODISCARD uint32_t krlc_pin_write_all(krlc_pin *pin, krlc_write *writes, si
 void krlc_pin_free(krlc_pin *pin);
 
 /* Readers. A reader is no client: it has no number, no lock file and no lease, and keeps nothing. Each call asks the
- * server, and waits for the timeout of the reader's options at most. A server takes 1,024 readers next to its clients.
- * Threads that call one reader take turns. A reader is its own process', as a client is. */
+ * server, and waits for the timeout of the reader's options at most. A reader follows the file `map` of its options:
+ * if a server does not answer or is of another shard, it asks by the next map that it finds there. A server takes
+ * 1,024 readers next to its clients. Threads that call one reader take turns. A reader is its own process', as a
+ * client is. */
 
 /* Connects a reader by `servers` or `map`, `timeout_ms` and the options for TLS; with a map to the shards of the keys
  * from `lo` on below `hi`. It is freed by `krlc_reader_free`. Errors: KRLC_MISUSE, also if an option is set that only

@@ -176,7 +176,7 @@ impl Wish<'_> {
         }
     }
 
-    /// A reader that is connected to the servers of the keys.
+    /// A reader that is connected to the servers of the keys, and follows its map from then on.
     pub fn reader(self) -> Result<Reader, Fault> {
         if !matches!(self.number, Number::Any) || self.wait_if_in_use.is_some() {
             return Err(Fault::misuse(
@@ -189,6 +189,9 @@ impl Wish<'_> {
             reader = reader.with_timeout(timeout);
         }
         reader.connect(self.keys)?;
+        if let Some(file) = self.map_file {
+            reader.follow(file).map_err(|error| Fault::misuse(error.to_string()))?;
+        }
         Ok(reader)
     }
 

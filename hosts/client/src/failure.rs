@@ -4,6 +4,7 @@ use krl::{Error, ErrorKind, JoinErrorKind, LockFileError, Refusal, Unsent};
 use krl_cli::{BROKEN_PIPE, BadFile, BadValue};
 use std::fmt;
 use std::io;
+use std::path::Path;
 use std::process::ExitStatus;
 
 /// The status of a process that a signal ended, less the signal's number.
@@ -191,6 +192,11 @@ impl Failure {
                 Failure::of_connecting(error, server, &what_failed)
             }
         }
+    }
+
+    /// A client or a reader that does not follow the map.
+    pub fn not_followed(map: &Path, error: &io::Error) -> Failure {
+        Failure::NotJoined(format!("{} can't be followed: {error}", map.display()))
     }
 
     /// A reader that is not connected.

@@ -40,6 +40,9 @@ fn read(options: &Options, keys: Range<u64>) -> Result<Option<Vec<Row>>, Failure
     let connected =
         with_note_if_long(|| session::waits_for(options), || reader.connect(keys.clone()));
     connected.map_err(|error| not_connected(options, &place, error))?;
+    if let Some(map) = &options.map {
+        reader.follow(map).map_err(|error| Failure::not_followed(map, &error))?;
+    }
     Ok(reader.read_at_one_moment(keys)?)
 }
 

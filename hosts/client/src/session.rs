@@ -61,8 +61,7 @@ impl Session {
         let joined = builder.wait_if_in_use(options.timeout).join();
         let client = joined.map_err(|error| not_joined(options, place, files, error))?;
         if let Some(map) = &options.map {
-            let not_followed = |error| format!("{} can't be followed: {error}", map.display());
-            client.follow(map).map_err(|error| Failure::NotJoined(not_followed(error)))?;
+            client.follow(map).map_err(|error| Failure::not_followed(map, &error))?;
         }
         let (client, joined_in) = (Arc::new(client), begun.elapsed());
         Ok(Session { client, place: place.clone(), joined_in })

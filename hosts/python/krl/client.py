@@ -303,7 +303,7 @@ class Client(_Writer):
 class Reader:
     """Reads a table, at ``servers`` or at the servers of a ``map`` of shards, without being one of
     its clients: it has no number and no lock file, and keeps nothing. Each call asks the server.
-    Threads that use one reader take turns."""
+    A reader of a map follows it. Threads that use one reader take turns."""
 
     def __init__(self, servers: str = "", timeout: float = 15.0, *, map: PathLike = "",
                  tls: Tls | None = None) -> None:

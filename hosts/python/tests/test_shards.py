@@ -16,12 +16,22 @@ class ShardsTest(Served):
     def setUp(self) -> None:
         super().setUp()
         second = f"unix:{self.folder / 'second'}"
-        server = self.start("--lease", "off", "--shard", "100..@1", store="second.db", at=second)
-        self.addCleanup(end, server)
+        self.second = self.start("--lease", "off", "--shard", "100..@1", store="second.db", at=second)
+        self.addCleanup(end, self.second)
         self.map = self.folder / "map.toml"
         shards = ((0, self.address), (100, second))
         parts = [f'[[shard]]\nfirst = {first}\nservers = "{at}"\n' for first, at in shards]
         self.map.write_text("version = 1\n" + "".join(parts))
+
+    def move_the_second(self) -> None:
+        """Starts a server over a new store, which the next map has in place of the second one."""
+        third = self.folder / "third"
+        where = {"store": "third.db", "at": f"unix:{third}"}
+        self.addCleanup(end, self.start("--lease", "off", "--shard", "100..@2", **where))
+        text = self.map.read_text().replace("version = 1", "version = 2")
+        text = text.replace("\n[[shard]]\nfirst = 100", "\nsince = 1\n[[shard]]\nfirst = 100")
+        (self.folder / "next").write_text(text.replace(str(self.folder / "second"), str(third)))
+        (self.folder / "next").rename(self.map)
 
     def test_a_client_reads_over_the_bound_of_two_shards(self) -> None:
         with krl.join_map(self.map, 0, self.folder, PATIENCE) as client:
@@ -40,16 +50,10 @@ class ShardsTest(Served):
             client.timeout = PATIENCE
 
     def test_a_client_follows_its_map(self) -> None:
-        third = self.folder / "third"
-        where = {"store": "third.db", "at": f"unix:{third}"}
-        self.addCleanup(end, self.start("--lease", "off", "--shard", "100..@2", **where))
         with krl.join_map(self.map, 0, self.folder, PATIENCE) as client:
             client.follow()
             before = client.status()
-            text = self.map.read_text().replace("version = 1", "version = 2")
-            text = text.replace("\n[[shard]]\nfirst = 100", "\nsince = 1\n[[shard]]\nfirst = 100")
-            (self.folder / "next").write_text(text.replace(str(self.folder / "second"), str(third)))
-            (self.folder / "next").rename(self.map)
+            self.move_the_second()
             end_of_patience = time.monotonic() + PATIENCE
             while client.status()[1].incarnation == before[1].incarnation:
                 self.assertLess(time.monotonic(), end_of_patience)
@@ -57,6 +61,12 @@ class ShardsTest(Served):
             self.assertEqual(client.set(150, b"2"), Outcome.APPLIED)
             self.assertEqual(client.read(), [Row(150, b"2")])
             self.assertEqual(client.status()[0].incarnation, before[0].incarnation)
+
+    def test_a_reader_follows_its_map(self) -> None:
+        reader = krl.Reader(map=self.map, timeout=PATIENCE)
+        self.move_the_second()
+        end(self.second)
+        self.assertEqual(reader.read(), [])
 
     def test_a_client_of_some_keys_joins_their_shards_only(self) -> None:
         self.stop()

@@ -31,6 +31,7 @@ pub(crate) mod session;
 pub(crate) mod shard_client;
 mod shared_reader;
 pub(crate) mod silence;
+pub(crate) mod standing;
 pub(crate) mod state;
 pub(crate) mod status;
 mod table;
@@ -38,6 +39,8 @@ mod tenure;
 pub(crate) mod timeout;
 pub(crate) mod waiting;
 pub(crate) mod wakes;
+#[cfg(feature = "map-file")]
+pub(crate) mod watched_map;
 mod writer;
 
 use crate::client::calls::Calls;
@@ -251,7 +254,7 @@ impl Client {
     /// # Errors
     ///
     /// `BadRange` as of [`Client::read`]; `TimedOut` or `Unserved`; `TurnedAway` or `OtherShard`;
-    /// `StoreWentBack`.
+    /// `StoreWentBack`; `Left`.
     pub fn read_once(&self, keys: impl RangeBounds<u64>) -> Result<Vec<Row>, Error> {
         let (keys, calls) = (keys_of(&keys)?, self.calls());
         calls.block(calls.read_once(keys))

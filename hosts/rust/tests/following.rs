@@ -1,7 +1,7 @@
 //! Clients that follow a map whose shards are cut, merged and moved.
 use krl::{
     AsyncClient, Client, ErrorKind, JoinErrorKind, KeptShard, Leases, Listener, MemoryStore,
-    Mutation, Outcome, Row, Server, Servers, Shard, ShardMap, Snapshot, Unsent, Value,
+    Mutation, Outcome, Reader, Row, Server, Servers, Shard, ShardMap, Snapshot, Unsent, Value,
 };
 use std::collections::BTreeMap;
 use std::future::Future;
@@ -131,6 +131,13 @@ impl World {
         client
     }
 
+    /// A reader that follows the map in this file.
+    fn reader(&self, file: &Path) -> Reader {
+        let mut reader = Reader::new(&self.map).with_timeout(LONG);
+        reader.follow(file).unwrap();
+        reader
+    }
+
     /// The keys of all servers, in the order of the shards.
     fn keys(&self) -> Vec<u64> {
         let rows = |server: &Server| server.monitor().snapshot().unwrap().rows;
@@ -177,7 +184,7 @@ impl Drop for Working<'_> {
 }
 
 /// Works until it is over, and once at least.
-fn until_over(is_over: &AtomicBool, work: impl Fn(u64)) {
+fn until_over(is_over: &AtomicBool, mut work: impl FnMut(u64)) {
     for turn in 0.. {
         work(turn);
         if is_over.load(Ordering::Relaxed) {
@@ -195,9 +202,9 @@ fn write(client: &Client, turn: u64) {
     assert_eq!(client.delete(key + 1), Ok(Outcome::Applied));
 }
 
-/// Reads all rows, among which there is always one at each multiple of 10.
-fn scan(client: &Client) {
-    let keys = keys_of(&client.read(..).unwrap());
+/// All rows were read, among which there is always one at each multiple of 10.
+fn check(rows: &[Row]) {
+    let keys = keys_of(rows);
     assert_eq!(keys.iter().filter(|key| **key % 10 == 0).count(), 20, "{keys:?}");
     assert!(keys.is_sorted_by(|one, next| one < next), "{keys:?}");
 }
@@ -206,14 +213,17 @@ fn scan(client: &Client) {
 fn calls_are_made_by_each_next_map_and_none_fails() {
     let mut world = World::new("calls", (0..200).step_by(10));
     let (client, other) = (world.join(0), world.join(1));
+    let mut reader = world.reader(&world.map_file());
     let is_over = &AtomicBool::new(false);
     let (first, second) = (&client, &other);
     thread::scope(|scope| {
         let working = Working(is_over);
         let work = [
             scope.spawn(move || until_over(is_over, |turn| write(first, turn))),
-            scope.spawn(move || until_over(is_over, |_| scan(first))),
-            scope.spawn(move || until_over(is_over, |_| scan(second))),
+            scope.spawn(move || until_over(is_over, |_| check(&first.read(..).unwrap()))),
+            scope.spawn(move || until_over(is_over, |_| check(&second.read(..).unwrap()))),
+            scope.spawn(move || until_over(is_over, |_| check(&second.read_once(..).unwrap()))),
+            scope.spawn(move || until_over(is_over, |_| check(&reader.read(..).unwrap()))),
             scope.spawn(move || {
                 until_over(is_over, |_| drop(second.pin_for_update(40..60).unwrap()));
             }),
@@ -239,6 +249,46 @@ fn calls_are_made_by_each_next_map_and_none_fails() {
     let keys = world.keys();
     assert!(keys.is_sorted_by(|one, next| one < next), "{keys:?}");
     assert_eq!(keys_of(&client.read(..).unwrap()), keys);
+}
+
+/// For longer than a client that joins waits for a server that is not there.
+#[test]
+fn reads_that_are_not_kept_wait_for_the_server_of_the_next_map() {
+    let mut world = World::new("not-kept", [10, 150]);
+    let (client, mut reader) = (world.join(0), world.reader(&world.map_file()));
+    reader.connect(..).unwrap();
+    world.publish_move(0);
+    let rows = world.stop(0);
+    wait_until(|| version(&client) == 2);
+    thread::scope(|scope| {
+        let reads = [
+            scope.spawn(|| client.read_once(..).unwrap()),
+            scope.spawn(|| reader.read(..).unwrap()),
+        ];
+        thread::sleep(Duration::from_secs(2));
+        world.start(0, rows);
+        for read in reads {
+            assert_eq!(keys_of(&read.join().unwrap()), [10, 150]);
+        }
+    });
+}
+
+/// The lower half is where the whole was.
+#[test]
+fn a_reader_waits_for_the_next_map_where_it_comes_late() {
+    let mut world = World::new("late", [10, 60, 150]);
+    let late = world.folder.join("late.toml");
+    std::fs::copy(world.map_file(), &late).unwrap();
+    let mut reader = world.reader(&late);
+    reader.connect(..).unwrap();
+    world.split(0, 50);
+    thread::scope(|scope| {
+        let read = scope.spawn(|| reader.read(..).unwrap());
+        thread::sleep(SHORT);
+        std::fs::copy(world.map_file(), world.folder.join("next.toml")).unwrap();
+        std::fs::rename(world.folder.join("next.toml"), &late).unwrap();
+        assert_eq!(keys_of(&read.join().unwrap()), [10, 60, 150]);
+    });
 }
 
 #[test]
@@ -317,6 +367,7 @@ fn a_call_at_a_shard_that_changes_ends_at_its_deadline() {
     let _rows = world.stop(0);
     let within = client.within(SHORT);
     assert_eq!(within.read(0..50).unwrap_err().kind, ErrorKind::TimedOut);
+    assert_eq!(within.read_once(0..50).unwrap_err().kind, ErrorKind::TimedOut);
     let late = ErrorKind::NotSent(Unsent::TimedOut);
     assert_eq!(within.put(10, Value::from(1)).unwrap_err().kind, late);
     assert_eq!(client.put(150, Value::from(1)), Ok(Outcome::Applied));
@@ -414,6 +465,8 @@ fn only_a_client_of_a_map_with_a_version_follows_one() {
     let refused = |client: &Client| client.follow(world.map_file()).unwrap_err().kind();
     let client = Client::join(server.address(), 1, world.folder.join("client-1.lock")).unwrap();
     assert_eq!(refused(&client), io::ErrorKind::InvalidInput);
+    let reader = Reader::new(server.address()).follow(world.map_file()).unwrap_err();
+    assert_eq!(reader.kind(), io::ErrorKind::InvalidInput);
     let why = client.change_map(world.map.clone()).unwrap_err().kind;
     assert!(matches!(why, JoinErrorKind::Incomplete("a map with a version")), "{why}");
     client.leave().unwrap();

@@ -99,6 +99,7 @@ fn what_is_read_once_is_not_kept() {
     assert_eq!(first.cached(10..20).unwrap(), None);
     wait_until(|| server.status().connections == 3);
     first.leave().unwrap();
+    assert_eq!(first.read_once(10..20).unwrap_err().kind, ErrorKind::Left);
     second.leave().unwrap();
 }
 

@@ -97,7 +97,9 @@ impl<'c> Calls<'c> {
 
     /// The rows of a range, as the stores have them: the caches keep nothing of it.
     pub async fn read_once(&self, keys: Range<u64>) -> Result<Vec<Row>, Error> {
-        self.attempt().joined.read_once(&keys, self.end, self.waiting).await
+        by_each_map!(self, ErrorKind::TimedOut, attempt => {
+            attempt.joined.read_once(&keys, self.end, self.waiting)
+        })
     }
 
     /// Reads the range and pins it for this.

@@ -1,23 +1,18 @@
 //! A client that follows its map: it looks at the file, and continues by each next map.
 use crate::client::Client;
 use crate::client::table::Live;
+use crate::client::watched_map::WatchedMap;
 use crate::log::event_log;
-use crate::log::rate_limit::RateLimit;
 use crate::shards::map::ShardMap;
-use std::fs;
 use std::io::{self, ErrorKind};
 use std::num::NonZeroU64;
-use std::os::unix::fs::MetadataExt;
-use std::path::{Path, PathBuf};
+use std::path::PathBuf;
 use std::sync::Arc;
 use std::thread;
 use std::time::Duration;
 
 /// How often a client looks whether the file is another one.
 const LOOK: Duration = Duration::from_millis(50);
-
-/// By what the next file is known: its number, its length, and when it was written.
-type Stamp = (u64, u64, i64, i64);
 
 impl Client {
     /// From now on the client follows the map in this file: it continues by each map that it finds
@@ -49,8 +44,7 @@ impl Client {
         }
         let live = Arc::clone(&self.table.live);
         live.follow_map();
-        let follower =
-            Follower { live, file: file.into(), seen: None, limit: RateLimit::default() };
+        let follower = Follower { live, map: WatchedMap::new(file.into()) };
         thread::Builder::new().name("krl-map".into()).spawn(|| follower.run()).map(drop)
     }
 }
@@ -58,19 +52,15 @@ impl Client {
 /// The thread of a client that looks at the file of its map.
 struct Follower {
     live: Arc<Live>,
-    file: PathBuf,
-    /// The file with which nothing more is to be done.
-    seen: Option<Stamp>,
-    limit: RateLimit,
+    map: WatchedMap,
 }
 
 impl Follower {
     /// Looks at the file until the client leaves, or nobody has it any more.
     fn run(mut self) {
         while !self.live.is_over() {
-            let stamp = stamp_of(&self.file);
-            if stamp.is_some() && stamp != self.seen && self.take_file() {
-                self.seen = stamp;
+            if let Some(map) = self.map.look() {
+                self.continue_by(map);
             }
             // Calls that wait for the next map end at their deadlines.
             self.live.wake_all();
@@ -78,32 +68,19 @@ impl Follower {
         }
     }
 
-    /// Continues by what the file has, if it is a next map. Returns whether nothing more is to be
-    /// done with it.
-    fn take_file(&mut self) -> bool {
-        let map = match ShardMap::from_file(&self.file) {
-            Ok(map) => map,
-            Err(error) => {
-                event_log::cannot_follow(&mut self.limit, &error);
-                return true;
-            }
-        };
+    /// Continues by this map, if it is a next one. It is tried again if that fails.
+    fn continue_by(&mut self, map: ShardMap) {
         let before = self.version();
-        let changed = self.live.change(map);
-        if let Err(error) = &changed {
-            event_log::cannot_follow(&mut self.limit, error);
-        } else if self.version() > before {
+        if let Err(error) = self.live.change(map) {
+            return self.map.log(&error);
+        }
+        if self.version() > before {
             event_log::follows_map(self.version().map_or(0, NonZeroU64::get));
         }
-        changed.is_ok()
+        self.map.finish();
     }
 
     fn version(&self) -> Option<NonZeroU64> {
         self.live.now().map().and_then(ShardMap::version)
     }
-}
-
-fn stamp_of(file: &Path) -> Option<Stamp> {
-    let data = fs::metadata(file).ok()?;
-    Some((data.ino(), data.len(), data.mtime(), data.mtime_nsec()))
 }

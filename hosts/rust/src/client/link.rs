@@ -5,6 +5,7 @@ use crate::client::deadlines::Deadlines;
 use crate::client::engine::{self, Shell};
 use crate::client::lock_file::LockFile;
 use crate::client::session::Session;
+use crate::client::standing::Standing;
 use crate::client::state::State;
 use crate::client::wakes::Wakes;
 use crate::client::writer::{WriteState, Writer};
@@ -162,6 +163,11 @@ impl Link {
     /// From now on the client waits for a server that is of another shard.
     pub fn follow_map(&self) {
         self.with_session(Session::follow_map);
+    }
+
+    /// Whether what is not kept is to be read from this server.
+    pub fn standing(&self) -> Standing {
+        self.session().standing()
     }
 
     /// Gives the client's number free: another process may take it.

@@ -15,6 +15,14 @@ pub enum Place {
 }
 
 impl Place {
+    /// The servers of a shard. The only one counts as shard 0.
+    pub(crate) fn servers_of(&self, shard: usize) -> Servers {
+        match self {
+            Place::Server(servers) => servers.clone(),
+            Place::Map(map) => map.servers_of(shard),
+        }
+    }
+
     /// The same place, whose servers are shown this if they listen by TLS.
     #[cfg(feature = "tls")]
     pub(crate) fn with_tls(self, config: TlsConfig) -> Place {

@@ -1,19 +1,30 @@
 //! Reads that are not kept.
 mod connection;
 mod faults;
+mod followed;
 mod of_server;
+mod until;
 
 use crate::client::place::Place;
 use crate::client::timeout::{MAX_WAIT, TIMEOUT};
+#[cfg(feature = "map-file")]
+use crate::client::watched_map::WatchedMap;
 use crate::model::error::{Error, ErrorKind, JoinError, JoinErrorKind};
 use crate::model::range::keys_of;
 use crate::model::row::{END, Row, Value};
 #[cfg(feature = "tls")]
 use crate::net::tls::TlsConfig;
 use crate::proved::partition::Part;
+use crate::shards::map::ShardMap;
+use followed::FollowedMap;
 pub(crate) use of_server::ServerReader;
+#[cfg(feature = "map-file")]
+use std::io;
 use std::ops::{Range, RangeBounds};
+#[cfg(feature = "map-file")]
+use std::path::PathBuf;
 use std::time::{Duration, Instant};
+pub(crate) use until::Until;
 
 /// Reads rows of a table without being one of its 64 clients. It has no number, no lock file and no
 /// lease, and keeps no rows: each call asks the server. So any number of processes may read, up to
@@ -24,8 +35,9 @@ use std::time::{Duration, Instant};
 /// written and answered before a call is in what it returns.
 ///
 /// It connects at its first call, and again after a connection has ended. Until a server has answered
-/// it, it gives up as a client that joins does; later it waits for its server to come back. It belongs
-/// to one thread at a time: for several threads make several.
+/// it, it gives up as a client that joins does; later it waits for its server to come back. A reader of
+/// a map that changes follows it by `Reader::follow`, with the feature `map-file`. It belongs to one
+/// thread at a time: for several threads make several.
 ///
 /// # Examples
 ///
@@ -52,13 +64,15 @@ pub struct Reader {
     /// The reader of each server, by the number of its shard. That of a shard is made when it is
     /// first asked.
     servers: Vec<Option<ServerReader>>,
+    followed: FollowedMap,
 }
 
 impl Reader {
     /// A reader of the table at this place. It connects at its first call.
     #[must_use]
     pub fn new(place: impl Into<Place>) -> Reader {
-        Reader { place: place.into(), timeout: TIMEOUT, servers: Vec::new() }
+        let (place, followed) = (place.into(), FollowedMap::default());
+        Reader { place, timeout: TIMEOUT, servers: Vec::new(), followed }
     }
 
     /// The same reader, each of whose calls waits at most this long for an answer, and a year at
@@ -76,6 +90,28 @@ impl Reader {
         Reader { place: self.place.with_tls(config), ..self }
     }
 
+    /// From now on the reader follows the map in this file, as a client does. It looks at the file if
+    /// a server does not answer or is of another shard, and asks again by a map whose version is
+    /// greater. So a call ends by the error of a server only at its deadline: to learn soon that no
+    /// server is there, connect before.
+    ///
+    /// # Errors
+    ///
+    /// `InvalidInput` if the reader has no map with a version.
+    #[cfg(feature = "map-file")]
+    pub fn follow(&mut self, file: impl Into<PathBuf>) -> io::Result<()> {
+        let version = match &self.place {
+            Place::Server(_) => None,
+            Place::Map(map) => map.version(),
+        };
+        let version = version.ok_or_else(|| {
+            let why = "only a reader of a map with a version follows a map";
+            io::Error::new(io::ErrorKind::InvalidInput, why)
+        })?;
+        self.followed = FollowedMap::of(WatchedMap::new(file.into()), version);
+        Ok(())
+    }
+
     /// Connects to the servers of these keys, and asks each for a row. A later call would do that by
     /// itself: this one reports why no server is reached.
     ///
@@ -87,12 +123,22 @@ impl Reader {
     pub fn connect(&mut self, keys: impl RangeBounds<u64>) -> Result<(), JoinError> {
         let refused = |kind| JoinError::from(JoinErrorKind::Refused(kind));
         let (keys, deadline) = (keys_of(&keys).map_err(refused)?, Instant::now() + self.timeout);
-        for Part { shard, keys } in self.parts(keys).map_err(|error| refused(error.kind))? {
-            let connected = self.server(shard).connect(&keys, deadline);
-            let shard = self.named(shard);
-            connected.map_err(|kind| JoinError { kind, number: None, shard })?;
-        }
-        Ok(())
+        let connected = self.by_each_map(&keys, |reader, parts| {
+            let mut connect = |Part { shard, keys }: &Part| {
+                reader.ask(*shard, deadline, |server, until| server.connect(keys, until))
+            };
+            parts.iter().try_for_each(&mut connect)
+        });
+        connected.map_err(|Error { kind, shard }| {
+            let place = shard.map_or(0, usize::from);
+            let server = self.servers.get_mut(place).and_then(Option::as_mut);
+            match server {
+                Some(server) => {
+                    JoinError { kind: server.why_not_connected(kind), number: None, shard }
+                }
+                None => refused(kind),
+            }
+        })
     }
 
     /// The rows of the range, as the server's store has them at a moment of the call; over more
@@ -105,12 +151,16 @@ impl Reader {
     /// reader may have returned.
     pub fn read(&mut self, keys: impl RangeBounds<u64>) -> Result<Vec<Row>, Error> {
         let (keys, deadline) = (keys_of(&keys)?, Instant::now() + self.timeout);
-        let mut rows = Vec::new();
-        for Part { shard, keys } in self.parts(keys)? {
-            let part = self.server(shard).read(keys, deadline);
-            rows.extend(part.map_err(|kind| self.error_at(shard, kind))?);
-        }
-        Ok(rows)
+        self.by_each_map(&keys, |reader, parts| {
+            let mut rows = Vec::new();
+            for Part { shard, keys } in parts {
+                let read = |server: &mut ServerReader, until: &mut Until<'_>| {
+                    server.read(keys.clone(), until)
+                };
+                rows.extend(reader.ask(*shard, deadline, read)?);
+            }
+            Ok(rows)
+        })
     }
 
     /// The rows of the range, all of them at one moment of the call, or `None` if they are more than
@@ -124,14 +174,13 @@ impl Reader {
         keys: impl RangeBounds<u64>,
     ) -> Result<Option<Vec<Row>>, Error> {
         let (keys, deadline) = (keys_of(&keys)?, Instant::now() + self.timeout);
-        match &self.parts(keys)?[..] {
+        self.by_each_map(&keys, |reader, parts| match parts {
             [] => Ok(Some(Vec::new())),
-            [Part { shard, keys }] => {
-                let rows = self.server(*shard).read_at_one_moment(keys.clone(), deadline);
-                rows.map_err(|kind| self.error_at(*shard, kind))
-            }
+            [Part { shard, keys }] => reader.ask(*shard, deadline, |server, until| {
+                server.read_at_one_moment(keys.clone(), until)
+            }),
             _ => Ok(None),
-        }
+        })
     }
 
     /// The value of the row of this key, or `None` if there is no such row.
@@ -146,30 +195,68 @@ impl Reader {
         Ok(self.read(key..=key)?.first().map(|row| row.value))
     }
 
-    /// What each server has of the keys. The only one counts as shard 0.
-    fn parts(&self, keys: Range<u64>) -> Result<Vec<Part>, Error> {
-        match &self.place {
-            Place::Server(_) if keys.is_empty() => Ok(Vec::new()),
-            Place::Server(_) => Ok(vec![Part { shard: 0, keys }]),
-            Place::Map(map) => map.parts(keys),
+    /// Does it with what each server has of the keys by the map of now, and again by each next map
+    /// that is found meanwhile.
+    fn by_each_map<T>(
+        &mut self,
+        keys: &Range<u64>,
+        mut work: impl FnMut(&mut Reader, &[Part]) -> Result<T, Error>,
+    ) -> Result<T, Error> {
+        loop {
+            let parts = self.parts(keys)?;
+            let done = work(self, &parts);
+            let is_elsewhere = matches!(&done, Err(error) if error.kind == ErrorKind::Left);
+            match self.followed.take_next().filter(|_| is_elsewhere) {
+                Some(next) => self.continue_by(next),
+                None => return done,
+            }
         }
     }
 
-    fn server(&mut self, shard: usize) -> &mut ServerReader {
+    /// Continues by this map. What is the same by both keeps its connection.
+    fn continue_by(&mut self, next: ShardMap) {
+        let place = Place::Map(next);
+        #[cfg(feature = "tls")]
+        let place = match self.place.servers_of(0).tls().cloned() {
+            Some(config) => place.with_tls(config),
+            None => place,
+        };
+        self.place = place;
+        let mut before: Vec<_> = std::mem::take(&mut self.servers).into_iter().flatten().collect();
+        let Place::Map(map) = &self.place else { return };
+        let kept = |shard| {
+            let servers = map.servers_of(shard);
+            let place = before.iter().position(|server| *server.servers() == servers)?;
+            Some(before.swap_remove(place))
+        };
+        self.servers = (0..map.shards().len()).map(kept).collect();
+    }
+
+    /// What each server has of the keys. The only one counts as shard 0.
+    fn parts(&self, keys: &Range<u64>) -> Result<Vec<Part>, Error> {
+        match &self.place {
+            Place::Server(_) if keys.is_empty() => Ok(Vec::new()),
+            Place::Server(_) => Ok(vec![Part { shard: 0, keys: keys.clone() }]),
+            Place::Map(map) => map.parts(keys.clone()),
+        }
+    }
+
+    /// Asks the server of a shard.
+    fn ask<T>(
+        &mut self,
+        shard: usize,
+        deadline: Instant,
+        question: impl FnOnce(&mut ServerReader, &mut Until<'_>) -> Result<T, ErrorKind>,
+    ) -> Result<T, Error> {
         if self.servers.len() <= shard {
             self.servers.resize_with(shard + 1, || None);
         }
         let place = &self.place;
-        self.servers[shard].get_or_insert_with(|| {
-            ServerReader::new(match place {
-                Place::Server(servers) => servers.clone(),
-                Place::Map(map) => map.servers_of(shard),
-            })
-        })
-    }
-
-    fn error_at(&self, shard: usize, kind: ErrorKind) -> Error {
-        Error { kind, shard: self.named(shard) }
+        let server =
+            self.servers[shard].get_or_insert_with(|| ServerReader::new(place.servers_of(shard)));
+        let mut until = Until { deadline, standing: &mut || self.followed.standing() };
+        let answer = question(server, &mut until);
+        answer.map_err(|kind| Error { kind, shard: self.named(shard) })
     }
 
     /// The shard as errors name it: the only server is none.

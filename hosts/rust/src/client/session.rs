@@ -3,6 +3,7 @@
 use crate::client::backoff::Backoff;
 use crate::client::refused_connects::RefusedConnects;
 use crate::client::silence::{Silence, Silent};
+use crate::client::standing::Standing;
 use crate::client::state::{Asked, Asking, IDLE_TICK, JobId, State, WasSent};
 use crate::lease::clocks::Now;
 use crate::log::event_log;
@@ -143,6 +144,16 @@ impl Session {
     /// the next map, by which the client leaves, is about to come.
     pub fn follow_map(&mut self) {
         self.map_follower = MapFollower::Since(self.now());
+    }
+
+    /// Whether what is not kept is to be read from this server: not if the client leaves, since its
+    /// shard is another one by the next map.
+    pub fn standing(&self) -> Standing {
+        match self.map_follower {
+            _ if self.state.has_begun_to_leave() => Standing::Elsewhere,
+            MapFollower::No => Standing::Fixed,
+            MapFollower::Since(_) => Standing::Here,
+        }
     }
 
     /// The session at this moment, read after all that the next call takes has come.

@@ -32,7 +32,7 @@ impl ShardClient {
     pub fn start(number: u8, link: Link, poller: Poller) -> io::Result<ShardClient> {
         let link = Arc::new(link);
         let run = Arc::clone(&link);
-        let reader = SharedReader::new(link.servers().clone());
+        let reader = SharedReader::new(Arc::clone(&link));
         let thread = thread::Builder::new().name(format!("krl-client-{number}"));
         let thread = thread.spawn(move || run.run(poller))?;
         Ok(ShardClient { number, link, thread: Mutex::new(Some(thread)), reader })
@@ -63,7 +63,7 @@ impl ShardClient {
     }
 
     /// The rows of the range, as the server's store has them, which the client does not keep. Calls
-    /// take turns.
+    /// take turns. It ends with `Left` once the client leaves.
     pub async fn read_once(
         &self,
         keys: Range<u64>,

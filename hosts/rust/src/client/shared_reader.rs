@@ -1,11 +1,11 @@
 //! What a client of one server reads and does not keep, by a connection of its own.
 use crate::client::answer::{Answering, place};
-use crate::client::reader::ServerReader;
+use crate::client::link::Link;
+use crate::client::reader::{ServerReader, Until};
 use crate::client::waiting::Waiting;
 use crate::client::wakes::Wakes;
 use crate::model::error::ErrorKind;
 use crate::model::row::Row;
-use crate::net::servers::Servers;
 use std::future::poll_fn;
 use std::io;
 use std::ops::Range;
@@ -17,13 +17,19 @@ use std::time::Instant;
 
 /// A reader for threads, which take turns, and for tasks: a thread reads for these, one after the
 /// other.
-#[derive(Debug)]
 pub(crate) struct SharedReader {
-    reader: Arc<Mutex<ServerReader>>,
+    source: Arc<Source>,
     /// What tasks ask. It is made, and the thread started, when one asks first; and the thread ends
     /// after it.
     asked: Mutex<Option<Sender<Question>>>,
     wakes: Wakes,
+}
+
+/// What answers one call after the other.
+struct Source {
+    reader: Mutex<ServerReader>,
+    /// The client's own connection, which knows when the client leaves.
+    link: Arc<Link>,
 }
 
 /// What a task asks.
@@ -38,9 +44,10 @@ type Answered = Result<Vec<Row>, ErrorKind>;
 
 impl SharedReader {
     /// It connects at its first call.
-    pub fn new(servers: Servers) -> SharedReader {
-        let reader = Arc::new(Mutex::new(ServerReader::new(servers)));
-        SharedReader { reader, asked: Mutex::default(), wakes: Wakes::default() }
+    pub fn new(link: Arc<Link>) -> SharedReader {
+        let reader = Mutex::new(ServerReader::new(link.servers().clone()));
+        let source = Arc::new(Source { reader, link });
+        SharedReader { source, asked: Mutex::default(), wakes: Wakes::default() }
     }
 
     /// The rows of the keys, as the store has them.
@@ -50,7 +57,7 @@ impl SharedReader {
             // If the system gives no thread, this one reads.
             Waiting::InTask => self.asked().ok(),
         };
-        let Some(asked) = asked else { return lock(&self.reader).read(keys, deadline) };
+        let Some(asked) = asked else { return self.source.read(keys, deadline) };
         let (answering, answer) = place(&self.wakes);
         // It would fail only without the thread, which then answers nothing.
         let _ = asked.send(Question { keys, deadline, answering });
@@ -69,18 +76,28 @@ impl SharedReader {
     /// Starts the thread that reads for tasks.
     fn start(&self) -> io::Result<Sender<Question>> {
         let (sender, asked) = channel();
-        let (reader, wakes) = (Arc::clone(&self.reader), self.wakes.clone());
+        let (source, wakes) = (Arc::clone(&self.source), self.wakes.clone());
         let thread = thread::Builder::new().name("krl-reader".into());
-        thread.spawn(move || answer_all(&asked, &reader, &wakes))?;
+        thread.spawn(move || answer_all(&asked, &source, &wakes))?;
         Ok(sender)
     }
 }
 
+impl Source {
+    /// The rows of the keys, as the store has them. It ends with `Left` once the client leaves.
+    fn read(&self, keys: Range<u64>, deadline: Instant) -> Answered {
+        let mut reader = lock(&self.reader);
+        let mut until = Until { deadline, standing: &mut || self.link.standing() };
+        until.refuse_elsewhere()?;
+        reader.read(keys, &mut until)
+    }
+}
+
 /// Reads what is asked, until nobody can ask any more.
-fn answer_all(asked: &Receiver<Question>, reader: &Mutex<ServerReader>, wakes: &Wakes) {
+fn answer_all(asked: &Receiver<Question>, source: &Source, wakes: &Wakes) {
     for Question { keys, deadline, answering } in asked {
         // A panic ends the call, and no other one.
-        let read = AssertUnwindSafe(|| lock(reader).read(keys, deadline));
+        let read = AssertUnwindSafe(|| source.read(keys, deadline));
         answering.give(catch_unwind(read).unwrap_or(Err(ErrorKind::Stopped)));
         wakes.wake_all();
     }

@@ -11,7 +11,6 @@ use crate::proved::losses::Tenure;
 use crate::shards::map::ShardMap;
 use std::future::poll_fn;
 use std::mem;
-use std::num::NonZeroU64;
 use std::ops::Range;
 use std::sync::atomic::{AtomicBool, Ordering};
 use std::sync::{Arc, Mutex, MutexGuard, PoisonError, RwLock};
@@ -189,7 +188,7 @@ impl Live {
         let Some((joining, version)) = self.joining.as_ref().zip(version) else {
             return Err(JoinErrorKind::Incomplete("a map with a version").into());
         };
-        if !is_next(map.version(), version) {
+        if !map.comes_after(version) {
             return Ok(());
         }
         let map = joining.shown_to(map);
@@ -231,12 +230,6 @@ impl Live {
     pub fn keep_all(&self) {
         self.now().clients().for_each(|(_, client)| client.link().with_state(State::keep_all));
     }
-}
-
-/// Whether a map of this version comes after the one of now. One that does not is a copy that is
-/// late: a client that went back to it would ask servers for keys that they no longer have.
-fn is_next(version: Option<NonZeroU64>, now: NonZeroU64) -> bool {
-    version > Some(now)
 }
 
 fn lock<T>(mutex: &Mutex<T>) -> MutexGuard<'_, T> {

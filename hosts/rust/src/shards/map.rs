@@ -105,6 +105,12 @@ impl ShardMap {
         self.version
     }
 
+    /// Whether this map comes after the one of this version. One that does not is a copy that is late:
+    /// a client that went back to it would ask servers for keys that they no longer have.
+    pub(crate) fn comes_after(&self, version: NonZeroU64) -> bool {
+        self.version > Some(version)
+    }
+
     /// The version of the map in which the shard of this number became what it is. A map without a
     /// version returns `None`, and so does one that has no such shard.
     #[must_use]

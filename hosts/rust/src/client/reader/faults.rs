@@ -1,6 +1,7 @@
 //! Why a reader has no answer, and when it gives up.
 use crate::client::not_joined::why_not_joined;
 use crate::client::refused_connects::RefusedConnects;
+use crate::client::standing::Standing;
 use crate::model::error::{ErrorKind, JoinErrorKind};
 use crate::model::refusal::Refusal;
 use crate::net::connect_fault::{NoServer, NothingListens, Rejection, Rejections};
@@ -55,10 +56,16 @@ impl Faults {
         self.last = end;
     }
 
-    /// Whether another attempt at an only server would end in the same way.
-    pub fn are_final(&self) -> bool {
+    /// Whether another attempt at an only server would end in the same way. By a map that is followed
+    /// the server may be about to start, or to be of another shard.
+    pub fn are_final(&self, standing: Standing) -> bool {
+        let is_of_shard = matches!(self.rejections.last(), Some(Rejection::OtherShard(_)));
         let is_away = self.refused_connects.are_final() || self.strangers >= STRANGERS;
-        self.rejections.are_final() || is_away && !self.has_answer
+        let is_rejected = self.rejections.are_final();
+        match standing {
+            Standing::Fixed => is_rejected || is_away && !self.has_answer,
+            Standing::Here | Standing::Elsewhere => is_rejected && !is_of_shard,
+        }
     }
 
     /// This pause before the next attempt, or a shorter one, so that the last attempt comes when the

@@ -1,6 +1,7 @@
 //! A reader of one server.
 use super::connection::{Connection, Lost};
 use super::faults::Faults;
+use super::until::Until;
 use crate::client::backoff::{self, Backoff};
 use crate::model::error::{ErrorKind, JoinErrorKind};
 use crate::model::history::Seen;
@@ -9,7 +10,10 @@ use crate::net::servers::Servers;
 use crate::wire::read_frame::{ReadRequest, RowPage};
 use std::ops::Range;
 use std::thread::sleep;
-use std::time::Instant;
+use std::time::{Duration, Instant};
+
+/// How often a reader that waits for its server looks at the map.
+const LOOK: Duration = Duration::from_millis(50);
 
 /// A reader of one server: of its only one, or of that of a shard.
 #[derive(Debug)]
@@ -40,29 +44,37 @@ impl ServerReader {
         }
     }
 
+    pub fn servers(&self) -> &Servers {
+        &self.servers
+    }
+
     /// Asks whether the server answers, for the row of the first of these keys.
-    pub fn connect(&mut self, keys: &Range<u64>, deadline: Instant) -> Result<(), JoinErrorKind> {
-        let answer = self.page(keys.start, keys.start + 1, deadline);
-        answer.map(drop).map_err(|kind| self.faults.why_not_connected(&self.servers, kind))
+    pub fn connect(&mut self, keys: &Range<u64>, until: &mut Until<'_>) -> Result<(), ErrorKind> {
+        self.page(keys.start, keys.start + 1, until).map(drop)
+    }
+
+    /// Why the reader is not connected, if its first call ended so.
+    pub fn why_not_connected(&mut self, kind: ErrorKind) -> JoinErrorKind {
+        self.faults.why_not_connected(&self.servers, kind)
     }
 
     /// The rows of the keys at one moment, or `None` if they are more than a page has.
     pub fn read_at_one_moment(
         &mut self,
         keys: Range<u64>,
-        deadline: Instant,
+        until: &mut Until<'_>,
     ) -> Result<Option<Vec<Row>>, ErrorKind> {
-        let page = self.page(keys.start, keys.end, deadline)?;
+        let page = self.page(keys.start, keys.end, until)?;
         Ok((page.next == keys.end).then_some(page.rows))
     }
 
     /// The rows of the keys, as the store has them; over more rows than a page has, in parts, each at
     /// a moment of its own.
-    pub fn read(&mut self, keys: Range<u64>, deadline: Instant) -> Result<Vec<Row>, ErrorKind> {
+    pub fn read(&mut self, keys: Range<u64>, until: &mut Until<'_>) -> Result<Vec<Row>, ErrorKind> {
         let Range { start: mut lo, end: hi } = keys;
         let mut rows = Vec::new();
         while lo < hi {
-            let page = self.page(lo, hi, deadline)?;
+            let page = self.page(lo, hi, until)?;
             lo = page.next;
             rows.extend(page.rows);
         }
@@ -70,17 +82,17 @@ impl ServerReader {
     }
 
     /// Asks until there is an answer. A question may be asked several times: it changes nothing.
-    fn page(&mut self, lo: u64, hi: u64, deadline: Instant) -> Result<RowPage, ErrorKind> {
+    fn page(&mut self, lo: u64, hi: u64, until: &mut Until<'_>) -> Result<RowPage, ErrorKind> {
         loop {
             self.asked += 1;
             let request = ReadRequest { number: self.asked, lo, hi };
-            match self.ask(request, deadline) {
+            match self.ask(request, until.deadline) {
                 Ok(page) => {
                     self.backoff.reset();
                     self.faults.answered();
                     return Ok(page);
                 }
-                Err(lost) => self.lose(lost, deadline)?,
+                Err(lost) => self.lose(lost, until)?,
             }
         }
     }
@@ -102,7 +114,7 @@ impl ServerReader {
 
     /// The connection has ended for this reason, or was not made. Returns after a pause, unless the
     /// call is to end.
-    fn lose(&mut self, lost: Lost, deadline: Instant) -> Result<(), ErrorKind> {
+    fn lose(&mut self, lost: Lost, until: &mut Until<'_>) -> Result<(), ErrorKind> {
         self.connection = None;
         self.place = (self.place + 1) % self.servers.count();
         let now = Instant::now();
@@ -115,12 +127,25 @@ impl ServerReader {
             Lost::Refused(refusal) => self.faults.note_refusal(refusal, now),
             Lost::Failed(error) => self.faults.note_end(error, now),
         }
+        let standing = until.refuse_elsewhere()?;
         let pause = self.faults.shorten(self.backoff.pause(), now);
-        let is_hopeless = self.faults.are_final() && !self.servers.are_several();
-        if is_hopeless || now + pause >= deadline {
+        let is_hopeless = self.faults.are_final(standing) && !self.servers.are_several();
+        if is_hopeless || now + pause >= until.deadline {
             return Err(self.faults.why_unserved());
         }
-        sleep(pause);
-        Ok(())
+        rest(pause, until)
+    }
+}
+
+/// Waits so long, or until the keys are elsewhere: then that is the error.
+fn rest(pause: Duration, until: &mut Until<'_>) -> Result<(), ErrorKind> {
+    let end = Instant::now() + pause;
+    loop {
+        let left = end.saturating_duration_since(Instant::now());
+        if left.is_zero() {
+            return until.refuse_elsewhere().map(drop);
+        }
+        sleep(left.min(LOOK));
+        until.refuse_elsewhere()?;
     }
 }

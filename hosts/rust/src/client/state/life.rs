@@ -150,6 +150,11 @@ impl State {
         self.add(Job::Leave)
     }
 
+    /// Whether the client leaves or has left.
+    pub fn has_begun_to_leave(&self) -> bool {
+        self.life.is_leaving() || self.life.stage == Stage::Gone
+    }
+
     /// Whether a client that leaves has to join first, since the server may know it by an older
     /// incarnation only.
     fn has_to_return(&self) -> bool {
