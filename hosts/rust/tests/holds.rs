@@ -8,7 +8,7 @@ use std::time::{Duration, Instant};
 const SHORT: Duration = Duration::from_millis(300);
 
 /// No wait of a test is longer.
-const LONG: Duration = Duration::from_secs(20);
+const LONG: Duration = Duration::from_secs(60);
 
 /// A server, and a folder that is gone when the test is.
 struct World {
@@ -27,7 +27,7 @@ impl World {
 
     fn join(&self, number: u8) -> Client {
         let lock_file = self.folder.join(format!("client-{number}.lock"));
-        Client::join(self.server.address().clone(), number, lock_file).unwrap()
+        Client::builder(self.server.address(), number, lock_file).timeout(LONG).join().unwrap()
     }
 
     /// Makes rows by a client that then leaves: one that stays would hold them to change them.
@@ -229,7 +229,7 @@ fn a_range_is_free_when_the_last_clone_of_its_pin_is_dropped() {
 fn whoever_waits_for_a_row_has_pinned_those_below_it_alone() {
     let world = World::new("prefix");
     let (first, second) = (world.join(1), world.join(2));
-    let (below, above) = (world.join_impatient(3), world.join_impatient(4));
+    let (below, above) = (world.join_impatient(3), world.join(4));
     world.insert_rows([10, 20, 30]);
     let (_, pin) = first.pin_for_update(20..21).unwrap();
     second.read(0..40).unwrap();

@@ -10,7 +10,7 @@ use std::time::{Duration, Instant};
 const SHORT: Duration = Duration::from_millis(300);
 
 /// No wait of a test is longer.
-const LONG: Duration = Duration::from_secs(20);
+const LONG: Duration = Duration::from_secs(60);
 
 /// The second shard begins here.
 const BOUND: u64 = 100;
@@ -283,7 +283,7 @@ fn a_call_waits_for_a_time_of_its_own() {
     assert_eq!((client.number(), other.number()), (0, 1));
     let (_, pin) = client.pin_for_write(90..110).unwrap();
     let (_, pinned) = other.pin_for_read(200..210).unwrap();
-    let (begun, short) = (Instant::now(), Duration::from_millis(50));
+    let (begun, short) = (Instant::now(), SHORT);
     let why = |refused: Error| (refused.kind, refused.shard);
     let within = other.within(short);
     assert_eq!(within.read(100..101).map_err(why), Err((ErrorKind::TimedOut, Some(1))));
@@ -344,6 +344,36 @@ fn a_client_that_waits_keeps_nothing_that_comes_after() {
         }
         client.leave().unwrap();
     }
+}
+
+/// Client 2 has the first part of a range, and waits for the second one after client 3, who waits for
+/// client 1, who has pinned both, and waits for the first part to write there.
+#[test]
+fn a_part_of_a_range_gives_way_to_a_client_that_has_pinned_the_rest() {
+    let world = World::new("gives-way");
+    world.insert_rows([10, 90, 300]);
+    let [updater, reader] = [1, 2].map(|number| world.join(number));
+    let (left, right) = (world.join_one(0, 4), world.join_one(1, 3));
+    let (_, pin) = updater.pin_for_update(60..400).unwrap();
+    let waits = |shard: usize, client| {
+        let waits = || world.servers[shard].status().waits.iter().any(|wait| wait.client == client);
+        assert!(is_so_soon(waits), "client {client} does not wait");
+    };
+    reader.read(BOUND..400).unwrap();
+    let first = left.pin(0..50).unwrap();
+    assert_eq!(left.put(10, Value::from(1)), Ok(Outcome::Applied));
+    thread::scope(|scope| {
+        let reading = scope.spawn(|| reader.read(0..400));
+        waits(0, 2);
+        let writing = scope.spawn(|| right.put(300, Value::from(2)));
+        waits(1, 3);
+        drop(first);
+        waits(1, 2);
+        assert_eq!(pin.delete(90), Ok(Outcome::Applied));
+        drop(pin);
+        assert_eq!(writing.join().unwrap(), Ok(Outcome::Applied));
+        assert_eq!(reading.join().unwrap(), Ok(vec![row(10, 1), row(300, 2)]));
+    });
 }
 
 fn is_so_soon(is_so: impl Fn() -> bool) -> bool {

@@ -3,7 +3,7 @@
 use crate::client::joined::Joined;
 use crate::client::link::{Awaited, Link};
 use crate::client::pinned::Pinned;
-use crate::client::state::{Asked, Held, Purpose, State};
+use crate::client::state::{Asked, Held, PATIENCE, Purpose, State};
 use crate::client::table::Table;
 use crate::client::waiting::{Waited, Waiting};
 use crate::model::batch::{BatchError, Judged, Mutation};
@@ -101,7 +101,8 @@ impl Attempt<'_> {
         }
         if self.joined.is_one() {
             let mut pinned = Pinned::new(self.table, &self.joined);
-            let rows = self.take_one(0, keys, purpose, &mut pinned).await?;
+            let wanted = |state: &mut State| state.hold(keys, purpose);
+            let rows = self.take_one(0, wanted, &mut pinned).await?;
             return Ok((rows, pinned));
         }
         let parts = self.joined.parts(&keys)?;
@@ -114,16 +115,20 @@ impl Attempt<'_> {
     /// The rows of the parts at one moment, and a pin of them.
     ///
     /// **While it waits for a point, nothing of the range is pinned from that point on.** It takes
-    /// the shards in ascending order, and each shard's client its points so. If the caches do not
-    /// know all parts at the end, all pins are given back before it begins again.
+    /// the shards in ascending order, and each shard's client its points so. If a pin has given way
+    /// meanwhile, or the caches do not know all parts at the end, all pins are given back before it
+    /// begins again.
     async fn take(&self, parts: &[Part], purpose: Purpose) -> Taken {
-        let mut rows = Vec::new();
+        let (mut rows, mut patience) = (Vec::new(), PATIENCE);
         loop {
             let mut pinned = Pinned::new(self.table, &self.joined);
             for Part { shard, keys } in parts {
-                self.take_one(*shard, keys.clone(), purpose, &mut pinned).await?;
+                let wanted = |state: &mut State| state.hold_part(keys.clone(), purpose, patience);
+                self.take_one(*shard, wanted, &mut pinned).await?;
             }
-            if self.joined.is_known(parts, &mut rows) {
+            if !pinned.keep() {
+                patience = patience.saturating_mul(2);
+            } else if self.joined.is_known(parts, &mut rows) {
                 return Ok((rows, pinned));
             }
             // Another thread of this client writes there, or a server's store went back.
@@ -138,11 +143,10 @@ impl Attempt<'_> {
     async fn take_one(
         &self,
         shard: usize,
-        keys: Range<u64>,
-        purpose: Purpose,
+        wanted: impl FnOnce(&mut State) -> Asked<Held>,
         pinned: &mut Pinned,
     ) -> Result<Vec<Row>, Error> {
-        let asked = self.ask(shard, |state| state.hold(keys, purpose)).or_undo(unpin);
+        let asked = self.ask(shard, wanted).or_undo(unpin);
         let held = self.answer(asked).await.map_err(self.joined.error_at(shard));
         let Held { rows, pin } = held?;
         pinned.add(shard, pin);

@@ -39,6 +39,12 @@ impl Pinned {
         self.parts.iter().copied()
     }
 
+    /// All of the range is there: from now on it gives way to nobody. Returns whether it holds.
+    pub fn keep(&self) -> bool {
+        let keep = |(shard, pin)| self.joined.link(shard).with_state(|state| state.keep_pin(pin));
+        self.parts().all(keep)
+    }
+
     /// Whether no other client has taken what was held of the range, at any shard.
     pub fn holds(&self) -> bool {
         let holds = |(shard, pin)| self.joined.link(shard).with_state(|state| state.holds_pin(pin));

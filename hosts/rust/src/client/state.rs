@@ -33,7 +33,7 @@ use batch::Report;
 use bound::Wanted;
 use contended::Attempts;
 use hold::Taking;
-pub use hold::{Held, Purpose};
+pub use hold::{Held, PATIENCE, Purpose};
 use keeping::Keeping;
 pub(crate) use life::Dropped;
 use life::{Life, PerIncarnation, Stage};

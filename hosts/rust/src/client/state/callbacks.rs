@@ -146,7 +146,7 @@ impl State {
 
     /// Gives the client a callback, and notes it.
     fn call_back(&mut self, span: Range<u64>, message: &[u8]) -> Result<(), Code> {
-        self.held.pins.note(&span);
+        self.held.pins.note(&span, self.now.monotonic);
         self.note_shared(&span);
         let crossing = self.shows(Shown::awaits_a_push).then(|| message.to_vec());
         let read = self.reads_of(&span);

@@ -5,6 +5,12 @@ use crate::model::lock::Mode;
 use crate::model::row::Row;
 use crate::proved::client_handle::Scan;
 use std::ops::Range;
+use std::time::Duration;
+
+/// How long a client that waits for the rest of a range keeps what it has pinned of it after that
+/// was called back. What it has waited for in vain may be kept by the one who has called back; so it
+/// begins again, with twice the patience each time.
+pub const PATIENCE: Duration = Duration::from_millis(500);
 
 /// What a range is held for.
 #[derive(Clone, Copy, Debug, PartialEq, Eq)]
@@ -15,6 +21,14 @@ pub enum Purpose {
     Update,
     /// Nobody else has anything of the range, so a write in it asks for nothing more.
     Write,
+}
+
+/// Whether the range that is taken is all that its caller waits for.
+#[derive(Clone, Copy, Debug, PartialEq, Eq)]
+enum Extent {
+    Whole,
+    /// Others follow, at other servers.
+    Part,
 }
 
 /// The rows of a range that is held, and its pin.
@@ -29,11 +43,16 @@ pub struct Held {
 /// A range that is taken in ascending order.
 ///
 /// Only the part that is held is pinned, and it grows in the same step in which a grant comes. So
-/// whoever waits for a point has nothing pinned there or above it, and no two wait for one another.
+/// whoever waits for a point has nothing pinned there or above it, and no two that take a range wait
+/// for one another. One that has a range and writes there may wait for a point below others that it
+/// has: to such a one the part gives way.
 #[derive(Debug)]
 pub(super) struct Taking {
     keys: Range<u64>,
     purpose: Purpose,
+    extent: Extent,
+    /// How long the part that is pinned stays after it was called back.
+    patience: Duration,
     /// All points of the range below this one are held and pinned.
     next: u64,
     pin: Option<u64>,
@@ -44,8 +63,13 @@ pub(super) struct Taking {
 impl Taking {
     /// The same, of which nothing is held and nothing is pinned.
     pub(super) fn begun_again(self) -> Taking {
-        let Taking { keys, purpose, .. } = self;
-        Taking { next: keys.start, keys, purpose, pin: None, asked: None }
+        Taking { next: self.keys.start, pin: None, asked: None, ..self }
+    }
+
+    /// The part that was pinned has given way: the range is taken from its start again.
+    fn begin_again(&mut self) {
+        (self.next, self.pin, self.asked) = (self.keys.start, None, None);
+        self.patience = self.patience.saturating_mul(2);
     }
 
     /// Whether a point of this slot lies in the range.
@@ -57,8 +81,29 @@ impl Taking {
 impl State {
     /// The rows of a range that is not empty, and a pin of it.
     pub fn hold(&mut self, keys: Range<u64>, purpose: Purpose) -> Asked<Held> {
-        let next = keys.start;
-        let taking = Taking { keys, purpose, next, pin: None, asked: None };
+        self.begin_taking(keys, purpose, Extent::Whole, PATIENCE)
+    }
+
+    /// The same of a part of a range, of which others follow at other servers: the pin gives way so
+    /// long after it was called back, until it is kept by [`State::keep_pin`].
+    pub fn hold_part(
+        &mut self,
+        keys: Range<u64>,
+        purpose: Purpose,
+        patience: Duration,
+    ) -> Asked<Held> {
+        self.begin_taking(keys, purpose, Extent::Part, patience)
+    }
+
+    fn begin_taking(
+        &mut self,
+        keys: Range<u64>,
+        purpose: Purpose,
+        extent: Extent,
+        patience: Duration,
+    ) -> Asked<Held> {
+        let (next, pin, asked) = (keys.start, None, None);
+        let taking = Taking { keys, purpose, extent, patience, next, pin, asked };
         self.add(|reply| Job::Hold(taking, reply))
     }
 
@@ -68,12 +113,21 @@ impl State {
         mut taking: Taking,
         reply: Reply<Held>,
     ) -> Option<Job> {
+        if taking.pin.is_some_and(|pin| !self.held.pins.has(pin)) {
+            self.held.takings.ends(id);
+            taking.begin_again();
+        }
         self.held.takings.begins(id, taking.keys.end);
         let held = self.try_hold(id, &mut taking);
-        match held {
+        match &held {
             Ok(None) => {}
             // The pin is the caller's now.
-            Ok(Some(_)) => self.held.takings.ends(id),
+            Ok(Some(Held { pin, .. })) => {
+                self.held.takings.ends(id);
+                if taking.extent == Extent::Whole {
+                    self.keep_pin(*pin);
+                }
+            }
             Err(_) => self.give_up(id, &taking),
         }
         reply.give(held).map(|reply| Job::Hold(taking, reply))
@@ -169,7 +223,7 @@ impl State {
         }
         let points = taking.keys.start..end;
         self.held.takings.keeps(id, &points);
-        let wider = self.add_pin(points)?;
+        let wider = self.add_pin_that_gives_way(points, taking.patience)?;
         taking.next = end;
         if let Some(narrower) = taking.pin.replace(wider) {
             // What was called back of it, the wider one remembers.
@@ -178,3 +232,6 @@ impl State {
         Ok(())
     }
 }
+
+#[cfg(test)]
+mod tests;

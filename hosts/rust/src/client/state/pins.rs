@@ -4,6 +4,7 @@ use crate::model::code::Code;
 use crate::model::error::ErrorKind;
 use std::mem;
 use std::ops::Range;
+use std::time::{Duration, Instant};
 
 /// A pin remembers so many spans that were called back. From then on it takes them for one.
 const MAX_CALLED: usize = 64;
@@ -27,6 +28,10 @@ struct Pinned {
     write: Option<u64>,
     /// Its caller has given it up, and it stays until that write is judged.
     is_given_up: bool,
+    /// How long after it was called back it is given up, if its caller waits for more than it has.
+    patience: Option<Duration>,
+    /// When something of it was called back first.
+    called_at: Option<Instant>,
     /// What was called back and meets these keys. The client obeys no such callback, and nobody
     /// calls again as soon as the pin is gone: so it gives the spans back by itself then. It gives
     /// them back whole, since the server counts a slot as released only with all its points.
@@ -35,8 +40,16 @@ struct Pinned {
 
 impl PinTable {
     fn add(&mut self, id: u64, number: u64, keys: Range<u64>) {
-        let called = Vec::new();
-        self.pins.push(Pinned { id, number, keys, write: None, is_given_up: false, called });
+        self.pins.push(Pinned {
+            id,
+            number,
+            keys,
+            write: None,
+            is_given_up: false,
+            patience: None,
+            called_at: None,
+            called: Vec::new(),
+        });
     }
 
     fn pin_mut(&mut self, id: u64) -> Option<&mut Pinned> {
@@ -48,9 +61,34 @@ impl PinTable {
         self.pins.iter().any(|pin| pin.id == id && !pin.is_given_up)
     }
 
-    /// Whether a pin waits for a write, or something waits to be given back.
+    /// Whether a pin waits for a write or is about to be given up, or something waits to be given
+    /// back.
     pub fn are_open(&self) -> bool {
-        !self.owed.is_empty() || self.are_given_up()
+        let gives_way = |pin: &Pinned| pin.patience.is_some() && pin.called_at.is_some();
+        !self.owed.is_empty() || self.are_given_up() || self.pins.iter().any(gives_way)
+    }
+
+    /// The pin is given up when so much time has passed since something of it was called back.
+    fn give_way_after(&mut self, id: u64, patience: Duration) {
+        if let Some(pin) = self.pin_mut(id) {
+            pin.patience = Some(patience);
+        }
+    }
+
+    /// The pin is its caller's from now on.
+    fn keep(&mut self, id: u64) {
+        if let Some(pin) = self.pin_mut(id) {
+            pin.patience = None;
+        }
+    }
+
+    /// Gives up the pins that others have called back for too long.
+    fn give_way(&mut self, now: Instant) {
+        for pin in &mut self.pins {
+            let since = pin.called_at.map(|called| now.saturating_duration_since(called));
+            pin.is_given_up |=
+                since.zip(pin.patience).is_some_and(|(since, patience)| since >= patience);
+        }
     }
 
     fn are_given_up(&self) -> bool {
@@ -81,9 +119,10 @@ impl PinTable {
     }
 
     /// The span was called back. Returns whether it meets a pin: each that it meets remembers it.
-    pub fn note(&mut self, span: &Range<u64>) -> bool {
+    pub fn note(&mut self, span: &Range<u64>, now: Instant) -> bool {
         let mut is_pinned = false;
         for pin in self.pins.iter_mut().filter(|pin| meet(&pin.keys, span)) {
+            pin.called_at.get_or_insert(now);
             remember(&mut pin.called, span.clone());
             is_pinned = true;
         }
@@ -117,8 +156,30 @@ impl State {
         self.report_changes();
     }
 
+    /// Adds a pin of what a caller has, who waits for more. **It is given up when so much time has
+    /// passed since something of it was called back**: otherwise clients could wait for each other in
+    /// a circle, since the one who has called it back may have what its caller waits for.
+    pub(super) fn add_pin_that_gives_way(
+        &mut self,
+        keys: Range<u64>,
+        patience: Duration,
+    ) -> Result<u64, Code> {
+        let id = self.add_pin(keys)?;
+        self.held.pins.give_way_after(id, patience);
+        Ok(id)
+    }
+
+    /// The caller has all that it has waited for: from now on the pin gives way to nobody. Returns
+    /// whether it holds.
+    pub fn keep_pin(&mut self, id: u64) -> bool {
+        self.held.pins.give_way(self.now.monotonic);
+        self.held.pins.keep(id);
+        self.holds_pin(id)
+    }
+
     /// Frees the pins that were given up and do not stay for a write.
     pub(super) fn free_pins(&mut self) {
+        self.held.pins.give_way(self.now.monotonic);
         if !self.held.pins.are_given_up() {
             return;
         }
@@ -137,7 +198,7 @@ impl State {
         for span in mem::take(&mut self.held.pins.owed) {
             // If memory is refused, the next call comes back to it. A client that has left owes
             // nothing.
-            let is_owed = !self.held.pins.note(&span)
+            let is_owed = !self.held.pins.note(&span, self.now.monotonic)
                 && matches!(self.try_forget(&span), Ok(false) | Err(Code::OutOfMemory));
             if is_owed {
                 self.held.pins.owed.push(span);
@@ -186,7 +247,7 @@ mod tests {
     fn a_pin_remembers_what_is_called_back_and_meets_it() {
         let mut pins = pins_of(std::slice::from_ref(&(10..20)));
         for span in [0..10, 0..12, 0..12, 19..21, 20..30] {
-            pins.note(&span);
+            pins.note(&span, Instant::now());
         }
         assert_eq!(owed_after(&mut pins, 0), [0..12, 19..21]);
         assert_eq!(pins.remove_next(None), None);
@@ -195,18 +256,38 @@ mod tests {
     #[test]
     fn what_meets_another_pin_waits_for_that_pin() {
         let mut pins = pins_of(&[10..15, 15..20]);
-        assert!(!pins.note(&(0..10)) && !pins.note(&(20..30)));
+        let now = Instant::now();
+        assert!(!pins.note(&(0..10), now) && !pins.note(&(20..30), now));
         for id in [0, 1] {
-            assert!(pins.note(&(14..16)));
+            assert!(pins.note(&(14..16), now));
             assert_eq!(owed_after(&mut pins, id).len(), 1);
         }
-        assert!(!pins.note(&(14..16)));
+        assert!(!pins.note(&(14..16), now));
+    }
+
+    #[test]
+    fn a_pin_gives_way_so_long_after_it_was_called_back_and_not_once_it_is_kept() {
+        const PATIENCE: Duration = Duration::from_secs(1);
+        let (mut pins, now) = (pins_of(&[10..15, 10..15, 10..15]), Instant::now());
+        pins.give_way_after(0, PATIENCE);
+        pins.give_way_after(1, PATIENCE);
+        pins.give_way(now + 9 * PATIENCE);
+        assert!(pins.has(0) && !pins.are_open(), "nobody has called it back");
+        pins.note(&(14..16), now);
+        pins.note(&(14..16), now + PATIENCE / 2);
+        assert!(pins.are_open());
+        pins.keep(1);
+        pins.give_way(now + PATIENCE / 2);
+        assert!(pins.has(0));
+        pins.give_way(now + PATIENCE);
+        assert_eq!([0, 1, 2].map(|id| pins.has(id)), [false, true, true]);
     }
 
     #[test]
     fn many_spans_become_one() {
         let mut pins = pins_of(std::slice::from_ref(&(0..1000)));
-        assert!((0..200).all(|place| pins.note(&(3 * place..3 * place + 1))));
+        let now = Instant::now();
+        assert!((0..200).all(|place| pins.note(&(3 * place..3 * place + 1), now)));
         let called = owed_after(&mut pins, 0);
         assert!(called.len() <= MAX_CALLED);
         assert!((0..200).all(|place| called.iter().any(|span| span.contains(&(3 * place)))));
