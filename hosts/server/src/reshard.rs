@@ -205,7 +205,18 @@ impl fmt::Display for NotLeft {
 impl Error for NotLeft {}
 
 fn create(new: &Path, snapshot: &Snapshot) -> Done {
+    set_other_aside(new, snapshot)?;
     SqliteStore::create(new, snapshot).map_err(|error| cause(&error).into())
+}
+
+/// Sets a sealed new store aside that an earlier call has made, and that is not what the old stores
+/// have by now: they were served since, so no server can have started on the new one.
+fn set_other_aside(new: &Path, snapshot: &Snapshot) -> Done {
+    let is_other = SqliteStore::read(new).is_ok_and(|made| made.snapshot != *snapshot);
+    match snapshot.shard.filter(|_| is_other) {
+        Some(shard) => stores::set_unused_aside(new, &shard.bounds.keys()),
+        None => Ok(()),
+    }
 }
 
 fn cut_off(store: &Path, at: u64, upper: &Snapshot, lower: Option<KeptShard>) -> Done {

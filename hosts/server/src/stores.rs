@@ -136,7 +136,7 @@ impl Place for StorePlace {
 
 /// Gives a file another name if it is a sealed store of these keys. It is not removed, since only the
 /// operator knows whether it is needed.
-fn set_unused_aside(store: &Path, keys: &Range<u64>) -> Done {
+pub fn set_unused_aside(store: &Path, keys: &Range<u64>) -> Done {
     if !store.exists() {
         return Ok(());
     }

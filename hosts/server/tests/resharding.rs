@@ -225,6 +225,40 @@ fn two_stores_are_merged_once() {
     assert_eq!(kept(&whole), "0..@5");
 }
 
+/// As a merge leaves them that is killed after it has sealed the lower one, and whose upper one is
+/// served then.
+#[test]
+fn a_merge_continues_after_a_store_was_served_since() {
+    let folder = tempfile::tempdir().unwrap();
+    let path = |name: &str| folder.path().join(name).to_str().unwrap().to_string();
+    let [lower, upper, whole, map, next] =
+        ["a.db", "b.db", "whole.db", "4.toml", "5.toml"].map(path);
+    let rows = |keys: &[u64]| keys.iter().map(|key| (*key, Value::from(0))).collect();
+    for (store, shard, keys) in [
+        (&lower, "0..100@5 sealed", &[5][..]),
+        (&upper, "100..@4", &[105, 107]),
+        (&whole, "0..@5 sealed", &[5, 105]),
+    ] {
+        let (shard, rows) = (shard.parse().ok(), rows(keys));
+        SqliteStore::create(store, &Snapshot { shard, rows, ..Snapshot::default() }).unwrap();
+    }
+    let shard = |first: u64| {
+        format!("\n[[shard]]\nfirst = {first}\nservers = \"127.0.0.1:{}\"\n", first + 1)
+    };
+    std::fs::write(&map, format!("version = 4\n{}{}", shard(0), shard(100))).unwrap();
+    for _ in 0..2 {
+        let words = ["--map", &map, "--at", "100", "--new-map", &next];
+        let done = run(&[&["merge", &lower, &upper, &whole], &words[..]].concat());
+        assert_eq!(done.status.code(), Some(0), "{}", errors(&done));
+    }
+    let found = SqliteStore::read(&whole).unwrap().snapshot;
+    assert_eq!((found.rows, kept(&whole)), (rows(&[5, 105, 107]), "0..@5".to_string()));
+    assert_eq!([&lower, &upper].map(kept), ["0..100@5 sealed", "100..@5 sealed"]);
+    let files = std::fs::read_dir(folder.path()).unwrap().map(|file| file.unwrap().file_name());
+    let is_aside = |name: &str| name.starts_with("whole.db.unused-");
+    assert_eq!(files.filter(|name| is_aside(&name.to_string_lossy())).count(), 1);
+}
+
 #[test]
 fn a_store_is_cut_only_as_the_shard_that_it_is_of() {
     let folder = tempfile::tempdir().unwrap();
