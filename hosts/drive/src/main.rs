@@ -10,6 +10,7 @@
 //! krl_drive frozen FOLDER ROUNDS SERVER                           freezes servers of a reader
 //! krl_drive shards FOLDER SECONDS KILLS                           kills servers of two shards
 //! krl_drive moves FOLDER SECONDS KILLS SERVER                    cuts, merges and moves shards
+//! krl_drive grow FOLDER SERVER                                    measures such changes
 //! krl_drive cache FOLDER SECONDS                                  kills readers of a cached table
 //! krl_drive haste FOLDER                                          measures a hasty client's neighbour
 //! krl_drive reaches FOLDER                                        measures long and short grants
@@ -33,6 +34,7 @@
 mod applied;
 mod bench;
 mod bench_stores;
+mod bystanders;
 mod cache;
 mod certificates;
 mod clients;
@@ -44,6 +46,7 @@ mod fault;
 mod ffi;
 mod frozen;
 mod gateway;
+mod grow;
 mod haste;
 mod history;
 mod kill;
@@ -57,6 +60,7 @@ mod machines;
 mod moves;
 mod nodes;
 mod reaches;
+mod resharded;
 mod sealed;
 mod shards;
 mod site;
@@ -135,6 +139,7 @@ fn run(words: &[&str]) -> Found {
             let server = Path::new(server);
             moves::run(Path::new(folder), seconds.parse()?, kills.parse()?, server)
         }
+        ["grow", folder, server] => grow::run(Path::new(folder), Path::new(server)),
         ["cache", folder, seconds] => cache::run(Path::new(folder), seconds.parse()?),
         ["strangers"] => strangers::run(),
         ["reports"] => long_reports::run(),
@@ -150,11 +155,12 @@ fn run(words: &[&str]) -> Found {
         ["stores", folder, rounds] => bench_stores::run(Path::new(folder), rounds.parse()?),
         ["trips", folder] => trips::run(Path::new(folder), "tcp"),
         ["trips", folder, socket] => trips::run(Path::new(folder), socket),
-        // The processes that `kill` starts.
+        // The processes that `kill`, `cache`, `takeover` and `moves` start.
         ["server", address, folder, store, lease] => {
             nodes::server(address, Path::new(folder), store, lease.parse()?)
         }
         ["cache-reader", name, database, folder] => cache::read(name, database, Path::new(folder)),
+        ["bystander", number, folder] => bystanders::run(number.parse()?, Path::new(folder)),
         ["holder", address, folder] => takeover::hold(address, Path::new(folder)),
         ["reader", number, address, folder] => {
             nodes::reader(number.parse()?, address, Path::new(folder))

@@ -20,7 +20,7 @@ use std::time::Duration;
 pub const LEFT: u64 = 10;
 pub const RIGHT: u64 = 1010;
 pub const BOUND: u64 = 1000;
-const BOTH: Range<u64> = 0..2000;
+pub const BOTH: Range<u64> = 0..2000;
 
 pub const READERS: [u8; 2] = [0, 2];
 pub const WRITER: u8 = 1;
