@@ -56,7 +56,7 @@ pub fn reshard(change: &LiveChange) -> Done {
     output::report(&format!("the map is of version {}", version_of(&map.next)));
     if stores.have_changed()? {
         // An earlier call has changed the stores, and may have been killed.
-        stores.open_new()?;
+        open_new(change, &stores)?;
     } else {
         change_stores(change, &map, &stores)?;
     }
@@ -170,6 +170,12 @@ fn change_stores(change: &LiveChange, map: &PublishedMap, stores: &Stores<'_>) -
 fn change_stopped(change: &LiveChange, stores: &Stores<'_>) -> Done {
     stop_servers(change, stores)?;
     stores.change(|old| change.content(old))
+}
+
+/// Opens the new store. If it is not the one that was made of the old ones, these serve again.
+fn open_new(change: &LiveChange, stores: &Stores<'_>) -> Done {
+    let opened = stores.open_new(|| stop_servers(change, stores));
+    opened.inspect_err(|error| drop(start_again(&change.live().start, &error.to_string())))
 }
 
 /// Starts the old servers, so that the clients that have not left can. Returns which these are.

@@ -331,3 +331,26 @@ fn a_store_that_has_moved_is_made_once() {
     assert!(why.contains("can't be read") || why.contains("is not the store"), "{why}");
     assert!(!world.path("c.db").exists());
 }
+
+#[test]
+fn another_store_is_not_opened_while_the_old_one_is_served() {
+    let mut world = World::new(&FILES, [10, 20]);
+    run(&mut world.split("a", 20, "b"));
+    let unused = Snapshot {
+        rows: [(20, Value::from(1))].into(),
+        shard: Some("20..@2 sealed".parse().unwrap()),
+        first_start: Some(7),
+        ..Snapshot::default()
+    };
+    world.create("c", &unused);
+    let servers = world.address("b");
+    let why = refused(&mut world.reshard(
+        &["split", "a.db", "20", "c.db", "--servers", &servers],
+        &["a"],
+        "c",
+    ));
+    assert!(why.contains("is not the store that was made of them"), "{why}");
+    assert_eq!(world.join(1).read(..).unwrap().len(), 2);
+    world.stop_all();
+    assert_eq!(world.kept(&["c"]), ["20..@2 sealed"]);
+}

@@ -71,7 +71,7 @@ pub fn change<P: Place>(
     let mut taken = old.iter().map(Taken::open).collect::<Done<Vec<_>>>()?;
     if taken.iter().all(Taken::has_changed) {
         drop(taken);
-        return open_new(&old.iter().collect::<Vec<_>>(), new);
+        return open_new(old, new);
     }
     let mut start = None;
     for store in taken.iter_mut().filter(|store| !store.has_changed()) {
@@ -91,16 +91,16 @@ pub fn change<P: Place>(
     unseal(new)
 }
 
-/// A server may start on the new store from now on: the old ones have changed. If the new one was made
-/// of them, one of them has changed by its first start. Those that can't be opened are left out.
-pub fn open_new<P: Place>(old: &[&OldStore<'_, P>], new: &NewStore<'_, P>) -> Done {
+/// A server may start on the new store from now on: the old ones, which nobody serves, have changed. If
+/// the new one was made of them, one of them has changed by its first start.
+pub fn open_new<P: Place>(old: &[OldStore<'_, P>], new: &NewStore<'_, P>) -> Done {
     let opened = new.place.open().and_then(|mut opened| load(new.place, opened.as_mut()));
     let made = opened.map_err(|error| not_made(new, &format!(": {error}")))?;
     if made.shard == Some(KeptShard::open(new.shard)) {
         return Ok(());
     }
     let is_sealed = made.shard == Some(KeptShard::sealed(new.shard));
-    if is_sealed && (old.is_empty() || have_changed_by(old, made.first_start)?) {
+    if is_sealed && have_changed_by(old, made.first_start)? {
         return unseal(new);
     }
     Err(not_made(new, "").into())
@@ -115,7 +115,7 @@ fn not_made<P: Place>(new: &NewStore<'_, P>, why: &str) -> String {
 }
 
 /// Whether one of the stores has changed by this start.
-fn have_changed_by<P: Place>(old: &[&OldStore<'_, P>], start: Option<u128>) -> Done<bool> {
+fn have_changed_by<P: Place>(old: &[OldStore<'_, P>], start: Option<u128>) -> Done<bool> {
     for old in old {
         if Taken::open(old)?.has_changed_by(start)? {
             return Ok(true);

@@ -81,13 +81,18 @@ impl Stores<'_> {
         change::change(&self.old, &self.new, content)
     }
 
-    /// Opens the new store, if nobody serves it: the old ones have changed.
-    pub fn open_new(&self) -> Done {
-        if served_by(self.new.place).is_some() {
+    /// Opens the new store, unless that was done: the old ones have changed, and show whether it was
+    /// made of them once `stop` has ended their servers.
+    pub fn open_new(&self, stop: impl FnOnce() -> Done) -> Done {
+        let NewStore { place, shard } = self.new;
+        if served_by(place).is_some() {
             return Ok(());
         }
-        let free = self.old.iter().filter(|old| served_by(old.place).is_none());
-        change::open_new(&free.collect::<Vec<_>>(), &self.new)
+        let kept = stores::shard_of(place).ok().flatten();
+        if kept == Some(KeptShard::sealed(shard)) {
+            stop()?;
+        }
+        change::open_new(&self.old, &self.new)
     }
 }
 
